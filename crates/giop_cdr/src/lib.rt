@@ -1,0 +1,13 @@
+//! CDR, the Common Data Representation (CORBA 3.3 Part 2, 9.3): aligned primitives in either byte
+//! order, read from any store of octets.
+#![tactic(auto)]
+
+mod fault;
+mod octet_list;
+mod octets;
+mod order;
+
+pub use fault::{CdrFault, CdrKind};
+pub use octet_list::OctetList;
+pub use octets::{Octets, SliceOctets};
+pub use order::Order;

@@ -1,0 +1,60 @@
+ghost use Rattle.std.specs.Prelude.{◌≡◌, ◌<◌, List, ℕ, length, slice_index, take, drop};
+
+use std::marker::Model;
+
+/// A list of octets, wherever they lie: in one slice, or in several parts.
+pub trait Octets {
+    // The list itself.
+    ghost octets: { Self → List ℕ };
+
+    /// The number of octets.
+    fn len(&self) -> usize
+        ensures { result ≡ length (octets self.now) };
+
+    /// The octet at index `i`, which counts from 0.
+    fn at(&self, i: usize) -> u8
+        requires { i < length (octets self.now) }
+        ensures { result ≡ slice_index (octets self.now) i };
+
+    /// Octets from an index on that lie together, one or more.
+    fn run(&self, from: usize) -> &[u8]
+        requires { from < length (octets self.now) }
+        ensures some { 0 < length result.now }
+        ensures part { result.now ≡ take (length result.now) (drop from (octets self.now)) };
+}
+
+/// The octets of one slice.
+#[derive(Drop)]
+pub struct SliceOctets<'a> {
+    slice: &'a [u8],
+}
+
+impl<'a> Model for SliceOctets<'a> {
+    ghost Value = { List ℕ };
+
+    ghost view = { λ s. s.slice.now };
+}
+
+impl<'a> SliceOctets<'a> {
+    pub fn new(slice: &'a [u8]) -> SliceOctets<'a>
+        ensures { result ≡ slice.now }
+    {
+        SliceOctets { slice }
+    }
+}
+
+impl<'a> Octets for SliceOctets<'a> {
+    ghost octets = { λ s. s };
+
+    fn len(&self) -> usize {
+        self.slice.len()
+    }
+
+    fn at(&self, i: usize) -> u8 {
+        self.slice[i]
+    }
+
+    fn run(&self, from: usize) -> &[u8] {
+        &self.slice[from..]
+    }
+}
