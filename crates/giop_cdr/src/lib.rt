@@ -3,11 +3,16 @@
 #![tactic(auto)]
 
 mod fault;
+mod numbers;
 mod octet_list;
 mod octets;
 mod order;
+mod reader;
+mod runs;
+mod sequences;
 
 pub use fault::{CdrFault, CdrKind};
 pub use octet_list::OctetList;
 pub use octets::{Octets, SliceOctets};
 pub use order::Order;
+pub use reader::CdrIn;
