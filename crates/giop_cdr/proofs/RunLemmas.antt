@@ -43,7 +43,7 @@ null_is_among octets n m count within here =
     let split : count ≡ (n + m) + (count - (n + m)) = omega arith in
     rw split (has_null-take_add octets (n + m) (count - (n + m)) ∙ rw so_far refl)
 
-is_text-last : (text : List ℕ) (last : ℕ) → length text ≡ last + 1 → is_text text ≡ ((get_or text last 0 == 0) && not (has_null (take last text)))
+pub is_text-last : (text : List ℕ) (last : ℕ) → length text ≡ last + 1 → is_text text ≡ ((get_or text last 0 == 0) && not (has_null (take last text)))
 is_text-last [] last e = absurd (omega arith)
 is_text-last (b ∷ bs) last e =
     let behind : length bs ≡ last = omega arith in

@@ -1,6 +1,6 @@
 -- What reading a value at a cursor answers: the value and the cursor behind it, or the fault
 -- (CORBA 3.3 Part 2, 9.3.1 primitive types, 9.3.2 constructed types).
-use Rattle.std.specs.Prelude.{◌≡◌, ℕ, ℤ, ◌+◌, ◌-◌, ◌==◌, ◌&&◌, nat_lt, not, Bool, true, if◌then◌else◌, List, [], ◌∷◌, ◌++◌, length, take, slice_index, Result, Ok, Err}
+use Rattle.std.specs.Prelude.{◌≡◌, ℕ, zero, suc, ℤ, ◌+◌, ◌-◌, ◌==◌, ◌&&◌, nat_lt, not, Bool, true, if◌then◌else◌, List, [], ◌∷◌, ◌++◌, length, take, slice_index, Result, Ok, Err}
 use Rattle.std.specs.List.{list_any}
 use Rattle.std.specs.Int.{Width, w8, w16, w32, byte_len, cast_signed}
 use Rattle.giop_cdr.specs.declared.fault.CdrFault.{CdrFault}
@@ -77,3 +77,17 @@ string_at bound c = do
   if not (is_text (take n.0 n.1.rest)) then Err (fault (place 4 c) BadString)
       else if passes bound (n.0 - 1) then Err (fault (place 4 c) BoundPassed)
       else Ok (take (n.0 - 1) n.1.rest, skip n.0 n.1)
+
+-- n values, one after the other
+unfoldable pub items_at : {A : Type 0} → (Cursor → Reading A) → ℕ → Cursor → Reading (List A)
+items_at item zero c = Ok ([], c)
+items_at item (suc n) c = do
+  first ← item c
+  others ← items_at item n first.1
+  Ok (first.0 ∷ others.0, others.1)
+
+-- a sequence: its count and as many values
+unfoldable pub sequence_at : {A : Type 0} → (Cursor → Reading A) → Cursor → Reading (List A)
+sequence_at item c = do
+  n ← count_at c
+  items_at item n.0 n.1

@@ -3,6 +3,7 @@
 #![tactic(auto)]
 
 mod fault;
+mod laws;
 mod numbers;
 mod octet_list;
 mod octets;
@@ -12,6 +13,7 @@ mod runs;
 mod sequences;
 
 pub use fault::{CdrFault, CdrKind};
+pub use laws::{numbers_are_spelled, octets_are_spelled, strings_are_spelled};
 pub use octet_list::OctetList;
 pub use octets::{Octets, SliceOctets};
 pub use order::Order;
