@@ -21,6 +21,7 @@ impl Header {
     ghost use Rattle.giop_msg.specs.Header.{flags_of, header_octets, header_of, field_fault, header_fault};
 
     /// The twelve octets of the header on the wire. It takes no memory.
+    #[tactic(auto, unfolding(crate::specs::Header::header_octets))]
     pub fn octets(&self) -> [u8; 12]
         ensures { result ≡ header_octets self.now }
     {
@@ -44,6 +45,7 @@ impl Header {
     }
 
     // The header that twelve octets are, or the first thing that is wrong with them.
+    #[tactic(auto, using(crate::proofs::HeaderLemmas::judging))]
     pub(crate) fn judge(octets: &[u8; 12], limit: u32) -> Result<Header, WireFault>
         ensures ok { IfOk result (λ h. (h ≡ header_of octets.now)
             × (header_fault limit octets.now ≡ None)) }
@@ -60,6 +62,7 @@ impl Header {
     }
 
     // The fields of twelve octets, in which the message type is below 8.
+    #[tactic(auto, unfolding(crate::specs::Header::header_of))]
     fn from_octets(octets: &[u8; 12]) -> Header
         requires { slice_index octets.now 7 < 8 }
         ensures { result ≡ header_of octets.now }
@@ -79,6 +82,7 @@ impl Header {
     }
 
     // What is wrong with the fields, where message sizes are at most `limit`.
+    #[tactic(auto, unfolding(crate::specs::Header::field_fault))]
     fn field_fault(&self, limit: u32) -> Option<WireFault>
         ensures { result ≡ field_fault limit self.now }
     {
@@ -98,6 +102,7 @@ impl Header {
 }
 
 // What is wrong with the first eight of a header's octets.
+#[tactic(auto, unfolding(crate::specs::Header::octet_fault))]
 fn octet_fault(octets: &[u8; 12]) -> Option<WireFault>
     ensures { result ≡ octet_fault octets.now }
 {
