@@ -1,20 +1,21 @@
 -- Headers and their octets: reading what was written, writing what was read, and the faults.
-use Rattle.std.proofs.Common.{◌≡◌, ℕ, zero, suc, ◌+◌, ◌%◌, ◌<◌, ◌≤◌, ◌^◌, Bool, true, false, not, ◌==◌, nat_le, cond, List, [], ◌∷◌, ◌++◌, length, take, drop, slice_index, slice_index_or, get_or, Option, Some, None, refl, sym, ap, ◌∙◌, inl, inr, arith}
+use Rattle.std.proofs.Common.{◌≡◌, ◌≢◌, ℕ, zero, suc, ◌+◌, ◌%◌, ◌<◌, ◌≤◌, ◌^◌, Bool, true, false, not, ◌&&◌, ◌==◌, nat_le, nat_lt, cond, List, [], ◌∷◌, ◌++◌, length, take, drop, slice_index, slice_index_or, get_or, Option, Some, None, refl, sym, ap, ◌∙◌, inl, inr, arith}
 use Rattle.std.proofs.lemmas.Bool.Decides.{nat_tests}
 use Rattle.std.proofs.lemmas.List.{length-drop, drop_more, get_or-drop, get_or_past}
 use Rattle.std.proofs.lemmas.Nat.{from_be_bytes-to_be_bytes_4, from_le_bytes-to_le_bytes_4, be_bytes_4, le_bytes_4}
-use Rattle.std.proofs.lemmas.Bool.{cases_lt}
+use Rattle.std.proofs.lemmas.Bool.{cases_lt, and_parts}
 use Rattle.std.specs.List.{All}
 use Rattle.giop_cdr.specs.declared.order.Order.{Order}
 use Rattle.giop_cdr.specs.declared.order.Order.TheVariants.{Big, Little}
 use Rattle.giop_msg.specs.declared.kind.Kind.{Kind}
 use Rattle.giop_msg.specs.declared.kind.Kind.TheVariants.{Request, Reply, CancelRequest, LocateRequest, LocateReply, CloseConnection, MessageError, Fragment}
 use Rattle.giop_msg.specs.declared.fault.WireFault.{WireFault}
+use Rattle.giop_msg.specs.declared.fault.WireKind.TheVariants.{NoMemory}
 use Rattle.giop_msg.specs.declared.header.Header.{Header}
-use Rattle.giop_msg.specs.Fault.{Test, first_failing}
+use Rattle.giop_msg.specs.Fault.{Test, first_failing, wire_kind_number}
 use Rattle.giop_msg.specs.Header.{ulong_octets, ulong_of, order_bit, order_of, header_octets, header_of, octet_tests, octet_fault, field_tests, field_fault, header_fault}
 use Rattle.giop_msg.specs.Laws.{HeaderRoundTrip}
-use Rattle.giop_msg.specs.Kind.{kind_number, kinds}
+use Rattle.giop_msg.specs.Kind.{kind_number, kinds, has_request_id, can_have_size}
 
 -- where nothing fails, the first test passes and nothing fails after it
 pub passes : (fails : Bool) (e : WireFault) (after : Option WireFault) → cond fails (Some e) after ≡ None → (fails ≡ false) × (after ≡ None)
@@ -61,6 +62,13 @@ equal_passed a b h = grind (arith, nat_tests)
 
 below_passed : (a b : ℕ) → nat_le b a ≡ false → a < b
 below_passed a b h = grind (arith, nat_tests)
+
+within_passed : (a b : ℕ) → nat_lt a b ≡ false → b ≤ a
+within_passed a b h = grind (arith, nat_tests)
+
+not_passed : (b : Bool) → not b ≡ false → b ≡ true
+not_passed true h = refl
+not_passed false h = cc
 
 pub front_of : (octets : List ℕ) → octet_fault octets ≡ None → HasFront octets
 unfolding octet_fault
@@ -230,6 +238,47 @@ HeaderRoundTrip-holds = record {
 -- the message type is one of the eight
 pub kind_below_8 : (octets : List ℕ) → octet_fault octets ≡ None → slice_index octets 7 < 8
 kind_below_8 octets sound = (front_of octets sound).kind
+
+-- where nothing is wrong with the fields, the size is within the limit and one of the kind's
+pub sizes_of_sound : (limit : ℕ) (h : Header) → field_fault limit h ≡ None → (h.size ≤ limit) × (can_have_size h.kind h.size ≡ true)
+unfolding field_fault
+sizes_of_sound limit h sound =
+    let large = passes _ _ _ sound in
+    let sized = passes _ _ _ large.1 in
+    (within_passed _ _ large.0, not_passed _ sized.0)
+
+-- the size of a kind with a request id has room for it
+pub room_for_id : (k : Kind) (size : ℕ) → can_have_size k size ≡ true → has_request_id k ≡ true → nat_le 4 size ≡ true
+room_for_id Request size room has = room
+room_for_id Reply size room has = room
+room_for_id CancelRequest size room has = grind (arith, nat_tests)
+room_for_id LocateRequest size room has = room
+room_for_id LocateReply size room has = room
+room_for_id CloseConnection size room has = cc
+room_for_id MessageError size room has = cc
+room_for_id Fragment size room has = room
+
+-- the tests' faults are of octets: their numbers are below want of memory's
+abbrev of_octets : List Test → Bool
+of_octets [] = true
+of_octets (t ∷ ts) = nat_lt (wire_kind_number t.fault_is.kind) 9 && of_octets ts
+
+first_failing-of_octets : (ts : List Test) (e : WireFault) → of_octets ts ≡ true → first_failing ts ≡ Some e → nat_lt (wire_kind_number e.kind) 9 ≡ true
+first_failing-of_octets [] e all h = let no : ⊥ = cc in absurd no
+first_failing-of_octets (t ∷ ts) e all h =
+    (elim t.fails as (λ v. cond v (Some t.fault_is) (first_failing ts) ≡ Some e → nat_lt (wire_kind_number e.kind) 9 ≡ true) [
+      true ↦ λ k. let same : t.fault_is ≡ e = cc in ap (λ (w : WireFault). nat_lt (wire_kind_number w.kind) 9) (sym same) ∙ (and_parts _ _ all).0
+    | false ↦ λ k. first_failing-of_octets ts e (and_parts _ _ all).1 k
+    ]) h
+
+-- no fault of octets is want of memory
+pub not_memory : (limit : ℕ) (octets : List ℕ) (e : WireFault) → header_fault limit octets ≡ Some e → e.kind ≢ NoMemory
+unfolding header_fault
+not_memory limit octets e h is =
+    let below = first_failing-of_octets (octet_tests octets ++ field_tests limit (header_of octets)) e refl h in
+    let nine : false ≡ true = ap (λ k. nat_lt (wire_kind_number k) 9) (sym is) ∙ below in
+    let no : ⊥ = cc in
+    absurd no
 
 -- how the fault of the first eight octets, and that of the fields, are the header's
 pub ruleset judging = (header_fault-of_octets, header_fault-of_fields, kind_below_8)

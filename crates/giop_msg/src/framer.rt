@@ -1,8 +1,10 @@
-ghost use Rattle.std.specs.Prelude.{◌≡◌, ◌++◌, ◌⊎◌, [], List, length, IfOk, IfErr, IfSome, IfNone, OnOk, OnErr};
+ghost use Rattle.std.specs.Prelude.{◌≡◌, ◌+◌, ◌++◌, ◌⊎◌, [], List, drop, length, IfOk, IfErr, IfSome, IfNone, OnOk, OnErr};
 ghost use Rattle.giop_msg.specs.declared.fault.WireFault.{WireFault};
 ghost use Rattle.giop_msg.specs.declared.fault.WireKind.TheVariants.{NoMemory};
 ghost use Rattle.giop_msg.specs.declared.msg.Msg.{Msg};
 ghost use Rattle.giop_msg.specs.Fault.{fault};
+ghost use Rattle.giop_msg.specs.Msg.{IsMessage, message_octets};
+ghost use Rattle.giop_msg.specs.Stream.{BeginsWithFault, IsRefusal, Waits};
 
 use crate::{Header, Msg, WireFault};
 use bytes::BytesMut;
@@ -28,7 +30,7 @@ impl Model for Framer {
 }
 
 impl Framer {
-    ghost use Rattle.giop_msg.specs.Stream.{BeginsWithFault, IsRefusal, TakesMessage, TakesMessages, Waits};
+    ghost use Rattle.giop_msg.specs.Stream.{TakesMessage, TakesMessages};
 
     /// A framer that refuses each message whose size, which doesn't count the header, is above
     /// `message_limit`. It takes no memory.
@@ -76,13 +78,11 @@ impl Framer {
         ensures err { IfErr result (IsRefusal self.old) }
         ensures kept { OnErr result (self.new ≡ self.old) }
     {
-        match first_message(self.alloc, self.unread.as_slice(), self.limit)? {
-            Some(message) => {
-                self.unread.advance(12 + message.payload.len());
-                Ok(Some(message))
-            }
-            None => Ok(None),
+        let found = first_message(self.alloc, self.unread.as_slice(), self.limit)?;
+        if let Some(message) = &found {
+            self.unread.advance(12 + message.payload.len());
         }
+        Ok(found)
     }
 
     /// Takes away all messages at the front of the unread octets, and appends them to `messages`.
@@ -107,7 +107,14 @@ impl Framer {
 }
 
 // The message at the front of the octets, its payload copied.
-fn first_message(alloc: Global, octets: &[u8], limit: u32) -> Result<Option<Msg>, WireFault> {
+fn first_message(alloc: Global, octets: &[u8], limit: u32) -> Result<Option<Msg>, WireFault>
+    ensures found { IfOk result (λ o. IfSome o (λ m. IsMessage limit m
+        × (octets.now ≡ message_octets m ++ drop (12 + length m.payload) octets.now))) }
+    ensures waits { IfOk result (λ o. IfNone o
+        (Waits (record { limit = limit; octets = octets.now }))) }
+    ensures exact { (e : WireFault) → BeginsWithFault limit octets.now e → result ≡ Err e }
+    ensures err { IfErr result (IsRefusal (record { limit = limit; octets = octets.now })) }
+{
     let Some(head) = octets.first_chunk::<12>() else {
         return Ok(None);
     };
