@@ -1,6 +1,6 @@
 -- Messages at the front of a stream: there is one at most, and what follows does not matter.
 use Rattle.std.proofs.Common.{◌≡◌, ℕ, suc, ◌+◌, ◌-◌, ◌<◌, ◌≤◌, ◌^◌, List, [], ◌∷◌, ◌++◌, length, take, drop, get_or, Option, Some, None, refl, sym, ap, subst, ◌∙◌, append_assoc, length-append, inl, inr, arith}
-use Rattle.std.specs.List.{All, flat_map}
+use Rattle.std.specs.List.{All, flat_map, slice_range}
 use Rattle.std.proofs.lemmas.List.{take_at, drop_at, take-append-le, take-append-drop, length-take, length-drop, drop-drop, get_or-take, get_or_past}
 use Rattle.std.proofs.lemmas.List.Elements.{All-append}
 use Rattle.std.proofs.lemmas.Bool.{cases_lt}
@@ -125,15 +125,22 @@ waits_for_header limit octets short = record {
   no_fault = λ e stands. absurd (omega (arith, stands.0));
 }
 
--- nor do a sound header's and fewer octets after it than it says
-pub waits_for_payload : (limit : ℕ) (octets : List ℕ) → header_fault limit (take 12 octets) ≡ None → length octets < 12 + (header_of (take 12 octets)).size →
-  Waits (record { limit = limit; octets = octets })
-waits_for_payload limit octets sound short = record {
+-- this header, which is sound, stands at the front of the octets
+pub record BeginsWithHeader (limit : ℕ) (octets : List ℕ) (h : Header) : Type 0 where
+  pub is : h ≡ header_of (take 12 octets)
+  pub sound : header_fault limit (take 12 octets) ≡ None
+
+pub begins_with_header : (limit : ℕ) (octets front : List ℕ) (h : Header) → front ≡ take 12 octets → h ≡ header_of front → header_fault limit front ≡ None → BeginsWithHeader limit octets h
+begins_with_header limit octets front h e is sound = record { is = is ∙ ap header_of e; sound = sym (ap (header_fault limit) e) ∙ sound }
+
+-- a sound header and fewer octets after it than it says are no message and no fault
+pub waits_for_payload : (limit : ℕ) (octets : List ℕ) (h : Header) → BeginsWithHeader limit octets h → length octets < 12 + h.size → Waits (record { limit = limit; octets = octets })
+waits_for_payload limit octets h begins short = record {
   no_message = λ (m , more , is , eq).
-    let heads : header_of (take 12 octets) ≡ head_of m = ap (λ o. header_of (take 12 o)) eq ∙ header_of-message_octets limit m more is in
-    let sizes : (header_of (take 12 octets)).size ≡ length m.payload = ap (λ (h : Header). h.size) heads in
+    let heads : h ≡ head_of m = begins.is ∙ ap (λ o. header_of (take 12 o)) eq ∙ header_of-message_octets limit m more is in
+    let sizes : h.size ≡ length m.payload = ap (λ (x : Header). x.size) heads in
     absurd (omega (arith, sizes, ap length eq, length-append (message_octets m) more, length-message_octets m));
-  no_fault = λ e stands. let found = stands.1 in let no : ⊥ = cc in absurd no;
+  no_fault = λ e stands. let found = stands.1 in let sound = begins.sound in let no : ⊥ = cc in absurd no;
 }
 
 -- the message of a header and the octets after it
@@ -149,17 +156,19 @@ payload_and_more octets size payload part long =
 
 -- a sound header at the front, and the octets that it says after it, are a message
 pub message_at_front : (limit : ℕ) (octets : List ℕ) (h : Header) (payload : List ℕ) → ((i : ℕ) → get_or octets i 0 < 256) →
-  h ≡ header_of (take 12 octets) → header_fault limit (take 12 octets) ≡ None → h.size < 2 ^ 32 → 12 + h.size ≤ length octets → payload ≡ take h.size (drop 12 octets) →
+  BeginsWithHeader limit octets h → limit < 2 ^ 32 → 12 + h.size ≤ length octets → payload ≡ slice_range octets 12 (12 + h.size) →
   IsMessage limit (message_of h payload) × (octets ≡ message_octets (message_of h payload) ++ drop (12 + length payload) octets)
-message_at_front limit octets h payload below is sound sized there part =
+message_at_front limit octets h payload below begins limited there slice =
+    let part : payload ≡ take h.size (drop 12 octets) = slice ∙ ap (λ n. take n (drop 12 octets)) (omega arith) in
     let long : length payload ≡ h.size = rw part (simp (length-take, length-drop) (omega arith)) in
     let twelve : length (take 12 octets) ≡ 12 = simp length-take (omega arith) in
     let below_twelve : (i : ℕ) → get_or (take 12 octets) i 0 < 256 = below_in_front octets below in
     let head = head_of-message_of h payload long in
     let front : header_octets (head_of (message_of h payload)) ≡ take 12 octets =
-      ap header_octets (head ∙ is) ∙ sound_octets limit (take 12 octets) twelve below_twelve sound in
-    let fields = sym (header_fault-of_fields limit (take 12 octets) (octet_fault-sound limit (take 12 octets) sound)) ∙ sound in
-    (record { sized = omega (arith, long); sound = ap (field_fault limit) (head ∙ is) ∙ fields },
+      ap header_octets (head ∙ begins.is) ∙ sound_octets limit (take 12 octets) twelve below_twelve begins.sound in
+    let fields = sym (header_fault-of_fields limit (take 12 octets) (octet_fault-sound limit (take 12 octets) begins.sound)) ∙ begins.sound in
+    let within : h.size ≤ limit = subst (λ (x : Header). x.size ≤ limit) (sym begins.is) (sizes_of_sound limit (header_of (take 12 octets)) fields).0 in
+    (record { sized = omega (arith, long, within); sound = ap (field_fault limit) (head ∙ begins.is) ∙ fields },
     sym (take-append-drop 12 octets)
     ∙ ap (λ xs. xs ++ drop 12 octets) (sym front)
     ∙ ap (λ xs. header_octets (head_of (message_of h payload)) ++ xs) (payload_and_more octets h.size payload part long)
