@@ -173,3 +173,7 @@ message_at_front limit octets h payload below begins limited there slice =
     ∙ ap (λ xs. xs ++ drop 12 octets) (sym front)
     ∙ ap (λ xs. header_octets (head_of (message_of h payload)) ++ xs) (payload_and_more octets h.size payload part long)
     ∙ sym (append_assoc (header_octets (head_of (message_of h payload))) payload (drop (12 + length payload) octets)))
+
+-- octets that begin with a message are at least as long
+pub message_fits : (octets : List ℕ) (m : Msg) (more : List ℕ) → octets ≡ message_octets m ++ more → 12 + length m.payload ≤ length octets
+message_fits octets m more e = omega (arith, ap length e, length-append (message_octets m) more, length-message_octets m)
