@@ -5,7 +5,7 @@ use Rattle.giop_cdr.specs.declared.fault.CdrFault.{CdrFault}
 use Rattle.giop_cdr.specs.declared.fault.CdrKind.{CdrKind}
 use Rattle.giop_cdr.specs.Cursor.{Cursor, place}
 use Rattle.giop_cdr.specs.Reading.{Reading, ◌>>=◌, fault, such_at}
-use Rattle.giop_cdr.specs.Spelling.{Spelling, Then, Known, Such}
+use Rattle.giop_cdr.specs.Spelling.{Spelling, Then, Known, Such, Bounded}
 use Rattle.giop_cdr.specs.Readers.{Stretch, Refusal, Took, IsExact, IsExactHere, Follow, FirstRefused, RefusedBehind, RefusedUnless, NeverRefused}
 use Rattle.giop_cdr.proofs.Answers.{follow_exact, guard_exact, exact_by, known_exact}
 use Rattle.giop_cdr.proofs.Stretches.{cursor_is, follow_from_then, then_from_follow}
@@ -87,3 +87,14 @@ such_exact test n kind P R read exact c =
 -- the same reader, written in another way
 pub exact_as : {A : Type 0} (M : Stretch A) (R : Refusal) (read again : Cursor → Reading A) → ((c : Cursor) → again c ≡ read c) → IsExact M R read → IsExact M R again
 exact_as M R read again same exact c = subst (λ (r : Reading _). IsExactHere (M c) (R c) r) (sym (same c)) (exact c)
+
+no_bound_to : (P : Spelling (List ℕ)) (c : Cursor) (v : List ℕ) (d : Cursor) → Took (Bounded 0 P) c v d → Took P c v d
+no_bound_to P c v d t = record { octets = t.octets; front = t.front; at = t.at; order = t.order; spells = t.spells.0 }
+
+no_bound_from : (P : Spelling (List ℕ)) (c : Cursor) (v : List ℕ) (d : Cursor) → Took P c v d → Took (Bounded 0 P) c v d
+no_bound_from P c v d t = record { octets = t.octets; front = t.front; at = t.at; order = t.order; spells = (t.spells, refl) }
+
+-- a bound of 0 is none
+pub unbounded_exact : (P : Spelling (List ℕ)) (R : Refusal) (read : Cursor → Reading (List ℕ)) → IsExact (Took (Bounded 0 P)) R read → IsExact (Took P) R read
+unbounded_exact P R read exact c = exact_by (Took (Bounded 0 P) c) (Took P c) (R c) (R c) (read c)
+    (no_bound_to P c) (no_bound_from P c) (λ e why. why) (λ e why. why) (exact c)

@@ -9,3 +9,4 @@ pub mod TextSpelling
 pub mod SequenceSpelling
 pub mod CountSteps
 pub mod Composing
+pub mod ItemLoops

@@ -16,9 +16,14 @@ fn passes(bound: u32, length: usize) -> bool
 }
 
 impl<'a, S: Octets> CdrIn<'a, S> {
-    // The count of a sequence or the length of a string: no more than the octets behind it.
+    /// The count of a sequence (9.3.2.3): an unsigned long, aligned to 4, that is no more than the
+    /// number of octets behind it. What memory it asks for is for the caller to bound: an element of
+    /// one octet on the wire may take many in memory.
+    ///
+    /// Refused, at the offset of the count: as Short where it isn't there, as BadCount where it is
+    /// above the number of octets behind it. The reader then stays where it was.
     #[tactic(auto, unfolding(crate::specs::Reading::count_at))]
-    pub(crate) fn read_count(&mut self) -> Result<usize, CdrFault>
+    pub fn read_count(&mut self) -> Result<usize, CdrFault>
         ensures value { Reads self.old result self.new (count_at self.old) }
         ensures within { IfOk result (λ count. count ≤ length self.new.rest) }
         ensures place { IfErr result (λ e. e.at ≡ place 4 self.old) }
