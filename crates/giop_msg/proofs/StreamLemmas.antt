@@ -1,7 +1,7 @@
 -- Messages at the front of a stream: there is one at most, and what follows does not matter.
-use Rattle.std.proofs.Common.{◌≡◌, ℕ, suc, ◌+◌, ◌-◌, ◌<◌, ◌≤◌, ◌^◌, List, [], ◌∷◌, ◌++◌, length, take, drop, get_or, Option, Some, None, refl, sym, ap, subst, ◌∙◌, append_assoc, length-append, inl, inr, arith}
+use Rattle.std.proofs.Common.{◌≡◌, ℕ, zero, suc, ◌+◌, ◌-◌, ◌<◌, ◌≤◌, ◌^◌, List, [], ◌∷◌, ◌++◌, length, take, drop, get_or, Option, Some, None, refl, sym, ap, subst, ◌∙◌, append_assoc, append-nil, length-append, inl, inr, arith}
 use Rattle.std.specs.List.{All, flat_map, slice_range}
-use Rattle.std.proofs.lemmas.List.{take_at, drop_at, take-append-le, take-append-drop, length-take, length-drop, drop-drop, get_or-take, get_or_past}
+use Rattle.std.proofs.lemmas.List.{take_at, drop_at, take-append-le, take-append-drop, length-take, length-drop, drop-drop, get_or-take, get_or_past, flat_map_more}
 use Rattle.std.proofs.lemmas.List.Elements.{All-append}
 use Rattle.std.proofs.lemmas.Bool.{cases_lt}
 use Rattle.std.proofs.lemmas.Grind.{flat_map-append}
@@ -12,7 +12,7 @@ use Rattle.giop_msg.specs.declared.msg.Msg.{Msg}
 use Rattle.giop_msg.specs.Header.{header_octets, header_of, field_fault, header_fault, ulong_of}
 use Rattle.giop_msg.specs.Laws.{OneSplit, RequestIds, SplitOn}
 use Rattle.giop_msg.specs.Msg.{head_of, message_octets, IsMessage, request_id_of}
-use Rattle.giop_msg.specs.Stream.{BeginsWithMessage, BeginsWithFault, Msgs, Unread, Waits}
+use Rattle.giop_msg.specs.Stream.{BeginsWithMessage, BeginsWithFault, Msgs, Unread, Waits, AppendsTaken, TakesMessage}
 use Rattle.giop_msg.proofs.HeaderLemmas.{length-header_octets, header_of-header_octets, header_fault-header_octets, header_fault-of_fields, octet_fault-sound, sizes_of_sound, room_for_id, sound_octets}
 
 pub length-message_octets : (m : Msg) → length (message_octets m) ≡ 12 + length m.payload
@@ -75,6 +75,10 @@ each_head limit m ms each = each 0 m (omega arith)
 
 pub each_tail : (limit : ℕ) (m : Msg) (ms : List Msg) → All (IsMessage limit) (m ∷ ms) → All (IsMessage limit) ms
 each_tail limit m ms each = λ k d h. each (suc k) d (omega arith)
+
+pub each_one : (limit : ℕ) (m : Msg) → IsMessage limit m → All (IsMessage limit) (m ∷ [])
+each_one limit m is zero d h = is
+each_one limit m is (suc k) d h = absurd (omega arith)
 
 -- the first message of a split, and then the octets of the others and the rest
 split_first : (limit : ℕ) (stream : List ℕ) (m : Msg) (ms : List Msg) (rest : List ℕ) → Msgs limit stream (m ∷ ms) rest → stream ≡ message_octets m ++ (flat_map message_octets ms ++ rest)
@@ -177,3 +181,29 @@ message_at_front limit octets h payload below begins limited there slice =
 -- octets that begin with a message are at least as long
 pub message_fits : (octets : List ℕ) (m : Msg) (more : List ℕ) → octets ≡ message_octets m ++ more → 12 + length m.payload ≤ length octets
 message_fits octets m more e = omega (arith, ap length e, length-append (message_octets m) more, length-message_octets m)
+
+-- nothing is taken at first
+pub taken_none : (unread : Unread) (before : List Msg) → AppendsTaken unread before unread before
+taken_none unread before = record {
+  taken = [];
+  appended = sym (append-nil before);
+  takes = record { each = λ k d h. absurd (omega (arith, h)); octets = refl; limit = refl };
+}
+
+-- one message more is taken
+pub taken_more : (old middle new : Unread) (before after : List Msg) (m : Msg) → AppendsTaken old before middle after → TakesMessage middle m new → AppendsTaken old before new (after ++ m ∷ [])
+taken_more old middle new before after m so_far next = record {
+  taken = so_far.taken ++ m ∷ [];
+  appended = ap (λ ms. ms ++ m ∷ []) so_far.appended ∙ append_assoc before so_far.taken (m ∷ []);
+  takes = record {
+    each = All-append (IsMessage old.limit) so_far.taken (m ∷ []) so_far.takes.each (each_one old.limit m (subst (λ n. IsMessage n m) so_far.takes.limit next.is_message));
+    octets =
+      so_far.takes.octets ∙ ap (λ s. flat_map message_octets so_far.taken ++ s) next.octets ∙ sym (append_assoc (flat_map message_octets so_far.taken) (message_octets m) new.octets)
+      ∙ ap (λ s. s ++ new.octets) (flat_map_more message_octets [] so_far.taken m);
+    limit = next.limit ∙ so_far.takes.limit;
+  };
+}
+
+-- a message that is taken leaves fewer octets
+pub takes_fewer : (old new : Unread) (m : Msg) → TakesMessage old m new → length new.octets < length old.octets
+takes_fewer old new m takes = omega (arith, ap length takes.octets, length-append (message_octets m) new.octets, length-message_octets m)

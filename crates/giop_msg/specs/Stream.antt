@@ -39,6 +39,12 @@ pub record TakesMessages (old : Unread) (messages : List Msg) (new : Unread) : T
   pub octets : old.octets ≡ flat_map message_octets messages ++ new.octets
   pub limit : new.limit ≡ old.limit
 
+-- messages are taken away from the front of the unread octets, and appended to others
+pub record AppendsTaken (old : Unread) (before : List Msg) (new : Unread) (after : List Msg) : Type 0 where
+  pub taken : List Msg
+  pub appended : after ≡ before ++ taken
+  pub takes : TakesMessages old taken new
+
 -- the fault stands at the front of the unread octets, or memory ran out for the message there
 abbrev pub IsRefusal : Unread → WireFault → Type 0
 IsRefusal unread e =
