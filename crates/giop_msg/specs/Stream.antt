@@ -1,5 +1,5 @@
 -- A stream of octets as messages, one after another, and a rest.
-use Rattle.std.specs.Prelude.{◌≡◌, ℕ, ◌≤◌, ◌⊎◌, All, List, ◌++◌, Option, Some, length, take}
+use Rattle.std.specs.Prelude.{◌≡◌, ℕ, ◌≤◌, ◌↔◌, ◌⊎◌, All, List, ◌++◌, Option, Some, length, take}
 use Rattle.std.specs.List.{flat_map}
 use Rattle.giop_msg.specs.declared.fault.WireFault.{WireFault}
 use Rattle.giop_msg.specs.declared.msg.Msg.{Msg}
@@ -26,6 +26,11 @@ BeginsWithFault limit octets e = (12 ≤ length octets) × (header_fault limit (
 pub record Waits (unread : Unread) : Type 0 where
   pub no_message : BeginsWithMessage unread.limit unread.octets → ⊥
   pub no_fault : (e : WireFault) → BeginsWithFault unread.limit unread.octets e → ⊥
+
+-- no message stands at the front of the unread octets, and this fault does, if there is one
+pub record IsStopped (unread : Unread) (stands : Option WireFault) : Type 0 where
+  pub no_message : BeginsWithMessage unread.limit unread.octets → ⊥
+  pub fault_is : (e : WireFault) → (stands ≡ Some e) ↔ BeginsWithFault unread.limit unread.octets e
 
 -- this message is taken away from the front of the unread octets
 pub record TakesMessage (old : Unread) (m : Msg) (new : Unread) : Type 0 where

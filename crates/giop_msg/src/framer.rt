@@ -13,7 +13,7 @@ use std::marker::Model;
 
 /// Cuts a stream of octets, which comes in pieces of any size, into messages. Contracts see the
 /// unread octets and the greatest message size.
-#[derive(Drop)]
+#[derive(Debug, Drop)]
 pub struct Framer {
     limit: u32,
     unread: BytesMut,

@@ -1,27 +1,21 @@
-use Rattle.std.proofs.Common.{rules, ◌≡◌, ◌↔◌, ℕ, Some, map, IfOk, IfErr, ◌+◌, ◌-◌, ◌*◌, ◌<◌, ◌≤◌, length, ◌/◌, ◌%◌, Bool, true, false, nat_eq, nat_lt, List, [], ◌∷◌, ◌++◌, slice_index_or, slice_set, bit_and, bit_or, Fits, w8, w32, w64, Bor, MutBor}
-use Rattle.std.specs.List.{concat}
-use Rattle.giop_msg.specs.declared.fault.WireFault.{WireFault}
-use Rattle.giop_msg.specs.declared.fault.WireKind.TheVariants.{NoMemory}
-use Rattle.giop_msg.specs.Fault.{fault}
-use Rattle.giop_msg.specs.Stream.{Msgs, BeginsWithFault}
+use Rattle.std.proofs.Common.{sym, subst}
+use Rattle.std.proofs.lemmas.List.{take_all}
+use Rattle.giop_msg.proofs.ReadPiecesLemmas.{ReadSoFar, read_nothing, read_more, pieces_more}
 use Rattle.giop_msg.proofs.stream.read_pieces.Goals as goal
 
--- src/stream.rt:39:5
 pub loop-piece-init : goal.loop-piece-init
-loop-piece-init c = ?
+loop-piece-init c = rw (c.new-messages.ensures.items, c.new-framer.ensures) (read_nothing c.args.message_limit)
 
--- src/stream.rt:43:55
-pub returns-in-Err-clause-err : goal.returns-in-Err-clause-err
-returns-in-Err-clause-err c = ?
-
--- src/stream.rt:39:5
 pub loop-piece-preserved : goal.loop-piece-preserved
-loop-piece-preserved c = ?
+loop-piece-preserved c =
+    let more = read_more _ _ _ _ _ _ _ _ _ _ c.loop-piece.invariant c.in_ok-feed.ensures.ok c.in_ok-fault.ensures.found c.in_ok-fault.ensures.ok in
+    subst (λ s. ReadSoFar c.args.message_limit s c.take_up_to_fault.new.messages.items c.in_ok-fault.fault c.take_up_to_fault.new.framer)
+      (sym (pieces_more c.args.pieces.now c.loop-piece.piece-index _ c.loop-piece-test.true)) more
 
--- src/stream.rt:25:1
 pub returns-clause-split : goal.returns-clause-split
-returns-clause-split c = ?
+returns-clause-split c =
+    let all = take_all c.loop-piece.piece-index c.args.pieces.now c.loop-piece-test.false in
+    rw all at c.loop-piece.invariant.split
 
--- src/stream.rt:25:1
 pub returns-clause-fault : goal.returns-clause-fault
-returns-clause-fault c = ?
+returns-clause-fault c = rw c.loop-piece.invariant.limit_is at c.loop-piece.invariant.stopped.fault_is
