@@ -1,5 +1,5 @@
 -- A stream that is read in pieces: what was read so far is the split of what came so far.
-use Rattle.std.proofs.Common.{◌≡◌, ◌≢◌, ◌⊎◌, ℕ, ◌+◌, ◌<◌, Bool, true, false, List, [], ◌∷◌, ◌++◌, length, take, map, Option, Some, None, refl, sym, ap, subst, ◌∙◌, inl, inr, append-nil, append_assoc, length-append, arith}
+use Rattle.std.proofs.Common.{◌≡◌, ◌≢◌, ◌⊎◌, ℕ, ◌+◌, ◌<◌, List, [], ◌++◌, length, take, Option, Some, None, refl, sym, ap, subst, ◌∙◌, inl, inr, length-append, arith}
 use Rattle.std.specs.Borrow.{Bor}
 use Rattle.std.specs.List.{flat_map, slice_index_or}
 use Rattle.std.proofs.lemmas.List.{take_more, flat_map_more}
@@ -23,7 +23,8 @@ stopped_by_fault unread e stands = record {
   no_message = λ message. message_or_fault unread.limit unread.octets e message stands;
   fault_is = λ f. (
     λ same. subst (BeginsWithFault unread.limit unread.octets) (let equal : e ≡ f = cc in equal) stands,
-    λ other. ap (λ x. Some x) (one_fault unread.limit unread.octets e f stands other));
+    λ other. ap (λ x. Some x) (one_fault unread.limit unread.octets e f stands other),
+  );
 }
 
 -- a refusal of kind NoMemory is want of memory
@@ -45,7 +46,7 @@ pub record ReadSoFar (limit : ℕ) (stream : List ℕ) (messages : List Msg) (st
 pub read_nothing : (limit : ℕ) → ReadSoFar limit [] [] None (record { limit = limit; octets = [] })
 read_nothing limit =
     let none : BeginsWithMessage limit [] → ⊥ =
-      λ (m , more , is , e). absurd (omega (arith, ap length e, length-append (message_octets m) more, length-message_octets m)) in
+    λ (m, more, is, e). absurd (omega (arith, ap length e, length-append (message_octets m) more, length-message_octets m)) in
     record {
       limit_is = refl;
       split = record { whole = refl; each = λ k d h. absurd (omega (arith, h)); partial = none };
@@ -57,8 +58,8 @@ read_nothing limit =
 
 -- one piece more
 pub read_more : (limit : ℕ) (stream piece : List ℕ) (before after : List Msg) (stood stands : Option WireFault) (old fed new : Unread) →
-  ReadSoFar limit stream before stood old → fed ≡ record old { octets = old.octets ++ piece } → AppendsTaken fed before new after → IsStopped new stands →
-  ReadSoFar limit (stream ++ piece) after stands new
+    ReadSoFar limit stream before stood old → fed ≡ record old { octets = old.octets ++ piece } → AppendsTaken fed before new after → IsStopped new stands →
+    ReadSoFar limit (stream ++ piece) after stands new
 read_more limit stream piece before after stood stands old fed new so_far is moved stopped =
     let limits : fed.limit ≡ limit = ap (λ (u : Unread). u.limit) is ∙ so_far.limit_is in
     let now : new.limit ≡ limit = moved.takes.limit ∙ limits in
@@ -75,7 +76,7 @@ read_more limit stream piece before after stood stands old fed new so_far is mov
 
 -- the octets of one piece more
 pub pieces_more : (pieces : List (Bor (List ℕ))) (i : ℕ) (d : Bor (List ℕ)) → i < length pieces →
-  flat_map (λ (p : Bor (List ℕ)). p.now) (take (i + 1) pieces) ≡ flat_map (λ (p : Bor (List ℕ)). p.now) (take i pieces) ++ (slice_index_or pieces i d).now
+    flat_map (λ (p : Bor (List ℕ)). p.now) (take (i + 1) pieces) ≡ flat_map (λ (p : Bor (List ℕ)). p.now) (take i pieces) ++ (slice_index_or pieces i d).now
 pieces_more pieces i d h =
     ap (flat_map (λ (p : Bor (List ℕ)). p.now)) (take_more pieces i d h)
     ∙ sym (flat_map_more (λ (p : Bor (List ℕ)). p.now) [] (take i pieces) (slice_index_or pieces i d))

@@ -25,5 +25,4 @@ pub fn split_on()
 /// A fault at the front of octets stands there for good, however many octets follow.
 pub fn faults_stand()
     ensures { FaultsStand }
-{
-}
+{}

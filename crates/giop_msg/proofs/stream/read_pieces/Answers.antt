@@ -10,7 +10,7 @@ pub loop-piece-preserved : goal.loop-piece-preserved
 loop-piece-preserved c =
     let more = read_more _ _ _ _ _ _ _ _ _ _ c.loop-piece.invariant c.in_ok-feed.ensures.ok c.in_ok-fault.ensures.found c.in_ok-fault.ensures.ok in
     subst (λ s. ReadSoFar c.args.message_limit s c.take_up_to_fault.new.messages.items c.in_ok-fault.fault c.take_up_to_fault.new.framer)
-      (sym (pieces_more c.args.pieces.now c.loop-piece.piece-index _ c.loop-piece-test.true)) more
+    (sym (pieces_more c.args.pieces.now c.loop-piece.piece-index _ c.loop-piece-test.true)) more
 
 pub returns-clause-split : goal.returns-clause-split
 returns-clause-split c =

@@ -12,6 +12,6 @@ returns-in-Err-clause-err c =
 pub returns-in-Err-2-clause-ok : goal.returns-in-Err-2-clause-ok
 returns-in-Err-2-clause-ok c =
     stopped_by_fault _ _ (refused_by_fault _ _ c.in-Err.ensures.err (λ memory.
-      let same : false ≡ true = sym c.if-eq.false ∙ c.eq.ensures ∙ ap (λ k. sameb the_type k NoMemory) memory in
-      let no : ⊥ = cc in
-      absurd no))
+    let same : false ≡ true = sym c.if-eq.false ∙ c.eq.ensures ∙ ap (λ k. sameb the_type k NoMemory) memory in
+    let no : ⊥ = cc in
+    absurd no))

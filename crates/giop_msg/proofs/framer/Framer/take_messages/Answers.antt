@@ -1,4 +1,3 @@
-use Rattle.std.proofs.Common.{arith}
 use Rattle.giop_msg.proofs.StreamLemmas.{taken_none, taken_more, takes_fewer}
 use Rattle.giop_msg.proofs.framer.Framer.take_messages.Goals as goal
 
