@@ -3,3 +3,5 @@ pub mod Reading
 pub mod Outcome
 pub mod Spelling
 pub mod Readers
+pub mod Output
+pub mod Writing

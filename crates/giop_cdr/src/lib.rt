@@ -2,6 +2,7 @@
 //! order, read from any store of octets.
 #![tactic(auto)]
 
+mod appending;
 mod fault;
 mod laws;
 mod numbers;
@@ -11,6 +12,8 @@ mod order;
 mod reader;
 mod runs;
 mod sequences;
+mod writer;
+mod writing;
 
 pub use fault::{CdrFault, CdrKind};
 pub use laws::{numbers_are_spelled, octets_are_spelled, strings_are_spelled};
@@ -18,3 +21,4 @@ pub use octet_list::OctetList;
 pub use octets::{Octets, SliceOctets};
 pub use order::Order;
 pub use reader::CdrIn;
+pub use writer::CdrOut;

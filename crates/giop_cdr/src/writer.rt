@@ -1,0 +1,115 @@
+ghost use Rattle.std.specs.Prelude.{◌≡◌, ◌+◌, ◌-◌, ◌<◌, ◌≤◌, ◌^◌, length, [], ◌++◌, OnErr};
+ghost use Rattle.giop_cdr.specs.Output.{append, aligned, padding_out};
+ghost use Rattle.giop_cdr.specs.Writing.{Writes, Appends, Grows};
+
+use crate::appending::{push_counted, push_field, push_zeros};
+use crate::order::Order;
+use std::alloc::{AllocError, Global};
+use std::marker::Model;
+
+/// Writes CDR values one after the other, in one byte order, into octets that it holds.
+///
+/// Contracts see it as an `Output`: the octets so far, the offset of the next one, and the order.
+/// Padding is zeros. Where memory is wanting, the output is as it was before the call.
+#[derive(Drop)]
+pub struct CdrOut {
+    octets: Vec<u8>,
+    order: Order,
+    // The offset of the octet at index `base`, by which values are aligned.
+    start: usize,
+    base: usize,
+}
+
+impl Model for CdrOut {
+    ghost use Rattle.std.specs.Prelude.{◌+◌, ◌-◌, ◌≤◌, ◌^◌, length};
+    ghost use Rattle.giop_cdr.specs.Output.{Output};
+
+    ghost Value = { Output };
+
+    ghost view = { λ w. record { order = w.order; at = w.start + (length w.octets.items - w.base); octets = w.octets.items } };
+
+    ghost invariant = { λ w. (w.base ≤ length w.octets.items) × (w.start ≤ 2 ^ 32) };
+}
+
+impl CdrOut {
+    /// An empty output, whose first octet will have the offset `start`. It takes no memory.
+    pub fn new(alloc: Global, order: Order, start: usize) -> CdrOut
+        requires { start ≤ 2 ^ 32 }
+        ensures { result ≡ record { order = order; at = start; octets = [] } }
+    {
+        CdrOut {
+            octets: Vec::new(alloc),
+            order,
+            start,
+            base: 0,
+        }
+    }
+
+    /// The offset of the next octet.
+    #[inline(always)]
+    pub fn position(&self) -> usize
+        ensures { result ≡ self.now.at }
+    {
+        self.start + (self.octets.len() - self.base)
+    }
+
+    /// The order in which numbers are written.
+    #[inline(always)]
+    pub fn order(&self) -> Order
+        ensures { result ≡ self.now.order }
+    {
+        self.order
+    }
+
+    /// The octets so far.
+    pub fn as_slice(&self) -> &[u8]
+        ensures { result.now ≡ self.now.octets }
+    {
+        self.octets.as_slice()
+    }
+
+    /// The octets. It takes no memory.
+    pub fn into_bytes(self) -> Vec<u8>
+        ensures { result.items ≡ self.octets }
+    {
+        self.octets
+    }
+
+    /// Zeros up to the next multiple of `n`, which is 1, 2, 4 or 8: none where the offset is one.
+    #[tactic(auto, unfolding(crate::specs::Output::padding_out))]
+    pub fn align(&mut self, n: usize) -> Result<(), AllocError>
+        requires some { 0 < n }
+        requires few { n ≤ 8 }
+        ensures { Writes self.old result self.new (padding_out n self.old) }
+    {
+        let pad = (n - self.position() % n) % n;
+        push_zeros(&mut self.octets, pad, 0)
+    }
+
+    // An aligned value of N octets.
+    #[inline(always)]
+    pub(crate) fn append_field<const N: usize>(&mut self, field: [u8; N]) -> Result<(), AllocError>
+        requires some { 0 < N }
+        requires few { N ≤ 8 }
+        ensures { Writes self.old result self.new (append self.old (aligned N self.old field.entry)) }
+    {
+        let at = self.position();
+        push_field(&mut self.octets, at, field)
+    }
+
+    // An aligned count, and the octets that it counts in two parts.
+    pub(crate) fn append_counted(
+        &mut self,
+        count: [u8; 4],
+        content: &[u8],
+        tail: &[u8],
+    ) -> Result<(), AllocError>
+        requires content { length content.now < 2 ^ 32 }
+        requires tail { length tail.now ≤ 8 }
+        ensures { Writes self.old result self.new
+            (append (append self.old (aligned 4 self.old count)) (content.now ++ tail.now)) }
+    {
+        let at = self.position();
+        push_counted(&mut self.octets, at, count, content, tail)
+    }
+}
