@@ -10,3 +10,4 @@ pub mod SequenceSpelling
 pub mod CountSteps
 pub mod Composing
 pub mod ItemLoops
+pub mod OpenLemmas

@@ -5,3 +5,5 @@ pub mod Spelling
 pub mod Readers
 pub mod Output
 pub mod Writing
+pub mod RoundTrip
+pub mod Encapsulation

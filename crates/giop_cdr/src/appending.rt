@@ -1,6 +1,6 @@
 // Octets at the end of a list. Room for all of a call is made before anything changes, so a call that
 // fails leaves the list as it was.
-ghost use Rattle.std.specs.Prelude.{◌≡◌, ◌+◌, ◌<◌, ◌≤◌, ◌^◌, ◌++◌, length, replicate, OnOk, OnErr};
+ghost use Rattle.std.specs.Prelude.{◌≡◌, ◌+◌, ◌<◌, ◌≤◌, ◌^◌, ◌++◌, length, take, drop, replicate, OnOk, OnErr};
 ghost use Rattle.std.specs.Vec.{vec_len, vec_capacity};
 ghost use Rattle.giop_cdr.specs.Cursor.{pad};
 
@@ -59,4 +59,12 @@ pub fn push_counted(
     push_field(octets, at, count)?;
     octets.extend_from_slice(content)?;
     octets.extend_from_slice(tail)
+}
+
+// Four octets in the place of those at an index.
+pub fn fill(octets: &mut [u8], at: usize, field: [u8; 4])
+    requires { at + 4 ≤ length octets.old }
+    ensures { octets.new ≡ take at octets.old ++ (field ++ drop (at + 4) octets.old) }
+{
+    octets[at..at + 4].copy_from_slice(&field);
 }

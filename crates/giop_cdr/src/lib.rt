@@ -3,6 +3,7 @@
 #![tactic(auto)]
 
 mod appending;
+mod encapsulation;
 mod fault;
 mod laws;
 mod numbers;
@@ -15,6 +16,7 @@ mod sequences;
 mod writer;
 mod writing;
 
+pub use encapsulation::Mark;
 pub use fault::{CdrFault, CdrKind};
 pub use laws::{numbers_are_spelled, octets_are_spelled, strings_are_spelled};
 pub use octet_list::OctetList;

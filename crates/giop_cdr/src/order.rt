@@ -1,3 +1,6 @@
+ghost use Rattle.std.specs.Prelude.{◌≡◌};
+ghost use Rattle.std.specs.Int.{w32};
+
 /// The order of the octets of a number (9.3.1.1). The sender chooses it for each message, and again
 /// for each encapsulation.
 #[derive(Clone, Copy, Debug, PartialEq, Eq)]
@@ -6,4 +9,29 @@ pub enum Order {
     Big,
     /// The least significant octet first: byte order 1.
     Little,
+}
+
+impl Order {
+    ghost use Rattle.giop_cdr.specs.Encapsulation.{order_octet};
+    ghost use Rattle.giop_cdr.specs.Output.{octets_of};
+
+    /// The octet that tells this order at the head of an encapsulation (9.3.3): 0 or 1.
+    pub fn octet(self) -> u8
+        ensures { result ≡ order_octet self }
+    {
+        match self {
+            Order::Big => 0,
+            Order::Little => 1,
+        }
+    }
+
+    /// The octets of an unsigned long in this order.
+    pub fn ulong_octets(self, value: u32) -> [u8; 4]
+        ensures { result ≡ octets_of self w32 value }
+    {
+        match self {
+            Order::Big => value.to_be_bytes(),
+            Order::Little => value.to_le_bytes(),
+        }
+    }
 }

@@ -1,7 +1,8 @@
 ghost use Rattle.std.specs.Prelude.{◌≡◌, ◌+◌, ◌<◌, ◌≤◌, ◌^◌, length, take, IfOk, IfErr};
 ghost use Rattle.giop_cdr.specs.Cursor.{place, skip};
 ghost use Rattle.giop_cdr.specs.Reading.{field_at, is_text};
-ghost use Rattle.giop_cdr.specs.Outcome.{Reads};
+ghost use Rattle.giop_cdr.specs.Encapsulation.{opened_of, encapsulation_at};
+ghost use Rattle.giop_cdr.specs.Outcome.{Reads, Exactly};
 
 use crate::fault::{CdrFault, CdrKind};
 use crate::octets::Octets;
@@ -118,7 +119,8 @@ impl<'a, S: Octets> CdrIn<'a, S> {
     pub fn place<const N: usize>(&self) -> usize
         requires some { 0 < N }
         requires few { N ≤ 8 }
-        ensures { result ≡ place N self.now }
+        ensures value { result ≡ place N self.now }
+        ensures within { result < 2 ^ 63 }
     {
         self.at + (N - self.at % N) % N
     }
@@ -147,5 +149,54 @@ impl<'a, S: Octets> CdrIn<'a, S> {
         ensures { result ≡ is_text (take count self.now.rest) }
     {
         text_lies_at(self.source, self.index, count)
+    }
+
+    /// An encapsulation (9.3.3): a reader of its content, in its own order and with its own alignment.
+    /// This reader goes on behind the content, in its own order.
+    ///
+    /// Refused at the offset of its length, as a sequence of octets is: as Short or BadCount. Refused at
+    /// the offset behind the length: as Short where the length is 0, as BadOrder where the order octet
+    /// is neither 0 nor 1. The reader then stays where it was.
+    #[tactic(auto, using(crate::proofs::OpenLemmas::opened_counted, crate::proofs::OpenLemmas::refused_counted, crate::proofs::OpenLemmas::uncounted))]
+    pub fn open_encapsulation(&mut self) -> Result<CdrIn<'a, S>, CdrFault>
+        ensures { Reads self.old result self.new (encapsulation_at self.old) }
+    {
+        let at = self.place::<4>() + 4;
+        let mut ahead = self.fork();
+        let count = ahead.octet_count(0)?;
+        let content = ahead.content(count, at)?;
+        ahead.advance(count);
+        *self = ahead;
+        Ok(content)
+    }
+
+    // A reader of what the next octets, which are there, encapsulate; the first of them has an offset.
+    fn content(&self, count: usize, at: usize) -> Result<CdrIn<'a, S>, CdrFault>
+        requires { count ≤ length self.now.rest }
+        ensures { Exactly result (skip count self.now) (opened_of at (take count self.now.rest) (skip count self.now)) }
+    {
+        if count == 0 {
+            return Err(CdrFault {
+                at,
+                kind: CdrKind::Short,
+            });
+        }
+        let order = match self.source.at(self.index) {
+            0 => Order::Big,
+            1 => Order::Little,
+            _ => {
+                return Err(CdrFault {
+                    at,
+                    kind: CdrKind::BadOrder,
+                });
+            }
+        };
+        Ok(CdrIn {
+            source: self.source,
+            order,
+            at: 1,
+            index: self.index + 1,
+            end: self.index + count,
+        })
     }
 }

@@ -42,7 +42,7 @@ impl<'a, S: Octets> CdrIn<'a, S> {
 
     // The length of a sequence of octets that is within the bound.
     #[tactic(auto, unfolding(crate::specs::Reading::octet_count_at))]
-    fn octet_count(&mut self, bound: u32) -> Result<usize, CdrFault>
+    pub(crate) fn octet_count(&mut self, bound: u32) -> Result<usize, CdrFault>
         ensures value { Reads self.old result self.new (octet_count_at bound self.old) }
         ensures within { IfOk result (λ count. count ≤ length self.new.rest) }
         ensures place { IfErr result (λ e. e.at ≡ place 4 self.old) }

@@ -1,8 +1,10 @@
-ghost use Rattle.std.specs.Prelude.{◌≡◌, ◌+◌, ◌-◌, ◌<◌, ◌≤◌, ◌^◌, length, [], ◌++◌, OnErr};
+ghost use Rattle.std.specs.Prelude.{◌≡◌, ◌+◌, ◌-◌, ◌<◌, ◌≤◌, ◌^◌, length, [], ◌++◌, OnOk, OnErr, IfOk};
 ghost use Rattle.giop_cdr.specs.Output.{append, aligned, padding_out};
+ghost use Rattle.giop_cdr.specs.Encapsulation.{opened, place_opened, closed};
 ghost use Rattle.giop_cdr.specs.Writing.{Writes, Appends, Grows};
 
-use crate::appending::{push_counted, push_field, push_zeros};
+use crate::appending::{fill, push_counted, push_field, push_zeros};
+use crate::encapsulation::Mark;
 use crate::order::Order;
 use std::alloc::{AllocError, Global};
 use std::marker::Model;
@@ -84,6 +86,44 @@ impl CdrOut {
     {
         let pad = (n - self.position() % n) % n;
         push_zeros(&mut self.octets, pad, 0)
+    }
+
+    /// Begins an encapsulation (9.3.3) whose numbers are in `order`: a length that isn't known yet, and
+    /// the order octet. Until it is ended, alignment counts from that octet.
+    #[tactic(auto, unfolding(crate::specs::Encapsulation::opened, crate::specs::Encapsulation::place_opened))]
+    pub fn begin_encapsulation(&mut self, order: Order) -> Result<Mark, AllocError>
+        ensures ok { OnOk result (self.new ≡ opened order self.old) }
+        ensures mark { IfOk result (λ mark. mark ≡ place_opened self.old) }
+        ensures err { OnErr result (self.new ≡ self.old) }
+    {
+        let at = self.position();
+        push_counted(&mut self.octets, at, [0; 4], &[order.octet()], &[])?;
+        let len = self.octets.len() - 1;
+        let mark = Mark {
+            len,
+            order: self.order,
+            start: self.start,
+            base: self.base,
+        };
+        self.order = order;
+        self.start = 0;
+        self.base = len;
+        Ok(mark)
+    }
+
+    /// Ends the encapsulation that began at `mark`: its length is filled in, and the order and the
+    /// alignment of outside hold again. It takes no memory. The content is below 2^32 octets.
+    #[tactic(auto, unfolding(crate::specs::Encapsulation::closed))]
+    pub fn end_encapsulation(&mut self, mark: Mark)
+        requires begun { mark.len ≤ length self.old.octets }
+        requires short { length self.old.octets - mark.len < 2 ^ 32 }
+        ensures { self.new ≡ closed mark self.old }
+    {
+        let length = (self.octets.len() - mark.len) as u32;
+        fill(&mut self.octets, mark.len - 4, mark.order.ulong_octets(length));
+        self.order = mark.order;
+        self.start = mark.start;
+        self.base = mark.base;
     }
 
     // An aligned value of N octets.

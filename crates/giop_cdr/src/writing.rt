@@ -1,6 +1,6 @@
 ghost use Rattle.std.specs.Prelude.{◌≡◌, ◌<◌, ◌^◌, ◌+◌, length, false, if◌then◌else◌};
 ghost use Rattle.std.specs.Int.{w8, w16, w32, w64};
-ghost use Rattle.giop_cdr.specs.Output.{octets_of, number_out, signed_out, octets_out, string_out};
+ghost use Rattle.giop_cdr.specs.Output.{number_out, signed_out, octets_out, string_out};
 ghost use Rattle.giop_cdr.specs.Reading.{has_null};
 ghost use Rattle.giop_cdr.specs.Writing.{Writes};
 
@@ -110,7 +110,7 @@ impl CdrOut {
         ensures { Writes self.old result self.new (octets_out octets.now self.old) }
     {
         let length = octets.len() as u32;
-        self.append_counted(self.ulong_octets(length), octets, &[])
+        self.append_counted(self.order().ulong_octets(length), octets, &[])
     }
 
     /// A string (9.3.2.7): an unsigned long length, aligned to 4, that counts the null, the octets, the
@@ -122,16 +122,6 @@ impl CdrOut {
         ensures { Writes self.old result self.new (string_out text.now self.old) }
     {
         let length = text.len() as u32 + 1;
-        self.append_counted(self.ulong_octets(length), text, &[0])
-    }
-
-    // The octets of an unsigned long in the order of the output.
-    fn ulong_octets(&self, value: u32) -> [u8; 4]
-        ensures { result ≡ octets_of self.now.order w32 value }
-    {
-        match self.order() {
-            Order::Big => value.to_be_bytes(),
-            Order::Little => value.to_le_bytes(),
-        }
+        self.append_counted(self.order().ulong_octets(length), text, &[0])
     }
 }

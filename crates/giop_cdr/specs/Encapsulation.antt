@@ -1,0 +1,62 @@
+-- Encapsulations (CORBA 3.3 Part 2, 9.3.3): a sequence of octets of which the first is the byte order of
+-- the rest, and in which alignment begins anew at that octet.
+use Rattle.std.specs.Prelude.{◌≡◌, ℕ, zero, suc, ◌+◌, ◌-◌, List, [], ◌∷◌, ◌++◌, length, take, drop, replicate, Result, Ok, Err}
+use Rattle.std.specs.Int.{w32}
+use Rattle.giop_cdr.specs.declared.order.Order.{Order}
+use Rattle.giop_cdr.specs.declared.order.Order.TheVariants.{Big, Little}
+use Rattle.giop_cdr.specs.declared.fault.CdrKind.TheVariants.{Short, BadOrder}
+use Rattle.giop_cdr.specs.Cursor.{Cursor, pad, place}
+use Rattle.giop_cdr.specs.Reading.{Reading, ◌>>=◌, fault, octets_at}
+use Rattle.giop_cdr.specs.Output.{Output, aligned, octets_of}
+
+-- the octet of a byte order
+abbrev pub order_octet : Order → ℕ
+order_octet Big = 0
+order_octet Little = 1
+
+-- ---- reading
+
+-- the reader of an encapsulation's content: it stands behind the order octet, whose offset is 0
+abbrev pub content_of : Order → List ℕ → Cursor
+content_of order octets = record { order = order; at = 1; rest = octets }
+
+-- what the octets of an encapsulation open, of which the first stands at an offset; the second cursor is
+-- that of the outer reader
+abbrev pub opened_of : ℕ → List ℕ → Cursor → Reading Cursor
+opened_of at [] after = Err (fault at Short)
+opened_of at (zero ∷ octets) after = Ok (content_of Big octets, after)
+opened_of at (suc zero ∷ octets) after = Ok (content_of Little octets, after)
+opened_of at (suc (suc _) ∷ octets) after = Err (fault at BadOrder)
+
+-- an encapsulation, opened
+unfoldable pub encapsulation_at : Cursor → Reading Cursor
+encapsulation_at c = do
+  octets ← octets_at 0 c
+  opened_of (place 4 c + 4) octets.0 octets.1
+
+-- ---- writing
+
+-- where the octets of an encapsulation begin in the outer output: how many octets stand before, and the
+-- order and the offset there
+pub record Place : Type 0 where
+  pub len : ℕ
+  pub order : Order
+  pub at : ℕ
+
+-- a length that isn't known yet, and the order octet, behind which the inner order and alignment hold
+unfoldable pub opened : Order → Output → Output
+opened order out =
+    record { order = order; at = 1; octets = out.octets ++ (aligned 4 out (replicate 4 0) ++ order_octet order ∷ []) }
+
+unfoldable pub place_opened : Output → Place
+place_opened out =
+    record { len = length out.octets + (pad 4 out.at + 4); order = out.order; at = out.at + (pad 4 out.at + 4) }
+
+-- the length is known, and the outer order and alignment hold again
+unfoldable pub closed : Place → Output → Output
+closed p out =
+    record {
+      order = p.order;
+      at = p.at + (length out.octets - p.len);
+      octets = take (p.len - 4) out.octets ++ (octets_of p.order w32 (length out.octets - p.len) ++ drop p.len out.octets);
+    }
