@@ -11,3 +11,7 @@ pub mod CountSteps
 pub mod Composing
 pub mod ItemLoops
 pub mod OpenLemmas
+pub mod WrittenNumbers
+pub mod RoundTripLemmas
+pub mod BooleanSpelling
+pub mod EncapsulationLemmas

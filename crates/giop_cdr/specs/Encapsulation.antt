@@ -1,12 +1,14 @@
 -- Encapsulations (CORBA 3.3 Part 2, 9.3.3): a sequence of octets of which the first is the byte order of
 -- the rest, and in which alignment begins anew at that octet.
-use Rattle.std.specs.Prelude.{◌≡◌, ℕ, zero, suc, ◌+◌, ◌-◌, List, [], ◌∷◌, ◌++◌, length, take, drop, replicate, Result, Ok, Err}
+use Rattle.std.specs.Prelude.{◌≡◌, ℕ, zero, suc, ◌+◌, ◌-◌, ◌<◌, ◌⊎◌, slice_index, List, [], ◌∷◌, ◌++◌, length, take, drop, replicate, Result, Ok, Err}
 use Rattle.std.specs.Int.{w32}
 use Rattle.giop_cdr.specs.declared.order.Order.{Order}
 use Rattle.giop_cdr.specs.declared.order.Order.TheVariants.{Big, Little}
 use Rattle.giop_cdr.specs.declared.fault.CdrKind.TheVariants.{Short, BadOrder}
 use Rattle.giop_cdr.specs.Cursor.{Cursor, pad, place}
 use Rattle.giop_cdr.specs.Reading.{Reading, ◌>>=◌, fault, octets_at}
+use Rattle.giop_cdr.specs.Spelling.{Spelling, SpellsOctets, Then}
+use Rattle.giop_cdr.specs.Readers.{Refusal, FirstRefused, Took, RefusedOctets}
 use Rattle.giop_cdr.specs.Output.{Output, aligned, octets_of}
 
 -- the octet of a byte order
@@ -33,6 +35,24 @@ unfoldable pub encapsulation_at : Cursor → Reading Cursor
 encapsulation_at c = do
   octets ← octets_at 0 c
   opened_of (place 4 c + 4) octets.0 octets.1
+
+-- octets are an order octet and a content, of which the value is the reader
+pub record Opens (octets : List ℕ) (v : Cursor) : Type 0 where
+  pub order : Order
+  pub content : List ℕ
+  pub whole : octets ≡ order_octet order ∷ content
+  pub value : v ≡ content_of order content
+
+-- an encapsulation: a sequence of octets that opens
+abbrev pub SpellsEncapsulation : Spelling Cursor
+SpellsEncapsulation = Then SpellsOctets (λ octets o at v b. Opens octets v × (b ≡ []))
+
+-- the sequence of octets is refused, or it has no octet, or its first octet is no byte order
+abbrev pub RefusedEncapsulation : Refusal
+RefusedEncapsulation c e = FirstRefused (Took SpellsOctets) (RefusedOctets 0)
+    (λ octets d f. ((octets ≡ []) × (f ≡ fault (place 4 c + 4) Short))
+        ⊎ ((1 < slice_index octets 0) × (f ≡ fault (place 4 c + 4) BadOrder)))
+    c e
 
 -- ---- writing
 

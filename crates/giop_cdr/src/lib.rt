@@ -18,7 +18,7 @@ mod writing;
 
 pub use encapsulation::Mark;
 pub use fault::{CdrFault, CdrKind};
-pub use laws::{numbers_are_spelled, octets_are_spelled, strings_are_spelled};
+pub use laws::{booleans_are_spelled, encapsulations_are_opened_again, numbers_are_spelled, octets_are_spelled, strings_are_spelled, written_values_are_read_back};
 pub use octet_list::OctetList;
 pub use octets::{Octets, SliceOctets};
 pub use order::Order;
