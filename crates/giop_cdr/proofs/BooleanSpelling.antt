@@ -56,15 +56,24 @@ boolean_to : (c : Cursor) (v : Bool) (d : Cursor) → Follow (Took (SpellsNumber
 boolean_to c v d f =
     let t : Took (SpellsNumber w8) c f.first d = subst (λ (e : Cursor). Took (SpellsNumber w8) c f.first e) (sym f.back.1.1) f.front in
     let octet : f.first ≡ (if v then 1 else 0) = of_bool f.first (ltb-false 1 f.first f.back.0) ∙ rw f.back.1.0 refl in
-    record { octets = t.octets; front = t.front; at = t.at; order = t.order;
-      spells = octet_is c.order c.at f.first t.octets t.spells ∙ ap (λ (n : ℕ). n ∷ []) octet }
+    record {
+      octets = t.octets;
+      front = t.front;
+      at = t.at;
+      order = t.order;
+      spells = octet_is c.order c.at f.first t.octets t.spells ∙ ap (λ (n : ℕ). n ∷ []) octet;
+    }
 
 boolean_from : (c : Cursor) (v : Bool) (d : Cursor) → Took SpellsBoolean c v d → Follow (Took (SpellsNumber w8)) Tested c v d
 boolean_from c v d t =
     let n : ℕ = if v then 1 else 0 in
     let spells : SpellsNumber w8 c.order c.at n t.octets = rw t.spells (spells_octet c.order c.at n) in
-    record { first = n; middle = d; front = record { octets = t.octets; front = t.front; at = t.at; order = t.order; spells = spells };
-      back = (no_more v, (bool_of v, refl)) }
+    record {
+      first = n;
+      middle = d;
+      front = record { octets = t.octets; front = t.front; at = t.at; order = t.order; spells = spells };
+      back = (no_more v, (bool_of v, refl));
+    }
 
 boolean_refused_to : (c : Cursor) (e : CdrFault) → FirstRefused (Took (SpellsNumber w8)) (RefusedShort 1) (Untested c) c e → RefusedBoolean c e
 boolean_refused_to c e why = elim why [
@@ -86,5 +95,5 @@ unfolding boolean_at
 boolean_exact c = exact_by (Follow (Took (SpellsNumber w8)) Tested c) (Took SpellsBoolean c) (FirstRefused (Took (SpellsNumber w8)) (RefusedShort 1) (Untested c) c)
     (RefusedBoolean c) (boolean_at c) (boolean_to c) (boolean_from c) (boolean_refused_to c) (boolean_refused_from c)
     (follow_exact (Took (SpellsNumber w8)) (RefusedShort 1) Tested (Untested c) c (number_at w8 c)
-      (λ n d. if ltb 1 n then Err (fault (place 1 c) BadBoolean) else Ok (n == 1, d)) (number_exact w8 c)
-      (λ n d t. guard_exact (ltb 1 n) (fault (place 1 c) BadBoolean) (λ v e. (v ≡ (n == 1)) × (e ≡ d)) (λ _. ⊥) (Ok (n == 1, d)) (known_exact (n == 1) d)))
+    (λ n d. if ltb 1 n then Err (fault (place 1 c) BadBoolean) else Ok (n == 1, d)) (number_exact w8 c)
+    (λ n d t. guard_exact (ltb 1 n) (fault (place 1 c) BadBoolean) (λ v e. (v ≡ (n == 1)) × (e ≡ d)) (λ _. ⊥) (Ok (n == 1, d)) (known_exact (n == 1) d)))

@@ -44,14 +44,14 @@ closed_is_octets order out now content grown =
     let front : length (before ++ replicate 4 0) ≡ len = omega (arith, length-append before (replicate 4 0), ahead) in
     let long : length now.octets ≡ len + length inside = ap length parts ∙ (length-append (before ++ replicate 4 0) inside ∙ rw front refl) in
     let kept : take (len - 4) now.octets ≡ before = ap (take (len - 4)) (parts ∙ append_assoc before (replicate 4 0) inside)
-          ∙ take_at before (replicate 4 0 ++ inside) (len - 4) (omega (arith, ahead)) in
+    ∙ take_at before (replicate 4 0 ++ inside) (len - 4) (omega (arith, ahead)) in
     let behind : drop len now.octets ≡ inside = ap (drop len) parts ∙ drop_at (before ++ replicate 4 0) inside len front in
     let counted : length now.octets - len ≡ length inside = omega (arith, long) in
     let count : List ℕ = octets_of out.order w32 (length inside) in
     let field : length (zeros ++ count) ≡ pad 4 out.at + 4
-        = omega (arith, length-append zeros count, length-zeros (pad 4 out.at), length-octets_of out.order w32 (length inside)) in
+    = omega (arith, length-append zeros count, length-zeros (pad 4 out.at), length-octets_of out.order w32 (length inside)) in
     rw (kept, behind, counted) (output_of-same out.order (out.at + (pad 4 out.at + 4) + length inside) (out.at + length (zeros ++ count) + length inside)
-      (before ++ (count ++ inside)) ((out.octets ++ (zeros ++ count)) ++ inside) (rw field refl) (simp append_assoc))
+    (before ++ (count ++ inside)) ((out.octets ++ (zeros ++ count)) ++ inside) (rw field refl) (simp append_assoc))
 
 -- ---- opening
 
@@ -73,29 +73,29 @@ opening_exact c d [] = record {
   found = λ v e h. absurd cc;
   only = λ v e m. let w = m.0.whole in absurd cc;
   refused = λ e h. inl (refl, cc);
-  refuses = λ e why. elim why [ | inl r ↦ ap Err (sym r.1) | inr r ↦ absurd (omega (arith, r.0)) ];
+  refuses = λ e why. elim why [ inl r ↦ ap Err (sym r.1) | inr r ↦ absurd (omega (arith, r.0)) ];
 }
 opening_exact c d (zero ∷ octets) = record {
   found = λ v e h.
-    let same : (content_of Big octets, d) ≡ (v, e) = ok_same (content_of Big octets, d) (v, e) h in
-    (record { order = Big; content = octets; whole = refl; value = ap (λ (p : Cursor × Cursor). p.0) (sym same) }, ap (λ (p : Cursor × Cursor). p.1) (sym same));
+      let same : (content_of Big octets, d) ≡ (v, e) = ok_same (content_of Big octets, d) (v, e) h in
+      (record { order = Big; content = octets; whole = refl; value = ap (λ (p : Cursor × Cursor). p.0) (sym same) }, ap (λ (p : Cursor × Cursor). p.1) (sym same));
   only = λ v e m. opens_to c d (zero ∷ octets) v e m;
   refused = λ e h. absurd cc;
-  refuses = λ e why. elim why [ | inl r ↦ absurd cc | inr r ↦ absurd (omega (arith, r.0)) ];
+  refuses = λ e why. elim why [ inl r ↦ absurd cc | inr r ↦ absurd (omega (arith, r.0)) ];
 }
 opening_exact c d (suc zero ∷ octets) = record {
   found = λ v e h.
-    let same : (content_of Little octets, d) ≡ (v, e) = ok_same (content_of Little octets, d) (v, e) h in
-    (record { order = Little; content = octets; whole = refl; value = ap (λ (p : Cursor × Cursor). p.0) (sym same) }, ap (λ (p : Cursor × Cursor). p.1) (sym same));
+      let same : (content_of Little octets, d) ≡ (v, e) = ok_same (content_of Little octets, d) (v, e) h in
+      (record { order = Little; content = octets; whole = refl; value = ap (λ (p : Cursor × Cursor). p.0) (sym same) }, ap (λ (p : Cursor × Cursor). p.1) (sym same));
   only = λ v e m. opens_to c d (suc zero ∷ octets) v e m;
   refused = λ e h. absurd cc;
-  refuses = λ e why. elim why [ | inl r ↦ absurd cc | inr r ↦ absurd (omega (arith, r.0)) ];
+  refuses = λ e why. elim why [ inl r ↦ absurd cc | inr r ↦ absurd (omega (arith, r.0)) ];
 }
 opening_exact c d (suc (suc k) ∷ octets) = record {
   found = λ v e h. absurd cc;
   only = λ v e m. opens_to c d (suc (suc k) ∷ octets) v e m;
   refused = λ e h. inr (omega arith, cc);
-  refuses = λ e why. elim why [ | inl r ↦ absurd cc | inr r ↦ ap Err (sym r.1) ];
+  refuses = λ e why. elim why [ inl r ↦ absurd cc | inr r ↦ ap Err (sym r.1) ];
 }
 
 encapsulation_to : (c v e : Cursor) → Follow (Took SpellsOctets) opens_as c v e → Took SpellsEncapsulation c v e
@@ -132,7 +132,7 @@ encapsulation_exact c = exact_by (Follow (Took SpellsOctets) opens_as c) (Took S
     (FirstRefused (Took SpellsOctets) (RefusedOctets 0) (opens_not c) c) (RefusedEncapsulation c) (encapsulation_at c)
     (encapsulation_to c) (encapsulation_from c) (λ e why. why) (λ e why. why)
     (follow_exact (Took SpellsOctets) (RefusedOctets 0) opens_as (opens_not c) c (octets_at 0 c) (λ octets d. opened_of (place 4 c + 4) octets d)
-      (any_octets c) (λ octets d t. opening_exact c d octets))
+    (any_octets c) (λ octets d t. opening_exact c d octets))
 
 -- what is written between the beginning and the end is what is opened again
 pub encapsulation_back : (order : Order) (out now : Output) (content : List ℕ)
@@ -150,5 +150,5 @@ encapsulation_back order out now content grown fits =
       spells_back = (record { order = order; content = content; whole = refl; value = refl }, refl);
     } in
     subst (λ (done : Output). IsReadBack SpellsEncapsulation encapsulation_at (content_of order content) out done) (sym (closed_is_octets order out now content grown))
-      (spelled_is_read_back SpellsEncapsulation RefusedEncapsulation encapsulation_at encapsulation_exact (content_of order content) out (octets_out inside out)
-        back.part back.octets back.order back.at spelled)
+    (spelled_is_read_back SpellsEncapsulation RefusedEncapsulation encapsulation_at encapsulation_exact (content_of order content) out (octets_out inside out)
+    back.part back.octets back.order back.at spelled)

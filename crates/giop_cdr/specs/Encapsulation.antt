@@ -51,7 +51,7 @@ SpellsEncapsulation = Then SpellsOctets (λ octets o at v b. Opens octets v × (
 abbrev pub RefusedEncapsulation : Refusal
 RefusedEncapsulation c e = FirstRefused (Took SpellsOctets) (RefusedOctets 0)
     (λ octets d f. ((octets ≡ []) × (f ≡ fault (place 4 c + 4) Short))
-        ⊎ ((1 < slice_index octets 0) × (f ≡ fault (place 4 c + 4) BadOrder)))
+    ⊎ ((1 < slice_index octets 0) × (f ≡ fault (place 4 c + 4) BadOrder)))
     c e
 
 -- ---- writing

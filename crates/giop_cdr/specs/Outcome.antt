@@ -11,6 +11,11 @@ abbrev pub Reads : {A : Type 0} → Cursor → Result A CdrFault → Cursor → 
 Reads old (Ok x) new reading = reading ≡ Ok (x, new)
 Reads old (Err e) new reading = (reading ≡ Err e) × (new ≡ old)
 
+-- the same of a call whose value contracts see by a view
+abbrev pub ReadsAs : {X A : Type 0} → (X → A) → Cursor → Result X CdrFault → Cursor → Reading A → Type 0
+ReadsAs view old (Ok x) new reading = reading ≡ Ok (view x, new)
+ReadsAs view old (Err e) new reading = (reading ≡ Err e) × (new ≡ old)
+
 -- the same of a call that takes memory, which may want where nothing is refused; view is what
 -- contracts see of the value
 abbrev pub Allocates : {X A : Type 0} → (X → A) → Cursor → Result X CdrFault → Cursor → Reading A → Type 0

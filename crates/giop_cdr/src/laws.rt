@@ -41,8 +41,7 @@ pub fn booleans_are_spelled()
     ensures alone { StandsAlone SpellsBoolean }
     ensures back { (v : Bool) (out : Output)
         → IsReadBack SpellsBoolean boolean_at v out (number_out w8 (if v then 1 else 0) out) }
-{
-}
+{}
 
 /// What `write_` appends of a value spells it, and `read_` gives the value back and leaves what stands
 /// behind it: in both orders, at every offset.
@@ -55,8 +54,7 @@ pub fn written_values_are_read_back()
         → IsReadBack SpellsOctets (octets_at 0) octets out (octets_out octets out) }
     ensures strings { (text : List ℕ) (out : Output) → has_null text ≡ false → length text + 1 < 2 ^ 32
         → IsReadBack SpellsString (string_at 0) text out (string_out text out) }
-{
-}
+{}
 
 /// Encapsulations: whatever was written between `begin_encapsulation` and `end_encapsulation`, as
 /// octets behind those that the beginning left, is then a sequence of octets: the order octet and what
@@ -69,5 +67,4 @@ pub fn encapsulations_are_opened_again()
     ensures back { (order : Order) (out now : Output) (content : List ℕ)
         → now.octets ≡ (opened order out).octets ++ content → length content + 1 < 2 ^ 32
         → IsReadBack SpellsEncapsulation encapsulation_at (content_of order content) out (closed (place_opened out) now) }
-{
-}
+{}

@@ -3,6 +3,7 @@
 #![tactic(auto)]
 
 mod appending;
+mod borrowing;
 mod encapsulation;
 mod fault;
 mod laws;
@@ -13,12 +14,17 @@ mod order;
 mod reader;
 mod runs;
 mod sequences;
+#[cfg(test)]
+mod tests;
 mod writer;
 mod writing;
 
 pub use encapsulation::Mark;
 pub use fault::{CdrFault, CdrKind};
-pub use laws::{booleans_are_spelled, encapsulations_are_opened_again, numbers_are_spelled, octets_are_spelled, strings_are_spelled, written_values_are_read_back};
+pub use laws::{
+    booleans_are_spelled, encapsulations_are_opened_again, numbers_are_spelled, octets_are_spelled,
+    strings_are_spelled, written_values_are_read_back,
+};
 pub use octet_list::OctetList;
 pub use octets::{Octets, SliceOctets};
 pub use order::Order;

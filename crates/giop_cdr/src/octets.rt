@@ -36,10 +36,18 @@ impl<'a> Model for SliceOctets<'a> {
 }
 
 impl<'a> SliceOctets<'a> {
+    /// The octets of `slice`, in its order.
     pub fn new(slice: &'a [u8]) -> SliceOctets<'a>
         ensures { result ≡ slice.now }
     {
         SliceOctets { slice }
+    }
+
+    /// The slice.
+    pub fn as_slice(&self) -> &'a [u8]
+        ensures { result.now ≡ self.now }
+    {
+        self.slice
     }
 }
 

@@ -5,7 +5,7 @@ ghost use Rattle.giop_cdr.specs.Encapsulation.{opened_of, encapsulation_at};
 ghost use Rattle.giop_cdr.specs.Outcome.{Reads, Exactly};
 
 use crate::fault::{CdrFault, CdrKind};
-use crate::octets::Octets;
+use crate::octets::{Octets, SliceOctets};
 use crate::order::Order;
 use crate::runs::{copy_of, field_of, text_lies_at};
 use std::alloc::{AllocError, Global};
@@ -198,5 +198,16 @@ impl<'a, S: Octets> CdrIn<'a, S> {
             index: self.index + 1,
             end: self.index + count,
         })
+    }
+}
+
+impl<'a> CdrIn<'a, SliceOctets<'a>> {
+    // The next octets, which are there, where they lie.
+    #[inline(always)]
+    pub(crate) fn lent(&self, count: usize) -> &'a [u8]
+        requires { count ≤ length self.now.rest }
+        ensures { result.now ≡ take count self.now.rest }
+    {
+        &self.source.as_slice()[self.index..self.index + count]
     }
 }

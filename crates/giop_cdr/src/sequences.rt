@@ -61,7 +61,7 @@ impl<'a, S: Octets> CdrIn<'a, S> {
 
     // The length of a string whose octets follow and are one, within the bound.
     #[tactic(auto, unfolding(crate::specs::Reading::text_count_at))]
-    fn text_count(&mut self, bound: u32) -> Result<usize, CdrFault>
+    pub(crate) fn text_count(&mut self, bound: u32) -> Result<usize, CdrFault>
         ensures value { Reads self.old result self.new (text_count_at bound self.old) }
         ensures within { IfOk result (λ count. count ≤ length self.new.rest) }
         ensures place { IfErr result (λ e. e.at ≡ place 4 self.old) }

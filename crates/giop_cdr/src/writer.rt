@@ -1,4 +1,4 @@
-ghost use Rattle.std.specs.Prelude.{◌≡◌, ◌+◌, ◌-◌, ◌<◌, ◌≤◌, ◌^◌, length, [], ◌++◌, OnOk, OnErr, IfOk};
+ghost use Rattle.std.specs.Prelude.{◌≡◌, ◌+◌, ◌-◌, ◌<◌, ◌≤◌, ◌^◌, length, [], ◌++◌, OnOk, OnErr, IfOk, IsTrue, ◌↔◌};
 ghost use Rattle.giop_cdr.specs.Output.{append, aligned, padding_out};
 ghost use Rattle.giop_cdr.specs.Encapsulation.{opened, place_opened, closed};
 ghost use Rattle.giop_cdr.specs.Writing.{Writes, Appends, Grows};
@@ -111,8 +111,16 @@ impl CdrOut {
         Ok(mark)
     }
 
+    /// Whether an encapsulation that began at `mark` can be ended here: it began in these octets, and
+    /// its content is below 2^32 octets, as its length has to be.
+    pub fn can_end(&self, mark: &Mark) -> bool
+        ensures { IsTrue result ↔ ((mark.now.len ≤ length self.now.octets) × (length self.now.octets - mark.now.len < 2 ^ 32)) }
+    {
+        mark.len <= self.octets.len() && self.octets.len() - mark.len < 1 << 32
+    }
+
     /// Ends the encapsulation that began at `mark`: its length is filled in, and the order and the
-    /// alignment of outside hold again. It takes no memory. The content is below 2^32 octets.
+    /// alignment of outside hold again. It takes no memory. `can_end` is the test of its conditions.
     #[tactic(auto, unfolding(crate::specs::Encapsulation::closed))]
     pub fn end_encapsulation(&mut self, mark: Mark)
         requires begun { mark.len ≤ length self.old.octets }
@@ -120,7 +128,11 @@ impl CdrOut {
         ensures { self.new ≡ closed mark self.old }
     {
         let length = (self.octets.len() - mark.len) as u32;
-        fill(&mut self.octets, mark.len - 4, mark.order.ulong_octets(length));
+        fill(
+            &mut self.octets,
+            mark.len - 4,
+            mark.order.ulong_octets(length),
+        );
         self.order = mark.order;
         self.start = mark.start;
         self.base = mark.base;

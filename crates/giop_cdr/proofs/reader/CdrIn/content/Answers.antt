@@ -10,19 +10,19 @@ returns-in_default g c =
     let inside = c.self.inside in
     let octets = g.S.Octets.octets inside.source.now in
     let left : length c.args.self.now.rest ≡ inside.end - inside.index
-        = rw (← c.self.view_is) (length-window inside.index inside.end octets c.self.invariant.0 c.self.invariant.1) in
+    = rw (← c.self.view_is) (length-window inside.index inside.end octets c.self.invariant.0 c.self.invariant.1) in
     let within : inside.index + c.args.count ≤ inside.end = omega (arith, c.requires, c.self.invariant.0) in
     let some : 0 < c.args.count = omega arith in
     rw (← c.self.view_is) (opened_badly c.args.count inside.index inside.end c.args.at octets _ some within c.self.invariant.1
-      (λ z. let h : c.at.result ≡ 0 = c.at.ensures ∙ z in absurd (omega (arith, c.in_default)))
-      (λ z. let h : c.at.result ≡ 1 = c.at.ensures ∙ z in absurd (omega (arith, c.in_default))))
+    (λ z. let h : c.at.result ≡ 0 = c.at.ensures ∙ z in absurd (omega (arith, c.in_default)))
+    (λ z. let h : c.at.result ≡ 1 = c.at.ensures ∙ z in absurd (omega (arith, c.in_default))))
 
 pub returns : goal.returns
 returns g c =
     let inside = c.self.inside in
     let octets = g.S.Octets.octets inside.source.now in
     let left : length c.args.self.now.rest ≡ inside.end - inside.index
-        = rw (← c.self.view_is) (length-window inside.index inside.end octets c.self.invariant.0 c.self.invariant.1) in
+    = rw (← c.self.view_is) (length-window inside.index inside.end octets c.self.invariant.0 c.self.invariant.1) in
     let within : inside.index + c.args.count ≤ inside.end = omega (arith, c.requires, c.self.invariant.0) in
     let some : 0 < c.args.count = omega arith in
     elim c.match-at.branch [

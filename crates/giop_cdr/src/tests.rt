@@ -1,0 +1,5 @@
+mod encapsulations;
+mod memory;
+mod reading;
+mod two_parts;
+mod writing;
