@@ -9,6 +9,8 @@ mod kind;
 mod laws;
 mod msg;
 mod stream;
+#[cfg(test)]
+mod tests;
 
 pub use fault::{WireFault, WireKind};
 pub use framer::Framer;
