@@ -1,3 +1,4 @@
 pub mod HeaderLemmas
 pub mod StreamLemmas
 pub mod ReadPiecesLemmas
+mod StandardFacts
