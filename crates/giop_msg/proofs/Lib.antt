@@ -1,4 +1,6 @@
+pub mod FaultLemmas
 pub mod HeaderLemmas
 pub mod StreamLemmas
+pub mod FramerLemmas
 pub mod ReadPiecesLemmas
 mod StandardFacts

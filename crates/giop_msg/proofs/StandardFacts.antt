@@ -12,7 +12,8 @@ use Rattle.giop_msg.specs.Fault.{fault}
 use Rattle.giop_msg.specs.Header.{header_octets, header_of, field_fault, header_fault}
 use Rattle.giop_msg.specs.Msg.{message_octets, request_id_of, IsMessage}
 use Rattle.giop_msg.specs.Stream.{Msgs}
-use Rattle.giop_msg.proofs.StreamLemmas.{each_one, waits_for_header}
+use Rattle.giop_msg.proofs.FramerLemmas.{waits_for_header}
+use Rattle.giop_msg.proofs.StreamLemmas.{each_one}
 
 -- "GIOP" and the version, with the flags, the message type and the size behind them
 abbrev front : ℕ → ℕ → List ℕ → List ℕ

@@ -5,7 +5,7 @@ use std::fmt;
 use std::process::Abort;
 use std::test::Fail;
 
-/// The front of a message: magic, version 1.2, flags, message type, and the four octets of the size.
+/// A header: magic, version 1.2, flags, message type, and the four octets of the size.
 const fn front(flags: u8, kind: u8, size: [u8; 4]) -> [u8; 12] {
     let [a, b, c, d] = size;
     [0x47, 0x49, 0x4F, 0x50, 1, 2, flags, kind, a, b, c, d]
@@ -101,7 +101,7 @@ fn each_field_is_judged_in_both_byte_orders(rt: HostRuntime) -> Result<(), Fail>
         (2, 7, 8, Some((8, WireKind::FragmentSize))),
         (2, 0, 11, Some((8, WireKind::FragmentSize))),
         (2, 0, 13, Some((8, WireKind::FragmentSize))),
-        // Nothing continues a CancelRequest, nor an empty message, whose 12 octets are refused first.
+        // Nothing continues a CancelRequest, nor an empty message, refused for its 12 octets.
         (2, 2, 4, Some((6, WireKind::NotFragmentable))),
         (2, 5, 0, Some((8, WireKind::FragmentSize))),
     ];
