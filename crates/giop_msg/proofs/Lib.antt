@@ -1,5 +1,8 @@
+pub mod FaultLemmas
 pub mod HeaderLemmas
 pub mod StreamLemmas
+pub mod FramerLemmas
 pub mod ReadPiecesLemmas
 pub mod RequestHeadLemmas
 pub mod RequestHeadSpelling
+mod StandardFacts

@@ -9,7 +9,7 @@ use Rattle.giop_msg.specs.declared.msg.Msg.{Msg}
 use Rattle.giop_msg.specs.Fault.{fault}
 use Rattle.giop_msg.specs.Msg.{IsMessage, message_octets}
 use Rattle.giop_msg.specs.Stream.{AppendsTaken, BeginsWithFault, BeginsWithMessage, IsStopped, Msgs, Unread, Waits}
-use Rattle.giop_msg.proofs.HeaderLemmas.{not_memory}
+use Rattle.giop_msg.proofs.FaultLemmas.{not_memory}
 use Rattle.giop_msg.proofs.StreamLemmas.{length-message_octets, message_or_fault, one_fault, split_goes_on}
 
 pub stopped_waiting : (unread : Unread) → Waits unread → IsStopped unread None
@@ -28,12 +28,14 @@ stopped_by_fault unread e stands = record {
 }
 
 -- a refusal of kind NoMemory is want of memory
-pub refused_by_memory : (unread : Unread) (e : WireFault) → BeginsWithFault unread.limit unread.octets e ⊎ (e ≡ fault 0 NoMemory) → e.kind ≡ NoMemory → e ≡ fault 0 NoMemory
+pub refused_by_memory : (unread : Unread) (e : WireFault) → BeginsWithFault unread.limit unread.octets e ⊎ (e ≡ fault 0 NoMemory) →
+    e.kind ≡ NoMemory → e ≡ fault 0 NoMemory
 refused_by_memory unread e (inl stands) memory = absurd (not_memory unread.limit (take 12 unread.octets) e stands.1 memory)
 refused_by_memory unread e (inr is) memory = is
 
 -- another one stands at the front of the octets
-pub refused_by_fault : (unread : Unread) (e : WireFault) → BeginsWithFault unread.limit unread.octets e ⊎ (e ≡ fault 0 NoMemory) → e.kind ≢ NoMemory → BeginsWithFault unread.limit unread.octets e
+pub refused_by_fault : (unread : Unread) (e : WireFault) → BeginsWithFault unread.limit unread.octets e ⊎ (e ≡ fault 0 NoMemory) →
+    e.kind ≢ NoMemory → BeginsWithFault unread.limit unread.octets e
 refused_by_fault unread e (inl stands) other = stands
 refused_by_fault unread e (inr is) other = absurd (other (ap (λ (w : WireFault). w.kind) is))
 
@@ -70,7 +72,8 @@ read_more limit stream piece before after stood stands old fed new so_far is mov
     } in
     record {
       limit_is = now;
-      split = subst (λ ms. Msgs limit (stream ++ piece) ms new.octets) (sym moved.appended) (split_goes_on limit stream piece before moved.taken old.octets new.octets so_far.split taken);
+      split = subst (λ ms. Msgs limit (stream ++ piece) ms new.octets) (sym moved.appended)
+          (split_goes_on limit stream piece before moved.taken old.octets new.octets so_far.split taken);
       stopped = stopped;
     }
 

@@ -83,4 +83,5 @@ field_fault limit h = first_failing (field_tests limit h)
 
 -- what is wrong with twelve octets as a header
 unfoldable pub header_fault : ℕ → List ℕ → Option WireFault
-header_fault limit octets = first_failing (octet_tests octets ++ field_tests limit (header_of octets))
+header_fault limit octets =
+    first_failing (octet_tests octets ++ field_tests limit (header_of octets))

@@ -17,7 +17,8 @@ kind_number Fragment = 7
 -- the eight kinds, each at its message type
 abbrev pub kinds : List Kind
 kinds =
-    Request ∷ Reply ∷ CancelRequest ∷ LocateRequest ∷ LocateReply ∷ CloseConnection ∷ MessageError ∷ Fragment ∷ []
+    Request ∷ Reply ∷ CancelRequest ∷ LocateRequest
+    ∷ LocateReply ∷ CloseConnection ∷ MessageError ∷ Fragment ∷ []
 
 -- a message of this kind begins with a request id, the unsigned long at offset 12
 abbrev pub has_request_id : Kind → Bool
@@ -32,8 +33,8 @@ is_fragmentable CloseConnection = false
 is_fragmentable MessageError = false
 is_fragmentable _ = true
 
--- the sizes of a message of this kind: CloseConnection and MessageError are empty, CancelRequest is its request id,
--- and each other kind has a request id
+-- the sizes of a message of this kind: CloseConnection and MessageError are empty, CancelRequest
+-- is its request id, and each other kind has a request id
 abbrev pub can_have_size : Kind → ℕ → Bool
 can_have_size CloseConnection size = size == 0
 can_have_size MessageError size = size == 0

@@ -11,7 +11,8 @@ use Rattle.giop_msg.specs.Stream.{BeginsWithFault, Msgs}
 pub record HeaderRoundTrip : Type 0 where
   -- the octets of a header give the header back, and the same is wrong with both
   pub written : (limit : ℕ) (h : Header) → h.size < 2 ^ 32 →
-      (header_of (header_octets h) ≡ h) × (header_fault limit (header_octets h) ≡ field_fault limit h)
+      (header_of (header_octets h) ≡ h)
+      × (header_fault limit (header_octets h) ≡ field_fault limit h)
   -- twelve octets in which nothing is wrong are those of the header that is read from them
   pub read : (limit : ℕ) (octets : List ℕ) → length octets ≡ 12 → All (λ o. o < 256) octets →
       header_fault limit octets ≡ None → header_octets (header_of octets) ≡ octets

@@ -20,7 +20,8 @@ BeginsWithMessage limit octets =
 
 -- this fault stands at the front of the octets: their first twelve are no header
 abbrev pub BeginsWithFault : ℕ → List ℕ → WireFault → Type 0
-BeginsWithFault limit octets e = (12 ≤ length octets) × (header_fault limit (take 12 octets) ≡ Some e)
+BeginsWithFault limit octets e =
+    (12 ≤ length octets) × (header_fault limit (take 12 octets) ≡ Some e)
 
 -- neither a message nor a fault stands at the front of the unread octets
 pub record Waits (unread : Unread) : Type 0 where
@@ -45,7 +46,8 @@ pub record TakesMessages (old : Unread) (messages : List Msg) (new : Unread) : T
   pub limit : new.limit ≡ old.limit
 
 -- messages are taken away from the front of the unread octets, and appended to others
-pub record AppendsTaken (old : Unread) (before : List Msg) (new : Unread) (after : List Msg) : Type 0 where
+pub record AppendsTaken (old : Unread) (before : List Msg) (new : Unread)
+    (after : List Msg) : Type 0 where
   pub taken : List Msg
   pub appended : after ≡ before ++ taken
   pub takes : TakesMessages old taken new

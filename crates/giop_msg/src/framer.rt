@@ -64,8 +64,8 @@ impl Framer {
     }
 
     /// Takes away and gives the first message of the unread octets. `None`: neither a whole message
-    /// nor a fault stands at their front, and more octets have to be fed. A header is judged as soon
-    /// as its twelve octets are there.
+    /// nor a fault stands at their front, and more octets have to be fed. A header is judged as
+    /// soon as its twelve octets are there.
     ///
     /// A fault changes nothing. One of the octets stands for good, since it stands however many
     /// octets follow; `NoMemory`, at 0, comes only where a whole message stands at the front.

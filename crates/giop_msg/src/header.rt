@@ -45,7 +45,7 @@ impl Header {
     }
 
     // The header that twelve octets are, or the first thing that is wrong with them.
-    #[tactic(auto, using(crate::proofs::HeaderLemmas::judging))]
+    #[tactic(auto, using(crate::proofs::FaultLemmas::judging))]
     pub(crate) fn judge(octets: &[u8; 12], limit: u32) -> Result<Header, WireFault>
         ensures ok { IfOk result (λ h. (h ≡ header_of octets.now)
             × (header_fault limit octets.now ≡ None)) }

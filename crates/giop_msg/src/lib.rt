@@ -13,6 +13,8 @@ mod request_head;
 mod service_context;
 mod stream;
 mod target;
+#[cfg(test)]
+mod tests;
 
 pub use fault::{WireFault, WireKind};
 pub use framer::Framer;

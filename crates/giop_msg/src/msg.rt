@@ -4,7 +4,7 @@ use crate::{Header, Kind};
 use giop_cdr::{OctetList, Order};
 
 /// A message: what its header says but for its size, and the octets after the header.
-#[derive(Debug, Drop)]
+#[derive(Debug, Drop, PartialEq, Eq)]
 pub struct Msg {
     /// The byte order of the header and of the payload.
     pub order: Order,

@@ -1,6 +1,6 @@
 use Rattle.std.proofs.Common.{refl, inr, ◌∙◌, arith}
 use Rattle.std.proofs.lemmas.Result.{err_from_is_err_and}
-use Rattle.giop_msg.proofs.StreamLemmas.{begins_with_header, BeginsWithHeader, waits_for_header, waits_for_payload, message_at_front}
+use Rattle.giop_msg.proofs.FramerLemmas.{begins_with_header, BeginsWithHeader, waits_for_header, waits_for_payload, message_at_front}
 use Rattle.giop_msg.proofs.framer.first_message.Goals as goal
 
 pub returns-in_default-clause-waits : goal.returns-in_default-clause-waits

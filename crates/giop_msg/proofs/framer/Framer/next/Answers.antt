@@ -1,4 +1,4 @@
-use Rattle.giop_msg.proofs.StreamLemmas.{message_fits}
+use Rattle.giop_msg.proofs.FramerLemmas.{message_fits}
 use Rattle.giop_msg.proofs.framer.Framer.next.Goals as goal
 
 pub advance-requires : goal.advance-requires

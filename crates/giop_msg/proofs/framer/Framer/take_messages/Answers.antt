@@ -1,4 +1,4 @@
-use Rattle.giop_msg.proofs.StreamLemmas.{taken_none, taken_more, takes_fewer}
+use Rattle.giop_msg.proofs.FramerLemmas.{taken_none, taken_more, takes_fewer}
 use Rattle.giop_msg.proofs.framer.Framer.take_messages.Goals as goal
 
 pub loop-self-init : goal.loop-self-init
