@@ -3,6 +3,7 @@
 //! events folded alone.
 #![tactic(auto)]
 
+pub mod laws;
 mod mux;
 mod refusal;
 mod rule;

@@ -1,9 +1,10 @@
-ghost use Rattle.std.specs.Prelude.{◌≡◌, ◌==◌, ◌≤◌, ◌↔◌, false, Some, None, IsErr, IfOk, IfErr, OnOk, OnErr, IsErrOf, IsSome, option_copied};
+ghost use Rattle.std.specs.Prelude.{◌≡◌, ℕ, ◌==◌, ◌≤◌, ◌↔◌, false, Some, None, IsErr, IfOk, IfErr, OnOk, OnErr, IsErrOf, IsSome, option_copied};
 ghost use Rattle.std.specs.Option.{option_map};
 ghost use Rattle.std.specs.FinMap as map;
 ghost use Rattle.giop_mux.specs.Calls.{put, judged, RefusedAs};
+ghost use Rattle.giop_mux.specs.Runs.{acts_of, own, alone, table_after, AreAccepted, StopsAt};
 
-use crate::{CallRule, Refusal, StillOpen, slots};
+use crate::{Addressed, CallRule, Refusal, StillOpen, Stopped, slots};
 use std::alloc::{AllocError, Global};
 use std::collections::BTreeMap;
 use std::marker::Model;
@@ -68,6 +69,31 @@ impl<R: CallRule> Mux<R> {
         ensures within { map.len self.new.entries ≤ self.new.limit }
     {
         slots::step_call(&self.rule, self.calls, &mut self.table, id, event)
+    }
+
+    /// Applies these events, each under its id, one after the other. It takes only the memory that
+    /// `apply` takes; the answers are dropped.
+    ///
+    /// Where one is refused it stops: those before it are done, this one has changed nothing, and the
+    /// later ones are dropped.
+    pub fn apply_all(&mut self, events: Vec<Addressed<R::Event>>) -> Result<(), Stopped<R::Fault>>
+        ensures ok { OnOk result (self.new ≡ record self.old { entries =
+            table_after (R.next self.old.rule) self.old.entries (acts_of events.items) }) }
+        ensures value { OnOk result ((id : ℕ) → map.get self.new.entries id
+            ≡ alone (R.next self.old.rule) (map.get self.old.entries id) (own id (acts_of events.items))) }
+        ensures only { OnOk result (AreAccepted (R.next self.old.rule) (R.closed self.old.rule)
+            self.old.limit self.old.entries (acts_of events.items)) }
+        ensures err { IfErr result (λ stopped. StopsAt (R.next self.old.rule)
+            (R.closed self.old.rule) self.old events.items stopped self.new) }
+    {
+        let mut at = 0;
+        for told in events {
+            if let Err(why) = self.apply(told.id, told.event) {
+                return Err(Stopped { at, why });
+            }
+            at += 1;
+        }
+        Ok(())
     }
 
     /// The entry under this id. It takes no memory.
