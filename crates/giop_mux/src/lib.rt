@@ -16,3 +16,6 @@ pub use refusal::{Refusal, StillOpen};
 pub use rule::CallRule;
 pub use run::{Addressed, Stopped};
 pub use step::Step;
+
+#[cfg(test)]
+mod tests;

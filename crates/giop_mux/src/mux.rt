@@ -15,7 +15,7 @@ use std::marker::Model;
 #[derive(Drop)]
 pub struct Mux<R: CallRule> {
     rule: R,
-    calls: u32,
+    limit: u32,
     // No slot is empty between two calls. A slot that is emptied and filled again takes no memory.
     table: BTreeMap<u32, Option<R::Entry>>,
 }
@@ -30,11 +30,11 @@ impl<R: CallRule> Model for Mux<R> {
 
     ghost view = { λ m. record {
       rule = m.rule;
-      limit = m.calls;
+      limit = m.limit;
       entries = entries_of m.table.entries;
     } };
 
-    ghost invariant = { λ m. IsTable m.calls m.table.entries };
+    ghost invariant = { λ m. IsTable m.limit m.table.entries };
 }
 
 impl<R: CallRule> Mux<R> {
@@ -44,7 +44,7 @@ impl<R: CallRule> Mux<R> {
     {
         Mux {
             rule,
-            calls,
+            limit: calls,
             table: BTreeMap::new(alloc),
         }
     }
@@ -68,7 +68,7 @@ impl<R: CallRule> Mux<R> {
         ensures kept { OnErr result (self.new ≡ self.old) }
         ensures within { map.len self.new.entries ≤ self.new.limit }
     {
-        slots::step_call(&self.rule, self.calls, &mut self.table, id, event)
+        slots::step_call(&self.rule, self.limit, &mut self.table, id, event)
     }
 
     /// Applies these events, each under its id, one after the other. It takes only the memory that
@@ -139,7 +139,7 @@ impl<R: CallRule> Mux<R> {
     pub fn is_full(&self) -> bool
         ensures { result ≡ (map.len self.now.entries == self.now.limit) }
     {
-        slots::count_of(&self.table) == self.calls as usize
+        self.len() == self.limit as usize
     }
 
     /// The ids that have an entry, ascending. `alloc` gives the memory of the list.

@@ -23,8 +23,7 @@ pub trait CallRule {
 
     ghost closed: { Self → Self.Entry → Bool };
 
-    /// What the event does to a call with this entry, or to one without an entry. It takes no memory
-    /// but what `Entry` and `Answer` hold of the event.
+    /// What the event does to a call with this entry, or to one without an entry. It takes no memory.
     fn step(
         &self,
         entry: Option<Self::Entry>,
@@ -32,7 +31,7 @@ pub trait CallRule {
     ) -> Step<Self::Entry, Self::Answer, Self::Fault>
         ensures { result ≡ next self.now entry event };
 
-    /// Whether the call is over, so that its entry may be taken out.
+    /// Whether the call is over, so that its entry may be taken out. It takes no memory.
     fn is_closed(&self, entry: &Self::Entry) -> bool
         ensures { result ≡ closed self.now entry.now };
 
