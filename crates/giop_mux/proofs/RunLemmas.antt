@@ -16,8 +16,8 @@ module _ {Entry Event Answer Fault : Type 0} (next : Option Entry → Event → 
       ≡ alone next (map.get m id) (own id (act ∷ acts))
   one_turn m act acts id =
       elim (id == act.id) as (λ b. (id == act.id) ≡ b
-          → alone next (cond b (entry_after next (map.get m act.id) act.what) (map.get m id)) (own id acts)
-          ≡ alone next (map.get m id) (own id (act ∷ acts))) [
+      → alone next (cond b (entry_after next (map.get m act.id) act.what) (map.get m id)) (own id acts)
+      ≡ alone next (map.get m id) (own id (act ∷ acts))) [
         | true ↦ λ e.
             let same : act.id ≡ id = grind (arith, nat_tests) in
             let here : (act.id == id) ≡ true = grind (arith, nat_tests) in
@@ -86,10 +86,10 @@ module _ {Rule Entry Event Answer Fault : Type 0} (next : Rule → Option Entry 
       record {
         done = subst Leaves run.done becomes
             ∙ ap (λ m. record start { entries = m }) (sym (table_after-append (next start.rule) (acts_of events) (acts_of (told ∷ [])) start.entries)
-                ∙ ap (table_after (next start.rule) start.entries) (sym acts));
+            ∙ ap (table_after (next start.rule) start.entries) (sym acts));
         accepted = subst (AreAccepted (next start.rule) (closed start.rule) start.limit start.entries) (sym acts)
             (AreAccepted-append (next start.rule) (closed start.rule) start.limit (acts_of events) (acts_of (told ∷ [])) start.entries
-                run.accepted (subst Accepts run.done ok, tt))
+            run.accepted (subst Accepts run.done ok, tt));
       }
 
   -- the run stops at an event that is refused
@@ -107,7 +107,7 @@ module _ {Rule Entry Event Answer Fault : Type 0} (next : Rule → Option Entry 
         place = place;
         accepted = run.accepted;
         leaves = refl;
-        refused = subst Refuses run.done refused
+        refused = subst Refuses run.done refused;
       })
 
 -- where nothing is to come, what was is all

@@ -10,13 +10,11 @@ use crate::CallRule;
 pub fn each_call_alone<R: CallRule>(rule: &R)
     ensures { (m : _) (acts : _) (id : _) → map.get (table_after (R.next rule.now) m acts) id
         ≡ alone (R.next rule.now) (map.get m id) (own id acts) }
-{
-}
+{}
 
 /// Two lists of steps and removals that are equal for each id, in any interleaving, leave equal
 /// tables.
 pub fn any_interleaving<R: CallRule>(rule: &R)
     ensures { (m : _) (one other : _) → ((id : _) → own id one ≡ own id other)
         → table_after (R.next rule.now) m one ≡ table_after (R.next rule.now) m other }
-{
-}
+{}

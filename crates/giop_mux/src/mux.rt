@@ -77,8 +77,10 @@ impl<R: CallRule> Mux<R> {
     /// Where one is refused it stops: those before it are done, this one has changed nothing, and the
     /// later ones are dropped.
     pub fn apply_all(&mut self, events: Vec<Addressed<R::Event>>) -> Result<(), Stopped<R::Fault>>
-        ensures ok { OnOk result (self.new ≡ record self.old { entries =
-            table_after (R.next self.old.rule) self.old.entries (acts_of events.items) }) }
+        ensures ok { OnOk result (self.new ≡ record self.old {
+          entries =
+              table_after (R.next self.old.rule) self.old.entries (acts_of events.items);
+        }) }
         ensures value { OnOk result ((id : ℕ) → map.get self.new.entries id
             ≡ alone (R.next self.old.rule) (map.get self.old.entries id) (own id (acts_of events.items))) }
         ensures only { OnOk result (AreAccepted (R.next self.old.rule) (R.closed self.old.rule)

@@ -47,8 +47,11 @@ impl CallRule for Notes {
     ghost use Rattle.giop_mux.specs.Faults.{no_fault};
 
     type Entry = Note;
+
     type Event = Event;
+
     type Answer = Answer;
+
     type Fault = NotOpen;
 
     ghost next = { λ rule entry event. elim event [

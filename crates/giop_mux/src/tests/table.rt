@@ -1,4 +1,4 @@
-use super::notes::{Answer, Event, Note, NotOpen, Notes, has_closed, has_open, text};
+use super::notes::{Answer, Event, NotOpen, Note, Notes, has_closed, has_open, text};
 use crate::{Addressed, Mux, Refusal, Stopped};
 use std::alloc::{AllocError, Global};
 use std::test::Fail;
@@ -22,7 +22,10 @@ fn ids_ascend_whatever_the_order_of_events(rt: HostRuntime) -> Result<(), Fail> 
     let alloc = rt.alloc();
     let mut mux = Mux::new(alloc, Notes, 8);
     for id in [40, 7, 4_294_967_295, 0, 12] {
-        assert_eq!(rt; mux.apply(id, Event::Write(text(alloc, "note")?)), Ok(Answer::Written));
+        assert_eq!(rt;
+            mux.apply(id, Event::Write(text(alloc, "note")?)),
+            Ok(Answer::Written)
+        );
     }
     assert_eq!(rt; mux.apply(12, Event::Erase), Ok(Answer::Erased));
     assert_eq!(rt; mux.apply(7, Event::Close), Ok(Answer::Closed));
@@ -37,7 +40,10 @@ fn a_thousand_calls_stand_side_by_side(rt: HostRuntime) -> Result<(), Fail> {
     let mut mux = Mux::new(alloc, Notes, 1000);
     for turn in 0..1000u32 {
         let id = turn * 7 % 1000;
-        assert_eq!(rt; mux.apply(id, Event::Write(text(alloc, "note")?)), Ok(Answer::Written));
+        assert_eq!(rt;
+            mux.apply(id, Event::Write(text(alloc, "note")?)),
+            Ok(Answer::Written)
+        );
     }
     assert_eq!(rt; mux.len(), 1000);
     assert!(rt; mux.is_full());
@@ -57,8 +63,18 @@ fn a_thousand_calls_stand_side_by_side(rt: HostRuntime) -> Result<(), Fail> {
 #[test]
 fn interleaved_calls_end_alike(rt: HostRuntime) -> Result<(), Fail> {
     let alloc = rt.alloc();
-    let one = vec![in alloc; write(alloc, 1, "a")?, close(1), write(alloc, 2, "b")?, close(2)]?;
-    let other = vec![in alloc; write(alloc, 2, "b")?, write(alloc, 1, "a")?, close(2), close(1)]?;
+    let one = vec![in alloc;
+        write(alloc, 1, "a")?,
+        close(1),
+        write(alloc, 2, "b")?,
+        close(2),
+    ]?;
+    let other = vec![in alloc;
+        write(alloc, 2, "b")?,
+        write(alloc, 1, "a")?,
+        close(2),
+        close(1),
+    ]?;
     for events in [one, other] {
         let mut mux = Mux::new(alloc, Notes, 2);
         assert_eq!(rt; mux.apply_all(events), Ok(()));
@@ -73,7 +89,12 @@ fn interleaved_calls_end_alike(rt: HostRuntime) -> Result<(), Fail> {
 fn a_run_stops_at_the_refused_event(rt: HostRuntime) -> Result<(), Fail> {
     let alloc = rt.alloc();
     let mut mux = Mux::new(alloc, Notes, 2);
-    let events = vec![in alloc; write(alloc, 1, "a")?, close(1), close(1), write(alloc, 2, "b")?]?;
+    let events = vec![in alloc;
+        write(alloc, 1, "a")?,
+        close(1),
+        close(1),
+        write(alloc, 2, "b")?,
+    ]?;
     let why = Refusal::Rule(NotOpen);
     assert_eq!(rt; mux.apply_all(events), Err(Stopped { at: 2, why }));
     assert!(rt; has_closed(&mux, 1, "a"));

@@ -11,13 +11,13 @@ loop-told-preserved g c = record {
   parts = search (rules, append_assoc);
   place = let longer = length-append c.loop-told.yielded (c.in-Some.told ∷ []) in omega arith;
   run = one_more g.R.CallRule.next g.R.CallRule.closed _ c.loop-told.self c.apply.new.self _ c.in-Some.told c.loop-told.invariant.run
-      (rw c.in_default.ensures.value refl) c.in_default.ensures.ok
+      (rw c.in_default.ensures.value refl) c.in_default.ensures.ok;
 }
 
 pub returns-in-Err-clause-err : goal.returns-in-Err-clause-err
 returns-in-Err-clause-err g c =
     stops g.R.CallRule.next g.R.CallRule.closed _ c.loop-told.self c.apply.new.self _ c.loop-told.yielded c.next.new.self.rest.items c.in-Some.told _
-        c.loop-told.invariant.run (search (rules, append_assoc)) c.loop-told.invariant.place c.in-Err.ensures.kept c.in-Err.ensures.err
+    c.loop-told.invariant.run (search (rules, append_assoc)) c.loop-told.invariant.place c.in-Err.ensures.kept c.in-Err.ensures.err
 
 pub returns-clause-value : goal.returns-clause-value
 returns-clause-value g c = λ id.

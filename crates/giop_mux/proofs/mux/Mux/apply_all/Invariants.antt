@@ -7,5 +7,5 @@ abbrev pub invariant-loop-told : goal.invariant-loop-told
 invariant-loop-told g l = record {
   parts : l.yielded ++ l.told-iterator.rest.items ≡ l.fn.events.items;
   place : l.at ≡ length l.yielded;
-  run : IsRun g.R.CallRule.next g.R.CallRule.closed l.initial.self l.yielded l.self
+  run : IsRun g.R.CallRule.next g.R.CallRule.closed l.initial.self l.yielded l.self;
 }
