@@ -1,9 +1,9 @@
 -- What the table's verdict says of the rule's.
-use Rattle.std.proofs.Common.{◌≡◌, ℕ, ◌==◌, Bool, true, false, Option, Some, None, Result, Ok, Err, IsErr, IsOk, IfOk, IfErr, OnOk, OnErr, IsErrOf, is_none, refl, sym, ap, ◌∙◌, inl, inr}
+use Rattle.std.proofs.Common.{◌≡◌, ℕ, ◌==◌, Bool, true, false, Some, None, Result, Ok, Err, IsErr, IfOk, IfErr, OnOk, OnErr, IsErrOf, refl, sym, ap, inl, inr}
 use Rattle.std.specs.FinMap as map
 use Rattle.giop_mux.specs.declared.step.Step.{Step}
 use Rattle.giop_mux.specs.declared.refusal.Refusal.{Refusal}
-use Rattle.giop_mux.specs.declared.refusal.Refusal.TheVariants.{Rule, TooManyCalls, NoMemory}
+use Rattle.giop_mux.specs.declared.refusal.Refusal.TheVariants.{NoMemory}
 use Rattle.giop_mux.specs.Calls.{Entries, judged_by, judged, RefusedAs, refusal_of_new}
 
 -- what the table accepts, the rule accepts with that answer

@@ -4,7 +4,7 @@ use Rattle.std.proofs.lemmas.Bool.Decides.{nat_tests}
 use Rattle.std.specs.Ordering.{nat_cmp, eq_by_cmp}
 use Rattle.std.specs.Cmp.{nat_cmp_total, unsigned_tied}
 use Rattle.std.specs.FinMap as map
-use Rattle.std.specs.FinMap.{get-insert, get-remove, get-empty, len-insert, len-remove, same_map, nat_cmp-IsAntisymmetric}
+use Rattle.std.specs.FinMap.{get-insert, get-remove, len-insert, len-remove, same_map, nat_cmp-IsAntisymmetric}
 use Rattle.giop_mux.specs.Calls.{Entries, put}
 
 -- two tables that tell the same of each id are equal

@@ -1,12 +1,12 @@
 -- Over any run each call's entry is its own happenings folded alone.
-use Rattle.std.proofs.Common.{◌≡◌, ◌≢◌, ℕ, ◌==◌, Bool, true, false, cond, List, [], ◌∷◌, ◌++◌, Option, Some, None, refl, sym, ap, subst, ◌∙◌, arith, length, append-nil, IsOk}
+use Rattle.std.proofs.Common.{◌≡◌, ℕ, ◌==◌, Bool, true, false, cond, List, [], ◌∷◌, ◌++◌, Option, refl, sym, ap, subst, ◌∙◌, arith, length, append-nil, IsOk}
 use Rattle.std.specs.FinMap as map
 use Rattle.std.proofs.lemmas.Bool.Decides.{nat_tests}
 use Rattle.giop_mux.specs.declared.step.Step.{Step}
 use Rattle.giop_mux.specs.declared.run.Addressed.{Addressed}
 use Rattle.giop_mux.specs.declared.run.Stopped.{Stopped}
 use Rattle.giop_mux.specs.Calls.{Calls, Entries, put, judged, RefusedAs}
-use Rattle.giop_mux.specs.Runs.{Happening, Hears, IsTaken, Act, own, acts_of, entry_after, alone, table_after, AreAccepted, IsAccepted, StopsAt}
+use Rattle.giop_mux.specs.Runs.{Hears, Act, own, acts_of, entry_after, alone, table_after, AreAccepted, StopsAt}
 use Rattle.giop_mux.proofs.PutLemmas.{get-put, same_entries}
 
 module _ {Entry Event Answer Fault : Type 0} (next : Option Entry → Event → Step Entry Answer Fault) where

@@ -1,5 +1,4 @@
-use Rattle.std.proofs.Common.{◌≡◌, Some, sym, ap, ◌∙◌, is_ok, arith, rules}
-use Rattle.std.proofs.lemmas.Grind.{common_steps}
+use Rattle.std.proofs.Common.{Some, sym, ap, ◌∙◌, is_ok, rules}
 use Rattle.giop_mux.specs.Slots.{Becomes}
 use Rattle.giop_mux.specs.Calls.{refusal_of_new}
 use Rattle.giop_mux.proofs.SlotLemmas.{one_put, is_at_limit, is_below_limit, ok_part}

@@ -1,4 +1,4 @@
-use Rattle.std.proofs.Common.{◌≡◌, sym, ap, subst, IfOk, List, ℕ}
+use Rattle.std.proofs.Common.{◌≡◌, sym, subst, IfOk, List, ℕ}
 use Rattle.giop_mux.proofs.SlotLemmas.{keys_are}
 use Rattle.giop_mux.proofs.slots.ids_of.Goals as goal
 

@@ -1,6 +1,5 @@
-use Rattle.std.proofs.Common.{◌≡◌, None, Some, sym, ap, ◌∙◌, arith, rules}
+use Rattle.std.proofs.Common.{None, arith, rules}
 use Rattle.std.proofs.lemmas.Grind.{common_steps}
-use Rattle.std.proofs.lemmas.Result.{err_from_is_err_and}
 use Rattle.giop_mux.proofs.PutLemmas.{put_absent}
 use Rattle.giop_mux.proofs.JudgedLemmas.{refused_new}
 use Rattle.giop_mux.proofs.SlotLemmas.{found_at}

@@ -1,11 +1,11 @@
-use Rattle.std.proofs.Common.{◌≡◌, ◌≤◌, length, None, Some, sym, ap, ◌∙◌, arith, rules, refl, subst, Result, Ok, Err, IfOk, IfErr, OnOk, false, ℕ, IsSome, Option, BTreeMap, nat_cmp}
+use Rattle.std.proofs.Common.{◌≡◌, None, Some, sym, ap, ◌∙◌, arith, refl, subst, Ok, IfOk, IfErr, false, ℕ, IsSome, Option, BTreeMap, nat_cmp}
 use Rattle.std.specs.BTreeMap.{get_by}
 use Rattle.std.proofs.lemmas.Grind.{common_steps}
 use Rattle.std.specs.FinMap as map
 use Rattle.std.specs.Option.{option_copied_mut}
 use Rattle.giop_mux.specs.Calls.{put, judged, judged_by, RefusedAs}
 use Rattle.giop_mux.specs.Slots.{entries_of, Becomes}
-use Rattle.giop_mux.proofs.SlotLemmas.{found_at, one_put, still_full, Becomes-written, Becomes-removed}
+use Rattle.giop_mux.proofs.SlotLemmas.{found_at, one_put, Becomes-written, Becomes-removed}
 use Rattle.giop_mux.proofs.JudgedLemmas.{tells_answer, tells_refusal, judged_held, OnOk_of, from_fault}
 use Rattle.giop_mux.proofs.PutLemmas.{put_same}
 use Rattle.giop_mux.proofs.slots.step_call.Given.{Over}

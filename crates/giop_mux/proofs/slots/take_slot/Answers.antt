@@ -1,4 +1,4 @@
-use Rattle.std.proofs.Common.{◌≡◌, None, Some, sym, ap, ◌∙◌}
+use Rattle.std.proofs.Common.{None, Some, sym, ◌∙◌}
 use Rattle.giop_mux.proofs.SlotLemmas.{found_at, one_put}
 use Rattle.giop_mux.proofs.slots.take_slot.Goals as goal
 

@@ -1,8 +1,6 @@
-use Rattle.std.proofs.Common.{◌≡◌, ◌∷◌, ◌++◌, [], sym, ap, ◌∙◌, refl, arith, rules, subst, IsOk, length, append_assoc, length-append, List, ℕ}
-use Rattle.std.proofs.lemmas.Grind.{common_steps}
-use Rattle.giop_mux.proofs.RunLemmas.{IsRun, one_more, stops, get-table_after, all_done}
+use Rattle.std.proofs.Common.{◌∷◌, [], sym, ap, ◌∙◌, refl, arith, rules, append_assoc, length-append}
+use Rattle.giop_mux.proofs.RunLemmas.{one_more, stops, get-table_after, all_done}
 use Rattle.std.specs.FinMap as map
-use Rattle.giop_mux.specs.declared.run.Addressed.{Addressed}
 use Rattle.giop_mux.specs.Runs.{acts_of, own, alone}
 use Rattle.giop_mux.proofs.mux.Mux.apply_all.Goals as goal
 

@@ -1,4 +1,4 @@
-use Rattle.std.proofs.Common.{◌≤◌, ap, arith}
+use Rattle.std.proofs.Common.{ap, arith}
 use Rattle.std.specs.FinMap as map
 use Rattle.giop_mux.proofs.SlotLemmas.{len_within}
 use Rattle.giop_mux.proofs.mux.Mux.take.Goals as goal
