@@ -1,9 +1,10 @@
 -- Over any run each call's entry is its own happenings folded alone.
-use Rattle.std.proofs.Common.{◌≡◌, ℕ, ◌==◌, Bool, true, false, cond, List, [], ◌∷◌, ◌++◌, Option, refl, sym, ap, subst, ◌∙◌, arith, length, append-nil, IsOk}
+use Rattle.std.proofs.Common.{◌≡◌, ℕ, ◌==◌, Bool, true, false, cond, List, [], ◌∷◌, ◌++◌, Option, None, refl, sym, ap, subst, ◌∙◌, arith, length, append-nil, IsOk, IsSome}
 use Rattle.std.specs.FinMap as map
 use Rattle.std.proofs.lemmas.Bool.Decides.{nat_tests}
 use Rattle.giop_mux.specs.declared.step.Step.{Step}
 use Rattle.giop_mux.specs.declared.run.Addressed.{Addressed}
+use Rattle.giop_mux.specs.declared.refusal.Refusal.TheVariants.{NoMemory}
 use Rattle.giop_mux.specs.declared.run.Stopped.{Stopped}
 use Rattle.giop_mux.specs.Calls.{Calls, Entries, put, judged, RefusedAs}
 use Rattle.giop_mux.specs.Runs.{Hears, Act, own, acts_of, entry_after, alone, table_after, AreAccepted, StopsAt}
@@ -96,9 +97,12 @@ module _ {Rule Entry Event Answer Fault : Type 0} (next : Rule → Option Entry 
   pub stops : (start now after : Calls Rule Entry) (all events rest : List (Addressed Event)) (told : Addressed Event) (stopped : Stopped Fault)
       → IsRun start events now → all ≡ events ++ told ∷ rest → stopped.at ≡ length events → after ≡ now
       → RefusedAs stopped.why (judged now.entries now.limit told.id (step_of now told))
+      → (stopped.why ≡ NoMemory → (map.get now.entries told.id ≡ None) × IsSome (next now.rule None told.event).entry)
       → StopsAt (next start.rule) (closed start.rule) start all stopped after
-  stops start now after all events rest told stopped run parts place kept refused =
+  stops start now after all events rest told stopped run parts place kept refused memory =
       let Refuses : Calls Rule Entry → Type 0 = λ calls. RefusedAs stopped.why (judged calls.entries calls.limit told.id (step_of calls told)) in
+      let Wants : Calls Rule Entry → Type 0 = λ calls. stopped.why ≡ NoMemory
+      → (map.get calls.entries told.id ≡ None) × IsSome (next calls.rule None told.event).entry in
       subst (StopsAt (next start.rule) (closed start.rule) start all stopped) (sym (kept ∙ run.done)) (record {
         before = events;
         told = told;
@@ -108,6 +112,7 @@ module _ {Rule Entry Event Answer Fault : Type 0} (next : Rule → Option Entry 
         accepted = run.accepted;
         leaves = refl;
         refused = subst Refuses run.done refused;
+        memory = subst Wants run.done memory;
       })
 
 -- where nothing is to come, what was is all

@@ -1,8 +1,9 @@
 -- What a run leaves: the table after a list of steps and removals, and one call's part of it alone.
-use Rattle.std.specs.Prelude.{◌≡◌, ◌≢◌, ℕ, Bool, false, ◌==◌, if◌then◌else◌, List, [], ◌∷◌, ◌++◌, length, Option, Some, None, IsOk}
+use Rattle.std.specs.Prelude.{◌≡◌, ◌≢◌, ℕ, Bool, false, ◌==◌, if◌then◌else◌, List, [], ◌∷◌, ◌++◌, length, Option, Some, None, IsOk, IsSome}
 use Rattle.std.specs.Option.{option_map}
 use Rattle.std.specs.FinMap as map
 use Rattle.giop_mux.specs.declared.step.Step.{Step}
+use Rattle.giop_mux.specs.declared.refusal.Refusal.TheVariants.{NoMemory}
 use Rattle.giop_mux.specs.declared.run.Addressed.{Addressed}
 use Rattle.giop_mux.specs.declared.run.Stopped.{Stopped}
 use Rattle.giop_mux.specs.Calls.{Calls, Entries, put, judged, RefusedAs}
@@ -67,3 +68,4 @@ pub record StopsAt {Rule Entry Event Answer Fault : Type 0} (next : Option Entry
   pub accepted : AreAccepted next closed calls.limit calls.entries (acts_of before)
   pub leaves : left ≡ record calls { entries = table_after next calls.entries (acts_of before) }
   pub refused : RefusedAs stopped.why (judged left.entries calls.limit told.id (next (map.get left.entries told.id) told.event))
+  pub memory : stopped.why ≡ NoMemory → (map.get left.entries told.id ≡ None) × IsSome (next None told.event).entry

@@ -1,4 +1,4 @@
-use Rattle.std.proofs.Common.{◌∷◌, [], sym, ap, ◌∙◌, refl, arith, rules, append_assoc, length-append}
+use Rattle.std.proofs.Common.{Err, ◌∷◌, [], sym, ap, ◌∙◌, refl, arith, rules, append_assoc, length-append}
 use Rattle.giop_mux.proofs.RunLemmas.{one_more, stops, get-table_after, all_done}
 use Rattle.std.specs.FinMap as map
 use Rattle.giop_mux.specs.Runs.{acts_of, own, alone}
@@ -16,6 +16,7 @@ pub returns-in-Err-clause-err : goal.returns-in-Err-clause-err
 returns-in-Err-clause-err g c =
     stops g.R.CallRule.next g.R.CallRule.closed _ c.loop-told.self c.apply.new.self _ c.loop-told.yielded c.next.new.self.rest.items c.in-Some.told _
     c.loop-told.invariant.run (search (rules, append_assoc)) c.loop-told.invariant.place c.in-Err.ensures.kept c.in-Err.ensures.err
+    (λ wanting. c.in-Err.ensures.memory (ap Err wanting))
 
 pub returns-clause-value : goal.returns-clause-value
 returns-clause-value g c = λ id.
