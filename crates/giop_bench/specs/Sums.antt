@@ -11,7 +11,9 @@ use Rattle.giop_bench.specs.declared.mux.NotOpen.{NotOpen}
 -- what an event does to a sum
 abbrev pub step_of : Option Entry → Event → Step Entry ℕ NotOpen
 step_of None (Add n) = record { entry = Some (Open n); outcome = Ok n }
-step_of (Some (Open sum)) (Add n) = record { entry = Some (Open ((sum + n) % 2 ^ 64)); outcome = Ok ((sum + n) % 2 ^ 64) }
+step_of (Some (Open sum)) (Add n) =
+    let total = (sum + n) % 2 ^ 64 in
+    record { entry = Some (Open total); outcome = Ok total }
 step_of (Some (Open sum)) Close = record { entry = Some (Closed sum); outcome = Ok sum }
 step_of (Some (Closed sum)) Remove = record { entry = None; outcome = Ok sum }
 step_of entry _ = record { entry = entry; outcome = Err (record {}) }
@@ -22,7 +24,8 @@ is_closed (Open sum) = false
 is_closed (Closed sum) = true
 
 -- a refused event leaves the sum
-pub fault_keeps : (entry : Option Entry) (event : Event) → IsErr (step_of entry event).outcome → (step_of entry event).entry ≡ entry
+pub fault_keeps : (entry : Option Entry) (event : Event)
+    → IsErr (step_of entry event).outcome → (step_of entry event).entry ≡ entry
 fault_keeps None (Add n) fault = no_fault fault
 fault_keeps (Some (Open sum)) (Add n) fault = no_fault fault
 fault_keeps (Some (Open sum)) Close fault = no_fault fault

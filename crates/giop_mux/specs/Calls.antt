@@ -1,4 +1,4 @@
--- What a contract sees of a table of calls: a finite map from ids to entries, with its rule and limit.
+-- What a contract sees of a table of calls: a finite map from ids to entries, its rule and limit.
 use Rattle.std.specs.Prelude.{◌≡◌, ℕ, Bool, true, false, ◌==◌, ◌&&◌, Option, Some, None, is_some, is_none, Result, Ok, Err, IsOk, refl, ◌⊎◌}
 use Rattle.std.specs.Ordering.{nat_cmp}
 use Rattle.std.specs.FinMap as map

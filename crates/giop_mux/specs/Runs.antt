@@ -28,7 +28,8 @@ abbrev pub acts_of : {Event : Type 0} → List (Addressed Event) → List (Act E
 acts_of [] = []
 acts_of (told ∷ rest) = record { id = told.id; what = Hears told.event } ∷ acts_of rest
 
-module _ {Entry Event Answer Fault : Type 0} (next : Option Entry → Event → Step Entry Answer Fault) where
+module _ {Entry Event Answer Fault : Type 0}
+    (next : Option Entry → Event → Step Entry Answer Fault) where
   -- the entry after one happening
   abbrev pub entry_after : Option Entry → Happening Event → Option Entry
   entry_after entry (Hears event) = (next entry event).entry
@@ -42,7 +43,8 @@ module _ {Entry Event Answer Fault : Type 0} (next : Option Entry → Event → 
   -- the table after these acts, whosever they are
   abbrev pub table_after : Entries Entry → List (Act Event) → Entries Entry
   table_after m [] = m
-  table_after m (act ∷ acts) = table_after (put m act.id (entry_after (map.get m act.id) act.what)) acts
+  table_after m (act ∷ acts) =
+      table_after (put m act.id (entry_after (map.get m act.id) act.what)) acts
 
   module _ (closed : Entry → Bool) (limit : ℕ) where
     -- the table accepts the act: the rule does, and there is room; and only a closed call is taken
@@ -58,8 +60,10 @@ module _ {Entry Event Answer Fault : Type 0} (next : Option Entry → Event → 
 
 -- a run over these events stops at one of them: those before it are accepted and done, and this one
 -- is refused and has changed nothing
-pub record StopsAt {Rule Entry Event Answer Fault : Type 0} (next : Option Entry → Event → Step Entry Answer Fault) (closed : Entry → Bool)
-    (calls : Calls Rule Entry) (events : List (Addressed Event)) (stopped : Stopped Fault) (left : Calls Rule Entry) : Type 0 where
+pub record StopsAt {Rule Entry Event Answer Fault : Type 0}
+    (next : Option Entry → Event → Step Entry Answer Fault) (closed : Entry → Bool)
+    (calls : Calls Rule Entry) (events : List (Addressed Event)) (stopped : Stopped Fault)
+    (left : Calls Rule Entry) : Type 0 where
   pub before : List (Addressed Event)
   pub told : Addressed Event
   pub rest : List (Addressed Event)
@@ -67,5 +71,7 @@ pub record StopsAt {Rule Entry Event Answer Fault : Type 0} (next : Option Entry
   pub place : stopped.at ≡ length before
   pub accepted : AreAccepted next closed calls.limit calls.entries (acts_of before)
   pub leaves : left ≡ record calls { entries = table_after next calls.entries (acts_of before) }
-  pub refused : RefusedAs stopped.why (judged left.entries calls.limit told.id (next (map.get left.entries told.id) told.event))
-  pub memory : stopped.why ≡ NoMemory → (map.get left.entries told.id ≡ None) × IsSome (next None told.event).entry
+  pub refused : RefusedAs stopped.why (judged left.entries calls.limit told.id
+      (next (map.get left.entries told.id) told.event))
+  pub memory : stopped.why ≡ NoMemory
+      → (map.get left.entries told.id ≡ None) × IsSome (next None told.event).entry

@@ -51,9 +51,9 @@ impl<R: CallRule> Mux<R> {
 
     /// Steps the call of this id by the event, and gives the rule's answer.
     ///
-    /// Refusals, in this order: the rule's fault (`Rule`); `TooManyCalls`, exactly where an id without
-    /// an entry would get one and `len` is the limit; `NoMemory`, only where an id without an entry
-    /// would get one. A refusal changes nothing; the event is dropped.
+    /// Refusals, in this order: the rule's fault (`Rule`); `TooManyCalls`, exactly where an id
+    /// without an entry would get one and `len` is the limit; `NoMemory`, only where an id without
+    /// an entry would get one. A refusal changes nothing; the event is dropped.
     pub fn apply(&mut self, id: u32, event: R::Event) -> Result<R::Answer, Refusal<R::Fault>>
         ensures ok { OnOk result (self.new ≡ record self.old {
           entries = put self.old.entries id
@@ -61,7 +61,8 @@ impl<R: CallRule> Mux<R> {
         }) }
         ensures value { IfOk result (λ answer. judged self.old.entries self.old.limit id
             (R.next self.old.rule (map.get self.old.entries id) event) ≡ Ok answer) }
-        ensures err { IfErr result (λ refusal. RefusedAs refusal (judged self.old.entries self.old.limit id
+        ensures err { IfErr result (λ refusal. RefusedAs refusal
+            (judged self.old.entries self.old.limit id
             (R.next self.old.rule (map.get self.old.entries id) event))) }
         ensures memory { IsErrOf result Refusal.NoMemory → (map.get self.old.entries id ≡ None)
             × IsSome (R.next self.old.rule None event).entry }
@@ -74,15 +75,16 @@ impl<R: CallRule> Mux<R> {
     /// Applies these events, each under its id, one after the other. It takes only the memory that
     /// `apply` takes; the answers are dropped.
     ///
-    /// Where one is refused it stops: those before it are done, this one has changed nothing, and the
-    /// later ones are dropped.
+    /// Where one is refused it stops: those before it are done, this one has changed nothing, and
+    /// the later ones are dropped.
     pub fn apply_all(&mut self, events: Vec<Addressed<R::Event>>) -> Result<(), Stopped<R::Fault>>
         ensures ok { OnOk result (self.new ≡ record self.old {
           entries =
               table_after (R.next self.old.rule) self.old.entries (acts_of events.items);
         }) }
         ensures value { OnOk result ((id : ℕ) → map.get self.new.entries id
-            ≡ alone (R.next self.old.rule) (map.get self.old.entries id) (own id (acts_of events.items))) }
+            ≡ alone (R.next self.old.rule) (map.get self.old.entries id)
+            (own id (acts_of events.items))) }
         ensures only { OnOk result (AreAccepted (R.next self.old.rule) (R.closed self.old.rule)
             self.old.limit self.old.entries (acts_of events.items)) }
         ensures err { IfErr result (λ stopped. StopsAt (R.next self.old.rule)
@@ -105,10 +107,11 @@ impl<R: CallRule> Mux<R> {
         slots::entry_in(&self.table, id)
     }
 
-    /// Takes the entry of a closed call out, and gives it; `None` where the id has none. It takes no
-    /// memory. An entry whose call is open stays, and is refused.
+    /// Takes the entry of a closed call out, and gives it; `None` where the id has none. It takes
+    /// no memory. An entry whose call is open stays, and is refused.
     pub fn take(&mut self, id: u32) -> Result<Option<R::Entry>, StillOpen>
-        ensures ok { OnOk result (self.new ≡ record self.old { entries = map.remove self.old.entries id }) }
+        ensures ok { OnOk result
+            (self.new ≡ record self.old { entries = map.remove self.old.entries id }) }
         ensures value { IfOk result (λ taken. taken ≡ map.get self.old.entries id) }
         ensures err { IsErr result
             ↔ (option_map (R.closed self.old.rule) (map.get self.old.entries id) ≡ Some false) }
@@ -136,8 +139,8 @@ impl<R: CallRule> Mux<R> {
         self.len() == 0
     }
 
-    /// Whether there are as many entries as may be, so that an id without one is refused another. It
-    /// takes no memory.
+    /// Whether there are as many entries as may be, so that an id without one is refused another.
+    /// It takes no memory.
     pub fn is_full(&self) -> bool
         ensures { result ≡ (map.len self.now.entries == self.now.limit) }
     {

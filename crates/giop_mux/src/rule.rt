@@ -23,7 +23,8 @@ pub trait CallRule {
 
     ghost closed: { Self → Self.Entry → Bool };
 
-    /// What the event does to a call with this entry, or to one without an entry. It takes no memory.
+    /// What the event does to a call with this entry, or to one without an entry. It takes no
+    /// memory.
     fn step(
         &self,
         entry: Option<Self::Entry>,

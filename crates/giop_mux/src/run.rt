@@ -7,8 +7,8 @@ pub struct Addressed<E> {
     pub event: E,
 }
 
-/// Where a run over a list of events stopped: the place of the refused event in the list, from 0, and
-/// why it is refused.
+/// Where a run over a list of events stopped: the place of the refused event in the list, from 0,
+/// and why it is refused.
 #[derive(Debug, PartialEq, Eq, Drop)]
 pub struct Stopped<F> {
     pub at: usize,

@@ -37,13 +37,17 @@ pub fn step_call<R: CallRule>(
     requires { IsTable calls table.old.entries }
     ensures table { IsTable calls table.new.entries }
     ensures ok { let m = entries_of table.old.entries in
-        OnOk result (entries_of table.new.entries ≡ put m id (R.next rule.now (map.get m id) event).entry) }
+        OnOk result (entries_of table.new.entries
+        ≡ put m id (R.next rule.now (map.get m id) event).entry) }
     ensures value { let m = entries_of table.old.entries in
-        IfOk result (λ answer. judged m calls id (R.next rule.now (map.get m id) event) ≡ Ok answer) }
+        IfOk result (λ answer.
+        judged m calls id (R.next rule.now (map.get m id) event) ≡ Ok answer) }
     ensures err { let m = entries_of table.old.entries in
-        IfErr result (λ refusal. RefusedAs refusal (judged m calls id (R.next rule.now (map.get m id) event))) }
+        IfErr result (λ refusal. RefusedAs refusal
+        (judged m calls id (R.next rule.now (map.get m id) event))) }
     ensures kept { OnErr result (entries_of table.new.entries ≡ entries_of table.old.entries) }
-    ensures memory { IsErrOf result Refusal.NoMemory → (map.get (entries_of table.old.entries) id ≡ None)
+    ensures memory { IsErrOf result Refusal.NoMemory
+        → (map.get (entries_of table.old.entries) id ≡ None)
         × IsSome (R.next rule.now None event).entry }
 {
     match table.get_mut(&id) {
@@ -68,7 +72,8 @@ pub fn entry_in<E>(table: &BTreeMap<u32, Option<E>>, id: u32) -> Option<&E>
 // Whether the id has an entry whose call is open.
 pub fn is_open<R: CallRule>(rule: &R, table: &BTreeMap<u32, Option<R::Entry>>, id: u32) -> bool
     ensures { IsTrue result
-        ↔ (option_map (R.closed rule.now) (map.get (entries_of table.now.entries) id) ≡ Some false) }
+        ↔ (option_map (R.closed rule.now) (map.get (entries_of table.now.entries) id)
+        ≡ Some false) }
 {
     match entry_in(table, id) {
         Some(entry) => !rule.is_closed(entry),
