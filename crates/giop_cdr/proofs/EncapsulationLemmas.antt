@@ -12,7 +12,7 @@ use Rattle.giop_cdr.specs.Reading.{Reading, ◌>>=◌, fault, octets_at}
 use Rattle.giop_cdr.specs.Spelling.{SpellsOctets, Then}
 use Rattle.giop_cdr.specs.Readers.{Took, Refusal, Follow, FirstRefused, RefusedOctets, IsExact, IsExactHere}
 use Rattle.giop_cdr.specs.Output.{Output, append, aligned, octets_of, number_out, octets_out}
-use Rattle.giop_cdr.specs.Encapsulation.{order_octet, content_of, opened_of, encapsulation_at, Opens, SpellsEncapsulation, RefusedEncapsulation, Place, opened, place_opened, closed}
+use Rattle.giop_cdr.specs.Encapsulation.{order_octet, content_of, opened_of, encapsulation_at, Opens, SpellsEncapsulation, RefusedEncapsulation, opened, place_opened, closed}
 use Rattle.giop_cdr.specs.RoundTrip.{IsReadBack}
 use Rattle.giop_cdr.proofs.Answers.{follow_exact, exact_by, ok_same}
 use Rattle.giop_cdr.proofs.Stretches.{cursor_is, follow_from_then, then_from_follow}

@@ -15,3 +15,4 @@ pub mod WrittenNumbers
 pub mod RoundTripLemmas
 pub mod BooleanSpelling
 pub mod EncapsulationLemmas
+pub mod WriterLemmas

@@ -9,7 +9,7 @@ use Rattle.giop_cdr.specs.Cursor.{Cursor, pad, place}
 use Rattle.giop_cdr.specs.Reading.{Reading, ◌>>=◌, fault, octets_at}
 use Rattle.giop_cdr.specs.Spelling.{Spelling, SpellsOctets, Then}
 use Rattle.giop_cdr.specs.Readers.{Refusal, FirstRefused, Took, RefusedOctets}
-use Rattle.giop_cdr.specs.Output.{Output, aligned, octets_of}
+use Rattle.giop_cdr.specs.Output.{Output, Place, aligned, octets_of}
 
 -- the octet of a byte order
 abbrev pub order_octet : Order → ℕ
@@ -55,13 +55,6 @@ RefusedEncapsulation c e = FirstRefused (Took SpellsOctets) (RefusedOctets 0)
     c e
 
 -- ---- writing
-
--- where the octets of an encapsulation begin in the outer output: how many octets stand before, and the
--- order and the offset there
-pub record Place : Type 0 where
-  pub len : ℕ
-  pub order : Order
-  pub at : ℕ
 
 -- a length that isn't known yet, and the order octet, behind which the inner order and alignment hold
 unfoldable pub opened : Order → Output → Output

@@ -11,6 +11,20 @@ pub record Output : Type 0 where
   pub at : ℕ
   pub octets : List ℕ
 
+-- a place in an output: how many octets stand before it, and the order and the offset there
+pub record Place : Type 0 where
+  pub len : ℕ
+  pub order : Order
+  pub at : ℕ
+
+-- where an output stands
+abbrev pub here : Output → Place
+here out = record { len = length out.octets; order = out.order; at = out.at }
+
+-- an output as it was at a place
+abbrev pub back_at : Place → Output → Output
+back_at p out = record { order = p.order; at = p.at; octets = take p.len out.octets }
+
 -- the octets of an unsigned number of a width
 abbrev pub octets_of : Order → Width → ℕ → List ℕ
 octets_of Big w n = to_be_bytes w n

@@ -15,7 +15,7 @@ pub struct Mark {
 
 impl Model for Mark {
     ghost use Rattle.std.specs.Prelude.{◌+◌, ◌-◌, ◌≤◌, ◌^◌};
-    ghost use Rattle.giop_cdr.specs.Encapsulation.{Place};
+    ghost use Rattle.giop_cdr.specs.Output.{Place};
 
     ghost Value = { Place };
 

@@ -4,6 +4,7 @@
 
 mod appending;
 mod borrowing;
+mod checkpoint;
 mod encapsulation;
 mod fault;
 mod laws;
@@ -19,6 +20,7 @@ mod tests;
 mod writer;
 mod writing;
 
+pub use checkpoint::Checkpoint;
 pub use encapsulation::Mark;
 pub use fault::{CdrFault, CdrKind};
 pub use laws::{

@@ -1,9 +1,10 @@
 ghost use Rattle.std.specs.Prelude.{◌≡◌, ◌+◌, ◌-◌, ◌<◌, ◌≤◌, ◌^◌, length, [], ◌++◌, OnOk, OnErr, IfOk, IsTrue, ◌↔◌};
-ghost use Rattle.giop_cdr.specs.Output.{append, aligned, padding_out};
+ghost use Rattle.giop_cdr.specs.Output.{append, aligned, padding_out, here, back_at};
 ghost use Rattle.giop_cdr.specs.Encapsulation.{opened, place_opened, closed};
 ghost use Rattle.giop_cdr.specs.Writing.{Writes, Appends, Grows};
 
 use crate::appending::{fill, push_counted, push_field, push_zeros};
+use crate::checkpoint::Checkpoint;
 use crate::encapsulation::Mark;
 use crate::order::Order;
 use std::alloc::{AllocError, Global};
@@ -86,6 +87,37 @@ impl CdrOut {
     {
         let pad = (n - self.position() % n) % n;
         push_zeros(&mut self.octets, pad, 0)
+    }
+
+    /// Where the output stands now.
+    pub fn checkpoint(&self) -> Checkpoint
+        ensures { result ≡ here self.now }
+    {
+        Checkpoint {
+            len: self.octets.len(),
+            order: self.order,
+            start: self.start,
+            base: self.base,
+        }
+    }
+
+    /// Whether the output can go back to `point`: it is as long as there, or longer.
+    pub fn can_go_back(&self, point: &Checkpoint) -> bool
+        ensures { IsTrue result ↔ (point.now.len ≤ length self.now.octets) }
+    {
+        point.len <= self.octets.len()
+    }
+
+    /// Drops what was written since `point`. It takes no memory. `can_go_back` is the test of its
+    /// condition.
+    pub fn back_to(&mut self, point: Checkpoint)
+        requires { point.len ≤ length self.old.octets }
+        ensures { self.new ≡ back_at point self.old }
+    {
+        self.octets.truncate(point.len);
+        self.order = point.order;
+        self.start = point.start;
+        self.base = point.base;
     }
 
     /// Begins an encapsulation (9.3.3) whose numbers are in `order`: a length that isn't known yet, and

@@ -78,3 +78,18 @@ fn the_empty_string_is_written_with_its_null(rt: HostRuntime) -> Result<(), Fail
     assert_eq!(rt; out.as_slice(), [0, 0, 0, 1, 0].as_slice());
     Ok(())
 }
+
+#[test]
+fn what_came_after_a_checkpoint_is_taken_back(rt: HostRuntime) -> Result<(), Fail> {
+    let mut out = CdrOut::new(rt.alloc(), Order::Big, 0);
+    out.write_octet(7)?;
+    let point = out.checkpoint();
+    let mark = out.begin_encapsulation(Order::Little)?;
+    assert_eq!(rt; out.can_end(&mark), true);
+    assert!(rt; out.can_go_back(&point));
+    out.back_to(point);
+    assert_eq!(rt; (out.position(), out.order()), (1, Order::Big));
+    out.write_ushort(1)?;
+    assert_eq!(rt; out.as_slice(), [7, 0, 0, 1].as_slice());
+    Ok(())
+}
