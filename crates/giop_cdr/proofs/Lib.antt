@@ -16,3 +16,4 @@ pub mod RoundTripLemmas
 pub mod BooleanSpelling
 pub mod EncapsulationLemmas
 pub mod WriterLemmas
+pub mod SpelledLemmas

@@ -59,3 +59,12 @@ octets_out octets out = append (number_out w32 (length octets) out) octets
 -- a string: its length with the null, the octets, the null
 unfoldable pub string_out : List ℕ → Output → Output
 string_out text out = append (number_out w32 (length text + 1) out) (text ++ 0 ∷ [])
+
+-- values one after the other
+unfoldable pub items_out : {A : Type 0} → (A → Output → Output) → List A → Output → Output
+items_out item [] out = out
+items_out item (x ∷ xs) out = items_out item xs (item x out)
+
+-- a sequence: its count and its values
+unfoldable pub sequence_out : {A : Type 0} → (A → Output → Output) → List A → Output → Output
+sequence_out item xs out = items_out item xs (number_out w32 (length xs) out)

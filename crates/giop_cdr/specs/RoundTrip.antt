@@ -18,6 +18,14 @@ pub record IsReadBack {A : Type 0} (P : Spelling A) (read : Cursor → Reading A
       read (record { order = out.order; at = out.at; rest = part ++ behind })
       ≡ Ok (v, record { order = done.order; at = done.at; rest = behind })
 
+-- what was written of a value spells it from where the output stood
+pub record IsSpelled {A : Type 0} (P : Spelling A) (v : A) (out done : Output) : Type 0 where
+  pub part : List ℕ
+  pub octets : done.octets ≡ out.octets ++ part
+  pub order : done.order ≡ out.order
+  pub at : done.at ≡ out.at + length part
+  pub spells : P out.order out.at v part
+
 -- the widths of CDR's numbers: 1, 2, 4 and 8 octets
 abbrev pub is_primitive : Width → Bool
 is_primitive w8 = true

@@ -6,6 +6,7 @@ mod appending;
 mod borrowing;
 mod checkpoint;
 mod encapsulation;
+mod encode_fault;
 mod fault;
 mod laws;
 mod numbers;
@@ -22,6 +23,7 @@ mod writing;
 
 pub use checkpoint::Checkpoint;
 pub use encapsulation::Mark;
+pub use encode_fault::EncodeFault;
 pub use fault::{CdrFault, CdrKind};
 pub use laws::{
     booleans_are_spelled, encapsulations_are_opened_again, numbers_are_spelled, octets_are_spelled,

@@ -6,3 +6,5 @@ pub mod ReadPiecesLemmas
 pub mod RequestHeadLemmas
 pub mod RequestHeadSpelling
 mod StandardFacts
+pub mod WritableLemmas
+pub mod RequestHeadRoundTrip

@@ -5,3 +5,4 @@ pub mod Msg
 pub mod Stream
 pub mod Laws
 pub mod RequestHead
+pub mod RequestHeadWriting

@@ -10,6 +10,7 @@ mod kind;
 mod laws;
 mod msg;
 mod request_head;
+mod request_head_writing;
 mod service_context;
 mod stream;
 mod target;
@@ -18,7 +19,7 @@ mod tests;
 
 pub use fault::{WireFault, WireKind};
 pub use framer::Framer;
-pub use head_laws::request_heads_are_spelled;
+pub use head_laws::{request_heads_are_spelled, written_heads_are_read_back};
 pub use header::Header;
 pub use kind::Kind;
 pub use laws::{faults_stand, header_round_trip, one_split, request_ids, split_on};
