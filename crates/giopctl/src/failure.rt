@@ -1,0 +1,45 @@
+ghost use Rattle.std.specs.Prelude.{◌≡◌};
+
+use crate::status::Status;
+use std::alloc::AllocError;
+use std::io;
+use std::io::ErrorKind;
+
+/// Why a command could not go on to its end.
+#[derive(Debug, Drop)]
+pub enum Failure {
+    /// Memory ran out.
+    Memory,
+    /// Reading or writing failed.
+    Io(io::Error),
+}
+
+impl Failure {
+    ghost use Rattle.giopctl.specs.Status.{failure_status};
+
+    /// The status that the program ends with.
+    pub fn status(&self) -> Status
+        ensures { result ≡ failure_status self.now }
+    {
+        match self {
+            Failure::Memory => Status::Memory,
+            Failure::Io(_) => Status::InputOutput,
+        }
+    }
+}
+
+impl From<AllocError> for Failure {
+    fn from(_error: AllocError) -> Failure {
+        Failure::Memory
+    }
+}
+
+impl From<io::Error> for Failure {
+    fn from(error: io::Error) -> Failure {
+        if error.kind() == ErrorKind::OutOfMemory {
+            Failure::Memory
+        } else {
+            Failure::Io(error)
+        }
+    }
+}
