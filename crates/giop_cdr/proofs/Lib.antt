@@ -1,0 +1,9 @@
+pub mod RunLemmas
+pub mod WindowLemmas
+pub mod FieldLemmas
+pub mod Answers
+pub mod Stretches
+pub mod FieldSpelling
+pub mod CountSpelling
+pub mod TextSpelling
+pub mod SequenceSpelling

@@ -1,0 +1,28 @@
+-- What a call of a reader says by its result: by cases, so that a contract is one word.
+use Rattle.std.specs.Prelude.{◌≡◌, ◌⊎◌, Result, Ok, Err, IsOk}
+use Rattle.giop_cdr.specs.declared.fault.CdrFault.{CdrFault}
+use Rattle.giop_cdr.specs.declared.fault.CdrKind.TheVariants.{NoMemory}
+use Rattle.giop_cdr.specs.Cursor.{Cursor}
+use Rattle.giop_cdr.specs.Reading.{Reading}
+
+-- a call that takes no memory answers what reading gives, and leaves the cursor behind the value or,
+-- where it refuses, where it was
+abbrev pub Reads : {A : Type 0} → Cursor → Result A CdrFault → Cursor → Reading A → Type 0
+Reads old (Ok x) new reading = reading ≡ Ok (x, new)
+Reads old (Err e) new reading = (reading ≡ Err e) × (new ≡ old)
+
+-- the same of a call that takes memory, which may want where nothing is refused; view is what
+-- contracts see of the value
+abbrev pub Allocates : {X A : Type 0} → (X → A) → Cursor → Result X CdrFault → Cursor → Reading A → Type 0
+Allocates view old (Ok x) new reading = reading ≡ Ok (view x, new)
+Allocates view old (Err e) new reading = ((reading ≡ Err e) ⊎ ((e.kind ≡ NoMemory) × IsOk reading)) × (new ≡ old)
+
+-- as Reads, but for the cursor that a refusal leaves
+abbrev pub Exactly : {A : Type 0} → Result A CdrFault → Cursor → Reading A → Type 0
+Exactly (Ok x) new reading = reading ≡ Ok (x, new)
+Exactly (Err e) new reading = reading ≡ Err e
+
+-- as Allocates, but for the cursor that a refusal leaves
+abbrev pub Follows : {X A : Type 0} → (X → A) → Result X CdrFault → Cursor → Reading A → Type 0
+Follows view (Ok x) new reading = reading ≡ Ok (view x, new)
+Follows view (Err e) new reading = (reading ≡ Err e) ⊎ ((e.kind ≡ NoMemory) × IsOk reading)

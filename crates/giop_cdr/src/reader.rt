@@ -1,0 +1,150 @@
+ghost use Rattle.std.specs.Prelude.{◌≡◌, ◌+◌, ◌<◌, ◌≤◌, ◌^◌, length, take, IfOk, IfErr};
+ghost use Rattle.giop_cdr.specs.Cursor.{place, skip};
+ghost use Rattle.giop_cdr.specs.Reading.{field_at, is_text};
+ghost use Rattle.giop_cdr.specs.Outcome.{Reads};
+
+use crate::fault::{CdrFault, CdrKind};
+use crate::octets::Octets;
+use crate::order::Order;
+use crate::runs::{copy_of, field_of, text_lies_at};
+use std::alloc::{AllocError, Global};
+use std::marker::Model;
+
+/// Reads CDR values one after the other from a list of octets, in one byte order.
+///
+/// Contracts see it as a `Cursor`: the octets that are left, the offset of the first of them, and the
+/// order. Offsets count from the first octet of the message's header, or from the byte-order octet of
+/// an encapsulation. A read that is refused leaves the reader where it was.
+#[derive(Drop)]
+pub struct CdrIn<'a, S: Octets> {
+    source: &'a S,
+    order: Order,
+    // The offset of the next octet, by which values are aligned.
+    at: usize,
+    // The place of the next octet in `source`, and of the end of what may be read.
+    index: usize,
+    end: usize,
+}
+
+impl<'a, S: Octets> Model for CdrIn<'a, S> {
+    ghost use Rattle.std.specs.Prelude.{◌+◌, ◌-◌, ◌≤◌, ◌^◌, length};
+    ghost use Rattle.giop_cdr.specs.Cursor.{Cursor, window};
+
+    ghost Value = { Cursor };
+
+    ghost view = { λ r. record { order = r.order; at = r.at; rest = window r.index r.end (S.octets r.source.now) } };
+
+    ghost invariant = { λ r. (r.index ≤ r.end) × (r.end ≤ length (S.octets r.source.now)) × (r.end ≤ 2 ^ 62) × (r.at + (r.end - r.index) ≤ 2 ^ 62 + 2 ^ 32) };
+}
+
+impl<'a, S: Octets> CdrIn<'a, S> {
+    /// A reader of all of `source`, whose first octet has the offset `start`.
+    pub fn new(source: &'a S, order: Order, start: usize) -> CdrIn<'a, S>
+        requires short { length (S.octets source.now) ≤ 2 ^ 62 }
+        requires start { start ≤ 2 ^ 32 }
+        ensures { result ≡ record { order = order; at = start; rest = S.octets source.now } }
+    {
+        CdrIn {
+            source,
+            order,
+            at: start,
+            index: 0,
+            end: source.len(),
+        }
+    }
+
+    /// The offset of the next octet.
+    #[inline(always)]
+    pub fn position(&self) -> usize
+        ensures { result ≡ self.now.at }
+    {
+        self.at
+    }
+
+    /// The number of octets that are left.
+    #[inline(always)]
+    pub fn remaining(&self) -> usize
+        ensures { result ≡ length self.now.rest }
+    {
+        self.end - self.index
+    }
+
+    /// The order in which numbers are read.
+    #[inline(always)]
+    pub fn order(&self) -> Order
+        ensures { result ≡ self.now.order }
+    {
+        self.order
+    }
+
+    /// Another reader that stands where this one does: to read ahead, and come back by assigning it.
+    #[inline(always)]
+    pub fn fork(&self) -> CdrIn<'a, S>
+        ensures { result ≡ self.now }
+    {
+        CdrIn {
+            source: self.source,
+            order: self.order,
+            at: self.at,
+            index: self.index,
+            end: self.end,
+        }
+    }
+
+    // The octets of a value of N octets that is aligned to N.
+    #[inline(always)]
+    pub(crate) fn read_field<const N: usize>(&mut self) -> Result<[u8; N], CdrFault>
+        requires some { 0 < N }
+        requires few { N ≤ 8 }
+        ensures value { Reads self.old result self.new (field_at N self.old) }
+        ensures place { IfErr result (λ e. e.at ≡ place N self.old) }
+    {
+        let pad = (N - self.at % N) % N;
+        if self.end - self.index < pad + N {
+            return Err(CdrFault {
+                at: self.at + pad,
+                kind: CdrKind::Short,
+            });
+        }
+        let octets = field_of(self.source, self.index + pad);
+        self.at += pad + N;
+        self.index += pad + N;
+        Ok(octets)
+    }
+
+    // The offset at which a value begins that is aligned to N.
+    #[inline(always)]
+    pub(crate) fn place<const N: usize>(&self) -> usize
+        requires some { 0 < N }
+        requires few { N ≤ 8 }
+        ensures { result ≡ place N self.now }
+    {
+        self.at + (N - self.at % N) % N
+    }
+
+    // Passes over octets that are there.
+    #[inline(always)]
+    pub(crate) fn advance(&mut self, count: usize)
+        requires { count ≤ length self.old.rest }
+        ensures { self.new ≡ skip count self.old }
+    {
+        self.at += count;
+        self.index += count;
+    }
+
+    // A copy of the next octets, which are there.
+    pub(crate) fn copy(&self, alloc: Global, count: usize) -> Result<Vec<u8>, AllocError>
+        requires { count ≤ length self.now.rest }
+        ensures { IfOk result (λ v. v.items ≡ take count self.now.rest) }
+    {
+        copy_of(alloc, self.source, self.index, count)
+    }
+
+    // Whether the next octets, which are there, are those that a string's length counts.
+    pub(crate) fn text_is_next(&self, count: usize) -> bool
+        requires { count ≤ length self.now.rest }
+        ensures { result ≡ is_text (take count self.now.rest) }
+    {
+        text_lies_at(self.source, self.index, count)
+    }
+}

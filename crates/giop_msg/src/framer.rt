@@ -1,0 +1,132 @@
+ghost use Rattle.std.specs.Prelude.{◌≡◌, ◌+◌, ◌++◌, ◌⊎◌, [], List, drop, length, IfOk, IfErr, IfSome, IfNone, OnOk, OnErr};
+ghost use Rattle.giop_msg.specs.declared.fault.WireFault.{WireFault};
+ghost use Rattle.giop_msg.specs.declared.fault.WireKind.TheVariants.{NoMemory};
+ghost use Rattle.giop_msg.specs.declared.msg.Msg.{Msg};
+ghost use Rattle.giop_msg.specs.Fault.{fault};
+ghost use Rattle.giop_msg.specs.Msg.{IsMessage, message_octets};
+ghost use Rattle.giop_msg.specs.Stream.{BeginsWithFault, IsRefusal, Waits};
+
+use crate::{Header, Msg, WireFault};
+use bytes::BytesMut;
+use giop_cdr::OctetList;
+use std::alloc::Global;
+use std::marker::Model;
+
+/// Cuts a stream of octets, which comes in pieces of any size, into messages. Contracts see the
+/// unread octets and the greatest message size.
+#[derive(Drop)]
+pub struct Framer {
+    limit: u32,
+    unread: BytesMut,
+    alloc: Global,
+}
+
+impl Model for Framer {
+    ghost use Rattle.giop_msg.specs.Stream.{Unread};
+
+    ghost Value = { Unread };
+
+    ghost view = { λ f. record { limit = f.limit; octets = f.unread.items } };
+}
+
+impl Framer {
+    ghost use Rattle.giop_msg.specs.Stream.{TakesMessage, TakesMessages};
+
+    /// A framer that refuses each message whose size, which doesn't count the header, is above
+    /// `message_limit`. It takes no memory.
+    pub fn new(alloc: Global, message_limit: u32) -> Framer
+        ensures { result ≡ record { limit = message_limit; octets = [] } }
+    {
+        Framer {
+            limit: message_limit,
+            unread: BytesMut::new(alloc),
+            alloc,
+        }
+    }
+
+    /// Appends octets of the stream to those that are unread. It judges none of them.
+    ///
+    /// The only fault is `NoMemory`, at 0; it changes nothing.
+    pub fn feed(&mut self, octets: &[u8]) -> Result<(), WireFault>
+        ensures ok { OnOk result (self.new
+            ≡ record self.old { octets = self.old.octets ++ octets.now }) }
+        ensures err { IfErr result (λ e. e ≡ fault 0 NoMemory) }
+        ensures kept { OnErr result (self.new ≡ self.old) }
+    {
+        self.unread.extend_from_slice(octets)?;
+        Ok(())
+    }
+
+    /// The number of octets that are unread.
+    pub fn rest(&self) -> usize
+        ensures { result ≡ length self.now.octets }
+    {
+        self.unread.len()
+    }
+
+    /// Takes away and gives the first message of the unread octets. `None`: neither a whole message
+    /// nor a fault stands at their front, and more octets have to be fed. A header is judged as soon
+    /// as its twelve octets are there.
+    ///
+    /// A fault changes nothing. One of the octets stands for good, since it stands however many
+    /// octets follow; `NoMemory`, at 0, comes only where a whole message stands at the front.
+    pub fn next(&mut self) -> Result<Option<Msg>, WireFault>
+        ensures found { IfOk result (λ o. IfSome o (λ m. TakesMessage self.old m self.new)) }
+        ensures waits { IfOk result (λ o. IfNone o (Waits self.old × (self.new ≡ self.old))) }
+        ensures exact { (e : WireFault) → BeginsWithFault self.old.limit self.old.octets e →
+            result ≡ Err e }
+        ensures err { IfErr result (IsRefusal self.old) }
+        ensures kept { OnErr result (self.new ≡ self.old) }
+    {
+        let found = first_message(self.alloc, self.unread.as_slice(), self.limit)?;
+        if let Some(message) = &found {
+            self.unread.advance(12 + message.payload.len());
+        }
+        Ok(found)
+    }
+
+    /// Takes away all messages at the front of the unread octets, and appends them to `messages`.
+    ///
+    /// After a fault the messages before it are taken, and nothing else has changed: one of the
+    /// octets stands at the front of those that are left, and `NoMemory` is at 0.
+    pub fn take_messages(&mut self, messages: &mut Vec<Msg>) -> Result<(), WireFault>
+        ensures found { (taken : List Msg) × (messages.new.items ≡ messages.old.items ++ taken)
+            × TakesMessages self.old taken self.new }
+        ensures ok { OnOk result (Waits self.new) }
+        ensures err { IfErr result (λ e. BeginsWithFault self.new.limit self.new.octets e
+            ⊎ (e ≡ fault 0 NoMemory)) }
+    {
+        loop {
+            messages.reserve(1)?;
+            let Some(message) = self.next()? else {
+                return Ok(());
+            };
+            messages.push(message).unwrap();
+        }
+    }
+}
+
+// The message at the front of the octets, its payload copied.
+fn first_message(alloc: Global, octets: &[u8], limit: u32) -> Result<Option<Msg>, WireFault>
+    ensures found { IfOk result (λ o. IfSome o (λ m. IsMessage limit m
+        × (octets.now ≡ message_octets m ++ drop (12 + length m.payload) octets.now))) }
+    ensures waits { IfOk result (λ o. IfNone o
+        (Waits (record { limit = limit; octets = octets.now }))) }
+    ensures exact { (e : WireFault) → BeginsWithFault limit octets.now e → result ≡ Err e }
+    ensures err { IfErr result (IsRefusal (record { limit = limit; octets = octets.now })) }
+{
+    let Some(head) = octets.first_chunk::<12>() else {
+        return Ok(None);
+    };
+    let header = Header::judge(head, limit)?;
+    let end = 12 + header.size as usize;
+    let Some(payload) = octets.get(12..end) else {
+        return Ok(None);
+    };
+    Ok(Some(Msg {
+        order: header.order,
+        more: header.more,
+        kind: header.kind,
+        payload: OctetList::from_slice(alloc, payload)?,
+    }))
+}

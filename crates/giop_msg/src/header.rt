@@ -1,0 +1,129 @@
+ghost use Rattle.std.specs.Prelude.{◌≡◌, ◌<◌, Some, None, IfOk, IfErr, slice_index};
+ghost use Rattle.giop_msg.specs.Header.{octet_fault};
+
+use crate::{Kind, WireFault, WireKind};
+use giop_cdr::Order;
+
+/// The header of a message (9.4.1), without its magic and its version, which are `GIOP` and 1.2.
+#[derive(Clone, Copy, Debug, PartialEq, Eq)]
+pub struct Header {
+    /// The byte order of the message, its size included: bit 0 of the flags.
+    pub order: Order,
+    /// Whether more fragments follow: bit 1 of the flags.
+    pub more: bool,
+    /// The message type.
+    pub kind: Kind,
+    /// The number of octets after the header.
+    pub size: u32,
+}
+
+impl Header {
+    ghost use Rattle.giop_msg.specs.Header.{flags_of, header_octets, header_of, field_fault, header_fault};
+
+    /// The twelve octets of the header on the wire. It takes no memory.
+    #[tactic(auto, unfolding(crate::specs::Header::header_octets))]
+    pub fn octets(&self) -> [u8; 12]
+        ensures { result ≡ header_octets self.now }
+    {
+        let [a, b, c, d] = match self.order {
+            Order::Big => self.size.to_be_bytes(),
+            Order::Little => self.size.to_le_bytes(),
+        };
+        let kind = self.kind.number();
+        [b'G', b'I', b'O', b'P', 1, 2, self.flags(), kind, a, b, c, d]
+    }
+
+    // Bit 0 is the byte order, bit 1 tells that more fragments follow.
+    fn flags(&self) -> u8
+        ensures { result ≡ flags_of self.now }
+    {
+        let order = match self.order {
+            Order::Big => 0,
+            Order::Little => 1,
+        };
+        order + if self.more { 2 } else { 0 }
+    }
+
+    // The header that twelve octets are, or the first thing that is wrong with them.
+    #[tactic(auto, using(crate::proofs::HeaderLemmas::judging))]
+    pub(crate) fn judge(octets: &[u8; 12], limit: u32) -> Result<Header, WireFault>
+        ensures ok { IfOk result (λ h. (h ≡ header_of octets.now)
+            × (header_fault limit octets.now ≡ None)) }
+        ensures err { IfErr result (λ e. header_fault limit octets.now ≡ Some e) }
+    {
+        if let Some(fault) = octet_fault(octets) {
+            return Err(fault);
+        }
+        let header = Header::from_octets(octets);
+        match header.field_fault(limit) {
+            Some(fault) => Err(fault),
+            None => Ok(header),
+        }
+    }
+
+    // The fields of twelve octets, in which the message type is below 8.
+    #[tactic(auto, unfolding(crate::specs::Header::header_of))]
+    fn from_octets(octets: &[u8; 12]) -> Header
+        requires { slice_index octets.now 7 < 8 }
+        ensures { result ≡ header_of octets.now }
+    {
+        let size = [octets[8], octets[9], octets[10], octets[11]];
+        let (order, size) = if octets[6] % 2 == 0 {
+            (Order::Big, u32::from_be_bytes(size))
+        } else {
+            (Order::Little, u32::from_le_bytes(size))
+        };
+        Header {
+            order,
+            more: octets[6] >= 2,
+            kind: Kind::from_number(octets[7]),
+            size,
+        }
+    }
+
+    // What is wrong with the fields, where message sizes are at most `limit`.
+    #[tactic(auto, unfolding(crate::specs::Header::field_fault))]
+    fn field_fault(&self, limit: u32) -> Option<WireFault>
+        ensures { result ≡ field_fault limit self.now }
+    {
+        let (at, kind) = if self.size > limit {
+            (8, WireKind::TooLarge)
+        } else if !self.kind.can_have_size(self.size) {
+            (8, WireKind::BadSize)
+        } else if self.more && self.size % 8 != 4 {
+            (8, WireKind::FragmentSize)
+        } else if self.more && !self.kind.is_fragmentable() {
+            (6, WireKind::NotFragmentable)
+        } else {
+            return None;
+        };
+        Some(WireFault { at, kind })
+    }
+}
+
+// What is wrong with the first eight of a header's octets.
+#[tactic(auto, unfolding(crate::specs::Header::octet_fault))]
+fn octet_fault(octets: &[u8; 12]) -> Option<WireFault>
+    ensures { result ≡ octet_fault octets.now }
+{
+    let (at, kind) = if octets[0] != b'G' {
+        (0, WireKind::BadMagic)
+    } else if octets[1] != b'I' {
+        (1, WireKind::BadMagic)
+    } else if octets[2] != b'O' {
+        (2, WireKind::BadMagic)
+    } else if octets[3] != b'P' {
+        (3, WireKind::BadMagic)
+    } else if octets[4] != 1 {
+        (4, WireKind::BadVersion)
+    } else if octets[5] != 2 {
+        (5, WireKind::BadVersion)
+    } else if octets[6] >= 4 {
+        (6, WireKind::ReservedFlags)
+    } else if octets[7] >= 8 {
+        (7, WireKind::BadKind)
+    } else {
+        return None;
+    };
+    Some(WireFault { at, kind })
+}

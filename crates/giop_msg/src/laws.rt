@@ -1,0 +1,23 @@
+//! Laws of headers and of streams: each is the contract of a function that does nothing.
+ghost use Rattle.giop_msg.specs.Laws.{HeaderRoundTrip, OneSplit, RequestIds, SplitOn};
+
+/// The octets of a sound header are judged sound and give the header back, and octets in which
+/// nothing is wrong are those of the header that is read from them.
+pub fn header_round_trip()
+    ensures { HeaderRoundTrip }
+{}
+
+/// Each message that is accepted and whose kind has a request id has one.
+pub fn request_ids()
+    ensures { RequestIds }
+{}
+
+/// Two splits of one stream into messages are one.
+pub fn one_split()
+    ensures { OneSplit }
+{}
+
+/// The split of a stream, and of its rest with more octets behind it, is the split of all of it.
+pub fn split_on()
+    ensures { SplitOn }
+{}

@@ -1,0 +1,52 @@
+ghost use Rattle.std.specs.Prelude.{◌≡◌, ◌↔◌, ℕ, Some, map, IfOk, IfErr};
+ghost use Rattle.std.specs.List.{concat};
+ghost use Rattle.giop_msg.specs.declared.fault.WireFault.{WireFault};
+ghost use Rattle.giop_msg.specs.declared.fault.WireKind.TheVariants.{NoMemory};
+ghost use Rattle.giop_msg.specs.Fault.{fault};
+ghost use Rattle.giop_msg.specs.Stream.{Msgs, BeginsWithFault};
+
+use crate::{Framer, Msg, WireFault, WireKind};
+use std::alloc::Global;
+
+/// What a stream holds.
+#[derive(Drop)]
+pub struct Reading {
+    /// Its messages, in order.
+    pub messages: Vec<Msg>,
+    /// What is wrong with the octets after these, if anything is.
+    pub fault: Option<WireFault>,
+    /// The framer, which holds the octets after the messages.
+    pub framer: Framer,
+}
+
+/// Reads a stream that comes in these pieces: any pieces of it give the one split of it.
+///
+/// The only fault that it answers is `NoMemory`, at 0.
+pub fn read_pieces(
+    alloc: Global,
+    message_limit: u32,
+    pieces: &[&[u8]],
+) -> Result<Reading, WireFault>
+    ensures split { IfOk result (λ r. Msgs message_limit (concat (map (λ p. p.now) pieces.now))
+        r.messages.items r.framer.octets) }
+    ensures fault { IfOk result (λ r. (e : WireFault) →
+        (r.fault ≡ Some e) ↔ BeginsWithFault message_limit r.framer.octets e) }
+    ensures err { IfErr result (λ e. e ≡ fault 0 NoMemory) }
+{
+    let mut framer = Framer::new(alloc, message_limit);
+    let mut messages = Vec::new(alloc);
+    let mut fault = None;
+    for piece in pieces {
+        framer.feed(piece)?;
+        fault = match framer.take_messages(&mut messages) {
+            Ok(()) => None,
+            Err(e) if e.kind == WireKind::NoMemory => return Err(e),
+            Err(e) => Some(e),
+        };
+    }
+    Ok(Reading {
+        messages,
+        fault,
+        framer,
+    })
+}
