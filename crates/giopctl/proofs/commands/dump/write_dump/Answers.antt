@@ -29,3 +29,8 @@ returns-in-Ok-None g c =
     let empty : length c.messages.left.now ≡ 0 = eqb-true _ _ (sym c.is_empty.ensures ∙ c.if-is_empty.true) in
     ends_at_rest c.messages.framer _ _ _ c.messages.invariant.1 c.messages.invariant.2 empty waits.0
     (rw (← n) c.write_rest.ensures.text) (rw (← n) c.write_rest.ensures.ok)
+
+pub returns-in-Err : goal.returns-in-Err
+returns-in-Err g c =
+    ends_at_fault c.messages.framer _ _ _ _ c.messages.invariant.1 c.messages.invariant.2 c.in-Err.ensures.err
+    c.write_fault.ensures.text c.write_fault.ensures.ok
