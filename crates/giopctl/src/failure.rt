@@ -2,6 +2,7 @@ ghost use Rattle.std.specs.Prelude.{◌≡◌};
 
 use crate::status::Status;
 use std::alloc::AllocError;
+use std::fmt;
 use std::io;
 use std::io::ErrorKind;
 
@@ -40,6 +41,15 @@ impl From<io::Error> for Failure {
             Failure::Memory
         } else {
             Failure::Io(error)
+        }
+    }
+}
+
+impl fmt::Display for Failure {
+    fn fmt<W: fmt::Write>(&self, f: &mut fmt::Formatter<W>) -> fmt::Result {
+        match self {
+            Failure::Memory => f.write_str("out of memory"),
+            Failure::Io(error) => write!(f, "{error}"),
         }
     }
 }

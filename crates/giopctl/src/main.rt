@@ -1,19 +1,56 @@
-//! The program giopctl: it shows and checks GIOP 1.2 files.
+//! The program giopctl: it shows what files of GIOP 1.2 messages hold.
 #![tactic(auto)]
 
+mod cli;
 mod commands;
 mod failure;
+mod input;
 mod lines;
+mod report;
 mod status;
 
+use cli::Task;
+use failure::Failure;
+use status::Status;
+use std::env;
 use std::io;
 use std::io::{BufWriter, Write};
 use std::process::ExitCode;
 
-fn main(rt: HostRuntime) -> io::Result<ExitCode> {
-    let octets = std::fs::read(&rt, "ping.giop")?;
-    let mut writer = BufWriter::with_capacity(rt.alloc(), 65_536, io::writer(&rt))?;
+// The output is written in pieces of so many octets.
+const OUTPUT_BUFFER: usize = 65_536;
+
+fn main(rt: HostRuntime) -> ExitCode {
+    ExitCode::from(run(&rt).number())
+}
+
+fn run(rt: &HostRuntime) -> Status {
+    let words = match words(rt) {
+        Ok(words) => words,
+        Err(error) => return report::arguments(rt, error.into()),
+    };
+    match cli::task(rt.alloc(), words.as_slice()) {
+        Ok(Some(Task::Dump { file })) => dump(rt, file),
+        Ok(None) => Status::Usage,
+        Err(error) => report::usage(rt, &error),
+    }
+}
+
+// The words of the command line, the program's name first.
+fn words(rt: &HostRuntime) -> io::Result<Vec<String>> {
+    Ok(env::args(rt)?.collect(rt.alloc())?)
+}
+
+fn dump(rt: &HostRuntime, file: &str) -> Status {
+    match dump_file(rt, file) {
+        Ok(status) => status,
+        Err(failure) => report::failure(rt, file, &failure),
+    }
+}
+
+fn dump_file(rt: &HostRuntime, file: &str) -> Result<Status, Failure> {
+    let octets = input::octets_of(rt, file)?;
+    let mut writer = BufWriter::with_capacity(rt.alloc(), OUTPUT_BUFFER, io::writer(rt))?;
     let status = commands::dump_octets(rt.alloc(), octets.as_slice(), &mut writer);
-    writer.flush()?;
-    Ok(ExitCode::from(status.number()))
+    Ok(report::output(rt, status, writer.flush()))
 }
