@@ -7,3 +7,6 @@ pub mod FieldSpelling
 pub mod CountSpelling
 pub mod TextSpelling
 pub mod SequenceSpelling
+pub mod CountSteps
+pub mod Composing
+pub mod ItemLoops

@@ -3,7 +3,7 @@ use Rattle.std.specs.Prelude.{◌≡◌, ◌⊎◌, Result, Ok, Err, IsOk}
 use Rattle.giop_cdr.specs.declared.fault.CdrFault.{CdrFault}
 use Rattle.giop_cdr.specs.declared.fault.CdrKind.TheVariants.{NoMemory}
 use Rattle.giop_cdr.specs.Cursor.{Cursor}
-use Rattle.giop_cdr.specs.Reading.{Reading}
+use Rattle.giop_cdr.specs.Reading.{Reading, past}
 
 -- a call that takes no memory answers what reading gives, and leaves the cursor behind the value or,
 -- where it refuses, where it was
@@ -16,6 +16,16 @@ Reads old (Err e) new reading = (reading ≡ Err e) × (new ≡ old)
 abbrev pub Allocates : {X A : Type 0} → (X → A) → Cursor → Result X CdrFault → Cursor → Reading A → Type 0
 Allocates view old (Ok x) new reading = reading ≡ Ok (view x, new)
 Allocates view old (Err e) new reading = ((reading ≡ Err e) ⊎ ((e.kind ≡ NoMemory) × IsOk reading)) × (new ≡ old)
+
+-- a call that passes over a value, without memory: the cursor behind it, or the fault
+abbrev pub Passes : {X A : Type 0} → Cursor → Result X CdrFault → Cursor → Reading A → Type 0
+Passes old (Ok _) new reading = past reading ≡ Ok new
+Passes old (Err e) new reading = (reading ≡ Err e) × (new ≡ old)
+
+-- as Passes, but for the cursor that a refusal leaves
+abbrev pub Skips : {X A : Type 0} → Result X CdrFault → Cursor → Reading A → Type 0
+Skips (Ok _) new reading = past reading ≡ Ok new
+Skips (Err e) new reading = reading ≡ Err e
 
 -- as Reads, but for the cursor that a refusal leaves
 abbrev pub Exactly : {A : Type 0} → Result A CdrFault → Cursor → Reading A → Type 0

@@ -1,8 +1,9 @@
 -- What it is to read a spelling, to refuse what spells nothing, and what follows (CORBA 3.3 Part 2, 9.3).
-use Rattle.std.specs.Prelude.{◌≡◌, ℕ, zero, suc, ◌+◌, ◌-◌, ◌<◌, ◌≤◌, ◌⊎◌, true, false, not, List, ◌++◌, length, take, Ok, Err}
+use Rattle.std.specs.Prelude.{◌≡◌, ℕ, zero, suc, ◌+◌, ◌-◌, ◌<◌, ◌≤◌, ◌⊎◌, Bool, true, false, List, ◌++◌, length, take, Ok, Err}
 use Rattle.std.specs.Int.{w8, w32}
 use Rattle.giop_cdr.specs.declared.order.Order.{Order}
 use Rattle.giop_cdr.specs.declared.fault.CdrFault.{CdrFault}
+use Rattle.giop_cdr.specs.declared.fault.CdrKind.{CdrKind}
 use Rattle.giop_cdr.specs.declared.fault.CdrKind.TheVariants.{Short, BadBoolean, BadString, BadCount, BoundPassed}
 use Rattle.giop_cdr.specs.Cursor.{Cursor, pad, place, skip}
 use Rattle.giop_cdr.specs.Reading.{Reading, fault, is_text, passes}
@@ -73,6 +74,11 @@ RefusedShort n c e = (length c.rest < pad n c.at + n) × (e ≡ fault (place n c
 abbrev pub RefusedBoolean : Refusal
 RefusedBoolean c e =
     FirstRefused (Took (SpellsNumber w8)) (RefusedShort 1) (λ n d f. (1 < n) × (f ≡ fault (place 1 c) BadBoolean)) c e
+
+-- no value is there, or one that fails a test
+abbrev pub RefusedUnless : {A : Type 0} → (A → Bool) → ℕ → CdrKind → Stretch A → Refusal → Refusal
+RefusedUnless test n kind M R c e =
+    FirstRefused M R (λ x d f. (test x ≡ false) × (f ≡ fault (place n c) kind)) c e
 
 -- a count, and no more than as many octets behind it
 abbrev pub Counts : Stretch ℕ

@@ -78,6 +78,31 @@ string_at bound c = do
       else if passes bound (n.0 - 1) then Err (fault (place 4 c) BoundPassed)
       else Ok (take (n.0 - 1) n.1.rest, skip n.0 n.1)
 
+-- the length of a string whose octets follow, and are one within the bound
+unfoldable pub text_count_at : ℕ → Cursor → Reading ℕ
+text_count_at bound c = do
+  n ← count_at c
+  if not (is_text (take n.0 n.1.rest)) then Err (fault (place 4 c) BadString)
+      else if passes bound (n.0 - 1) then Err (fault (place 4 c) BoundPassed)
+      else Ok n
+
+-- the length of a sequence of octets, within the bound
+unfoldable pub octet_count_at : ℕ → Cursor → Reading ℕ
+octet_count_at bound c = do
+  n ← count_at c
+  if passes bound n.0 then Err (fault (place 4 c) BoundPassed) else Ok n
+
+-- the cursor behind a value
+abbrev pub past : {A : Type 0} → Reading A → Result Cursor CdrFault
+past (Ok x) = Ok x.1
+past (Err e) = Err e
+
+-- a value that passes a test, or else a fault at its place, which is aligned to n
+unfoldable pub such_at : {A : Type 0} → (A → Bool) → ℕ → CdrKind → (Cursor → Reading A) → Cursor → Reading A
+such_at test n kind read c = do
+  x ← read c
+  if not (test x.0) then Err (fault (place n c) kind) else Ok x
+
 -- n values, one after the other
 unfoldable pub items_at : {A : Type 0} → (Cursor → Reading A) → ℕ → Cursor → Reading (List A)
 items_at item zero c = Ok ([], c)

@@ -1,5 +1,5 @@
 -- Which octets spell which value, from an offset on and in an order (CORBA 3.3 Part 2, 9.3.1, 9.3.2).
-use Rattle.std.specs.Prelude.{◌≡◌, ℕ, zero, suc, ◌+◌, ℤ, Bool, false, if◌then◌else◌, List, [], ◌∷◌, ◌++◌, length}
+use Rattle.std.specs.Prelude.{◌≡◌, ℕ, zero, suc, ◌+◌, ℤ, Bool, true, false, if◌then◌else◌, List, [], ◌∷◌, ◌++◌, length}
 use Rattle.std.specs.Int.{Width, w32, byte_len, cast_signed}
 use Rattle.giop_cdr.specs.declared.order.Order.{Order}
 use Rattle.giop_cdr.specs.Cursor.{num, pad}
@@ -38,6 +38,10 @@ pub record Then {A B : Type 0} (P : Spelling A) (Q : A → Spelling B) (o : Orde
   pub whole : b ≡ front ++ back
   pub spells_front : P o at first front
   pub spells_back : Q first o (at + length front) v back
+
+-- a value that passes a test
+abbrev pub Such : {A : Type 0} → (A → Bool) → Spelling A → Spelling A
+Such test P o at v b = P o at v b × (test v ≡ true)
 
 -- no octets: the value is known
 abbrev pub Known : {A : Type 0} → A → Spelling A

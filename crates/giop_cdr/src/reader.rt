@@ -112,9 +112,10 @@ impl<'a, S: Octets> CdrIn<'a, S> {
         Ok(octets)
     }
 
-    // The offset at which a value begins that is aligned to N.
+    /// The offset at which the next value begins that is aligned to N octets (9.3.1.1): the place of
+    /// its faults. N is the size of a primitive, 1 to 8.
     #[inline(always)]
-    pub(crate) fn place<const N: usize>(&self) -> usize
+    pub fn place<const N: usize>(&self) -> usize
         requires some { 0 < N }
         requires few { N ≤ 8 }
         ensures { result ≡ place N self.now }

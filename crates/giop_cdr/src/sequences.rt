@@ -1,7 +1,7 @@
 ghost use Rattle.std.specs.Prelude.{◌≡◌, ◌≤◌, length, IfOk, IfErr};
 ghost use Rattle.giop_cdr.specs.Cursor.{place};
-ghost use Rattle.giop_cdr.specs.Reading.{count_at, octets_at, string_at, passes};
-ghost use Rattle.giop_cdr.specs.Outcome.{Reads, Allocates};
+ghost use Rattle.giop_cdr.specs.Reading.{count_at, octet_count_at, octets_at, text_count_at, string_at, passes};
+ghost use Rattle.giop_cdr.specs.Outcome.{Reads, Allocates, Passes};
 
 use crate::fault::{CdrFault, CdrKind};
 use crate::octets::Octets;
@@ -16,9 +16,14 @@ fn passes(bound: u32, length: usize) -> bool
 }
 
 impl<'a, S: Octets> CdrIn<'a, S> {
-    // The count of a sequence or the length of a string: no more than the octets behind it.
+    /// The count of a sequence (9.3.2.3): an unsigned long, aligned to 4, that is no more than the
+    /// number of octets behind it. What memory it asks for is for the caller to bound: an element of
+    /// one octet on the wire may take many in memory.
+    ///
+    /// Refused, at the offset of the count: as Short where it isn't there, as BadCount where it is
+    /// above the number of octets behind it. The reader then stays where it was.
     #[tactic(auto, unfolding(crate::specs::Reading::count_at))]
-    pub(crate) fn read_count(&mut self) -> Result<usize, CdrFault>
+    pub fn read_count(&mut self) -> Result<usize, CdrFault>
         ensures value { Reads self.old result self.new (count_at self.old) }
         ensures within { IfOk result (λ count. count ≤ length self.new.rest) }
         ensures place { IfErr result (λ e. e.at ≡ place 4 self.old) }
@@ -35,6 +40,50 @@ impl<'a, S: Octets> CdrIn<'a, S> {
         Ok(count)
     }
 
+    // The length of a sequence of octets that is within the bound.
+    #[tactic(auto, unfolding(crate::specs::Reading::octet_count_at))]
+    fn octet_count(&mut self, bound: u32) -> Result<usize, CdrFault>
+        ensures value { Reads self.old result self.new (octet_count_at bound self.old) }
+        ensures within { IfOk result (λ count. count ≤ length self.new.rest) }
+        ensures place { IfErr result (λ e. e.at ≡ place 4 self.old) }
+    {
+        let mut ahead = self.fork();
+        let count = ahead.read_count()?;
+        if passes(bound, count) {
+            return Err(CdrFault {
+                at: self.place::<4>(),
+                kind: CdrKind::BoundPassed,
+            });
+        }
+        *self = ahead;
+        Ok(count)
+    }
+
+    // The length of a string whose octets follow and are one, within the bound.
+    #[tactic(auto, unfolding(crate::specs::Reading::text_count_at))]
+    fn text_count(&mut self, bound: u32) -> Result<usize, CdrFault>
+        ensures value { Reads self.old result self.new (text_count_at bound self.old) }
+        ensures within { IfOk result (λ count. count ≤ length self.new.rest) }
+        ensures place { IfErr result (λ e. e.at ≡ place 4 self.old) }
+    {
+        let mut ahead = self.fork();
+        let count = ahead.read_count()?;
+        if !ahead.text_is_next(count) {
+            return Err(CdrFault {
+                at: self.place::<4>(),
+                kind: CdrKind::BadString,
+            });
+        }
+        if passes(bound, count.saturating_sub(1)) {
+            return Err(CdrFault {
+                at: self.place::<4>(),
+                kind: CdrKind::BoundPassed,
+            });
+        }
+        *self = ahead;
+        Ok(count)
+    }
+
     /// A sequence of octets (9.3.2.3): an unsigned long length, aligned to 4, and as many octets.
     /// A `bound` of 0 is none.
     ///
@@ -42,29 +91,34 @@ impl<'a, S: Octets> CdrIn<'a, S> {
     /// is above the number of octets behind it, as BoundPassed where it is above `bound`, as NoMemory
     /// where memory is wanting. The first of these that holds is the answer, and the reader stays
     /// where it was. No memory is asked for a length that is refused.
-    #[tactic(auto, unfolding(crate::specs::Reading::octets_at))]
+    #[tactic(auto, using(crate::proofs::CountSteps::octets_counted, crate::proofs::CountSteps::octets_there, crate::proofs::CountSteps::octets_uncounted))]
     pub fn read_octets(&mut self, alloc: Global, bound: u32) -> Result<Vec<u8>, CdrFault>
         ensures value { Allocates (λ v. v.items) self.old result self.new (octets_at bound self.old) }
         ensures place { IfErr result (λ e. e.at ≡ place 4 self.old) }
     {
         let mut ahead = self.fork();
-        let count = ahead.read_count()?;
-        let at = self.place::<4>();
-        if passes(bound, count) {
-            return Err(CdrFault {
-                at,
-                kind: CdrKind::BoundPassed,
-            });
-        }
+        let count = ahead.octet_count(bound)?;
         let Ok(octets) = ahead.copy(alloc, count) else {
             return Err(CdrFault {
-                at,
+                at: self.place::<4>(),
                 kind: CdrKind::NoMemory,
             });
         };
         ahead.advance(count);
         *self = ahead;
         Ok(octets)
+    }
+
+    /// Passes over a sequence of octets: as `read_octets`, without the octets and so without memory.
+    #[tactic(auto, using(crate::proofs::CountSteps::octets_passed, crate::proofs::CountSteps::octets_uncounted))]
+    pub fn skip_octets(&mut self, bound: u32) -> Result<(), CdrFault>
+        ensures { Passes self.old result self.new (octets_at bound self.old) }
+    {
+        let mut ahead = self.fork();
+        let count = ahead.octet_count(bound)?;
+        ahead.advance(count);
+        *self = ahead;
+        Ok(())
     }
 
     /// A string (9.3.2.7): an unsigned long length, aligned to 4, that counts one terminating null,
@@ -76,35 +130,33 @@ impl<'a, S: Octets> CdrIn<'a, S> {
     /// one is inside, as BoundPassed where the string is longer than `bound`, as NoMemory where memory
     /// is wanting. The first of these that holds is the answer, and the reader stays where it was. No
     /// memory is asked for a length that is refused.
-    #[tactic(auto, unfolding(crate::specs::Reading::string_at))]
+    #[tactic(auto, using(crate::proofs::CountSteps::text_counted, crate::proofs::CountSteps::text_there, crate::proofs::CountSteps::text_uncounted))]
     pub fn read_string(&mut self, alloc: Global, bound: u32) -> Result<Vec<u8>, CdrFault>
         ensures value { Allocates (λ v. v.items) self.old result self.new (string_at bound self.old) }
         ensures place { IfErr result (λ e. e.at ≡ place 4 self.old) }
     {
         let mut ahead = self.fork();
-        let count = ahead.read_count()?;
-        let at = self.place::<4>();
-        if !ahead.text_is_next(count) {
+        let count = ahead.text_count(bound)?;
+        let Ok(text) = ahead.copy(alloc, count.saturating_sub(1)) else {
             return Err(CdrFault {
-                at,
-                kind: CdrKind::BadString,
-            });
-        }
-        let length = count.saturating_sub(1);
-        if passes(bound, length) {
-            return Err(CdrFault {
-                at,
-                kind: CdrKind::BoundPassed,
-            });
-        }
-        let Ok(text) = ahead.copy(alloc, length) else {
-            return Err(CdrFault {
-                at,
+                at: self.place::<4>(),
                 kind: CdrKind::NoMemory,
             });
         };
         ahead.advance(count);
         *self = ahead;
         Ok(text)
+    }
+
+    /// Passes over a string: as `read_string`, without the octets and so without memory.
+    #[tactic(auto, using(crate::proofs::CountSteps::text_passed, crate::proofs::CountSteps::text_uncounted))]
+    pub fn skip_string(&mut self, bound: u32) -> Result<(), CdrFault>
+        ensures { Passes self.old result self.new (string_at bound self.old) }
+    {
+        let mut ahead = self.fork();
+        let count = ahead.text_count(bound)?;
+        ahead.advance(count);
+        *self = ahead;
+        Ok(())
     }
 }

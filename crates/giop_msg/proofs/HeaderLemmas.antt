@@ -1,5 +1,5 @@
 -- Headers and their octets: reading what was written, writing what was read, and the faults.
-use Rattle.std.proofs.Common.{◌≡◌, ◌≢◌, ℕ, zero, suc, ◌+◌, ◌%◌, ◌<◌, ◌≤◌, ◌^◌, Bool, true, false, not, ◌&&◌, ◌==◌, nat_le, nat_lt, cond, List, [], ◌∷◌, ◌++◌, length, take, drop, slice_index, slice_index_or, get_or, Option, Some, None, refl, sym, ap, ◌∙◌, inl, inr, arith}
+use Rattle.std.proofs.Common.{◌≡◌, ◌≢◌, ℕ, zero, suc, ◌+◌, ◌<◌, ◌≤◌, ◌^◌, Bool, true, false, not, ◌&&◌, ◌==◌, nat_le, nat_lt, cond, List, [], ◌∷◌, ◌++◌, length, drop, slice_index, slice_index_or, get_or, Option, Some, None, refl, sym, ap, ◌∙◌, inl, inr, arith}
 use Rattle.std.proofs.lemmas.Bool.Decides.{nat_tests}
 use Rattle.std.proofs.lemmas.List.{length-drop, drop_more, get_or-drop, get_or_past}
 use Rattle.std.proofs.lemmas.Nat.{from_be_bytes-to_be_bytes_4, from_le_bytes-to_le_bytes_4, be_bytes_4, le_bytes_4}
@@ -32,8 +32,8 @@ pub first_failing-append_failed : (a b : List Test) (e : WireFault) → first_fa
 first_failing-append_failed [] b e h = let no : ⊥ = cc in absurd no
 first_failing-append_failed (t ∷ a) b e h =
     (elim t.fails as (λ v. cond v (Some t.fault_is) (first_failing a) ≡ Some e → cond v (Some t.fault_is) (first_failing (a ++ b)) ≡ Some e) [
-      true ↦ λ k. k
-    | false ↦ λ k. first_failing-append_failed a b e k
+      | true ↦ λ k. k
+      | false ↦ λ k. first_failing-append_failed a b e k
     ]) h
 
 -- a fault of the first eight octets is the header's
@@ -182,9 +182,9 @@ kind_number-kinds (suc (suc (suc (suc (suc (suc (suc (suc n)))))))) h = absurd (
 -- each octet is below 256, and so is what is read past the end
 bounded : (octets : List ℕ) → All (λ o. o < 256) octets → (i : ℕ) → get_or octets i 0 < 256
 bounded octets all i = elim (cases_lt i (length octets)) as (λ _. get_or octets i 0 < 256) [
-      inl h ↦ all i 0 h
-    | inr h ↦ rw (get_or_past octets i 0 h) (omega arith)
-    ]
+  | inl h ↦ all i 0 h
+  | inr h ↦ rw (get_or_past octets i 0 h) (omega arith)
+]
 
 ulong_octets-ulong_of : (order : Order) (octets : List ℕ) → length octets ≡ 4 → ((i : ℕ) → get_or octets i 0 < 256) → ulong_octets order (ulong_of order octets) ≡ octets
 ulong_octets-ulong_of Big octets four below = be_bytes_4 octets _ four below refl
@@ -215,14 +215,14 @@ header_octets-header_of octets twelve below sound =
     let below_four : (i : ℕ) → get_or (drop 8 octets) i 0 < 256 = λ i. rw (get_or-drop 8 octets i 0) (below (8 + i)) in
     let size = ulong_octets-ulong_of (order_of (slice_index octets 6)) (drop 8 octets) four below_four in
     rw (flags-order_of (slice_index octets 6) front.flags, kind_number-kinds (slice_index octets 7) front.kind, size)
-      (cc (split, front.g, front.i, front.o, front.p, front.major, front.minor))
+    (cc (split, front.g, front.i, front.o, front.p, front.major, front.minor))
 
 -- where a header has no fault, its first eight octets have none
 pub octet_fault-sound : (limit : ℕ) (octets : List ℕ) → header_fault limit octets ≡ None → octet_fault octets ≡ None
 octet_fault-sound limit octets sound =
     (elim (octet_fault octets) as (λ o. octet_fault octets ≡ o → o ≡ None) [
-      None ↦ λ e. refl
-    | Some fault ↦ λ e. let found = header_fault-of_octets limit octets fault e in let no : ⊥ = cc in absurd no
+      | None ↦ λ e. refl
+      | Some fault ↦ λ e. let found = header_fault-of_octets limit octets fault e in let no : ⊥ = cc in absurd no
     ]) refl
 
 -- where nothing is wrong with twelve octets, they are those of the header that is read from them
@@ -267,8 +267,8 @@ first_failing-of_octets : (ts : List Test) (e : WireFault) → of_octets ts ≡ 
 first_failing-of_octets [] e all h = let no : ⊥ = cc in absurd no
 first_failing-of_octets (t ∷ ts) e all h =
     (elim t.fails as (λ v. cond v (Some t.fault_is) (first_failing ts) ≡ Some e → nat_lt (wire_kind_number e.kind) 9 ≡ true) [
-      true ↦ λ k. let same : t.fault_is ≡ e = cc in ap (λ (w : WireFault). nat_lt (wire_kind_number w.kind) 9) (sym same) ∙ (and_parts _ _ all).0
-    | false ↦ λ k. first_failing-of_octets ts e (and_parts _ _ all).1 k
+      | true ↦ λ k. let same : t.fault_is ≡ e = cc in ap (λ (w : WireFault). nat_lt (wire_kind_number w.kind) 9) (sym same) ∙ (and_parts _ _ all).0
+      | false ↦ λ k. first_failing-of_octets ts e (and_parts _ _ all).1 k
     ]) h
 
 -- no fault of octets is want of memory

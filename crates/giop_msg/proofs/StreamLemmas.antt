@@ -1,18 +1,17 @@
 -- Messages at the front of a stream: there is one at most, and what follows does not matter.
-use Rattle.std.proofs.Common.{◌≡◌, ℕ, suc, ◌+◌, ◌-◌, ◌<◌, ◌≤◌, ◌^◌, List, [], ◌∷◌, ◌++◌, length, take, drop, get_or, Option, Some, None, refl, sym, ap, subst, ◌∙◌, append_assoc, length-append, inl, inr, arith}
+use Rattle.std.proofs.Common.{◌≡◌, ℕ, zero, suc, ◌+◌, ◌<◌, ◌≤◌, ◌^◌, List, [], ◌∷◌, ◌++◌, length, take, drop, get_or, None, refl, sym, ap, subst, ◌∙◌, append_assoc, append-nil, length-append, inl, inr, arith}
 use Rattle.std.specs.List.{All, flat_map, slice_range}
-use Rattle.std.proofs.lemmas.List.{take_at, drop_at, take-append-le, take-append-drop, length-take, length-drop, drop-drop, get_or-take, get_or_past}
+use Rattle.std.proofs.lemmas.List.{take_at, drop_at, take-append-le, take-append-drop, length-take, length-drop, drop-drop, get_or-take, get_or_past, flat_map_more}
 use Rattle.std.proofs.lemmas.List.Elements.{All-append}
 use Rattle.std.proofs.lemmas.Bool.{cases_lt}
 use Rattle.std.proofs.lemmas.Grind.{flat_map-append}
 use Rattle.giop_msg.specs.declared.fault.WireFault.{WireFault}
-use Rattle.giop_msg.specs.declared.fault.WireKind.TheVariants.{NoMemory}
 use Rattle.giop_msg.specs.declared.header.Header.{Header}
 use Rattle.giop_msg.specs.declared.msg.Msg.{Msg}
 use Rattle.giop_msg.specs.Header.{header_octets, header_of, field_fault, header_fault, ulong_of}
 use Rattle.giop_msg.specs.Laws.{OneSplit, RequestIds, SplitOn}
-use Rattle.giop_msg.specs.Msg.{head_of, message_octets, IsMessage, request_id_of}
-use Rattle.giop_msg.specs.Stream.{BeginsWithMessage, BeginsWithFault, Msgs, Unread, Waits}
+use Rattle.giop_msg.specs.Msg.{head_of, message_octets, IsMessage}
+use Rattle.giop_msg.specs.Stream.{BeginsWithMessage, BeginsWithFault, Msgs, Unread, Waits, AppendsTaken, TakesMessage}
 use Rattle.giop_msg.proofs.HeaderLemmas.{length-header_octets, header_of-header_octets, header_fault-header_octets, header_fault-of_fields, octet_fault-sound, sizes_of_sound, room_for_id, sound_octets}
 
 pub length-message_octets : (m : Msg) → length (message_octets m) ≡ 12 + length m.payload
@@ -36,15 +35,16 @@ same_fields : (m n : Msg) → m.order ≡ n.order → m.more ≡ n.more → m.ki
 same_fields m n order more kind payload = λ i. record { order = order i; more = more i; kind = kind i; payload = payload i }
 
 same_front : (xs ys more left : List ℕ) → length xs ≡ length ys → xs ++ more ≡ ys ++ left → (xs ≡ ys) × (more ≡ left)
-same_front xs ys more left same e =
-    (sym (take_at xs more (length xs) refl) ∙ ap (take (length xs)) e ∙ take_at ys left (length xs) (sym same),
-    sym (drop_at xs more (length xs) refl) ∙ ap (drop (length xs)) e ∙ drop_at ys left (length xs) (sym same))
+same_front xs ys more left same e = (
+  sym (take_at xs more (length xs) refl) ∙ ap (take (length xs)) e ∙ take_at ys left (length xs) (sym same),
+  sym (drop_at xs more (length xs) refl) ∙ ap (drop (length xs)) e ∙ drop_at ys left (length xs) (sym same),
+)
 
 below_in_front : (octets : List ℕ) → ((i : ℕ) → get_or octets i 0 < 256) → (i : ℕ) → get_or (take 12 octets) i 0 < 256
 below_in_front octets below i = elim (cases_lt i 12) as (λ _. get_or (take 12 octets) i 0 < 256) [
-      inl h ↦ rw (get_or-take 12 octets i 0 h) (below i)
-    | inr h ↦ rw (get_or_past (take 12 octets) i 0 (simp length-take (omega arith))) (omega arith)
-    ]
+  | inl h ↦ rw (get_or-take 12 octets i 0 h) (below i)
+  | inr h ↦ rw (get_or_past (take 12 octets) i 0 (simp length-take (omega arith))) (omega arith)
+]
 
 -- one message at most stands at the front of octets
 pub same_message : (limit : ℕ) (m n : Msg) (more left : List ℕ) → IsMessage limit m → IsMessage limit n → message_octets m ++ more ≡ message_octets n ++ left → (m ≡ n) × (more ≡ left)
@@ -61,7 +61,7 @@ fault_stands limit octets more e stands =
 
 -- a message and a fault do not both stand at the front
 pub message_or_fault : (limit : ℕ) (octets : List ℕ) (e : WireFault) → BeginsWithMessage limit octets → BeginsWithFault limit octets e → ⊥
-message_or_fault limit octets e (m , more , is , eq) stands =
+message_or_fault limit octets e (m, more, is, eq) stands =
     let sound : header_fault limit (take 12 octets) ≡ None = rw eq (header_fault-message_octets limit m more is) in
     let found = stands.1 in
     cc
@@ -75,6 +75,10 @@ each_head limit m ms each = each 0 m (omega arith)
 
 pub each_tail : (limit : ℕ) (m : Msg) (ms : List Msg) → All (IsMessage limit) (m ∷ ms) → All (IsMessage limit) ms
 each_tail limit m ms each = λ k d h. each (suc k) d (omega arith)
+
+pub each_one : (limit : ℕ) (m : Msg) → IsMessage limit m → All (IsMessage limit) (m ∷ [])
+each_one limit m is zero d h = is
+each_one limit m is (suc k) d h = absurd (omega arith)
 
 -- the first message of a split, and then the octets of the others and the rest
 split_first : (limit : ℕ) (stream : List ℕ) (m : Msg) (ms : List Msg) (rest : List ℕ) → Msgs limit stream (m ∷ ms) rest → stream ≡ message_octets m ++ (flat_map message_octets ms ++ rest)
@@ -96,7 +100,7 @@ same_splits limit stream (m ∷ one) [] rest left a b =
     absurd (b.partial (subst (BeginsWithMessage limit) b.whole (split_begins limit stream m one rest a)))
 same_splits limit stream (m ∷ one) (n ∷ two) rest left a b =
     let firsts = same_message limit m n (flat_map message_octets one ++ rest) (flat_map message_octets two ++ left) (each_head limit m one a.each)
-      (each_head limit n two b.each) (sym (split_first limit stream m one rest a) ∙ split_first limit stream n two left b) in
+    (each_head limit n two b.each) (sym (split_first limit stream m one rest a) ∙ split_first limit stream n two left b) in
     let others = subst (λ s. Msgs limit s two left) (sym firsts.1) (split_others limit stream n two left b) in
     let same = same_splits limit (flat_map message_octets one ++ rest) one two rest left (split_others limit stream m one rest a) others in
     (let first : m ≡ n = firsts.0 in let later : one ≡ two = same.0 in cc, same.1)
@@ -105,9 +109,9 @@ same_splits limit stream (m ∷ one) (n ∷ two) rest left a b =
 pub split_goes_on : SplitOn
 split_goes_on limit stream more first second rest left a b = record {
   whole =
-    ap (λ s. s ++ more) a.whole ∙ append_assoc (flat_map message_octets first) rest more
-    ∙ ap (λ s. flat_map message_octets first ++ s) b.whole ∙ sym (append_assoc (flat_map message_octets first) (flat_map message_octets second) left)
-    ∙ ap (λ s. s ++ left) (sym (flat_map-append message_octets first second));
+      ap (λ s. s ++ more) a.whole ∙ append_assoc (flat_map message_octets first) rest more
+      ∙ ap (λ s. flat_map message_octets first ++ s) b.whole ∙ sym (append_assoc (flat_map message_octets first) (flat_map message_octets second) left)
+      ∙ ap (λ s. s ++ left) (sym (flat_map-append message_octets first second));
   each = All-append (IsMessage limit) first second a.each b.each;
   partial = b.partial;
 }
@@ -121,7 +125,7 @@ request_id_there limit m is has =
 -- fewer octets than a header's hold no message and no fault
 pub waits_for_header : (limit : ℕ) (octets : List ℕ) → length octets < 12 → Waits (record { limit = limit; octets = octets })
 waits_for_header limit octets short = record {
-  no_message = λ (m , more , is , eq). absurd (omega (arith, ap length eq, length-append (message_octets m) more, length-message_octets m));
+  no_message = λ (m, more, is, eq). absurd (omega (arith, ap length eq, length-append (message_octets m) more, length-message_octets m));
   no_fault = λ e stands. absurd (omega (arith, stands.0));
 }
 
@@ -136,10 +140,10 @@ begins_with_header limit octets front h e is sound = record { is = is ∙ ap hea
 -- a sound header and fewer octets after it than it says are no message and no fault
 pub waits_for_payload : (limit : ℕ) (octets : List ℕ) (h : Header) → BeginsWithHeader limit octets h → length octets < 12 + h.size → Waits (record { limit = limit; octets = octets })
 waits_for_payload limit octets h begins short = record {
-  no_message = λ (m , more , is , eq).
-    let heads : h ≡ head_of m = begins.is ∙ ap (λ o. header_of (take 12 o)) eq ∙ header_of-message_octets limit m more is in
-    let sizes : h.size ≡ length m.payload = ap (λ (x : Header). x.size) heads in
-    absurd (omega (arith, sizes, ap length eq, length-append (message_octets m) more, length-message_octets m));
+  no_message = λ (m, more, is, eq).
+      let heads : h ≡ head_of m = begins.is ∙ ap (λ o. header_of (take 12 o)) eq ∙ header_of-message_octets limit m more is in
+      let sizes : h.size ≡ length m.payload = ap (λ (x : Header). x.size) heads in
+      absurd (omega (arith, sizes, ap length eq, length-append (message_octets m) more, length-message_octets m));
   no_fault = λ e stands. let found = stands.1 in let sound = begins.sound in let no : ⊥ = cc in absurd no;
 }
 
@@ -156,8 +160,8 @@ payload_and_more octets size payload part long =
 
 -- a sound header at the front, and the octets that it says after it, are a message
 pub message_at_front : (limit : ℕ) (octets : List ℕ) (h : Header) (payload : List ℕ) → ((i : ℕ) → get_or octets i 0 < 256) →
-  BeginsWithHeader limit octets h → limit < 2 ^ 32 → 12 + h.size ≤ length octets → payload ≡ slice_range octets 12 (12 + h.size) →
-  IsMessage limit (message_of h payload) × (octets ≡ message_octets (message_of h payload) ++ drop (12 + length payload) octets)
+    BeginsWithHeader limit octets h → limit < 2 ^ 32 → 12 + h.size ≤ length octets → payload ≡ slice_range octets 12 (12 + h.size) →
+    IsMessage limit (message_of h payload) × (octets ≡ message_octets (message_of h payload) ++ drop (12 + length payload) octets)
 message_at_front limit octets h payload below begins limited there slice =
     let part : payload ≡ take h.size (drop 12 octets) = slice ∙ ap (λ n. take n (drop 12 octets)) (omega arith) in
     let long : length payload ≡ h.size = rw part (simp (length-take, length-drop) (omega arith)) in
@@ -165,15 +169,42 @@ message_at_front limit octets h payload below begins limited there slice =
     let below_twelve : (i : ℕ) → get_or (take 12 octets) i 0 < 256 = below_in_front octets below in
     let head = head_of-message_of h payload long in
     let front : header_octets (head_of (message_of h payload)) ≡ take 12 octets =
-      ap header_octets (head ∙ begins.is) ∙ sound_octets limit (take 12 octets) twelve below_twelve begins.sound in
+    ap header_octets (head ∙ begins.is) ∙ sound_octets limit (take 12 octets) twelve below_twelve begins.sound in
     let fields = sym (header_fault-of_fields limit (take 12 octets) (octet_fault-sound limit (take 12 octets) begins.sound)) ∙ begins.sound in
-    let within : h.size ≤ limit = subst (λ (x : Header). x.size ≤ limit) (sym begins.is) (sizes_of_sound limit (header_of (take 12 octets)) fields).0 in
-    (record { sized = omega (arith, long, within); sound = ap (field_fault limit) (head ∙ begins.is) ∙ fields },
-    sym (take-append-drop 12 octets)
-    ∙ ap (λ xs. xs ++ drop 12 octets) (sym front)
-    ∙ ap (λ xs. header_octets (head_of (message_of h payload)) ++ xs) (payload_and_more octets h.size payload part long)
-    ∙ sym (append_assoc (header_octets (head_of (message_of h payload))) payload (drop (12 + length payload) octets)))
+    let within : h.size ≤ limit = subst (λ (x : Header). x.size ≤ limit) (sym begins.is) (sizes_of_sound limit (header_of (take 12 octets)) fields).0 in (
+      record { sized = omega (arith, long, within); sound = ap (field_fault limit) (head ∙ begins.is) ∙ fields },
+      sym (take-append-drop 12 octets)
+          ∙ ap (λ xs. xs ++ drop 12 octets) (sym front)
+          ∙ ap (λ xs. header_octets (head_of (message_of h payload)) ++ xs) (payload_and_more octets h.size payload part long)
+          ∙ sym (append_assoc (header_octets (head_of (message_of h payload))) payload (drop (12 + length payload) octets)),
+    )
 
 -- octets that begin with a message are at least as long
 pub message_fits : (octets : List ℕ) (m : Msg) (more : List ℕ) → octets ≡ message_octets m ++ more → 12 + length m.payload ≤ length octets
 message_fits octets m more e = omega (arith, ap length e, length-append (message_octets m) more, length-message_octets m)
+
+-- nothing is taken at first
+pub taken_none : (unread : Unread) (before : List Msg) → AppendsTaken unread before unread before
+taken_none unread before = record {
+  taken = [];
+  appended = sym (append-nil before);
+  takes = record { each = λ k d h. absurd (omega (arith, h)); octets = refl; limit = refl };
+}
+
+-- one message more is taken
+pub taken_more : (old middle new : Unread) (before after : List Msg) (m : Msg) → AppendsTaken old before middle after → TakesMessage middle m new → AppendsTaken old before new (after ++ m ∷ [])
+taken_more old middle new before after m so_far next = record {
+  taken = so_far.taken ++ m ∷ [];
+  appended = ap (λ ms. ms ++ m ∷ []) so_far.appended ∙ append_assoc before so_far.taken (m ∷ []);
+  takes = record {
+    each = All-append (IsMessage old.limit) so_far.taken (m ∷ []) so_far.takes.each (each_one old.limit m (subst (λ n. IsMessage n m) so_far.takes.limit next.is_message));
+    octets =
+        so_far.takes.octets ∙ ap (λ s. flat_map message_octets so_far.taken ++ s) next.octets ∙ sym (append_assoc (flat_map message_octets so_far.taken) (message_octets m) new.octets)
+        ∙ ap (λ s. s ++ new.octets) (flat_map_more message_octets [] so_far.taken m);
+    limit = next.limit ∙ so_far.takes.limit;
+  };
+}
+
+-- a message that is taken leaves fewer octets
+pub takes_fewer : (old new : Unread) (m : Msg) → TakesMessage old m new → length new.octets < length old.octets
+takes_fewer old new m takes = omega (arith, ap length takes.octets, length-append (message_octets m) new.octets, length-message_octets m)

@@ -1,6 +1,6 @@
 -- The header of a GIOP 1.2 message (CORBA 3.3 Part 2, 9.4.1), twelve octets:
 --   magic "GIOP", version 1 2, flags, message type, message size (an unsigned long, 9.3.1.1)
-use Rattle.std.specs.Prelude.{ℕ, ◌+◌, ◌%◌, Bool, ◌&&◌, ◌==◌, nat_lt, nat_le, not, List, [], ◌∷◌, ◌++◌, codes, Option, drop, slice_index, slice_index_or, if◌then◌else◌}
+use Rattle.std.specs.Prelude.{ℕ, ◌+◌, ◌%◌, ◌&&◌, ◌==◌, nat_lt, nat_le, not, List, [], ◌∷◌, ◌++◌, codes, Option, drop, slice_index, slice_index_or, if◌then◌else◌}
 use Rattle.std.specs.Int.{w32, to_be_bytes, to_le_bytes, from_be_bytes, from_le_bytes}
 use Rattle.giop_cdr.specs.declared.order.Order.{Order}
 use Rattle.giop_cdr.specs.declared.order.Order.TheVariants.{Big, Little}

@@ -5,7 +5,8 @@ use Rattle.giop_msg.specs.declared.msg.Msg.{Msg}
 use Rattle.giop_msg.specs.Header.{field_fault, header_fault, header_octets, header_of}
 use Rattle.giop_msg.specs.Kind.{has_request_id}
 use Rattle.giop_msg.specs.Msg.{IsMessage, request_id_of}
-use Rattle.giop_msg.specs.Stream.{Msgs}
+use Rattle.giop_msg.specs.declared.fault.WireFault.{WireFault}
+use Rattle.giop_msg.specs.Stream.{BeginsWithFault, Msgs}
 
 pub record HeaderRoundTrip : Type 0 where
   -- the octets of a header give the header back, and the same is wrong with both
@@ -34,3 +35,9 @@ SplitOn =
     (limit : ℕ) (stream more : List ℕ) (first second : List Msg) (rest left : List ℕ) →
     Msgs limit stream first rest → Msgs limit (rest ++ more) second left →
     Msgs limit (stream ++ more) (first ++ second) left
+
+-- a fault at the front stands there, however many octets follow
+abbrev pub FaultsStand : Type 0
+FaultsStand =
+    (limit : ℕ) (octets more : List ℕ) (e : WireFault) →
+    BeginsWithFault limit octets e → BeginsWithFault limit (octets ++ more) e

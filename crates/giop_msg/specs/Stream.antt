@@ -1,5 +1,5 @@
 -- A stream of octets as messages, one after another, and a rest.
-use Rattle.std.specs.Prelude.{◌≡◌, ℕ, ◌≤◌, ◌⊎◌, All, List, ◌++◌, Option, Some, length, take}
+use Rattle.std.specs.Prelude.{◌≡◌, ℕ, ◌≤◌, ◌↔◌, ◌⊎◌, All, List, ◌++◌, Option, Some, length, take}
 use Rattle.std.specs.List.{flat_map}
 use Rattle.giop_msg.specs.declared.fault.WireFault.{WireFault}
 use Rattle.giop_msg.specs.declared.msg.Msg.{Msg}
@@ -27,6 +27,11 @@ pub record Waits (unread : Unread) : Type 0 where
   pub no_message : BeginsWithMessage unread.limit unread.octets → ⊥
   pub no_fault : (e : WireFault) → BeginsWithFault unread.limit unread.octets e → ⊥
 
+-- no message stands at the front of the unread octets, and this fault does, if there is one
+pub record IsStopped (unread : Unread) (stands : Option WireFault) : Type 0 where
+  pub no_message : BeginsWithMessage unread.limit unread.octets → ⊥
+  pub fault_is : (e : WireFault) → (stands ≡ Some e) ↔ BeginsWithFault unread.limit unread.octets e
+
 -- this message is taken away from the front of the unread octets
 pub record TakesMessage (old : Unread) (m : Msg) (new : Unread) : Type 0 where
   pub is_message : IsMessage old.limit m
@@ -38,6 +43,12 @@ pub record TakesMessages (old : Unread) (messages : List Msg) (new : Unread) : T
   pub each : All (IsMessage old.limit) messages
   pub octets : old.octets ≡ flat_map message_octets messages ++ new.octets
   pub limit : new.limit ≡ old.limit
+
+-- messages are taken away from the front of the unread octets, and appended to others
+pub record AppendsTaken (old : Unread) (before : List Msg) (new : Unread) (after : List Msg) : Type 0 where
+  pub taken : List Msg
+  pub appended : after ≡ before ++ taken
+  pub takes : TakesMessages old taken new
 
 -- the fault stands at the front of the unread octets, or memory ran out for the message there
 abbrev pub IsRefusal : Unread → WireFault → Type 0

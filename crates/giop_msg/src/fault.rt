@@ -1,6 +1,7 @@
 ghost use Rattle.std.specs.Prelude.{◌≡◌};
 
 use std::alloc::AllocError;
+use std::error::Error;
 use std::fmt;
 
 /// What is wrong with a message's header, in the order in which headers are judged.
@@ -115,3 +116,5 @@ impl fmt::Display for WireFault {
         write!(f, "{}", self.kind)
     }
 }
+
+impl Error for WireFault {}

@@ -1,7 +1,6 @@
-ghost use Rattle.std.specs.Prelude.{◌≡◌, ◌+◌, ◌++◌, ◌⊎◌, [], List, drop, length, IfOk, IfErr, IfSome, IfNone, OnOk, OnErr};
+ghost use Rattle.std.specs.Prelude.{◌≡◌, ◌+◌, ◌++◌, ◌⊎◌, [], drop, length, IfOk, IfErr, IfSome, IfNone, OnOk, OnErr};
 ghost use Rattle.giop_msg.specs.declared.fault.WireFault.{WireFault};
 ghost use Rattle.giop_msg.specs.declared.fault.WireKind.TheVariants.{NoMemory};
-ghost use Rattle.giop_msg.specs.declared.msg.Msg.{Msg};
 ghost use Rattle.giop_msg.specs.Fault.{fault};
 ghost use Rattle.giop_msg.specs.Msg.{IsMessage, message_octets};
 ghost use Rattle.giop_msg.specs.Stream.{BeginsWithFault, IsRefusal, Waits};
@@ -14,7 +13,7 @@ use std::marker::Model;
 
 /// Cuts a stream of octets, which comes in pieces of any size, into messages. Contracts see the
 /// unread octets and the greatest message size.
-#[derive(Drop)]
+#[derive(Debug, Drop)]
 pub struct Framer {
     limit: u32,
     unread: BytesMut,
@@ -30,7 +29,7 @@ impl Model for Framer {
 }
 
 impl Framer {
-    ghost use Rattle.giop_msg.specs.Stream.{TakesMessage, TakesMessages};
+    ghost use Rattle.giop_msg.specs.Stream.{AppendsTaken, TakesMessage};
 
     /// A framer that refuses each message whose size, which doesn't count the header, is above
     /// `message_limit`. It takes no memory.
@@ -90,8 +89,7 @@ impl Framer {
     /// After a fault the messages before it are taken, and nothing else has changed: one of the
     /// octets stands at the front of those that are left, and `NoMemory` is at 0.
     pub fn take_messages(&mut self, messages: &mut Vec<Msg>) -> Result<(), WireFault>
-        ensures found { (taken : List Msg) × (messages.new.items ≡ messages.old.items ++ taken)
-            × TakesMessages self.old taken self.new }
+        ensures found { AppendsTaken self.old messages.old.items self.new messages.new.items }
         ensures ok { OnOk result (Waits self.new) }
         ensures err { IfErr result (λ e. BeginsWithFault self.new.limit self.new.octets e
             ⊎ (e ≡ fault 0 NoMemory)) }

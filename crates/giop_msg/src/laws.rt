@@ -1,5 +1,5 @@
 //! Laws of headers and of streams: each is the contract of a function that does nothing.
-ghost use Rattle.giop_msg.specs.Laws.{HeaderRoundTrip, OneSplit, RequestIds, SplitOn};
+ghost use Rattle.giop_msg.specs.Laws.{FaultsStand, HeaderRoundTrip, OneSplit, RequestIds, SplitOn};
 
 /// The octets of a sound header are judged sound and give the header back, and octets in which
 /// nothing is wrong are those of the header that is read from them.
@@ -20,4 +20,9 @@ pub fn one_split()
 /// The split of a stream, and of its rest with more octets behind it, is the split of all of it.
 pub fn split_on()
     ensures { SplitOn }
+{}
+
+/// A fault at the front of octets stands there for good, however many octets follow.
+pub fn faults_stand()
+    ensures { FaultsStand }
 {}

@@ -14,6 +14,6 @@ pub use fault::{WireFault, WireKind};
 pub use framer::Framer;
 pub use header::Header;
 pub use kind::Kind;
-pub use laws::{header_round_trip, one_split, request_ids, split_on};
+pub use laws::{faults_stand, header_round_trip, one_split, request_ids, split_on};
 pub use msg::Msg;
 pub use stream::{Reading, read_pieces};

@@ -1,15 +1,15 @@
-ghost use Rattle.std.specs.Prelude.{◌≡◌, ◌↔◌, ℕ, Some, map, IfOk, IfErr};
-ghost use Rattle.std.specs.List.{concat};
+ghost use Rattle.std.specs.Prelude.{◌≡◌, ◌↔◌, Some, IfOk, IfErr};
+ghost use Rattle.std.specs.List.{flat_map};
 ghost use Rattle.giop_msg.specs.declared.fault.WireFault.{WireFault};
 ghost use Rattle.giop_msg.specs.declared.fault.WireKind.TheVariants.{NoMemory};
 ghost use Rattle.giop_msg.specs.Fault.{fault};
-ghost use Rattle.giop_msg.specs.Stream.{Msgs, BeginsWithFault};
+ghost use Rattle.giop_msg.specs.Stream.{AppendsTaken, BeginsWithFault, IsStopped, Msgs};
 
 use crate::{Framer, Msg, WireFault, WireKind};
 use std::alloc::Global;
 
 /// What a stream holds.
-#[derive(Drop)]
+#[derive(Debug, Drop)]
 pub struct Reading {
     /// Its messages, in order.
     pub messages: Vec<Msg>,
@@ -27,7 +27,7 @@ pub fn read_pieces(
     message_limit: u32,
     pieces: &[&[u8]],
 ) -> Result<Reading, WireFault>
-    ensures split { IfOk result (λ r. Msgs message_limit (concat (map (λ p. p.now) pieces.now))
+    ensures split { IfOk result (λ r. Msgs message_limit (flat_map (λ p. p.now) pieces.now)
         r.messages.items r.framer.octets) }
     ensures fault { IfOk result (λ r. (e : WireFault) →
         (r.fault ≡ Some e) ↔ BeginsWithFault message_limit r.framer.octets e) }
@@ -38,15 +38,27 @@ pub fn read_pieces(
     let mut fault = None;
     for piece in pieces {
         framer.feed(piece)?;
-        fault = match framer.take_messages(&mut messages) {
-            Ok(()) => None,
-            Err(e) if e.kind == WireKind::NoMemory => return Err(e),
-            Err(e) => Some(e),
-        };
+        fault = take_up_to_fault(&mut framer, &mut messages)?;
     }
     Ok(Reading {
         messages,
         fault,
         framer,
     })
+}
+
+// Takes away all messages at the front, and gives the fault that stands behind them, if one does.
+fn take_up_to_fault(
+    framer: &mut Framer,
+    messages: &mut Vec<Msg>,
+) -> Result<Option<WireFault>, WireFault>
+    ensures found { AppendsTaken framer.old messages.old.items framer.new messages.new.items }
+    ensures ok { IfOk result (IsStopped framer.new) }
+    ensures err { IfErr result (λ e. e ≡ fault 0 NoMemory) }
+{
+    match framer.take_messages(messages) {
+        Ok(()) => Ok(None),
+        Err(e) if e.kind == WireKind::NoMemory => Err(e),
+        Err(e) => Ok(Some(e)),
+    }
 }

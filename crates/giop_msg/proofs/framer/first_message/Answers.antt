@@ -1,4 +1,4 @@
-use Rattle.std.proofs.Common.{◌≡◌, ◌+◌, ◌<◌, ◌≤◌, length, refl, inr, ◌∙◌, arith}
+use Rattle.std.proofs.Common.{refl, inr, ◌∙◌, arith}
 use Rattle.std.proofs.lemmas.Result.{err_from_is_err_and}
 use Rattle.giop_msg.proofs.StreamLemmas.{begins_with_header, BeginsWithHeader, waits_for_header, waits_for_payload, message_at_front}
 use Rattle.giop_msg.proofs.framer.first_message.Goals as goal
@@ -9,13 +9,13 @@ returns-in_default-clause-waits c = waits_for_header c.args.limit c.args.octets.
 pub returns-in_default-get-clause-waits : goal.returns-in_default-get-clause-waits
 returns-in_default-get-clause-waits c =
     let begins : BeginsWithHeader c.args.limit c.args.octets.now c.in_ok-header.header =
-      begins_with_header _ _ _ _ c.in-Some.ensures.cases.same c.in_ok-header.ensures.ok.0 c.in_ok-header.ensures.ok.1 in
+    begins_with_header _ _ _ _ c.in-Some.ensures.cases.same c.in_ok-header.ensures.ok.0 c.in_ok-header.ensures.ok.1 in
     waits_for_payload _ _ _ begins (omega (arith, c.in_default-get.ensures.lookup))
 
 pub returns-in_err-from_slice-clause-err : goal.returns-in_err-from_slice-clause-err
 returns-in_err-from_slice-clause-err c =
     let begins : BeginsWithHeader c.args.limit c.args.octets.now c.in_ok-header.header =
-      begins_with_header _ _ _ _ c.in-Some.ensures.cases.same c.in_ok-header.ensures.ok.0 c.in_ok-header.ensures.ok.1 in
+    begins_with_header _ _ _ _ c.in-Some.ensures.cases.same c.in_ok-header.ensures.ok.0 c.in_ok-header.ensures.ok.1 in
     let part = c.in-Some-get.ensures.lookup.0 in
     let m = message_at_front _ _ _ c.in-Some-get.payload.now (λ i. (c.type_inv.octets i).fits) begins c.ranges.limit.fits part.1 part.2 in
     let p = err_from_is_err_and c.from_residual-in_err-from_slice.result c.from_residual-in_err-from_slice.ensures.1 in
@@ -24,6 +24,6 @@ returns-in_err-from_slice-clause-err c =
 pub returns-clause-found : goal.returns-clause-found
 returns-clause-found c =
     let begins : BeginsWithHeader c.args.limit c.args.octets.now c.in_ok-header.header =
-      begins_with_header _ _ _ _ c.in-Some.ensures.cases.same c.in_ok-header.ensures.ok.0 c.in_ok-header.ensures.ok.1 in
+    begins_with_header _ _ _ _ c.in-Some.ensures.cases.same c.in_ok-header.ensures.ok.0 c.in_ok-header.ensures.ok.1 in
     let part = c.in-Some-get.ensures.lookup.0 in
     message_at_front _ _ _ c.in_ok-from_slice.field-0 (λ i. (c.type_inv.octets i).fits) begins c.ranges.limit.fits part.1 (c.in_ok-from_slice.ensures ∙ part.2)

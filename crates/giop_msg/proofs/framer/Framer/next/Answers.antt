@@ -1,4 +1,3 @@
-use Rattle.std.proofs.Common.{arith}
 use Rattle.giop_msg.proofs.StreamLemmas.{message_fits}
 use Rattle.giop_msg.proofs.framer.Framer.next.Goals as goal
 
