@@ -34,7 +34,7 @@ Example:
 
 /// What the words ask for, of which the first is the program's name. There is no task where they are
 /// refused or ask for help or the version: then the error has the text to print.
-pub fn task<'a>(alloc: Global, words: &'a [String]) -> Result<Option<Task<'a>>, Error> {
+pub fn task_of<'a>(alloc: Global, words: &'a [String]) -> Result<Option<Task<'a>>, Error> {
     let matches = giopctl(alloc)?.try_get_matches_from(words)?;
     let Some(dump) = matches.subcommand_matches("dump") else {
         return Ok(None);

@@ -2,6 +2,8 @@
 
 mod end;
 mod message;
+mod octets;
 
 pub use end::{FaultLine, RestLine};
 pub use message::MessageLine;
+pub use octets::{EscapedText, HexText};

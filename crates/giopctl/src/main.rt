@@ -29,7 +29,7 @@ fn run(rt: &HostRuntime) -> Status {
         Ok(words) => words,
         Err(error) => return report::arguments(rt, error.into()),
     };
-    match cli::task(rt.alloc(), words.as_slice()) {
+    match cli::task_of(rt.alloc(), words.as_slice()) {
         Ok(Some(Task::Dump { file })) => dump(rt, file),
         Ok(None) => Status::Usage,
         Err(error) => report::usage(rt, &error),
