@@ -23,7 +23,7 @@ unfolding items_at
 goes_on item front count i c v d total lt h so_far =
     let k : count - i ≡ suc (count - (i + 1)) = omega arith in
     let one : with_front front (items_at item (count - i) c) ≡ with_front (front ++ v ∷ []) (items_at item (count - (i + 1)) d)
-        = rw (k, h) (regroup front v (items_at item (count - (i + 1)) d)) in
+    = rw (k, h) (regroup front v (items_at item (count - (i + 1)) d)) in
     sym one ∙ so_far
 
 -- a turn that was refused refuses all
@@ -63,7 +63,7 @@ unfolding items_at
 skips_on item count i c d total lt h so_far =
     let k : count - i ≡ suc (count - (i + 1)) = omega arith in
     let one : past (items_at item (count - i) c) ≡ past (items_at item (count - (i + 1)) d)
-        = rw k (past_next item (count - (i + 1)) d (item c) h) in
+    = rw k (past_next item (count - (i + 1)) d (item c) h) in
     sym one ∙ so_far
 
 past_fails : {A : Type 0} (r : Reading A) (e : CdrFault) → past r ≡ Err e → r ≡ Err e

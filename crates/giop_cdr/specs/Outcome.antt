@@ -32,7 +32,8 @@ abbrev pub Exactly : {A : Type 0} → Result A CdrFault → Cursor → Reading A
 Exactly (Ok x) new reading = reading ≡ Ok (x, new)
 Exactly (Err e) new reading = reading ≡ Err e
 
--- as Allocates, but for the cursor that a refusal leaves
+-- what a step of a longer reading says: where memory is wanting nothing else is known, since what
+-- follows may still be refused
 abbrev pub Follows : {X A : Type 0} → (X → A) → Result X CdrFault → Cursor → Reading A → Type 0
 Follows view (Ok x) new reading = reading ≡ Ok (view x, new)
-Follows view (Err e) new reading = (reading ≡ Err e) ⊎ ((e.kind ≡ NoMemory) × IsOk reading)
+Follows view (Err e) new reading = (reading ≡ Err e) ⊎ (e.kind ≡ NoMemory)

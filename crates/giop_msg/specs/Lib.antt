@@ -4,3 +4,4 @@ pub mod Header
 pub mod Msg
 pub mod Stream
 pub mod Laws
+pub mod RequestHead

@@ -4,16 +4,24 @@
 
 mod fault;
 mod framer;
+mod head_laws;
 mod header;
 mod kind;
 mod laws;
 mod msg;
+mod request_head;
+mod service_context;
 mod stream;
+mod target;
 
 pub use fault::{WireFault, WireKind};
 pub use framer::Framer;
+pub use head_laws::request_heads_are_spelled;
 pub use header::Header;
 pub use kind::Kind;
 pub use laws::{faults_stand, header_round_trip, one_split, request_ids, split_on};
 pub use msg::Msg;
+pub use request_head::RequestHead;
+pub use service_context::{ServiceContext, ServiceContexts};
 pub use stream::{Reading, read_pieces};
+pub use target::Target;
