@@ -1,23 +1,40 @@
 -- The whole text of `dump`, and what a run of it does.
-use Rattle.std.specs.Prelude.{◌≡◌, ◌≢◌, ℕ, ◌+◌, ◌≤◌, List, [], ◌∷◌, ◌++◌, Option, Some, None, length, take, nat_le, if◌then◌else◌, ⊤}
+use Rattle.std.specs.Prelude.{◌≡◌, ◌≢◌, ℕ, ◌+◌, ◌-◌, Bool, false, not, List, [], ◌∷◌, ◌++◌, Option, Some, None, length, take, nat_le, if◌then◌else◌, Result, Ok, Err, ⊤}
 use Rattle.std.specs.List.{flat_map}
 use Rattle.std.specs.Io.KnownBytes.{Appends}
+use Rattle.giop_cdr.specs.declared.fault.CdrFault.{CdrFault}
 use Rattle.giop_msg.specs.declared.fault.WireFault.{WireFault}
+use Rattle.giop_msg.specs.declared.kind.Kind.{Kind}
+use Rattle.giop_msg.specs.declared.kind.Kind.TheVariants.{Request}
 use Rattle.giop_msg.specs.declared.msg.Msg.{Msg}
+use Rattle.giop_msg.specs.declared.request_head.RequestHead.{RequestHead}
+use Rattle.giop_msg.specs.RequestHead.{request_head_of}
 use Rattle.giop_msg.specs.Header.{header_fault}
 use Rattle.giop_msg.specs.Msg.{message_octets}
 use Rattle.giop_msg.specs.Stream.{Msgs}
 use Rattle.giopctl.specs.declared.status.Status.{Status}
 use Rattle.giopctl.specs.declared.status.Status.TheVariants.{Done, Refused, Usage, InputOutput, Memory}
-use Rattle.giopctl.specs.Lines.{message_line, fault_line, rest_line}
+use Rattle.giopctl.specs.Lines.{message_line, head_line, fault_line, rest_line}
 
 -- a line and its newline
 abbrev pub ended : List ℕ → List ℕ
 ended line = line ++ 10 ∷ []
 
+-- a Request that no fragments follow
+abbrev pub is_whole_request : Kind → Bool → Bool
+is_whole_request Request more = not more
+is_whole_request _ more = false
+
+-- the line of a Request's head and of the body behind it, where the octets spell a head
+abbrev pub head_text : Msg → Result (RequestHead × ℕ) CdrFault → List ℕ
+head_text m (Ok head) = ended (head_line head.0 (12 + length m.payload - head.1))
+head_text m (Err e) = []
+
 -- the lines of a message that begins at an offset of the file
 abbrev pub message_text : ℕ → Msg → List ℕ
-message_text at m = ended (message_line at m)
+message_text at m =
+    ended (message_line at m)
+    ++ (if is_whole_request m.kind m.more then head_text m (request_head_of m.order m.payload) else [])
 
 -- the lines of messages, the first of which begins at an offset of the file
 abbrev pub messages_text : ℕ → List Msg → List ℕ

@@ -5,9 +5,13 @@ use Rattle.giop_cdr.specs.declared.order.Order.{Order}
 use Rattle.giop_cdr.specs.declared.order.Order.TheVariants.{Big, Little}
 use Rattle.giop_msg.specs.declared.fault.WireFault.{WireFault}
 use Rattle.giop_msg.specs.declared.msg.Msg.{Msg}
+use Rattle.giop_msg.specs.declared.request_head.RequestHead.{RequestHead}
+use Rattle.giop_msg.specs.declared.target.Target.{Target}
+use Rattle.giop_msg.specs.declared.target.Target.TheVariants.{Key}
 use Rattle.giop_msg.specs.Fault.{wire_kind_number, wire_kind_name}
 use Rattle.giop_msg.specs.Kind.{kind_name}
 use Rattle.giop_msg.specs.Msg.{request_id_of}
+use Rattle.giopctl.specs.Octets.{hex_text, escaped_text}
 
 -- a byte order, in two letters
 abbrev pub order_text : Order → List ℕ
@@ -31,6 +35,18 @@ message_line at m =
     decimal at ++ (codes " " ++ (kind_name m.kind ++ (codes " " ++ (order_text m.order ++
     (more_text m.more ++ (codes " size " ++ (decimal (length m.payload) ++
     id_text (request_id_of m))))))))
+
+-- the target of a Request
+abbrev pub target_text : Target → List ℕ
+target_text (Key key) = codes "key " ++ hex_text key
+
+-- the head of a Request and how many octets its body has, behind two spaces:
+--   flags FLAGS TARGET operation OPERATION contexts CONTEXTS body BODY
+abbrev pub head_line : RequestHead → ℕ → List ℕ
+head_line head body =
+    codes "  flags " ++ (decimal head.flags ++ (codes " " ++ (target_text head.target ++
+    (codes " operation " ++ (escaped_text head.operation ++ (codes " contexts " ++
+    (decimal (length head.contexts) ++ (codes " body " ++ decimal body))))))))
 
 -- a fault in the header that begins at an offset of the file, at an offset of the header:
 --   OFFSET fault NUMBER NAME at PLACE

@@ -8,6 +8,8 @@ mod input;
 mod lines;
 mod report;
 mod status;
+#[cfg(test)]
+mod tests;
 
 use cli::Task;
 use failure::Failure;

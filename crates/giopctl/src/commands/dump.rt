@@ -1,13 +1,15 @@
-ghost use Rattle.std.specs.Prelude.{◌≡◌, ◌≢◌, ◌+◌, ◌<◌, ◌==◌, ◌++◌, ℕ, length, take, drop, OnOk, IfOk, if◌then◌else◌};
+ghost use Rattle.std.specs.Prelude.{◌≡◌, ◌≢◌, ◌+◌, ◌^◌, ◌<◌, ◌==◌, ◌++◌, ℕ, length, take, drop, OnOk, IfOk, if◌then◌else◌};
 ghost use Rattle.std.specs.Io.KnownBytes.{Appends};
 ghost use Rattle.giop_msg.specs.declared.fault.WireKind.TheVariants.{NoMemory};
-ghost use Rattle.giopctl.specs.Dump.{Dumps, ended, message_text};
+ghost use Rattle.giopctl.specs.Dump.{Dumps, ended, head_text, is_whole_request, message_text};
+ghost use Rattle.giop_msg.specs.RequestHead.{request_head_of};
 ghost use Rattle.giopctl.specs.Lines.{fault_line, rest_line};
 
 use crate::failure::Failure;
-use crate::lines::{FaultLine, MessageLine, RestLine};
+use crate::lines::{FaultLine, HeadLine, MessageLine, RestLine};
 use crate::status::Status;
-use giop_msg::{Framer, Msg, WireFault, WireKind};
+use giop_cdr::{CdrKind, SliceOctets};
+use giop_msg::{Framer, Kind, Msg, RequestHead, WireFault, WireKind};
 use std::alloc::Global;
 use std::io::Write;
 
@@ -38,7 +40,7 @@ fn write_dump<W: Write>(alloc: Global, octets: &[u8], writer: &mut W) -> Result<
     'messages: loop {
         match framer.next() {
             Ok(Some(message)) => {
-                write_message(at, &message, writer)?;
+                write_message(alloc, at, &message, writer)?;
                 at += 12 + message.payload.len();
             }
             Ok(None) if left.is_empty() => return write_rest(framer.rest(), writer),
@@ -62,11 +64,43 @@ fn feed_piece<'a>(framer: &mut Framer, octets: &'a [u8]) -> Result<&'a [u8], Fai
 }
 
 // The lines of the message that begins at this offset.
-fn write_message<W: Write>(at: usize, message: &Msg, writer: &mut W) -> Result<(), Failure>
+fn write_message<W: Write>(
+    alloc: Global,
+    at: usize,
+    message: &Msg,
+    writer: &mut W,
+) -> Result<(), Failure>
+    requires { length message.now.payload < 2 ^ 32 }
     ensures { OnOk result
         (Appends (W.contents writer.old) (W.contents writer.new) (message_text at message.now)) }
 {
     writeln!(writer, "{}", MessageLine { at, message })?;
+    if is_whole_request(message) {
+        write_head(alloc, message, writer)?;
+    }
+    Ok(())
+}
+
+fn is_whole_request(message: &Msg) -> bool
+    ensures { result ≡ is_whole_request message.now.kind message.now.more }
+{
+    matches!(message.kind, Kind::Request) && !message.more
+}
+
+// The line of a Request's head, or none where the octets spell no head.
+fn write_head<W: Write>(alloc: Global, message: &Msg, writer: &mut W) -> Result<(), Failure>
+    requires { length message.now.payload < 2 ^ 32 }
+    ensures { OnOk result (Appends (W.contents writer.old) (W.contents writer.new)
+        (head_text message.now (request_head_of message.now.order message.now.payload))) }
+{
+    let octets = message.payload.as_slice();
+    let (head, place) = match RequestHead::decode(alloc, &SliceOctets::new(octets), message.order) {
+        Ok(decoded) => decoded,
+        Err(fault) if fault.kind == CdrKind::NoMemory => return Err(Failure::Memory),
+        Err(_) => return Ok(()),
+    };
+    let body = (12 + octets.len()).saturating_sub(place);
+    writeln!(writer, "{}", HeadLine { head: &head, body })?;
     Ok(())
 }
 

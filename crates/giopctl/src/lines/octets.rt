@@ -1,4 +1,4 @@
-use percent_encoding::{AsciiSet, CONTROLS, ascii_set, percent_encode};
+use percent_encoding::{AsciiSet, CONTROLS, ascii_set, ascii_str, percent_encode};
 use std::fmt;
 
 // The ASCII octets that are escaped: all but those from 0x21 to 0x7E, and `%`.
@@ -19,7 +19,9 @@ impl fmt::Display for HexText<'_> {
             return f.write_str("-");
         }
         for octet in self.0 {
-            write!(f, "{octet:02x}")?;
+            let mut digits = [0; 2];
+            hex::encode_to_slice([*octet], &mut digits).unwrap();
+            f.write_str(ascii_str(&digits))?;
         }
         Ok(())
     }
