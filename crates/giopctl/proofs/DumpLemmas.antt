@@ -1,12 +1,13 @@
 -- How far a dump has come, and that it goes on and ends as it should.
 use Rattle.std.proofs.Common.{◌≡◌, ◌≢◌, ℕ, ◌+◌, ◌-◌, ◌*◌, ◌<◌, ◌≤◌, ◌==◌, nat_le, List, [], ◌∷◌, ◌++◌, length, take, drop, Option, Some, None, refl, sym, ◌∙◌, ap, subst, arith, append_assoc, length-append, zero-add, inl, inr, true, false, if◌then◌else◌, Result, Ok, Err, OnOk, IfOk}
+use Rattle.std.specs.Bool.{⊤}
 use Rattle.std.proofs.lemmas.Grind.{common_steps, flat_map-append}
 use Rattle.std.proofs.lemmas.List.{append-nil, take-append-drop}
 use Rattle.std.proofs.lemmas.List.Elements.{All-append, All-cons, All-nil}
 use Rattle.std.proofs.lemmas.Bool.{le-leb}
 use Rattle.std.proofs.lemmas.Bool.Decides.{leb_tells, eqb_tells}
 use Rattle.std.specs.List.{All, flat_map}
-use Rattle.std.specs.Io.KnownBytes.{Appends}
+use Rattle.std.specs.Io.KnownBytes.{Appends, Consumes, IsAtEnd}
 use Rattle.giop_msg.specs.declared.msg.Msg.{Msg}
 use Rattle.giop_msg.specs.declared.fault.WireFault.{WireFault}
 use Rattle.giop_msg.specs.declared.fault.WireKind.TheVariants.{NoMemory}
@@ -17,7 +18,7 @@ use Rattle.giop_msg.proofs.StreamLemmas.{length-message_octets, message_or_fault
 use Rattle.giopctl.specs.declared.failure.Failure.{Failure}
 use Rattle.giopctl.specs.declared.status.Status.{Status}
 use Rattle.giopctl.specs.declared.status.Status.TheVariants.{Done, Refused}
-use Rattle.giopctl.specs.Dump.{Dumps, Prints, dump_text, messages_text, message_text, end_line, rest_fault, ended}
+use Rattle.giopctl.specs.Dump.{Dumps, DumpsKnown, Prints, dump_text, messages_text, message_text, end_line, rest_fault, ended}
 use Rattle.giopctl.specs.Lines.{rest_line, fault_line}
 
 -- a writer's contents that grew by xs and then by ys grew by both
@@ -80,14 +81,14 @@ shows_message {limit} {octets} {start} {now} {left} {at} {messages} old new next
         (Appends-append start now next (messages_text 0 messages) (message_text at m) shown.text more);
     }
 
--- a piece more is fed
-pub shows_piece : {limit : ℕ} {octets : List ℕ} {start now : Option (List ℕ)} {unread left : List ℕ} {at : ℕ} {messages : List Msg}
-    (n : ℕ) → Shown limit octets start now unread left at messages
-    → Shown limit octets start now (unread ++ take n left) (drop n left) at messages
-shows_piece {limit} {octets} {start} {now} {unread} {left} {at} {messages} n shown = record {
+-- a piece more is read and fed
+pub shows_piece : {limit : ℕ} {octets : List ℕ} {start now : Option (List ℕ)} {unread : List ℕ} {at : ℕ} {messages : List Msg}
+    (piece left more : List ℕ) → left ≡ piece ++ more → Shown limit octets start now unread left at messages
+    → Shown limit octets start now (unread ++ piece) more at messages
+shows_piece {limit} {octets} {start} {now} {unread} {at} {messages} piece left more parts shown = record {
   whole =
-    shown.whole ∙ ap (λ u. flat_map message_octets messages ++ (unread ++ u)) (sym (take-append-drop n left))
-    ∙ ap (λ u. flat_map message_octets messages ++ u) (sym (append_assoc unread (take n left) (drop n left)));
+    shown.whole ∙ ap (λ u. flat_map message_octets messages ++ (unread ++ u)) parts
+    ∙ ap (λ u. flat_map message_octets messages ++ u) (sym (append_assoc unread piece more));
   each = shown.each;
   place = shown.place;
   text = shown.text;
@@ -123,7 +124,7 @@ rest_fault-none limit rest none =
     | inr h ↦ rw h.0 refl
     ]
 
-nothing_left : (rest : List ℕ) → length rest ≡ 0 → rest ≡ []
+pub nothing_left : (rest : List ℕ) → length rest ≡ 0 → rest ≡ []
 nothing_left [] none = refl
 nothing_left (x ∷ rest) none = absurd (omega (arith, none))
 
@@ -170,3 +171,91 @@ ends_at_fault {limit} {octets} {start} {now} {at} {messages} unread left next e 
     let prints = prints_end rest next (Some e) shown refl (λ m. message_or_fault limit rest e m there) (rest_fault-stands limit rest e there) text in
     subst (Dumps limit octets start next) (sym status.0)
     (messages, rest, prints, λ none. let twelve : 12 ≤ length rest = there.0 in absurd (omega (arith, twelve, ap length none)))
+
+-- the same of a reader whose octets may be known, from the octets that it had at first to those that
+-- it has left
+unfoldable pub Known : ℕ → Option (List ℕ) → Option (List ℕ) → Option (List ℕ) → Option (List ℕ) → List ℕ → ℕ → Type 0
+Known limit None left start now unread at = ⊤
+Known limit (Some octets) None start now unread at = ⊥
+Known limit (Some octets) (Some left) start now unread at =
+    (messages : List Msg) × Shown limit octets start now unread left at messages
+
+pub record ShownOf (limit : ℕ) (all left start now : Option (List ℕ)) (unread : List ℕ) (at : ℕ) : Type 0 where
+  pub known : Known limit all left start now unread at
+
+known_none : (limit : ℕ) (all start : Option (List ℕ)) → Known limit all all start start [] 0
+unfolding Known
+known_none limit None start = tt
+known_none limit (Some octets) start = ([], none_shown limit octets start)
+
+pub of_none : (limit : ℕ) (all start : Option (List ℕ)) → ShownOf limit all all start start [] 0
+of_none limit all start = record { known = known_none limit all start }
+
+known_message : (limit : ℕ) (start now : Option (List ℕ)) (at : ℕ) (all left : Option (List ℕ)) (old new : Unread) (next : Option (List ℕ)) (m : Msg)
+    → Known limit all left start now old.octets at → old.limit ≡ limit → TakesMessage old m new → Appends now next (message_text at m)
+    → Known limit all left start next new.octets (at + (12 + length m.payload))
+unfolding Known
+known_message limit start now at None left old new next m shown same takes more = tt
+known_message limit start now at (Some octets) None old new next m shown same takes more = absurd shown
+known_message limit start now at (Some octets) (Some left) old new next m shown same takes more =
+    (shown.0 ++ m ∷ [], shows_message old new next m shown.1 same takes more)
+
+pub of_message : {limit : ℕ} {all left start now : Option (List ℕ)} {at : ℕ} (old new : Unread) (next : Option (List ℕ)) (m : Msg)
+    → ShownOf limit all left start now old.octets at → old.limit ≡ limit → TakesMessage old m new → Appends now next (message_text at m)
+    → ShownOf limit all left start next new.octets (at + (12 + length m.payload))
+of_message {limit} {all} {left} {start} {now} {at} old new next m shown same takes more =
+    record { known = known_message limit start now at all left old new next m shown.known same takes more }
+
+known_piece : (limit : ℕ) (start now : Option (List ℕ)) (unread : List ℕ) (at : ℕ) (all left rest : Option (List ℕ)) (piece : List ℕ)
+    → Known limit all left start now unread at → Consumes left rest piece → Known limit all rest start now (unread ++ piece) at
+unfolding Known
+known_piece limit start now unread at None left rest piece shown takes = tt
+known_piece limit start now unread at (Some octets) None rest piece shown takes = absurd shown
+known_piece limit start now unread at (Some octets) (Some left) None piece shown takes = absurd takes
+known_piece limit start now unread at (Some octets) (Some left) (Some rest) piece shown takes =
+    (shown.0, shows_piece piece left rest takes shown.1)
+
+pub of_piece : {limit : ℕ} {all left start now : Option (List ℕ)} {unread : List ℕ} {at : ℕ} (rest : Option (List ℕ)) (piece : List ℕ)
+    → ShownOf limit all left start now unread at → Consumes left rest piece → ShownOf limit all rest start now (unread ++ piece) at
+of_piece {limit} {all} {left} {start} {now} {unread} {at} rest piece shown takes =
+    record { known = known_piece limit start now unread at all left rest piece shown.known takes }
+
+known_rest : (limit : ℕ) (start now : Option (List ℕ)) (at : ℕ) (all left : Option (List ℕ)) (unread : Unread) (next : Option (List ℕ)) (s : Status)
+    → Known limit all left start now unread.octets at → unread.limit ≡ limit → IsAtEnd left → Waits unread
+    → Appends now next (ended (rest_line (length unread.octets)))
+    → s ≡ (if length unread.octets == 0 then Done else Refused)
+    → DumpsKnown limit all start next s
+unfolding Known
+known_rest limit start now at None left unread next s shown same end waits text status = tt
+known_rest limit start now at (Some octets) None unread next s shown same end waits text status = absurd shown
+known_rest limit start now at (Some octets) (Some left) unread next s shown same end waits text status =
+    ends_at_rest unread left next (Ok s) shown.1 same (ap length end) waits text status
+
+-- at the end of the input the rest is told
+pub of_rest : {limit : ℕ} {all left start now : Option (List ℕ)} {at : ℕ} (unread : Unread) (next : Option (List ℕ)) (r : Result Status Failure)
+    → ShownOf limit all left start now unread.octets at → unread.limit ≡ limit → IsAtEnd left → Waits unread
+    → OnOk r (Appends now next (ended (rest_line (length unread.octets))))
+    → IfOk r (λ s. s ≡ (if length unread.octets == 0 then Done else Refused))
+    → IfOk r (DumpsKnown limit all start next)
+of_rest unread next (Err e) shown same end waits text status = tt
+of_rest {limit} {all} {left} {start} {now} {at} unread next (Ok s) shown same end waits text status =
+    known_rest limit start now at all left unread next s shown.known same end waits text status
+
+known_fault : (limit : ℕ) (start now : Option (List ℕ)) (at : ℕ) (all left : Option (List ℕ)) (unread : Unread) (next : Option (List ℕ)) (e : WireFault) (s : Status)
+    → Known limit all left start now unread.octets at → unread.limit ≡ limit → IsRefusal unread e
+    → Appends now next (ended (fault_line at e)) → (s ≡ Refused) × (e.kind ≢ NoMemory)
+    → DumpsKnown limit all start next s
+unfolding Known
+known_fault limit start now at None left unread next e s shown same refusal text status = tt
+known_fault limit start now at (Some octets) None unread next e s shown same refusal text status = absurd shown
+known_fault limit start now at (Some octets) (Some left) unread next e s shown same refusal text status =
+    ends_at_fault unread left next e (Ok s) shown.1 same refusal text status
+
+-- at a fault the fault is
+pub of_fault : {limit : ℕ} {all left start now : Option (List ℕ)} {at : ℕ} (unread : Unread) (next : Option (List ℕ)) (e : WireFault) (r : Result Status Failure)
+    → ShownOf limit all left start now unread.octets at → unread.limit ≡ limit → IsRefusal unread e
+    → OnOk r (Appends now next (ended (fault_line at e))) → IfOk r (λ s. (s ≡ Refused) × (e.kind ≢ NoMemory))
+    → IfOk r (DumpsKnown limit all start next)
+of_fault unread next e (Err f) shown same refusal text status = tt
+of_fault {limit} {all} {left} {start} {now} {at} unread next e (Ok s) shown same refusal text status =
+    known_fault limit start now at all left unread next e s shown.known same refusal text status

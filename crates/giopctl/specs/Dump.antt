@@ -70,3 +70,8 @@ Dumps limit octets old new Refused =
 Dumps limit octets old new Usage = ⊥
 Dumps limit octets old new InputOutput = ⊤
 Dumps limit octets old new Memory = ⊤
+
+-- the same of the octets that a reader gives, where they are known
+abbrev pub DumpsKnown : ℕ → Option (List ℕ) → Option (List ℕ) → Option (List ℕ) → Status → Type 0
+DumpsKnown limit None old new status = ⊤
+DumpsKnown limit (Some octets) old new status = Dumps limit octets old new status

@@ -4,7 +4,7 @@ use Rattle.giopctl.specs.declared.status.Status.{Status}
 use Rattle.giopctl.specs.declared.status.Status.TheVariants.{Done, Refused, Usage, InputOutput}
 use Rattle.giopctl.specs.declared.status.Status.TheVariants.{Memory as memory_status}
 use Rattle.giopctl.specs.declared.failure.Failure.{Failure}
-use Rattle.giopctl.specs.declared.failure.Failure.TheVariants.{Memory, Io}
+use Rattle.giopctl.specs.declared.failure.Failure.TheVariants.{Memory, Input, Output}
 
 -- the number that the process ends with
 abbrev pub status_number : Status → ℕ
@@ -17,4 +17,5 @@ status_number memory_status = 4
 -- the status that a failure ends with
 abbrev pub failure_status : Failure → Status
 failure_status Memory = memory_status
-failure_status (Io e) = InputOutput
+failure_status (Input e) = InputOutput
+failure_status (Output e) = InputOutput

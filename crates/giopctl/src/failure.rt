@@ -11,12 +11,22 @@ use std::io::ErrorKind;
 pub enum Failure {
     /// Memory ran out.
     Memory,
-    /// Reading or writing failed.
-    Io(io::Error),
+    /// Reading failed.
+    Input(io::Error),
+    /// Writing failed.
+    Output(io::Error),
 }
 
 impl Failure {
     ghost use Rattle.giopctl.specs.Status.{failure_status};
+
+    /// What an error of reading is.
+    pub fn input(error: io::Error) -> Failure {
+        match error.kind() {
+            ErrorKind::OutOfMemory => Failure::Memory,
+            _ => Failure::Input(error),
+        }
+    }
 
     /// The status that the program ends with.
     pub fn status(&self) -> Status
@@ -24,7 +34,7 @@ impl Failure {
     {
         match self {
             Failure::Memory => Status::Memory,
-            Failure::Io(_) => Status::InputOutput,
+            Failure::Input(_) | Failure::Output(_) => Status::InputOutput,
         }
     }
 }
@@ -35,12 +45,12 @@ impl From<AllocError> for Failure {
     }
 }
 
+/// What an error of writing is.
 impl From<io::Error> for Failure {
     fn from(error: io::Error) -> Failure {
-        if error.kind() == ErrorKind::OutOfMemory {
-            Failure::Memory
-        } else {
-            Failure::Io(error)
+        match error.kind() {
+            ErrorKind::OutOfMemory => Failure::Memory,
+            _ => Failure::Output(error),
         }
     }
 }
@@ -49,7 +59,7 @@ impl fmt::Display for Failure {
     fn fmt<W: fmt::Write>(&self, f: &mut fmt::Formatter<W>) -> fmt::Result {
         match self {
             Failure::Memory => f.write_str("out of memory"),
-            Failure::Io(error) => write!(f, "{error}"),
+            Failure::Input(error) | Failure::Output(error) => write!(f, "{error}"),
         }
     }
 }

@@ -4,8 +4,8 @@
 mod cli;
 mod commands;
 mod failure;
-mod input;
 mod lines;
+mod pieces;
 mod report;
 mod status;
 #[cfg(test)]
@@ -15,8 +15,9 @@ use cli::Task;
 use failure::Failure;
 use status::Status;
 use std::env;
+use std::fs;
 use std::io;
-use std::io::{BufWriter, Write};
+use std::io::{BufWriter, Read, Write};
 use std::process::ExitCode;
 
 // The output is written in pieces of so many octets.
@@ -29,10 +30,10 @@ fn main(rt: HostRuntime) -> ExitCode {
 fn run(rt: &HostRuntime) -> Status {
     let words = match words(rt) {
         Ok(words) => words,
-        Err(error) => return report::arguments(rt, error.into()),
+        Err(error) => return report::arguments(rt, &error),
     };
     match cli::task_of(rt.alloc(), words.as_slice()) {
-        Ok(Some(Task::Dump { file })) => dump(rt, file),
+        Ok(Some(Task::Dump { file })) => report::answer(rt, file, dump(rt, file)),
         Ok(None) => Status::Usage,
         Err(error) => report::usage(rt, &error),
     }
@@ -43,16 +44,19 @@ fn words(rt: &HostRuntime) -> io::Result<Vec<String>> {
     Ok(env::args(rt)?.collect(rt.alloc())?)
 }
 
-fn dump(rt: &HostRuntime, file: &str) -> Status {
-    match dump_file(rt, file) {
-        Ok(status) => status,
-        Err(failure) => report::failure(rt, file, &failure),
+fn dump(rt: &HostRuntime, file: &str) -> Result<Status, Failure> {
+    if file == "-" {
+        return dump_from(rt, &mut rt.reader());
+    }
+    match fs::open(rt, file) {
+        Ok(mut opened) => dump_from(rt, &mut opened),
+        Err(error) => Err(Failure::input(error)),
     }
 }
 
-fn dump_file(rt: &HostRuntime, file: &str) -> Result<Status, Failure> {
-    let octets = input::octets_of(rt, file)?;
+fn dump_from<R: Read>(rt: &HostRuntime, reader: &mut R) -> Result<Status, Failure> {
     let mut writer = BufWriter::with_capacity(rt.alloc(), OUTPUT_BUFFER, io::writer(rt))?;
-    let status = commands::dump_octets(rt.alloc(), octets.as_slice(), &mut writer);
-    Ok(report::output(rt, status, writer.flush()))
+    let status = commands::dump_stream(rt.alloc(), reader, &mut writer)?;
+    writer.flush()?;
+    Ok(status)
 }

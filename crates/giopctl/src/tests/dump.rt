@@ -1,18 +1,21 @@
 use crate::commands::dump_octets;
 use crate::status::Status;
+use std::alloc::Global;
+use std::process::Abort;
 use std::test::Fail;
 
 // A file in hexadecimal, and what is written of it.
+#[derive(Clone, Copy)]
 struct Row {
     octets: &'static str,
     text: &'static str,
     status: Status,
 }
 
-fn check(rt: &HostRuntime, row: &Row) -> Result<(), Fail> {
-    let octets = hex::decode(rt.alloc(), row.octets)?;
-    let mut written: Vec<u8> = Vec::new(rt.alloc());
-    let status = dump_octets(rt.alloc(), octets.as_slice(), &mut written);
+fn check(rt: &impl Abort, alloc: Global, row: &Row) -> Result<(), Fail> {
+    let octets = hex::decode(alloc, row.octets)?;
+    let mut written: Vec<u8> = Vec::new(alloc);
+    let status = dump_octets(alloc, octets.as_slice(), &mut written);
     assert_eq!(rt; written.as_slice(), row.text.as_bytes(), "{}", row.octets);
     assert_eq!(rt; status, row.status, "{}", row.octets);
     Ok(())
@@ -62,7 +65,7 @@ fn each_message_has_its_line(rt: HostRuntime) -> Result<(), Fail> {
         },
     ];
     for row in &rows {
-        check(&rt, row)?;
+        check(&rt, rt.alloc(), row)?;
     }
     Ok(())
 }
@@ -113,7 +116,7 @@ fn a_request_has_the_line_of_its_head(rt: HostRuntime) -> Result<(), Fail> {
         },
     ];
     for row in &rows {
-        check(&rt, row)?;
+        check(&rt, rt.alloc(), row)?;
     }
     Ok(())
 }
@@ -139,6 +142,7 @@ fn a_fault_in_a_header_ends_the_text(rt: HostRuntime) -> Result<(), Fail> {
         let status = Status::Refused;
         check(
             &rt,
+            rt.alloc(),
             &Row {
                 octets,
                 text,

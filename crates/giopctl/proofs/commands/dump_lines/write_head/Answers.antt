@@ -3,7 +3,7 @@ use Rattle.std.specs.Io.KnownBytes.{Appends}
 use Rattle.giop_msg.specs.RequestHead.{request_head_of}
 use Rattle.giopctl.specs.Dump.{ended, head_text}
 use Rattle.giopctl.specs.Lines.{head_line}
-use Rattle.giopctl.proofs.commands.dump.write_head.Goals as goal
+use Rattle.giopctl.proofs.commands.dump_lines.write_head.Goals as goal
 
 pub returns : goal.returns
 returns g c =
