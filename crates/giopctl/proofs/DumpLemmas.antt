@@ -43,7 +43,7 @@ pub messages_text-more : (at : ℕ) (ms : List Msg) (m : Msg)
 messages_text-more at [] m = grind (arith, common_steps)
 messages_text-more at (x ∷ ms) m =
     let place : at + length (message_octets x) + length (flat_map message_octets ms) ≡ at + length (message_octets x ++ flat_map message_octets ms) =
-      omega (arith, length-append (message_octets x) (flat_map message_octets ms)) in
+    omega (arith, length-append (message_octets x) (flat_map message_octets ms)) in
     ap (λ u. message_text at x ++ u) (messages_text-more (at + length (message_octets x)) ms m ∙ ap (λ n. messages_text (at + length (message_octets x)) ms ++ message_text n m) place)
     ∙ sym (append_assoc (message_text at x) (messages_text (at + length (message_octets x)) ms) (message_text (at + length (message_octets x ++ flat_map message_octets ms)) m))
 
@@ -70,15 +70,15 @@ shows_message {limit} {octets} {start} {now} {left} {at} {messages} old new next
     let before = flat_map message_octets messages in
     record {
       whole =
-        shown.whole ∙ ap (λ u. before ++ (u ++ left)) takes.octets
-        ∙ ap (λ u. before ++ u) (append_assoc (message_octets m) new.octets left)
-        ∙ sym (append_assoc before (message_octets m) (new.octets ++ left))
-        ∙ ap (λ u. u ++ (new.octets ++ left)) (sym (octets-more messages m));
+          shown.whole ∙ ap (λ u. before ++ (u ++ left)) takes.octets
+          ∙ ap (λ u. before ++ u) (append_assoc (message_octets m) new.octets left)
+          ∙ sym (append_assoc before (message_octets m) (new.octets ++ left))
+          ∙ ap (λ u. u ++ (new.octets ++ left)) (sym (octets-more messages m));
       each = All-append (IsMessage limit) messages (m ∷ []) shown.each (All-cons (IsMessage limit) m [] is (All-nil (IsMessage limit)));
       place = omega (arith, shown.place, ap length (octets-more messages m), length-append before (message_octets m), length-message_octets m);
       text =
-        subst (Appends start next) (ap (λ n. messages_text 0 messages ++ message_text n m) (shown.place ∙ sym (zero-add _)) ∙ sym (messages_text-more 0 messages m))
-        (Appends-append start now next (messages_text 0 messages) (message_text at m) shown.text more);
+          subst (Appends start next) (ap (λ n. messages_text 0 messages ++ message_text n m) (shown.place ∙ sym (zero-add _)) ∙ sym (messages_text-more 0 messages m))
+          (Appends-append start now next (messages_text 0 messages) (message_text at m) shown.text more);
     }
 
 -- a piece more is read and fed
@@ -87,8 +87,8 @@ pub shows_piece : {limit : ℕ} {octets : List ℕ} {start now : Option (List �
     → Shown limit octets start now (unread ++ piece) more at messages
 shows_piece {limit} {octets} {start} {now} {unread} {at} {messages} piece left more parts shown = record {
   whole =
-    shown.whole ∙ ap (λ u. flat_map message_octets messages ++ (unread ++ u)) parts
-    ∙ ap (λ u. flat_map message_octets messages ++ u) (sym (append_assoc unread piece more));
+      shown.whole ∙ ap (λ u. flat_map message_octets messages ++ (unread ++ u)) parts
+      ∙ ap (λ u. flat_map message_octets messages ++ u) (sym (append_assoc unread piece more));
   each = shown.each;
   place = shown.place;
   text = shown.text;
@@ -103,9 +103,9 @@ pub prints_end : {limit : ℕ} {octets : List ℕ} {start now : Option (List ℕ
 prints_end {limit} {octets} {start} {now} {unread} {left} {at} {messages} rest next end shown is_rest no_message same more = record {
   split = record { whole = shown.whole ∙ ap (λ u. flat_map message_octets messages ++ u) (sym is_rest); each = shown.each; partial = no_message };
   text =
-    subst (λ u. Appends start next (messages_text 0 messages ++ ended u))
-    (ap (λ n. end_line n rest end) shown.place ∙ ap (λ e. end_line (length (flat_map message_octets messages)) rest e) (sym same))
-    (Appends-append start now next (messages_text 0 messages) (ended (end_line at rest end)) shown.text more);
+      subst (λ u. Appends start next (messages_text 0 messages ++ ended u))
+      (ap (λ n. end_line n rest end) shown.place ∙ ap (λ e. end_line (length (flat_map message_octets messages)) rest e) (sym same))
+      (Appends-append start now next (messages_text 0 messages) (ended (end_line at rest end)) shown.text more);
 }
 
 -- the fault that stands at the front of the rest is the one that is told
@@ -120,8 +120,8 @@ none_where_no (Some e) absent = absurd (absent e refl)
 pub rest_fault-none : (limit : ℕ) (rest : List ℕ) → ((e : WireFault) → BeginsWithFault limit rest e → ⊥) → rest_fault limit rest ≡ None
 rest_fault-none limit rest none =
     elim (leb_tells 12 (length rest)) as (λ _. rest_fault limit rest ≡ None) [
-      inl h ↦ rw h.0 (none_where_no (header_fault limit (take 12 rest)) (λ e is. none e (h.1, is)))
-    | inr h ↦ rw h.0 refl
+      | inl h ↦ rw h.0 (none_where_no (header_fault limit (take 12 rest)) (λ e is. none e (h.1, is)))
+      | inr h ↦ rw h.0 refl
     ]
 
 pub nothing_left : (rest : List ℕ) → length rest ≡ 0 → rest ≡ []
@@ -133,8 +133,8 @@ pub dumps_rest : (limit : ℕ) (octets : List ℕ) (start next : Option (List �
     → Prints limit octets start next messages rest → Dumps limit octets start next (if length rest == 0 then Done else Refused)
 dumps_rest limit octets start next messages rest prints =
     elim (eqb_tells (length rest) 0) as (λ _. Dumps limit octets start next (if length rest == 0 then Done else Refused)) [
-      inl h ↦ rw h.0 (messages, subst (Prints limit octets start next messages) (nothing_left rest h.1) prints)
-    | inr h ↦ rw h.0 (messages, rest, prints, λ none. h.1 (ap length none))
+      | inl h ↦ rw h.0 (messages, subst (Prints limit octets start next messages) (nothing_left rest h.1) prints)
+      | inr h ↦ rw h.0 (messages, rest, prints, λ none. h.1 (ap length none))
     ]
 
 -- where nothing more is fed and no message and no fault stands at the front, the rest is told
@@ -147,10 +147,10 @@ pub ends_at_rest : {limit : ℕ} {octets : List ℕ} {start now : Option (List �
 ends_at_rest {limit} {octets} {start} {now} {at} {messages} unread left next (Err e) shown same empty waits text status = tt
 ends_at_rest {limit} {octets} {start} {now} {at} {messages} unread left next (Ok s) shown same empty waits text status =
     let whole : unread.octets ≡ unread.octets ++ left =
-      sym (ap (λ u. unread.octets ++ u) (nothing_left left empty) ∙ append-nil unread.octets) in
+    sym (ap (λ u. unread.octets ++ u) (nothing_left left empty) ∙ append-nil unread.octets) in
     let no_message : BeginsWithMessage limit unread.octets → ⊥ = subst (λ n. BeginsWithMessage n unread.octets → ⊥) same waits.no_message in
     let no_fault : (e : WireFault) → BeginsWithFault limit unread.octets e → ⊥ =
-      subst (λ n. (e : WireFault) → BeginsWithFault n unread.octets e → ⊥) same waits.no_fault in
+    subst (λ n. (e : WireFault) → BeginsWithFault n unread.octets e → ⊥) same waits.no_fault in
     let prints = prints_end unread.octets next None shown whole no_message (rest_fault-none limit unread.octets no_fault) text in
     subst (Dumps limit octets start next) (sym status) (dumps_rest limit octets start next messages unread.octets prints)
 

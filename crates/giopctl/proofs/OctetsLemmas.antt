@@ -29,9 +29,9 @@ not_plain false q = refl
 escapes : (b : ℕ) → should_percent_encode ESCAPED b ≡ not (is_plain b)
 unfolding should_percent_encode
 escapes b = elim (cases_lt b 128) as (λ _. should_percent_encode ESCAPED b ≡ not (is_plain b)) [
-      inl h ↦ rw (lt-ltb b 128 h) (escapes_same b h)
-    | inr h ↦ let above : leb b 126 ≡ false = lt-leb-false b h in rw (le-ltb b 128 h, above) (not_plain (leb 33 b) (not (b == 0x25)))
-    ]
+  | inl h ↦ rw (lt-ltb b 128 h) (escapes_same b h)
+  | inr h ↦ let above : leb b 126 ≡ false = lt-leb-false b h in rw (le-ltb b 128 h, above) (not_plain (leb 33 b) (not (b == 0x25)))
+]
 
 either : (p : Bool) (xs ys : List ℕ) → (if not p then xs else ys) ≡ (if p then ys else xs)
 either true xs ys = refl

@@ -13,18 +13,27 @@ pub enum Task<'a> {
     },
 }
 
-const DUMP_HELP: &str = "\
-Each message has a line: its offset in the file, its kind, its byte order (BE or LE), `more` where
-fragments follow, its message_size, and its request id where it has one. The last line tells how many
-octets are left, or what is wrong with the header that ends the file.
-
-Example:
-  giopctl dump examples/ping.giop";
-
 const STATUSES: &str = "\
 Exit statuses:
   0  done
   1  the input was refused
+  2  usage
+  3  reading or writing failed
+  4  out of memory
+
+Example:
+  giopctl dump examples/ping.giop";
+
+const DUMP_HELP: &str = "\
+Each message has a line: its offset in the file, its kind, its byte order (BE or LE), `more` where
+fragments follow, its message size, and its request id where it has one. A Request that no fragments
+follow has a second line, behind two spaces: its response flags, the object key in hexadecimal, the
+operation, the number of service contexts, and how many octets its body has. The last line tells how
+many octets are left, or what is wrong with the header that stands there.
+
+Exit statuses:
+  0  the file is messages and nothing else
+  1  octets are left, or a header is wrong
   2  usage
   3  reading or writing failed
   4  out of memory

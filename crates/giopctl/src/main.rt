@@ -14,11 +14,9 @@ mod tests;
 use cli::Task;
 use failure::Failure;
 use status::Status;
-use std::env;
-use std::fs;
-use std::io;
 use std::io::{BufWriter, Read, Write};
 use std::process::ExitCode;
+use std::{env, fs, io};
 
 // The output is written in pieces of so many octets.
 const OUTPUT_BUFFER: usize = 65_536;

@@ -132,7 +132,10 @@ fn a_fault_in_a_header_ends_the_text(rt: HostRuntime) -> Result<(), Fail> {
         ("47494F500102000000100001", "0 fault 5 TooLarge at 8\n"),
         ("47494F500102000500000004", "0 fault 6 BadSize at 8\n"),
         ("47494F500102020000000020", "0 fault 7 FragmentSize at 8\n"),
-        ("47494F500102020200000004", "0 fault 8 NotFragmentable at 6\n"),
+        (
+            "47494F500102020200000004",
+            "0 fault 8 NotFragmentable at 6\n",
+        ),
         (
             "47494F50010200050000000047494F510102000500000000FFFF",
             "0 CloseConnection BE size 0\n12 fault 1 BadMagic at 3\n",

@@ -21,8 +21,8 @@ loop-octet-preserved g c =
     let i = c.loop-octet.octet-index in
     let digits = rw c.unwrap.ensures at c.encode_to_slice.ensures.written in
     let text =
-      ap (λ u. encode_lower (take i octets) ++ u) (c.ascii_str.ensures ∙ digits) ∙ sym (encode_lower-append (take i octets) _)
-      ∙ ap encode_lower (sym (take_more octets i _ c.loop-octet-test.true)) in
+    ap (λ u. encode_lower (take i octets) ++ u) (c.ascii_str.ensures ∙ digits) ∙ sym (encode_lower-append (take i octets) _)
+    ∙ ap encode_lower (sym (take_more octets i _ c.loop-octet-test.true)) in
     λ plain.
-      let before = c.loop-octet.invariant plain in
-      has_written_of_eq _ _ _ _ _ text (has_written_append _ _ _ _ _ _ before (c.in_ok-write_str.ensures.writes before.plain refl))
+    let before = c.loop-octet.invariant plain in
+    has_written_of_eq _ _ _ _ _ text (has_written_append _ _ _ _ _ _ before (c.in_ok-write_str.ensures.writes before.plain refl))
