@@ -7,6 +7,7 @@ use std::test::Fail;
 
 mod framer;
 mod header;
+mod request_head;
 
 /// A Request of id 1 for the operation `ping`, big-endian: 48 octets.
 const PING: [u8; 48] = [

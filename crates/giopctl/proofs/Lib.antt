@@ -1,0 +1,3 @@
+pub mod DumpLemmas
+pub mod OctetsLemmas
+pub mod PiecesLemmas

@@ -1,0 +1,4 @@
+pub mod Status
+pub mod Octets
+pub mod Lines
+pub mod Dump

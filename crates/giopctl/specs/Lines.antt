@@ -1,0 +1,60 @@
+-- The lines that `dump` writes, without their newlines.
+use Rattle.std.specs.Prelude.{ℕ, Bool, true, false, List, [], ◌++◌, Option, Some, None, codes, length}
+use Rattle.std.specs.Fmt.{decimal}
+use Rattle.giop_cdr.specs.declared.order.Order.{Order}
+use Rattle.giop_cdr.specs.declared.order.Order.TheVariants.{Big, Little}
+use Rattle.giop_msg.specs.declared.fault.WireFault.{WireFault}
+use Rattle.giop_msg.specs.declared.msg.Msg.{Msg}
+use Rattle.giop_msg.specs.declared.request_head.RequestHead.{RequestHead}
+use Rattle.giop_msg.specs.declared.target.Target.{Target}
+use Rattle.giop_msg.specs.declared.target.Target.TheVariants.{Key}
+use Rattle.giop_msg.specs.Fault.{wire_kind_number, wire_kind_name}
+use Rattle.giop_msg.specs.Kind.{kind_name}
+use Rattle.giop_msg.specs.Msg.{request_id_of}
+use Rattle.giopctl.specs.Octets.{hex_text, escaped_text}
+
+-- a byte order, in two letters
+abbrev pub order_text : Order → List ℕ
+order_text Big = codes "BE"
+order_text Little = codes "LE"
+
+-- that more fragments follow
+abbrev pub more_text : Bool → List ℕ
+more_text true = codes " more"
+more_text false = []
+
+-- a request id, where there is one
+abbrev pub id_text : Option ℕ → List ℕ
+id_text (Some id) = codes " id " ++ decimal id
+id_text None = []
+
+-- a message that begins at an offset of the file:
+--   OFFSET KIND BE|LE[ more] size SIZE[ id ID]
+abbrev pub message_line : ℕ → Msg → List ℕ
+message_line at m =
+    decimal at ++ (codes " " ++ (kind_name m.kind ++ (codes " " ++ (order_text m.order ++
+    (more_text m.more ++ (codes " size " ++ (decimal (length m.payload) ++
+    id_text (request_id_of m))))))))
+
+-- the target of a Request
+abbrev pub target_text : Target → List ℕ
+target_text (Key key) = codes "key " ++ hex_text key
+
+-- the head of a Request and how many octets its body has, behind two spaces:
+--   flags FLAGS TARGET operation OPERATION contexts CONTEXTS body BODY
+abbrev pub head_line : RequestHead → ℕ → List ℕ
+head_line head body =
+    codes "  flags " ++ (decimal head.flags ++ (codes " " ++ (target_text head.target ++
+    (codes " operation " ++ (escaped_text head.operation ++ (codes " contexts " ++
+    (decimal (length head.contexts) ++ (codes " body " ++ decimal body))))))))
+
+-- a fault in the header that begins at an offset of the file, at an offset of the header:
+--   OFFSET fault NUMBER NAME at PLACE
+abbrev pub fault_line : ℕ → WireFault → List ℕ
+fault_line at e =
+    decimal at ++ (codes " fault " ++ (decimal (wire_kind_number e.kind) ++ (codes " " ++
+    (wire_kind_name e.kind ++ (codes " at " ++ decimal e.at)))))
+
+-- the octets after the last whole message: rest N
+abbrev pub rest_line : ℕ → List ℕ
+rest_line n = codes "rest " ++ decimal n

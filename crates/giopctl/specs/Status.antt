@@ -1,0 +1,21 @@
+-- The exit statuses of the program.
+use Rattle.std.specs.Prelude.{ℕ}
+use Rattle.giopctl.specs.declared.status.Status.{Status}
+use Rattle.giopctl.specs.declared.status.Status.TheVariants.{Done, Refused, Usage, InputOutput}
+use Rattle.giopctl.specs.declared.status.Status.TheVariants.{Memory as memory_status}
+use Rattle.giopctl.specs.declared.failure.Failure.{Failure}
+use Rattle.giopctl.specs.declared.failure.Failure.TheVariants.{Memory, Input, Output}
+
+-- the number that the process ends with
+abbrev pub status_number : Status → ℕ
+status_number Done = 0
+status_number Refused = 1
+status_number Usage = 2
+status_number InputOutput = 3
+status_number memory_status = 4
+
+-- the status that a failure ends with
+abbrev pub failure_status : Failure → Status
+failure_status Memory = memory_status
+failure_status (Input e) = InputOutput
+failure_status (Output e) = InputOutput

@@ -1,0 +1,6 @@
+//! What the program's commands do, over any writer: each answers the exit status.
+
+mod dump;
+mod dump_lines;
+
+pub use dump::{dump_octets, dump_stream};

@@ -1,0 +1,77 @@
+ghost use Rattle.std.specs.Prelude.{◌≡◌, ◌++◌, IfOk, OnOk};
+ghost use Rattle.giopctl.specs.Dump.{Dumps, DumpsKnown};
+
+use crate::commands::dump_lines::{write_fault, write_message, write_rest};
+use crate::failure::Failure;
+use crate::pieces::{drain, read_piece};
+use crate::status::Status;
+use giop_msg::Framer;
+use std::alloc::Global;
+use std::io;
+use std::io::{ErrorKind, Read, Write};
+
+/// The greatest message size that the program takes, the header not counted.
+pub const MESSAGE_LIMIT: u32 = 1_048_576;
+
+/// Writes the messages that the octets of a file are, and then how many octets are left, or the
+/// fault that ends it. It is `Done` where the file is messages and nothing else, else `Refused`.
+///
+/// Where writing fails the answer is `InputOutput`, and where memory is wanting `Memory`; then a part
+/// of the text is written. The writer isn't flushed.
+pub fn dump_octets<W: Write>(alloc: Global, octets: &[u8], writer: &mut W) -> Status
+    ensures { Dumps MESSAGE_LIMIT octets.now (W.contents writer.old) (W.contents writer.new) result }
+{
+    let mut left = octets;
+    match dump_stream(alloc, &mut left, writer) {
+        Ok(status) => status,
+        Err(failure) => failure.status(),
+    }
+}
+
+/// The same for the octets that a reader gives, with what failed where something did. They are read
+/// to their end, also after a fault, and no more of them is held than a message and a piece.
+pub fn dump_stream<R: Read, W: Write>(
+    alloc: Global,
+    reader: &mut R,
+    writer: &mut W,
+) -> Result<Status, Failure>
+    ensures { IfOk result (DumpsKnown MESSAGE_LIMIT (R.remaining reader.old)
+        (W.contents writer.old) (W.contents writer.new)) }
+{
+    let mut framer = Framer::new(alloc, MESSAGE_LIMIT);
+    let mut at = 0usize;
+    'messages: for _ in 0..u64::MAX {
+        match framer.next() {
+            Ok(Some(message)) => {
+                write_message(alloc, at, &message, writer)?;
+                let Some(next) = at.checked_add(12 + message.payload.len()) else {
+                    break;
+                };
+                at = next;
+                continue;
+            }
+            Ok(None) => {
+                let piece = read_piece(alloc, reader)?;
+                if piece.is_empty() {
+                    return write_rest(framer.rest(), writer);
+                }
+                feed(&mut framer, &piece)?;
+            }
+            Err(fault) => {
+                drain(alloc, reader)?;
+                return write_fault(at, fault, writer);
+            }
+        }
+    }
+    Err(Failure::Input(io::Error::from(ErrorKind::FileTooLarge)))
+}
+
+fn feed(framer: &mut Framer, piece: &[u8]) -> Result<(), Failure>
+    ensures { OnOk result (framer.new
+        ≡ record framer.old { octets = framer.old.octets ++ piece.now }) }
+{
+    match framer.feed(piece) {
+        Ok(()) => Ok(()),
+        Err(_) => Err(Failure::Memory),
+    }
+}

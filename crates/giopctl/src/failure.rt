@@ -1,0 +1,64 @@
+ghost use Rattle.std.specs.Prelude.{◌≡◌};
+
+use crate::status::Status;
+use std::alloc::AllocError;
+use std::io::ErrorKind;
+use std::{fmt, io};
+
+/// Why a command could not go on to its end.
+#[derive(Debug, Drop)]
+pub enum Failure {
+    /// Memory ran out.
+    Memory,
+    /// Reading failed.
+    Input(io::Error),
+    /// Writing failed.
+    Output(io::Error),
+}
+
+impl Failure {
+    ghost use Rattle.giopctl.specs.Status.{failure_status};
+
+    /// What an error of reading is.
+    pub fn input(error: io::Error) -> Failure {
+        match error.kind() {
+            ErrorKind::OutOfMemory => Failure::Memory,
+            _ => Failure::Input(error),
+        }
+    }
+
+    /// The status that the program ends with.
+    pub fn status(&self) -> Status
+        ensures { result ≡ failure_status self.now }
+    {
+        match self {
+            Failure::Memory => Status::Memory,
+            Failure::Input(_) | Failure::Output(_) => Status::InputOutput,
+        }
+    }
+}
+
+impl From<AllocError> for Failure {
+    fn from(_error: AllocError) -> Failure {
+        Failure::Memory
+    }
+}
+
+/// What an error of writing is.
+impl From<io::Error> for Failure {
+    fn from(error: io::Error) -> Failure {
+        match error.kind() {
+            ErrorKind::OutOfMemory => Failure::Memory,
+            _ => Failure::Output(error),
+        }
+    }
+}
+
+impl fmt::Display for Failure {
+    fn fmt<W: fmt::Write>(&self, f: &mut fmt::Formatter<W>) -> fmt::Result {
+        match self {
+            Failure::Memory => f.write_str("out of memory"),
+            Failure::Input(error) | Failure::Output(error) => write!(f, "{error}"),
+        }
+    }
+}

@@ -1,0 +1,40 @@
+use giop_msg::WireFault;
+use std::fmt;
+
+/// A fault in a header, in one line: `OFFSET fault NUMBER NAME at PLACE`.
+#[derive(Clone, Copy)]
+pub struct FaultLine {
+    /// The offset of the header in the file.
+    pub at: usize,
+    /// What is wrong, at an offset in the header.
+    pub fault: WireFault,
+}
+
+impl fmt::Display for FaultLine {
+    ghost use Rattle.std.specs.Prelude.{Some};
+    ghost use Rattle.giopctl.specs.Lines.{fault_line};
+
+    ghost output = { λ l. Some (fault_line l.at l.fault) };
+
+    fn fmt<W: fmt::Write>(&self, f: &mut fmt::Formatter<W>) -> fmt::Result {
+        let FaultLine { at, fault } = *self;
+        let number = fault.number();
+        let place = fault.at;
+        write!(f, "{at} fault {number} {fault} at {place}")
+    }
+}
+
+/// The number of octets after the last whole message, in one line: `rest N`.
+#[derive(Clone, Copy)]
+pub struct RestLine(pub usize);
+
+impl fmt::Display for RestLine {
+    ghost use Rattle.std.specs.Prelude.{Some};
+    ghost use Rattle.giopctl.specs.Lines.{rest_line};
+
+    ghost output = { λ l. Some (rest_line l.0) };
+
+    fn fmt<W: fmt::Write>(&self, f: &mut fmt::Formatter<W>) -> fmt::Result {
+        write!(f, "rest {}", self.0)
+    }
+}

@@ -1,0 +1,80 @@
+use giop_cdr::Order;
+use giop_msg::Msg;
+use std::fmt;
+
+/// A message, in one line: `OFFSET KIND BE|LE[ more] size SIZE[ id ID]`.
+#[derive(Clone, Copy)]
+pub struct MessageLine<'a> {
+    /// The offset of the message in the file.
+    pub at: usize,
+    /// The message.
+    pub message: &'a Msg,
+}
+
+impl fmt::Display for MessageLine<'_> {
+    ghost use Rattle.std.specs.Prelude.{Some};
+    ghost use Rattle.giopctl.specs.Lines.{message_line};
+
+    ghost output = { λ l. Some (message_line l.at l.message.now) };
+
+    fn fmt<W: fmt::Write>(&self, f: &mut fmt::Formatter<W>) -> fmt::Result {
+        let at = self.at;
+        let kind = self.message.kind;
+        let order = OrderText(self.message.order);
+        let more = MoreText(self.message.more);
+        let size = self.message.payload.len();
+        let id = IdText(self.message.request_id());
+        write!(f, "{at} {kind} {order}{more} size {size}{id}")
+    }
+}
+
+// A byte order: `BE` or `LE`.
+#[derive(Clone, Copy)]
+struct OrderText(Order);
+
+impl fmt::Display for OrderText {
+    ghost use Rattle.std.specs.Prelude.{Some};
+    ghost use Rattle.giopctl.specs.Lines.{order_text};
+
+    ghost output = { λ o. Some (order_text o.0) };
+
+    fn fmt<W: fmt::Write>(&self, f: &mut fmt::Formatter<W>) -> fmt::Result {
+        f.write_str(match self.0 {
+            Order::Big => "BE",
+            Order::Little => "LE",
+        })
+    }
+}
+
+// That more fragments follow: ` more`, or nothing.
+#[derive(Clone, Copy)]
+struct MoreText(bool);
+
+impl fmt::Display for MoreText {
+    ghost use Rattle.std.specs.Prelude.{Some};
+    ghost use Rattle.giopctl.specs.Lines.{more_text};
+
+    ghost output = { λ m. Some (more_text m.0) };
+
+    fn fmt<W: fmt::Write>(&self, f: &mut fmt::Formatter<W>) -> fmt::Result {
+        f.write_str(if self.0 { " more" } else { "" })
+    }
+}
+
+// The request id of a message: ` id ID`, or nothing.
+#[derive(Clone, Copy)]
+struct IdText(Option<u32>);
+
+impl fmt::Display for IdText {
+    ghost use Rattle.std.specs.Prelude.{Some};
+    ghost use Rattle.giopctl.specs.Lines.{id_text};
+
+    ghost output = { λ i. Some (id_text i.0) };
+
+    fn fmt<W: fmt::Write>(&self, f: &mut fmt::Formatter<W>) -> fmt::Result {
+        match self.0 {
+            Some(id) => write!(f, " id {id}"),
+            None => Ok(()),
+        }
+    }
+}

@@ -1,0 +1,60 @@
+//! The program giopctl: it shows what files of GIOP 1.2 messages hold.
+#![tactic(auto)]
+
+mod cli;
+mod commands;
+mod failure;
+mod lines;
+mod pieces;
+mod report;
+mod status;
+#[cfg(test)]
+mod tests;
+
+use cli::Task;
+use failure::Failure;
+use status::Status;
+use std::io::{BufWriter, Read, Write};
+use std::process::ExitCode;
+use std::{env, fs, io};
+
+// The output is written in pieces of so many octets.
+const OUTPUT_BUFFER: usize = 65_536;
+
+fn main(rt: HostRuntime) -> ExitCode {
+    ExitCode::from(run(&rt).number())
+}
+
+fn run(rt: &HostRuntime) -> Status {
+    let words = match words(rt) {
+        Ok(words) => words,
+        Err(error) => return report::arguments(rt, &error),
+    };
+    match cli::task_of(rt.alloc(), words.as_slice()) {
+        Ok(Some(Task::Dump { file })) => report::answer(rt, file, dump(rt, file)),
+        Ok(None) => Status::Usage,
+        Err(error) => report::usage(rt, &error),
+    }
+}
+
+// The words of the command line, the program's name first.
+fn words(rt: &HostRuntime) -> io::Result<Vec<String>> {
+    Ok(env::args(rt)?.collect(rt.alloc())?)
+}
+
+fn dump(rt: &HostRuntime, file: &str) -> Result<Status, Failure> {
+    if file == "-" {
+        return dump_from(rt, &mut rt.reader());
+    }
+    match fs::open(rt, file) {
+        Ok(mut opened) => dump_from(rt, &mut opened),
+        Err(error) => Err(Failure::input(error)),
+    }
+}
+
+fn dump_from<R: Read>(rt: &HostRuntime, reader: &mut R) -> Result<Status, Failure> {
+    let mut writer = BufWriter::with_capacity(rt.alloc(), OUTPUT_BUFFER, io::writer(rt))?;
+    let status = commands::dump_stream(rt.alloc(), reader, &mut writer)?;
+    writer.flush()?;
+    Ok(status)
+}

@@ -1,0 +1,43 @@
+//! What is said on standard error, and the status that goes with it.
+
+use crate::failure::Failure;
+use crate::status::Status;
+use clap::error::ErrorKind as UsageKind;
+use std::io;
+use std::io::ErrorKind;
+
+/// The words of the command line can't be read: one is no UTF-8, or memory ran out.
+pub fn arguments(rt: &impl Eprint, error: &io::Error) -> Status {
+    let _ = eprintln!(rt; "giopctl: the command line: {error}");
+    match error.kind() {
+        ErrorKind::OutOfMemory => Status::Memory,
+        _ => Status::Usage,
+    }
+}
+
+/// The words of the command line ask for help or the version, or for nothing that the program knows.
+pub fn usage(rt: &(impl Print + Eprint), error: &clap::Error) -> Status {
+    if error.print(rt).is_err() {
+        return Status::InputOutput;
+    }
+    match error.kind() {
+        UsageKind::OutOfMemory => Status::Memory,
+        _ if error.use_stderr() => Status::Usage,
+        _ => Status::Done,
+    }
+}
+
+/// What a command on this file answered. Nothing is said where nobody reads the output any more.
+pub fn answer(rt: &impl Eprint, file: &str, answered: Result<Status, Failure>) -> Status {
+    let failure = match answered {
+        Ok(status) => return status,
+        Err(failure) => failure,
+    };
+    let _ = match &failure {
+        Failure::Memory => eprintln!(rt; "giopctl: {failure}"),
+        Failure::Input(_) => eprintln!(rt; "giopctl: {file}: {failure}"),
+        Failure::Output(error) if error.kind() == ErrorKind::BrokenPipe => Ok(()),
+        Failure::Output(_) => eprintln!(rt; "giopctl: standard output: {failure}"),
+    };
+    failure.status()
+}

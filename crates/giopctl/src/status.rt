@@ -1,0 +1,33 @@
+ghost use Rattle.std.specs.Prelude.{◌≡◌};
+
+/// How a run of the program ends: its exit status.
+#[derive(Clone, Copy, Debug, PartialEq, Eq)]
+pub enum Status {
+    /// All went well.
+    Done,
+    /// The input was read and refused.
+    Refused,
+    /// The words on the command line are none that the program knows.
+    Usage,
+    /// Reading the input or writing the output failed.
+    InputOutput,
+    /// Memory ran out.
+    Memory,
+}
+
+impl Status {
+    ghost use Rattle.giopctl.specs.Status.{status_number};
+
+    /// The number that the process ends with, 0 to 4.
+    pub fn number(self) -> u8
+        ensures { result ≡ status_number self }
+    {
+        match self {
+            Status::Done => 0,
+            Status::Refused => 1,
+            Status::Usage => 2,
+            Status::InputOutput => 3,
+            Status::Memory => 4,
+        }
+    }
+}
