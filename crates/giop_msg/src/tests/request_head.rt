@@ -1,12 +1,11 @@
 ghost use Rattle.std.specs.Prelude.{◌≤◌, ◌^◌, length};
 
+use super::PING;
 use crate::{RequestHead, ServiceContext, ServiceContexts, Target};
 use giop_cdr::{CdrFault, CdrKind, CdrOut, EncodeFault, OctetList, Order, SliceOctets};
 use std::alloc::{AllocError, Global};
 use std::process::Abort;
 use std::test::Fail;
-
-use super::PING;
 
 // The joined octets of a Request with one context (9, AA), whose body is the long 7, little-endian. Pads
 // and reserved octets aren't zero.
@@ -32,7 +31,9 @@ fn decode(
 #[test]
 fn the_head_of_ping_is_decoded(rt: HostRuntime) -> Result<(), Fail> {
     let octets = SliceOctets::new(&PING[12..]);
-    let (head, body) = decode(rt.alloc(), &octets, Order::Big).ok().ok_or("no head")?;
+    let (head, body) = decode(rt.alloc(), &octets, Order::Big)
+        .ok()
+        .ok_or("no head")?;
     assert_eq!(rt; (head.id, head.flags, body), (1, 3, 48));
     let Target::Key(key) = &head.target;
     assert_eq!(rt; key.as_slice(), [0x6B].as_slice());
@@ -44,7 +45,9 @@ fn the_head_of_ping_is_decoded(rt: HostRuntime) -> Result<(), Fail> {
 #[test]
 fn pads_and_reserved_octets_may_be_any(rt: HostRuntime) -> Result<(), Fail> {
     let octets = SliceOctets::new(&WITH_CONTEXT);
-    let (head, body) = decode(rt.alloc(), &octets, Order::Little).ok().ok_or("no head")?;
+    let (head, body) = decode(rt.alloc(), &octets, Order::Little)
+        .ok()
+        .ok_or("no head")?;
     assert_eq!(rt; (head.id, head.flags, body), (2, 1, 56));
     let contexts = head.contexts.as_slice();
     assert_eq!(rt; contexts.len(), 1);
@@ -80,12 +83,54 @@ fn a_head_cut_short_is_refused_at_the_field_that_lacks_octets(rt: HostRuntime) {
 #[test]
 fn a_wrong_octet_is_refused_at_its_field(rt: HostRuntime) {
     let cases: [(usize, u8, CdrFault); 6] = [
-        (16, 2, CdrFault { at: 16, kind: CdrKind::BadLabel }),
-        (16, 0x83, CdrFault { at: 16, kind: CdrKind::BadLabel }),
-        (21, 1, CdrFault { at: 20, kind: CdrKind::BadLabel }),
-        (20, 0xFF, CdrFault { at: 20, kind: CdrKind::BadLabel }),
-        (32, 0xFF, CdrFault { at: 32, kind: CdrKind::BadCount }),
-        (37, 0, CdrFault { at: 32, kind: CdrKind::BadString }),
+        (
+            16,
+            2,
+            CdrFault {
+                at: 16,
+                kind: CdrKind::BadLabel,
+            },
+        ),
+        (
+            16,
+            0x83,
+            CdrFault {
+                at: 16,
+                kind: CdrKind::BadLabel,
+            },
+        ),
+        (
+            21,
+            1,
+            CdrFault {
+                at: 20,
+                kind: CdrKind::BadLabel,
+            },
+        ),
+        (
+            20,
+            0xFF,
+            CdrFault {
+                at: 20,
+                kind: CdrKind::BadLabel,
+            },
+        ),
+        (
+            32,
+            0xFF,
+            CdrFault {
+                at: 32,
+                kind: CdrKind::BadCount,
+            },
+        ),
+        (
+            37,
+            0,
+            CdrFault {
+                at: 32,
+                kind: CdrKind::BadString,
+            },
+        ),
     ];
     for (at, octet, want) in cases {
         let mut octets = PING;
@@ -93,7 +138,10 @@ fn a_wrong_octet_is_refused_at_its_field(rt: HostRuntime) {
             octets[at] = octet;
         }
         let joined = SliceOctets::new(&octets[12..]);
-        assert_eq!(rt; RequestHead::decode(rt.alloc(), &joined, Order::Big).err(), Some(want));
+        assert_eq!(rt;
+            RequestHead::decode(rt.alloc(), &joined, Order::Big).err(),
+            Some(want)
+        );
     }
 }
 
@@ -125,7 +173,9 @@ fn write_behind_header(
 fn the_head_of_ping_is_written_behind_its_header(rt: HostRuntime) -> Result<(), Fail> {
     let head = ping_head(rt.alloc(), 3, b"ping")?;
     assert_eq!(rt; head.is_writable(), true);
-    let out = write_behind_header(&rt, rt.alloc(), &head).ok().ok_or("not written")?;
+    let out = write_behind_header(&rt, rt.alloc(), &head)
+        .ok()
+        .ok_or("not written")?;
     assert_eq!(rt; out.as_slice(), &PING[12..]);
     Ok(())
 }
@@ -133,7 +183,9 @@ fn the_head_of_ping_is_written_behind_its_header(rt: HostRuntime) -> Result<(), 
 #[test]
 fn a_context_is_written_and_pads_are_zeros(rt: HostRuntime) -> Result<(), Fail> {
     let octets = SliceOctets::new(&WITH_CONTEXT);
-    let (head, _) = decode(rt.alloc(), &octets, Order::Little).ok().ok_or("no head")?;
+    let (head, _) = decode(rt.alloc(), &octets, Order::Little)
+        .ok()
+        .ok_or("no head")?;
     let mut out = CdrOut::new(rt.alloc(), Order::Little, 12);
     assert_eq!(rt; head.write(&mut out), Ok(()));
     let want = [

@@ -7,7 +7,7 @@ use Rattle.giop_msg.proofs.request_head.head_of.Goals as goal
 pub returns-in-Ok-clause-value : goal.returns-in-Ok-clause-value
 returns-in-Ok-clause-value g c =
     let octets = g.S.Octets.octets c.args.octets.now in
-    rw c.place.ensures (head_found c.args.order octets c.in-Ok.head c.read_head.new.input
+    rw c.place.ensures.value (head_found c.args.order octets c.in-Ok.head c.read_head.new.input
     (ap request_head_at (sym c.new-input.ensures) ∙ c.in-Ok.ensures))
 
 pub returns-in_err-skip_head-in-NoMemory-clause-err : goal.returns-in_err-skip_head-in-NoMemory-clause-err
