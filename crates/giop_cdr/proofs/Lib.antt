@@ -17,3 +17,4 @@ pub mod BooleanSpelling
 pub mod EncapsulationLemmas
 pub mod WriterLemmas
 pub mod SpelledLemmas
+pub mod PaddingLemmas

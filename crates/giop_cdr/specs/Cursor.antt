@@ -1,5 +1,5 @@
 -- Where a reader stands, and where a value begins (CORBA 3.3 Part 2, 9.3.1: byte order and alignment).
-use Rattle.std.specs.Prelude.{ℕ, ◌+◌, ◌-◌, ◌%◌, List, take, drop}
+use Rattle.std.specs.Prelude.{ℕ, ◌+◌, ◌-◌, ◌%◌, ◌==◌, ◌||◌, Bool, List, take, drop}
 use Rattle.std.specs.Int.{Width, from_be_bytes, from_le_bytes}
 use Rattle.giop_cdr.specs.declared.order.Order.{Order}
 use Rattle.giop_cdr.specs.declared.order.Order.TheVariants.{Big, Little}
@@ -19,6 +19,10 @@ pub record Cursor : Type 0 where
 -- how many octets lie between an offset and the next multiple of n
 abbrev pub pad : ℕ → ℕ → ℕ
 pad n at = (n - at % n) % n
+
+-- the alignments of CDR's primitives
+abbrev pub is_alignment : ℕ → Bool
+is_alignment n = (n == 1) || (n == 2) || (n == 4) || (n == 8)
 
 -- the offset at which a value begins that is aligned to n (9.3.1.1)
 abbrev pub place : ℕ → Cursor → ℕ

@@ -1,9 +1,10 @@
 // Laws of the definitions that the readers' contracts cite. Each function's contract is one of them; the
 // bodies are empty, and no program calls these.
-ghost use Rattle.std.specs.Prelude.{◌≡◌, ℕ, ℤ, ◌+◌, ◌<◌, ◌^◌, ◌++◌, ◌∷◌, Bool, List, length, true, false, if◌then◌else◌};
+ghost use Rattle.std.specs.Prelude.{◌≡◌, ℕ, ℤ, ◌+◌, ◌%◌, ◌<◌, ◌≤◌, ◌^◌, ◌++◌, ◌∷◌, Bool, List, length, true, false, if◌then◌else◌};
 ghost use Rattle.std.specs.Int.{Width, w8, byte_len};
 ghost use Rattle.std.specs.Prelude.{FitsSigned};
 ghost use mir.Val.{bits};
+ghost use Rattle.giop_cdr.specs.Cursor.{is_alignment, pad};
 ghost use Rattle.giop_cdr.specs.Reading.{number_at, signed_at, boolean_at, octets_at, string_at, has_null};
 ghost use Rattle.giop_cdr.specs.Spelling.{SpellsNumber, SpellsSigned, SpellsBoolean, SpellsOctets, SpellsString, Bounded};
 ghost use Rattle.giop_cdr.specs.Output.{Output, number_out, signed_out, octets_out, string_out};
@@ -11,6 +12,12 @@ ghost use Rattle.giop_cdr.specs.Encapsulation.{order_octet, content_of, encapsul
 ghost use Rattle.giop_cdr.specs.declared.order.Order.{Order};
 ghost use Rattle.giop_cdr.specs.RoundTrip.{IsReadBack, is_primitive};
 ghost use Rattle.giop_cdr.specs.Readers.{IsExact, Took, RefusedShort, RefusedBoolean, RefusedOctets, RefusedString, StandsAlone};
+
+/// Padding leads to a multiple of the alignment, and no fewer octets do.
+pub fn padding_is_least()
+    ensures aligned { (n at : ℕ) → is_alignment n ≡ true → (at + pad n at) % n ≡ 0 }
+    ensures least { (n at k : ℕ) → is_alignment n ≡ true → (at + k) % n ≡ 0 → pad n at ≤ k }
+{}
 
 /// Numbers of every width, in both orders: what `read_` answers is what is spelled, and where nothing
 /// is spelled the octets are too few. No spelling of a number begins another.

@@ -27,7 +27,7 @@ pub use encode_fault::EncodeFault;
 pub use fault::{CdrFault, CdrKind};
 pub use laws::{
     booleans_are_spelled, encapsulations_are_opened_again, numbers_are_spelled, octets_are_spelled,
-    strings_are_spelled, written_values_are_read_back,
+    padding_is_least, strings_are_spelled, written_values_are_read_back,
 };
 pub use octet_list::OctetList;
 pub use octets::{Octets, SliceOctets};
