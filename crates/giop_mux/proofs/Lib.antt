@@ -1,0 +1,4 @@
+pub mod PutLemmas
+pub mod JudgedLemmas
+mod SlotLemmas
+pub mod RunLemmas

@@ -1,0 +1,4 @@
+pub mod Calls
+pub mod Slots
+pub mod Runs
+pub mod Faults

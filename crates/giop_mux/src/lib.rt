@@ -1,0 +1,21 @@
+//! A table of one-call machines: under each id stands the entry of one call, and an event under an
+//! id changes that entry alone, by a rule. So interleaving is harmless: each id's entry is its own
+//! events folded alone.
+#![tactic(auto)]
+
+pub mod laws;
+mod mux;
+mod refusal;
+mod rule;
+mod run;
+mod slots;
+mod step;
+
+pub use mux::Mux;
+pub use refusal::{Refusal, StillOpen};
+pub use rule::CallRule;
+pub use run::{Addressed, Stopped};
+pub use step::Step;
+
+#[cfg(test)]
+mod tests;

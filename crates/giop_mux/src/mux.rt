@@ -1,0 +1,156 @@
+ghost use Rattle.std.specs.Prelude.{◌≡◌, ℕ, ◌==◌, ◌≤◌, ◌↔◌, false, Some, None, IsErr, IfOk, IfErr, OnOk, OnErr, IsErrOf, IsSome, option_copied};
+ghost use Rattle.std.specs.Option.{option_map};
+ghost use Rattle.std.specs.FinMap as map;
+ghost use Rattle.giop_mux.specs.Calls.{put, judged, RefusedAs};
+ghost use Rattle.giop_mux.specs.Runs.{acts_of, own, alone, table_after, AreAccepted, StopsAt};
+
+use crate::{Addressed, CallRule, Refusal, StillOpen, Stopped, slots};
+use std::alloc::{AllocError, Global};
+use std::collections::BTreeMap;
+use std::marker::Model;
+
+/// A table of calls: the entry of each, by id, and no more entries than its limit.
+///
+/// Contracts see its rule, its limit and the finite map from ids to entries.
+#[derive(Drop)]
+pub struct Mux<R: CallRule> {
+    rule: R,
+    limit: u32,
+    // No slot is empty between two calls. A slot that is emptied and filled again takes no memory.
+    table: BTreeMap<u32, Option<R::Entry>>,
+}
+
+impl<R: CallRule> Model for Mux<R> {
+    ghost use Rattle.giop_mux.specs.Calls.{Calls, calls_code};
+    ghost use Rattle.giop_mux.specs.Slots.{entries_of, IsTable};
+
+    ghost Value = { Calls R R.Entry };
+
+    ghost coded = { calls_code R.code R.Entry.code };
+
+    ghost view = { λ m. record {
+      rule = m.rule;
+      limit = m.limit;
+      entries = entries_of m.table.entries;
+    } };
+
+    ghost invariant = { λ m. IsTable m.limit m.table.entries };
+}
+
+impl<R: CallRule> Mux<R> {
+    /// An empty table under this rule, of at most `calls` entries. It takes no memory.
+    pub fn new(alloc: Global, rule: R, calls: u32) -> Self
+        ensures { result ≡ record { rule = rule; limit = calls; entries = map.empty } }
+    {
+        Mux {
+            rule,
+            limit: calls,
+            table: BTreeMap::new(alloc),
+        }
+    }
+
+    /// Steps the call of this id by the event, and gives the rule's answer.
+    ///
+    /// Refusals, in this order: the rule's fault (`Rule`); `TooManyCalls`, exactly where an id
+    /// without an entry would get one and `len` is the limit; `NoMemory`, only where an id without
+    /// an entry would get one. A refusal changes nothing; the event is dropped.
+    pub fn apply(&mut self, id: u32, event: R::Event) -> Result<R::Answer, Refusal<R::Fault>>
+        ensures ok { OnOk result (self.new ≡ record self.old {
+          entries = put self.old.entries id
+              (R.next self.old.rule (map.get self.old.entries id) event).entry;
+        }) }
+        ensures value { IfOk result (λ answer. judged self.old.entries self.old.limit id
+            (R.next self.old.rule (map.get self.old.entries id) event) ≡ Ok answer) }
+        ensures err { IfErr result (λ refusal. RefusedAs refusal
+            (judged self.old.entries self.old.limit id
+            (R.next self.old.rule (map.get self.old.entries id) event))) }
+        ensures memory { IsErrOf result Refusal.NoMemory → (map.get self.old.entries id ≡ None)
+            × IsSome (R.next self.old.rule None event).entry }
+        ensures kept { OnErr result (self.new ≡ self.old) }
+        ensures within { map.len self.new.entries ≤ self.new.limit }
+    {
+        slots::step_call(&self.rule, self.limit, &mut self.table, id, event)
+    }
+
+    /// Applies these events, each under its id, one after the other. It takes only the memory that
+    /// `apply` takes; the answers are dropped.
+    ///
+    /// Where one is refused it stops: those before it are done, this one has changed nothing, and
+    /// the later ones are dropped.
+    pub fn apply_all(&mut self, events: Vec<Addressed<R::Event>>) -> Result<(), Stopped<R::Fault>>
+        ensures ok { OnOk result (self.new ≡ record self.old {
+          entries =
+              table_after (R.next self.old.rule) self.old.entries (acts_of events.items);
+        }) }
+        ensures value { OnOk result ((id : ℕ) → map.get self.new.entries id
+            ≡ alone (R.next self.old.rule) (map.get self.old.entries id)
+            (own id (acts_of events.items))) }
+        ensures only { OnOk result (AreAccepted (R.next self.old.rule) (R.closed self.old.rule)
+            self.old.limit self.old.entries (acts_of events.items)) }
+        ensures err { IfErr result (λ stopped. StopsAt (R.next self.old.rule)
+            (R.closed self.old.rule) self.old events.items stopped self.new) }
+    {
+        let mut at = 0;
+        for told in events {
+            if let Err(why) = self.apply(told.id, told.event) {
+                return Err(Stopped { at, why });
+            }
+            at += 1;
+        }
+        Ok(())
+    }
+
+    /// The entry under this id. It takes no memory.
+    pub fn entry(&self, id: u32) -> Option<&R::Entry>
+        ensures { option_copied result ≡ map.get self.now.entries id }
+    {
+        slots::entry_in(&self.table, id)
+    }
+
+    /// Takes the entry of a closed call out, and gives it; `None` where the id has none. It takes
+    /// no memory. An entry whose call is open stays, and is refused.
+    pub fn take(&mut self, id: u32) -> Result<Option<R::Entry>, StillOpen>
+        ensures ok { OnOk result
+            (self.new ≡ record self.old { entries = map.remove self.old.entries id }) }
+        ensures value { IfOk result (λ taken. taken ≡ map.get self.old.entries id) }
+        ensures err { IsErr result
+            ↔ (option_map (R.closed self.old.rule) (map.get self.old.entries id) ≡ Some false) }
+        ensures kept { OnErr result (self.new ≡ self.old) }
+        ensures within { map.len self.new.entries ≤ self.new.limit }
+    {
+        if slots::is_open(&self.rule, &self.table, id) {
+            return Err(StillOpen);
+        }
+        Ok(slots::take_slot(&mut self.table, id))
+    }
+
+    /// The number of entries. It takes no memory.
+    pub fn len(&self) -> usize
+        ensures value { result ≡ map.len self.now.entries }
+        ensures within { result ≤ self.now.limit }
+    {
+        slots::count_of(&self.table)
+    }
+
+    /// Whether there is no entry.
+    pub fn is_empty(&self) -> bool
+        ensures { result ≡ (map.len self.now.entries == 0) }
+    {
+        self.len() == 0
+    }
+
+    /// Whether there are as many entries as may be, so that an id without one is refused another.
+    /// It takes no memory.
+    pub fn is_full(&self) -> bool
+        ensures { result ≡ (map.len self.now.entries == self.now.limit) }
+    {
+        self.len() == self.limit as usize
+    }
+
+    /// The ids that have an entry, ascending. `alloc` gives the memory of the list.
+    pub fn ids(&self, alloc: Global) -> Result<Vec<u32>, AllocError>
+        ensures { IfOk result (λ ids. ids.items ≡ map.keys self.now.entries) }
+    {
+        slots::ids_of(alloc, &self.table)
+    }
+}

@@ -1,0 +1,42 @@
+ghost use Rattle.std.specs.Prelude.{◌≡◌};
+
+use crate::Step;
+
+/// The rule by which one call runs: what each event does to the call's entry.
+///
+/// Its meaning is the two ghost members: a step depends on this entry and this event alone.
+pub trait CallRule {
+    ghost use Rattle.std.specs.Prelude.{◌≡◌, Bool, Option, IsErr};
+    ghost use Rattle.giop_mux.specs.declared.step.Step.{Step};
+
+    /// What stands in the table under the id of a call.
+    type Entry: Drop;
+    /// What may befall a call.
+    type Event: Drop;
+    /// What an accepted event answers.
+    type Answer: Drop;
+    /// Why an event is refused.
+    type Fault: Drop;
+
+    ghost next: { Self → Option Self.Entry → Self.Event
+        → Step Self.Entry Self.Answer Self.Fault };
+
+    ghost closed: { Self → Self.Entry → Bool };
+
+    /// What the event does to a call with this entry, or to one without an entry. It takes no
+    /// memory.
+    fn step(
+        &self,
+        entry: Option<Self::Entry>,
+        event: Self::Event,
+    ) -> Step<Self::Entry, Self::Answer, Self::Fault>
+        ensures { result ≡ next self.now entry event };
+
+    /// Whether the call is over, so that its entry may be taken out. It takes no memory.
+    fn is_closed(&self, entry: &Self::Entry) -> bool
+        ensures { result ≡ closed self.now entry.now };
+
+    // After a fault the entry is the one handed in.
+    ghost fault_keeps: { (rule : Self) (entry : Option Self.Entry) (event : Self.Event)
+        → IsErr (next rule entry event).outcome → (next rule entry event).entry ≡ entry };
+}

@@ -1,0 +1,4 @@
+mod memory;
+mod notes;
+mod refusals;
+mod table;

@@ -1,0 +1,109 @@
+use super::notes::{Answer, Event, NotOpen, Note, Notes, has_closed, has_open, text};
+use crate::{Addressed, Mux, Refusal, Stopped};
+use std::alloc::{AllocError, Global};
+use std::test::Fail;
+
+fn write(alloc: Global, id: u32, word: &str) -> Result<Addressed<Event>, AllocError> {
+    Ok(Addressed {
+        id,
+        event: Event::Write(text(alloc, word)?),
+    })
+}
+
+fn close(id: u32) -> Addressed<Event> {
+    Addressed {
+        id,
+        event: Event::Close,
+    }
+}
+
+#[test]
+fn ids_ascend_whatever_the_order_of_events(rt: HostRuntime) -> Result<(), Fail> {
+    let alloc = rt.alloc();
+    let mut mux = Mux::new(alloc, Notes, 8);
+    for id in [40, 7, 4_294_967_295, 0, 12] {
+        assert_eq!(rt;
+            mux.apply(id, Event::Write(text(alloc, "note")?)),
+            Ok(Answer::Written)
+        );
+    }
+    assert_eq!(rt; mux.apply(12, Event::Erase), Ok(Answer::Erased));
+    assert_eq!(rt; mux.apply(7, Event::Close), Ok(Answer::Closed));
+    let ids = mux.ids(alloc)?;
+    assert_eq!(rt; ids.as_slice(), [0, 7, 40, 4_294_967_295].as_slice());
+    Ok(())
+}
+
+#[test]
+fn a_thousand_calls_stand_side_by_side(rt: HostRuntime) -> Result<(), Fail> {
+    let alloc = rt.alloc();
+    let mut mux = Mux::new(alloc, Notes, 1000);
+    for turn in 0..1000u32 {
+        let id = turn * 7 % 1000;
+        assert_eq!(rt;
+            mux.apply(id, Event::Write(text(alloc, "note")?)),
+            Ok(Answer::Written)
+        );
+    }
+    assert_eq!(rt; mux.len(), 1000);
+    assert!(rt; mux.is_full());
+    for id in 0..500 {
+        assert_eq!(rt; mux.apply(id, Event::Close), Ok(Answer::Closed));
+        assert_eq!(rt; mux.take(id), Ok(Some(Note::Closed(text(alloc, "note")?))));
+    }
+    assert_eq!(rt; mux.len(), 500);
+    let ids = mux.ids(alloc)?;
+    assert_eq!(rt; ids.len(), 500);
+    for at in 0..500usize {
+        assert_eq!(rt; ids.get(at).copied(), Some(at as u32 + 500));
+    }
+    Ok(())
+}
+
+#[test]
+fn interleaved_calls_end_alike(rt: HostRuntime) -> Result<(), Fail> {
+    let alloc = rt.alloc();
+    let one = vec![in alloc;
+        write(alloc, 1, "a")?,
+        close(1),
+        write(alloc, 2, "b")?,
+        close(2),
+    ]?;
+    let other = vec![in alloc;
+        write(alloc, 2, "b")?,
+        write(alloc, 1, "a")?,
+        close(2),
+        close(1),
+    ]?;
+    for events in [one, other] {
+        let mut mux = Mux::new(alloc, Notes, 2);
+        assert_eq!(rt; mux.apply_all(events), Ok(()));
+        assert!(rt; has_closed(&mux, 1, "a"));
+        assert!(rt; has_closed(&mux, 2, "b"));
+        assert_eq!(rt; mux.len(), 2);
+    }
+    Ok(())
+}
+
+#[test]
+fn a_run_stops_at_the_refused_event(rt: HostRuntime) -> Result<(), Fail> {
+    let alloc = rt.alloc();
+    let mut mux = Mux::new(alloc, Notes, 2);
+    let events = vec![in alloc;
+        write(alloc, 1, "a")?,
+        close(1),
+        close(1),
+        write(alloc, 2, "b")?,
+    ]?;
+    let why = Refusal::Rule(NotOpen);
+    assert_eq!(rt; mux.apply_all(events), Err(Stopped { at: 2, why }));
+    assert!(rt; has_closed(&mux, 1, "a"));
+    assert!(rt; mux.entry(2).is_none());
+
+    let events = vec![in alloc; write(alloc, 2, "b")?, write(alloc, 3, "c")?]?;
+    let why = Refusal::TooManyCalls;
+    assert_eq!(rt; mux.apply_all(events), Err(Stopped { at: 1, why }));
+    assert!(rt; has_open(&mux, 2, "b"));
+    assert!(rt; mux.entry(3).is_none());
+    Ok(())
+}
