@@ -1,6 +1,5 @@
 -- What a contract sees of a gatherer (9.4.9): the finite map from ids to joined octets, and its limit.
 use Rattle.std.specs.Prelude.{◌≡◌, ℕ, ◌+◌, ◌++◌, Bool, true, false, if◌then◌else◌, nat_lt, List, length, sum_by, Option, Some, None, ◌⊎◌, refl}
-use Rattle.std.specs.Option.{option_map}
 use Rattle.std.specs.Ordering.{nat_cmp}
 use Rattle.std.specs.FinMap as map
 use Rattle.std.specs.Coded.{Coded, code_by, coded×, coded_ℕ, coded_bool, coded_list}
@@ -59,7 +58,13 @@ put m id (Some pieces) = map.insert m id pieces
 
 -- these pieces, if there are any, and more octets after them
 abbrev pub grown : Option Pieces → List ℕ → Option Pieces
-grown held more = option_map (λ p. record p { octets = p.octets ++ more }) held
+grown None more = None
+grown (Some pieces) more = Some (record pieces { octets = pieces.octets ++ more })
+
+-- how many octets these are
+abbrev pub octets_in : Option Pieces → ℕ
+octets_in None = 0
+octets_in (Some pieces) = length pieces.octets
 
 -- the number of all gathered octets
 unfoldable pub total_of : Lists → ℕ

@@ -1,5 +1,8 @@
 -- How a gatherer keeps what it holds: one slot for each id, and the number of all octets beside them.
-use Rattle.std.specs.Prelude.{◌≡◌, ℕ, ◌≤◌, ◌^◌, List, [], ◌∷◌, Some}
+use Rattle.std.specs.Prelude.{◌≡◌, ℕ, ◌≤◌, ◌^◌, cond, List, [], ◌∷◌, Option, Some}
+use Rattle.std.specs.Ordering.{nat_cmp}
+use Rattle.std.specs.Map.{lookup}
+use Rattle.std.specs.BTreeMap.{is_at}
 use Rattle.std.specs.FinMap as map
 use Rattle.giop_frag.specs.Gathered.{Pieces, Lists, put, total_of}
 
@@ -13,3 +16,8 @@ pub record IsTable (limit total : ℕ) (slots : List (ℕ × Pieces)) : Type 0 w
   pub counted : total ≡ total_of (entries_of slots)
   pub within : total ≤ limit
   pub small : limit ≤ 2 ^ 62
+
+-- the slot of this id has this list now, or there is none, and each other slot is as it was
+abbrev pub Becomes : (old new : List (ℕ × Pieces)) → ℕ → Option Pieces → Type 0
+Becomes old new id held = (q : ℕ) → lookup (is_at (nat_cmp q)) new
+    ≡ cond (is_at (nat_cmp id) q) held (lookup (is_at (nat_cmp q)) old)

@@ -1,5 +1,3 @@
-ghost use Rattle.std.specs.Prelude.{◌≡◌};
-
 use std::alloc::AllocError;
 
 /// Why octets are not gathered, or not handed out. A refusal changes nothing. Where several hold the
@@ -17,7 +15,10 @@ pub enum GatherFault {
 }
 
 impl From<AllocError> for GatherFault {
-    ghost from_gives = { λ error fault. fault ≡ GatherFault.NoMemory };
+    ghost use Rattle.std.specs.Prelude.{◌≡◌};
+    ghost use Rattle.giop_frag.specs.declared.fault.GatherFault.TheVariants.{NoMemory};
+
+    ghost from_gives = { λ error fault. fault ≡ NoMemory };
 
     fn from(_error: AllocError) -> GatherFault {
         GatherFault::NoMemory

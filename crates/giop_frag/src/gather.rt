@@ -3,8 +3,8 @@ ghost use Rattle.std.specs.Option.{option_map};
 ghost use Rattle.std.specs.FinMap as map;
 ghost use Rattle.giop_frag.specs.Gathered.{put, grown, total_of, is_over, begin_fault, add_fault, RefusedAs};
 
-use crate::{Chain, GatherFault, lists};
 use crate::pieces::Joined;
+use crate::{Chain, GatherFault, lists};
 use giop_cdr::{OctetList, Order};
 use std::alloc::Global;
 use std::collections::BTreeMap;
@@ -110,8 +110,7 @@ impl Gather {
         ensures kept { OnErr result (self.new ≡ self.old) }
         ensures within { total_of self.new.lists ≤ self.new.limit }
     {
-        let joined = lists::take_list(&mut self.table, id).ok_or(GatherFault::Stray)?;
-        self.total -= joined.len();
+        let joined = self.take(id).ok_or(GatherFault::Stray)?;
         Ok(joined.into_parts())
     }
 
@@ -120,9 +119,7 @@ impl Gather {
         ensures ok { self.new ≡ record self.old { lists = map.remove self.old.lists id } }
         ensures within { total_of self.new.lists ≤ self.new.limit }
     {
-        if let Some(joined) = lists::take_list(&mut self.table, id) {
-            self.total -= joined.len();
-        }
+        self.take(id);
     }
 
     /// The byte order and the octets of the id, where they lie. It takes no memory.
@@ -168,6 +165,17 @@ impl Gather {
         ensures { result ≡ (map.len self.now.lists == 0) }
     {
         self.len() == 0
+    }
+
+    // Takes the octets of the id out, if it has any, and counts them no longer.
+    fn take(&mut self, id: u32) -> Option<Joined>
+        ensures ok { self.new ≡ record self.old { lists = map.remove self.old.lists id } }
+        ensures value { result ≡ map.get self.old.lists id }
+        ensures within { total_of self.new.lists ≤ self.new.limit }
+    {
+        let taken = lists::take_list(&mut self.table, id);
+        self.total -= lists::octets_of(&taken);
+        taken
     }
 
     // Whether `more` octets would be too many.

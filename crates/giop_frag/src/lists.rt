@@ -1,7 +1,7 @@
 //! The steps over the plain map: what each leaves of the lists.
-ghost use Rattle.std.specs.Prelude.{◌≡◌, OnOk, OnErr, IfOk, IfErr, Some, None, is_some, option_copied};
+ghost use Rattle.std.specs.Prelude.{◌≡◌, ◌+◌, length, OnOk, OnErr, IfOk, IfErr, Some, None, is_some, option_copied};
 ghost use Rattle.std.specs.FinMap as map;
-ghost use Rattle.giop_frag.specs.Gathered.{put, grown, add_fault_by, RefusedAs};
+ghost use Rattle.giop_frag.specs.Gathered.{put, grown, octets_in, total_of, add_fault_by, RefusedAs};
 ghost use Rattle.giop_frag.specs.Table.{entries_of};
 
 use crate::GatherFault;
@@ -20,13 +20,14 @@ pub fn begin_list(
 ) -> Result<(), GatherFault>
     ensures ok { OnOk result (entries_of table.new.entries ≡ put (entries_of table.old.entries) id
         (Some (record { order = order; octets = octets.now }))) }
+    ensures counted { map.get (entries_of table.old.entries) id ≡ None → OnOk result
+        (total_of (entries_of table.new.entries)
+        ≡ total_of (entries_of table.old.entries) + length octets.now) }
     ensures err { IfErr result (λ fault. fault ≡ GatherFault.NoMemory) }
     ensures kept { OnErr result (entries_of table.new.entries ≡ entries_of table.old.entries) }
 {
     let joined = Joined::new(alloc, order, octets)?;
-    table
-        .insert(id, joined)
-        .map_err(|_| GatherFault::NoMemory)?;
+    table.insert(id, joined).map_err(|_| GatherFault::NoMemory)?;
     Ok(())
 }
 
@@ -41,6 +42,8 @@ pub fn add_to_list(
 ) -> Result<(), GatherFault>
     ensures ok { let m = entries_of table.old.entries in OnOk result
         (entries_of table.new.entries ≡ put m id (grown (map.get m id) octets.now)) }
+    ensures counted { OnOk result (total_of (entries_of table.new.entries)
+        ≡ total_of (entries_of table.old.entries) + length octets.now) }
     ensures only { let m = entries_of table.old.entries in
         OnOk result (add_fault_by over (map.get m id) order ≡ None) }
     ensures err { let m = entries_of table.old.entries in
@@ -57,8 +60,20 @@ pub fn add_to_list(
 pub fn take_list(table: &mut BTreeMap<u32, Joined>, id: u32) -> Option<Joined>
     ensures value { result ≡ map.get (entries_of table.old.entries) id }
     ensures ok { entries_of table.new.entries ≡ map.remove (entries_of table.old.entries) id }
+    ensures counted { total_of (entries_of table.new.entries) + octets_in result
+        ≡ total_of (entries_of table.old.entries) }
 {
     table.remove(&id)
+}
+
+// The number of octets that were taken out.
+pub fn octets_of(taken: &Option<Joined>) -> usize
+    ensures { result ≡ octets_in taken.now }
+{
+    match taken {
+        Some(joined) => joined.len(),
+        None => 0,
+    }
 }
 
 // The octets under an id.

@@ -1,1 +1,2 @@
-
+mod gathering;
+mod memory;
