@@ -2,6 +2,7 @@ ghost use Rattle.std.specs.Prelude.{◌≡◌, ◌≤◌, ◌^◌, ◌==◌, len
 ghost use Rattle.std.specs.Option.{option_map};
 ghost use Rattle.std.specs.FinMap as map;
 ghost use Rattle.giop_frag.specs.Gathered.{put, grown, total_of, is_over, begin_fault, add_fault, RefusedAs};
+ghost use Rattle.giop_frag.specs.Runs.{Does, Begins, Adds, IsFinished, IsDiscarded};
 
 use crate::pieces::Joined;
 use crate::{Chain, GatherFault, lists};
@@ -65,6 +66,7 @@ impl Gather {
         ensures err { IfErr result (λ fault.
             RefusedAs fault (begin_fault self.old (length octets.now))) }
         ensures kept { OnErr result (self.new ≡ self.old) }
+        ensures exact { OnOk result (Does self.old id (Begins order octets.now) self.new) }
         ensures within { total_of self.new.lists ≤ self.new.limit }
     {
         if self.is_over(octets.len()) {
@@ -88,6 +90,7 @@ impl Gather {
         ensures err { IfErr result (λ fault.
             RefusedAs fault (add_fault self.old id order (length octets.now))) }
         ensures kept { OnErr result (self.new ≡ self.old) }
+        ensures exact { OnOk result (Does self.old id (Adds order octets.now) self.new) }
         ensures within { total_of self.new.lists ≤ self.new.limit }
     {
         let over = self.is_over(octets.len());
@@ -108,6 +111,7 @@ impl Gather {
         ensures err { IfErr result (λ fault.
             (fault ≡ GatherFault.Stray) × (map.get self.old.lists id ≡ None)) }
         ensures kept { OnErr result (self.new ≡ self.old) }
+        ensures exact { OnOk result (Does self.old id IsFinished self.new) }
         ensures within { total_of self.new.lists ≤ self.new.limit }
     {
         let joined = self.take(id).ok_or(GatherFault::Stray)?;
@@ -117,6 +121,7 @@ impl Gather {
     /// Takes the id out, and drops its octets; does nothing where it has none. It takes no memory.
     pub fn discard(&mut self, id: u32)
         ensures ok { self.new ≡ record self.old { lists = map.remove self.old.lists id } }
+        ensures exact { Does self.old id IsDiscarded self.new }
         ensures within { total_of self.new.lists ≤ self.new.limit }
     {
         self.take(id);
