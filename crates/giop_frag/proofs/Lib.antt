@@ -1,0 +1,4 @@
+pub mod PutLemmas
+pub mod TotalLemmas
+pub mod RunLemmas
+mod TableLemmas

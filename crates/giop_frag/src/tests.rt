@@ -1,0 +1,2 @@
+mod gathering;
+mod memory;
