@@ -1,9 +1,11 @@
 -- The header of a GIOP 1.2 message (CORBA 3.3 Part 2, 9.4.1), twelve octets:
 --   magic "GIOP", version 1 2, flags, message type, message size (an unsigned long, 9.3.1.1)
 use Rattle.std.specs.Prelude.{ℕ, ◌+◌, ◌%◌, ◌&&◌, ◌==◌, nat_lt, nat_le, not, List, [], ◌∷◌, ◌++◌, codes, Option, drop, slice_index, slice_index_or, if◌then◌else◌}
-use Rattle.std.specs.Int.{w32, to_be_bytes, to_le_bytes, from_be_bytes, from_le_bytes}
+use Rattle.std.specs.Int.{w32}
 use Rattle.giop_cdr.specs.declared.order.Order.{Order}
 use Rattle.giop_cdr.specs.declared.order.Order.TheVariants.{Big, Little}
+use Rattle.giop_cdr.specs.Cursor.{num}
+use Rattle.giop_cdr.specs.Output.{octets_of}
 use Rattle.giop_msg.specs.declared.kind.Kind.TheVariants.{Fragment}
 use Rattle.giop_msg.specs.declared.fault.WireFault.{WireFault}
 use Rattle.giop_msg.specs.declared.fault.WireKind.TheVariants.{BadMagic, BadVersion, ReservedFlags, BadKind, TooLarge, BadSize, FragmentSize, NotFragmentable}
@@ -13,13 +15,11 @@ use Rattle.giop_msg.specs.Kind.{kind_number, kinds, can_have_size, is_fragmentab
 
 -- the four octets of an unsigned long
 abbrev pub ulong_octets : Order → ℕ → List ℕ
-ulong_octets Big n = to_be_bytes w32 n
-ulong_octets Little n = to_le_bytes w32 n
+ulong_octets order n = octets_of order w32 n
 
 -- the unsigned long that four octets are
 abbrev pub ulong_of : Order → List ℕ → ℕ
-ulong_of Big octets = from_be_bytes w32 octets
-ulong_of Little octets = from_le_bytes w32 octets
+ulong_of order octets = num order w32 octets
 
 -- bit 0 of the flags: the byte order of the message, its size included
 abbrev pub order_bit : Order → ℕ
