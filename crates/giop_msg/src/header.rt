@@ -25,10 +25,7 @@ impl Header {
     pub fn octets(&self) -> [u8; 12]
         ensures { result ≡ header_octets self.now }
     {
-        let [a, b, c, d] = match self.order {
-            Order::Big => self.size.to_be_bytes(),
-            Order::Little => self.size.to_le_bytes(),
-        };
+        let [a, b, c, d] = self.order.ulong_octets(self.size);
         let kind = self.kind.number();
         [b'G', b'I', b'O', b'P', 1, 2, self.flags(), kind, a, b, c, d]
     }
@@ -37,11 +34,7 @@ impl Header {
     fn flags(&self) -> u8
         ensures { result ≡ flags_of self.now }
     {
-        let order = match self.order {
-            Order::Big => 0,
-            Order::Little => 1,
-        };
-        order + if self.more { 2 } else { 0 }
+        self.order.octet() + if self.more { 2 } else { 0 }
     }
 
     // The header that twelve octets are, or the first thing that is wrong with them.
