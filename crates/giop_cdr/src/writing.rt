@@ -24,8 +24,8 @@ impl CdrOut {
         ensures { Writes self.old result self.new (number_out w8 value self.old) }
     {
         self.append_field(match self.order() {
-            Order::Big => value.to_be_bytes(),
-            Order::Little => value.to_le_bytes(),
+            Order::Big => u8::to_be_bytes(value),
+            Order::Little => u8::to_le_bytes(value),
         })
     }
 
@@ -43,8 +43,8 @@ impl CdrOut {
         ensures { Writes self.old result self.new (signed_out w16 value self.old) }
     {
         self.append_field(match self.order() {
-            Order::Big => value.to_be_bytes(),
-            Order::Little => value.to_le_bytes(),
+            Order::Big => i16::to_be_bytes(value),
+            Order::Little => i16::to_le_bytes(value),
         })
     }
 
@@ -54,8 +54,8 @@ impl CdrOut {
         ensures { Writes self.old result self.new (number_out w16 value self.old) }
     {
         self.append_field(match self.order() {
-            Order::Big => value.to_be_bytes(),
-            Order::Little => value.to_le_bytes(),
+            Order::Big => u16::to_be_bytes(value),
+            Order::Little => u16::to_le_bytes(value),
         })
     }
 
@@ -65,8 +65,8 @@ impl CdrOut {
         ensures { Writes self.old result self.new (signed_out w32 value self.old) }
     {
         self.append_field(match self.order() {
-            Order::Big => value.to_be_bytes(),
-            Order::Little => value.to_le_bytes(),
+            Order::Big => i32::to_be_bytes(value),
+            Order::Little => i32::to_le_bytes(value),
         })
     }
 
@@ -76,8 +76,8 @@ impl CdrOut {
         ensures { Writes self.old result self.new (number_out w32 value self.old) }
     {
         self.append_field(match self.order() {
-            Order::Big => value.to_be_bytes(),
-            Order::Little => value.to_le_bytes(),
+            Order::Big => u32::to_be_bytes(value),
+            Order::Little => u32::to_le_bytes(value),
         })
     }
 
@@ -87,8 +87,8 @@ impl CdrOut {
         ensures { Writes self.old result self.new (signed_out w64 value self.old) }
     {
         self.append_field(match self.order() {
-            Order::Big => value.to_be_bytes(),
-            Order::Little => value.to_le_bytes(),
+            Order::Big => i64::to_be_bytes(value),
+            Order::Little => i64::to_le_bytes(value),
         })
     }
 
@@ -98,8 +98,8 @@ impl CdrOut {
         ensures { Writes self.old result self.new (number_out w64 value self.old) }
     {
         self.append_field(match self.order() {
-            Order::Big => value.to_be_bytes(),
-            Order::Little => value.to_le_bytes(),
+            Order::Big => u64::to_be_bytes(value),
+            Order::Little => u64::to_le_bytes(value),
         })
     }
 
