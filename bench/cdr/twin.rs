@@ -1,5 +1,6 @@
 //! The plain Rust twin of the loops `read` and `write` of giop_bench.
 use std::env;
+use std::hint::black_box;
 
 const ULONGS: u32 = 1_000_000;
 const STRINGS: u32 = 100_000;
@@ -183,7 +184,8 @@ impl Output {
         self.octet(u8::from(value));
     }
 
-    // In a library, which has its callers in other crates, these two aren't inlined.
+    // In a library, which has its callers in other crates, these two aren't inlined, and no length is
+    // known.
     #[inline(never)]
     fn write_octets(&mut self, octets: &[u8]) {
         self.octets.reserve(16 + octets.len());
@@ -226,8 +228,8 @@ fn message(values: &str, order: Order) -> Vec<u8> {
     };
     match values {
         "ulong" => (0..ULONGS).for_each(|i| out.ulong(i.wrapping_mul(2_654_435_761))),
-        "string" => (0..STRINGS).for_each(|_| out.write_string(b"a text of length")),
-        "octets" => (0..PIECES).for_each(|_| out.write_octets(&OCTETS)),
+        "string" => (0..STRINGS).for_each(|_| out.write_string(black_box(b"a text of length"))),
+        "octets" => (0..PIECES).for_each(|_| out.write_octets(black_box(&OCTETS))),
         _ => (0..GROUPS).for_each(|i| {
             narrow_out(&mut out, i);
             wide_out(&mut out, i);
@@ -257,7 +259,8 @@ fn ulongs(input: &mut Input) -> Result<u64, Fault> {
 fn strings(input: &mut Input) -> Result<u64, Fault> {
     let mut sum = 0;
     for _ in 0..STRINGS {
-        let text = input.read_string(0)?;
+        // (a copy that nothing looks at would be left out)
+        let text = black_box(input.read_string(0)?);
         sum = mixed(sum, text.len() as u64);
     }
     Ok(sum)
@@ -266,7 +269,7 @@ fn strings(input: &mut Input) -> Result<u64, Fault> {
 fn octets(input: &mut Input) -> Result<u64, Fault> {
     let mut sum = 0;
     for _ in 0..PIECES {
-        let octets = input.read_octets(0)?;
+        let octets = black_box(input.read_octets(0)?);
         sum = mixed(sum, octets.len() as u64);
     }
     Ok(sum)
