@@ -1,15 +1,40 @@
 //! Loops that are timed from outside, beside plain Rust twins in `bench/`. The first argument names
-//! the loop; it does its work and prints a checksum.
+//! the loop, the second how often it runs; it does its work and prints a checksum.
 #![tactic(auto)]
 
 mod mux;
+mod read;
+mod work;
+mod write;
 
+use std::alloc::Global;
 use std::{env, io};
+use work::Work;
+
+const USAGE: &str = "usage: giop_bench mux, or giop_bench (read|write)-LOOP-(big|little) TIMES,
+where LOOP is ulong, string, octets or widths";
+
+// The checksum of a loop over CDR, or none where it isn't one or fails.
+fn cdr(alloc: Global, name: &str, times: &str) -> Option<u64> {
+    let times = times.parse::<u32>().ok()?;
+    let work = Work::named(name)?;
+    if work.reads {
+        read::run(alloc, work, times)
+    } else {
+        write::run(alloc, work, times).ok()
+    }
+}
 
 fn main(rt: HostRuntime) -> io::Result<()> {
     let name = env::args(&rt)?.nth(1);
-    match name.as_ref().map_or("", |name| name.as_str()) {
-        "mux" => println!(rt; "{}", mux::run(rt.alloc())),
-        _ => println!(rt; "usage: giop_bench LOOP, where LOOP is mux"),
+    let name = name.as_ref().map_or("", |name| name.as_str());
+    if name == "mux" {
+        return println!(rt; "{}", mux::run(rt.alloc()));
+    }
+    let times = env::args(&rt)?.nth(2);
+    let times = times.as_ref().map_or("", |times| times.as_str());
+    match cdr(rt.alloc(), name, times) {
+        Some(sum) => println!(rt; "{sum}"),
+        None => println!(rt; "{USAGE}"),
     }
 }

@@ -115,8 +115,8 @@ impl<'a, S: Octets> CdrIn<'a, S> {
         ensures { Passes self.old result self.new (octets_at bound self.old) }
     {
         let mut ahead = self.fork();
-        let count = ahead.octet_count(bound)?;
-        ahead.advance(count);
+        let length = ahead.octet_count(bound)?;
+        ahead.advance(length);
         *self = ahead;
         Ok(())
     }
@@ -154,8 +154,8 @@ impl<'a, S: Octets> CdrIn<'a, S> {
         ensures { Passes self.old result self.new (string_at bound self.old) }
     {
         let mut ahead = self.fork();
-        let count = ahead.text_count(bound)?;
-        ahead.advance(count);
+        let length = ahead.text_count(bound)?;
+        ahead.advance(length);
         *self = ahead;
         Ok(())
     }

@@ -23,10 +23,10 @@ impl CdrOut {
     pub fn write_octet(&mut self, value: u8) -> Result<(), AllocError>
         ensures { Writes self.old result self.new (number_out w8 value self.old) }
     {
-        self.append_field(match self.order() {
-            Order::Big => value.to_be_bytes(),
-            Order::Little => value.to_le_bytes(),
-        })
+        match self.order() {
+            Order::Big => self.append_field(u8::to_be_bytes(value)),
+            Order::Little => self.append_field(u8::to_le_bytes(value)),
+        }
     }
 
     /// A char (9.3.1.6), by its octet, which isn't translated.
@@ -42,10 +42,10 @@ impl CdrOut {
     pub fn write_short(&mut self, value: i16) -> Result<(), AllocError>
         ensures { Writes self.old result self.new (signed_out w16 value self.old) }
     {
-        self.append_field(match self.order() {
-            Order::Big => value.to_be_bytes(),
-            Order::Little => value.to_le_bytes(),
-        })
+        match self.order() {
+            Order::Big => self.append_field(i16::to_be_bytes(value)),
+            Order::Little => self.append_field(i16::to_le_bytes(value)),
+        }
     }
 
     /// An unsigned short, two octets aligned to 2 (9.3.1.2).
@@ -53,10 +53,10 @@ impl CdrOut {
     pub fn write_ushort(&mut self, value: u16) -> Result<(), AllocError>
         ensures { Writes self.old result self.new (number_out w16 value self.old) }
     {
-        self.append_field(match self.order() {
-            Order::Big => value.to_be_bytes(),
-            Order::Little => value.to_le_bytes(),
-        })
+        match self.order() {
+            Order::Big => self.append_field(u16::to_be_bytes(value)),
+            Order::Little => self.append_field(u16::to_le_bytes(value)),
+        }
     }
 
     /// A long, four octets aligned to 4 (9.3.1.2), in two's complement.
@@ -64,10 +64,10 @@ impl CdrOut {
     pub fn write_long(&mut self, value: i32) -> Result<(), AllocError>
         ensures { Writes self.old result self.new (signed_out w32 value self.old) }
     {
-        self.append_field(match self.order() {
-            Order::Big => value.to_be_bytes(),
-            Order::Little => value.to_le_bytes(),
-        })
+        match self.order() {
+            Order::Big => self.append_field(i32::to_be_bytes(value)),
+            Order::Little => self.append_field(i32::to_le_bytes(value)),
+        }
     }
 
     /// An unsigned long, four octets aligned to 4 (9.3.1.2).
@@ -75,10 +75,10 @@ impl CdrOut {
     pub fn write_ulong(&mut self, value: u32) -> Result<(), AllocError>
         ensures { Writes self.old result self.new (number_out w32 value self.old) }
     {
-        self.append_field(match self.order() {
-            Order::Big => value.to_be_bytes(),
-            Order::Little => value.to_le_bytes(),
-        })
+        match self.order() {
+            Order::Big => self.append_field(u32::to_be_bytes(value)),
+            Order::Little => self.append_field(u32::to_le_bytes(value)),
+        }
     }
 
     /// A long long, eight octets aligned to 8 (9.3.1.2), in two's complement.
@@ -86,10 +86,10 @@ impl CdrOut {
     pub fn write_longlong(&mut self, value: i64) -> Result<(), AllocError>
         ensures { Writes self.old result self.new (signed_out w64 value self.old) }
     {
-        self.append_field(match self.order() {
-            Order::Big => value.to_be_bytes(),
-            Order::Little => value.to_le_bytes(),
-        })
+        match self.order() {
+            Order::Big => self.append_field(i64::to_be_bytes(value)),
+            Order::Little => self.append_field(i64::to_le_bytes(value)),
+        }
     }
 
     /// An unsigned long long, eight octets aligned to 8 (9.3.1.2).
@@ -97,10 +97,10 @@ impl CdrOut {
     pub fn write_ulonglong(&mut self, value: u64) -> Result<(), AllocError>
         ensures { Writes self.old result self.new (number_out w64 value self.old) }
     {
-        self.append_field(match self.order() {
-            Order::Big => value.to_be_bytes(),
-            Order::Little => value.to_le_bytes(),
-        })
+        match self.order() {
+            Order::Big => self.append_field(u64::to_be_bytes(value)),
+            Order::Little => self.append_field(u64::to_le_bytes(value)),
+        }
     }
 
     /// A sequence of octets (9.3.2.3): an unsigned long length, aligned to 4, and the octets.

@@ -1,0 +1,84 @@
+//! Loops that write CDR. `bench/cdr/twin.rs` does the same in plain Rust.
+use crate::work::{mixed, Values, Work};
+use giop_cdr::CdrOut;
+use std::alloc::{AllocError, Global};
+
+pub const ULONGS: u32 = 1_000_000;
+
+pub const STRINGS: u32 = 100_000;
+
+const OCTETS: [u8; 4096] = [7; 4096];
+
+/// How many sequences of 4,096 octets stand in a message: 1 MB.
+pub const PIECES: u32 = 256;
+
+pub const GROUPS: u32 = 100_000;
+
+fn ulongs(out: &mut CdrOut) -> Result<(), AllocError> {
+    for i in 0..ULONGS {
+        out.write_ulong(i.wrapping_mul(2_654_435_761))?;
+    }
+    Ok(())
+}
+
+fn strings(out: &mut CdrOut) -> Result<(), AllocError> {
+    for _ in 0..STRINGS {
+        out.write_string(b"a text of length")?;
+    }
+    Ok(())
+}
+
+fn octets(out: &mut CdrOut) -> Result<(), AllocError> {
+    for _ in 0..PIECES {
+        out.write_octets(&OCTETS)?;
+    }
+    Ok(())
+}
+
+#[inline(always)]
+fn narrow(out: &mut CdrOut, i: u32) -> Result<(), AllocError> {
+    out.write_boolean(i % 2 == 1)?;
+    out.write_octet(200)?;
+    out.write_short(-2)?;
+    out.write_char(b'x')?;
+    out.write_ushort(50_000)
+}
+
+#[inline(always)]
+fn wide(out: &mut CdrOut, i: u32) -> Result<(), AllocError> {
+    out.write_long(-3)?;
+    out.write_ulong(i)?;
+    out.write_longlong(-4)?;
+    out.write_ulonglong(i as u64)
+}
+
+fn widths(out: &mut CdrOut) -> Result<(), AllocError> {
+    for i in 0..GROUPS {
+        narrow(out, i)?;
+        wide(out, i)?;
+    }
+    Ok(())
+}
+
+/// The message that a loop writes.
+pub fn message(alloc: Global, work: Work) -> Result<Vec<u8>, AllocError> {
+    let mut out = CdrOut::new(alloc, work.order, 0);
+    match work.values {
+        Values::Ulong => ulongs(&mut out)?,
+        Values::String => strings(&mut out)?,
+        Values::Octets => octets(&mut out)?,
+        Values::Widths => widths(&mut out)?,
+    }
+    Ok(out.into_bytes())
+}
+
+/// Writes the message so many times, and gives a checksum of the lengths and the last octets.
+pub fn run(alloc: Global, work: Work, times: u32) -> Result<u64, AllocError> {
+    let mut sum = 0;
+    for _ in 0..times {
+        let message = message(alloc, work)?;
+        sum = mixed(sum, message.len() as u64);
+        sum = mixed(sum, message.last().map_or(0, |&octet| octet as u64));
+    }
+    Ok(sum)
+}
