@@ -1,8 +1,8 @@
 -- How far a dump has come, and that it goes on and ends as it should.
-use Rattle.std.proofs.Common.{◌≡◌, ◌≢◌, ℕ, ◌+◌, ◌-◌, ◌*◌, ◌<◌, ◌≤◌, ◌==◌, nat_le, List, [], ◌∷◌, ◌++◌, length, take, drop, Option, Some, None, refl, sym, ◌∙◌, ap, subst, arith, append_assoc, length-append, zero-add, inl, inr, true, false, if◌then◌else◌, Result, Ok, Err, OnOk, IfOk}
+use Rattle.std.proofs.Common.{◌≡◌, ◌≢◌, ℕ, ◌+◌, ◌≤◌, ◌==◌, List, [], ◌∷◌, ◌++◌, length, take, Option, Some, None, refl, sym, ◌∙◌, ap, subst, arith, append_assoc, length-append, zero-add, inl, inr, if◌then◌else◌, Result, Ok, Err, OnOk, IfOk}
 use Rattle.std.specs.Bool.{⊤}
 use Rattle.std.proofs.lemmas.Grind.{common_steps, flat_map-append}
-use Rattle.std.proofs.lemmas.List.{append-nil, take-append-drop}
+use Rattle.std.proofs.lemmas.List.{append-nil}
 use Rattle.std.proofs.lemmas.List.Elements.{All-append, All-cons, All-nil}
 use Rattle.std.proofs.lemmas.Bool.{le-leb}
 use Rattle.std.proofs.lemmas.Bool.Decides.{leb_tells, eqb_tells}
@@ -13,12 +13,12 @@ use Rattle.giop_msg.specs.declared.fault.WireFault.{WireFault}
 use Rattle.giop_msg.specs.declared.fault.WireKind.TheVariants.{NoMemory}
 use Rattle.giop_msg.specs.Header.{header_fault}
 use Rattle.giop_msg.specs.Msg.{message_octets, IsMessage}
-use Rattle.giop_msg.specs.Stream.{Msgs, Unread, IsRefusal, Waits, TakesMessage, BeginsWithMessage, BeginsWithFault}
+use Rattle.giop_msg.specs.Stream.{Unread, IsRefusal, Waits, TakesMessage, BeginsWithMessage, BeginsWithFault}
 use Rattle.giop_msg.proofs.StreamLemmas.{length-message_octets, message_or_fault, fault_stands}
 use Rattle.giopctl.specs.declared.failure.Failure.{Failure}
 use Rattle.giopctl.specs.declared.status.Status.{Status}
 use Rattle.giopctl.specs.declared.status.Status.TheVariants.{Done, Refused}
-use Rattle.giopctl.specs.Dump.{Dumps, DumpsKnown, Prints, dump_text, messages_text, message_text, end_line, rest_fault, ended}
+use Rattle.giopctl.specs.Dump.{Dumps, DumpsKnown, Prints, messages_text, message_text, end_line, rest_fault, ended}
 use Rattle.giopctl.specs.Lines.{rest_line, fault_line}
 
 -- a writer's contents that grew by xs and then by ys grew by both

@@ -1,5 +1,5 @@
 -- Readers whose octets may be known: calls that keep them, and one that takes some.
-use Rattle.std.proofs.Common.{◌≡◌, ℕ, List, Option, Some, None, Result, Ok, Err, refl, sym, ◌∙◌, subst}
+use Rattle.std.proofs.Common.{ℕ, List, Option, Some, None, Result, Ok, Err, refl, ◌∙◌, subst}
 use Rattle.std.specs.Io.KnownBytes.{Keeps, ReadConsumes}
 
 pub Keeps-refl : (a : Option (List ℕ)) → Keeps a a

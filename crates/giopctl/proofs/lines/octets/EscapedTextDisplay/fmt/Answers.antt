@@ -1,4 +1,4 @@
-use Rattle.std.proofs.Common.{◌≡◌, sym, ◌∙◌}
+use Rattle.std.proofs.Common.{sym, ◌∙◌}
 use Rattle.std.proofs.Output.{has_written_of_eq}
 use Rattle.giopctl.proofs.OctetsLemmas.{percent_encode-escaped}
 use Rattle.giopctl.proofs.lines.octets.EscapedTextDisplay.fmt.Goals as goal

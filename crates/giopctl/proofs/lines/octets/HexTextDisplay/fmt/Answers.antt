@@ -1,9 +1,9 @@
-use Rattle.std.proofs.Common.{rules, ◌≡◌, ◌+◌, ◌++◌, ◌∷◌, [], sym, ◌∙◌, ap, subst, refl, take}
+use Rattle.std.proofs.Common.{rules, ◌++◌, sym, ◌∙◌, ap, subst, refl, take}
 use Rattle.std.proofs.Output.{has_written_append, has_written_of_eq}
 use Rattle.std.proofs.lemmas.List.{take_more}
 use Rattle.std.specs.Str.{IsAscii}
 use Rattle.hex.specs.Hex.{encode_with, encode_lower}
-use Rattle.giopctl.proofs.OctetsLemmas.{encode_lower-some, encode_lower-append, IsAscii-encode_lower}
+use Rattle.giopctl.proofs.OctetsLemmas.{encode_lower-append, IsAscii-encode_lower}
 use Rattle.giopctl.proofs.lines.octets.HexTextDisplay.fmt.Goals as goal
 
 pub loop-octet-init : goal.loop-octet-init
