@@ -1,7 +1,8 @@
 //! Loops that are timed from outside, beside plain Rust twins in `bench/`. The first argument names
-//! the loop, the second how often it runs; it does its work and prints a checksum.
+//! the loop, the second how often a loop over CDR runs; it does its work and prints a checksum.
 #![tactic(auto)]
 
+mod frag;
 mod mux;
 mod read;
 mod work;
@@ -11,8 +12,8 @@ use std::alloc::Global;
 use std::{env, io};
 use work::Work;
 
-const USAGE: &str = "usage: giop_bench mux, or giop_bench (read|write)-LOOP-(big|little) TIMES,
-where LOOP is ulong, string, octets or widths";
+const USAGE: &str = "usage: giop_bench LOOP, where LOOP is frag24, frag512, frag4096 or mux,
+or giop_bench (read|write)-VALUES-(big|little) TIMES, where VALUES is ulong, string, octets or widths";
 
 // The checksum of a loop over CDR, or none where it isn't one or fails.
 fn cdr(alloc: Global, name: &str, times: &str) -> Option<u64> {
@@ -27,14 +28,16 @@ fn cdr(alloc: Global, name: &str, times: &str) -> Option<u64> {
 
 fn main(rt: HostRuntime) -> io::Result<()> {
     let name = env::args(&rt)?.nth(1);
-    let name = name.as_ref().map_or("", |name| name.as_str());
-    if name == "mux" {
-        return println!(rt; "{}", mux::run(rt.alloc()));
-    }
     let times = env::args(&rt)?.nth(2);
     let times = times.as_ref().map_or("", |times| times.as_str());
-    match cdr(rt.alloc(), name, times) {
-        Some(sum) => println!(rt; "{sum}"),
-        None => println!(rt; "{USAGE}"),
+    match name.as_ref().map_or("", |name| name.as_str()) {
+        "frag24" => println!(rt; "{}", frag::run(rt.alloc(), 24)),
+        "frag512" => println!(rt; "{}", frag::run(rt.alloc(), 512)),
+        "frag4096" => println!(rt; "{}", frag::run(rt.alloc(), 4096)),
+        "mux" => println!(rt; "{}", mux::run(rt.alloc())),
+        name => match cdr(rt.alloc(), name, times) {
+            Some(sum) => println!(rt; "{sum}"),
+            None => println!(rt; "{USAGE}"),
+        },
     }
 }
