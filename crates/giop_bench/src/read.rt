@@ -1,5 +1,5 @@
 //! Loops that read CDR out of a slice. `bench/cdr/twin.rs` does the same in plain Rust.
-use crate::work::{mixed, Values, Work};
+use crate::work::{Values, Work, mixed};
 use crate::write::{self, GROUPS, PIECES, STRINGS, ULONGS};
 use giop_cdr::{CdrFault, CdrIn, Octets, SliceOctets};
 use std::alloc::Global;

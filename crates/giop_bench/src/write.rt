@@ -1,5 +1,5 @@
 //! Loops that write CDR. `bench/cdr/twin.rs` does the same in plain Rust.
-use crate::work::{mixed, Values, Work};
+use crate::work::{Values, Work, mixed};
 use giop_cdr::CdrOut;
 use std::alloc::{AllocError, Global};
 
