@@ -1,4 +1,5 @@
--- What it is to read a spelling, to refuse what spells nothing, and what follows (CORBA 3.3 Part 2, 9.3).
+-- What it is to read a spelling, to refuse what spells nothing, and what follows (CORBA 3.3 Part 2,
+-- 9.3).
 use Rattle.std.specs.Prelude.{◌≡◌, ℕ, zero, suc, ◌+◌, ◌-◌, ◌<◌, ◌≤◌, ◌⊎◌, Bool, true, false, List, ◌++◌, length, take, Ok, Err}
 use Rattle.std.specs.Int.{w8, w32}
 use Rattle.giop_cdr.specs.declared.order.Order.{Order}
