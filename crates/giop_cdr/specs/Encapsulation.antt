@@ -1,6 +1,6 @@
 -- Encapsulations (CORBA 3.3 Part 2, 9.3.3): a sequence of octets of which the first is the byte
 -- order of the rest, and in which alignment begins anew at that octet.
-use Rattle.std.specs.Prelude.{◌≡◌, ℕ, zero, suc, ◌+◌, ◌-◌, ◌<◌, ◌⊎◌, slice_index, List, [], ◌∷◌, ◌++◌, length, take, drop, replicate, Result, Ok, Err}
+use Rattle.std.specs.Prelude.{◌≡◌, ℕ, zero, suc, ◌+◌, ◌-◌, ◌<◌, ◌⊎◌, slice_index, List, [], ◌∷◌, ◌++◌, length, take, drop, replicate, Ok, Err}
 use Rattle.std.specs.Int.{w32}
 use Rattle.giop_cdr.specs.declared.order.Order.{Order}
 use Rattle.giop_cdr.specs.declared.order.Order.TheVariants.{Big, Little}

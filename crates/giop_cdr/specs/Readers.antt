@@ -6,7 +6,7 @@ use Rattle.giop_cdr.specs.declared.order.Order.{Order}
 use Rattle.giop_cdr.specs.declared.fault.CdrFault.{CdrFault}
 use Rattle.giop_cdr.specs.declared.fault.CdrKind.{CdrKind}
 use Rattle.giop_cdr.specs.declared.fault.CdrKind.TheVariants.{Short, BadBoolean, BadString, BadCount, BoundPassed}
-use Rattle.giop_cdr.specs.Cursor.{Cursor, pad, place, skip}
+use Rattle.giop_cdr.specs.Cursor.{Cursor, pad, place}
 use Rattle.giop_cdr.specs.Reading.{Reading, fault, is_text, passes}
 use Rattle.giop_cdr.specs.Spelling.{Spelling, SpellsNumber}
 
