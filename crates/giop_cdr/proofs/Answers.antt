@@ -1,9 +1,9 @@
 -- Exact answers, one step after another.
-use Rattle.std.proofs.Common.{◌≡◌, ◌⊎◌, inl, inr, Bool, true, false, cond, Result, Ok, Err, refl, sym, ap, subst, ◌∙◌}
+use Rattle.std.proofs.Common.{◌≡◌, ◌⊎◌, inl, inr, Bool, true, false, cond, Result, Ok, Err, refl, sym, ap}
 use Rattle.giop_cdr.specs.declared.fault.CdrFault.{CdrFault}
 use Rattle.giop_cdr.specs.Cursor.{Cursor}
 use Rattle.giop_cdr.specs.Reading.{Reading, ◌>>=◌}
-use Rattle.giop_cdr.specs.Readers.{Stretch, Refusal, IsExactHere, Follow, FirstRefused, RefusedBehind}
+use Rattle.giop_cdr.specs.Readers.{Stretch, Refusal, IsExactHere, Follow, FirstRefused}
 
 -- the steps of what answered a value
 pub bind_elim : {A B : Type 0} (P : Type 0) (r : Result A CdrFault) (f : A → Result B CdrFault) (y : B)

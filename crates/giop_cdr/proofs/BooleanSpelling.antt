@@ -1,15 +1,15 @@
 -- A boolean that is read is the octet 0 or 1.
-use Rattle.std.proofs.Common.{◌≡◌, ℕ, zero, suc, ◌+◌, ◌-◌, ◌%◌, ◌<◌, ◌≤◌, ◌==◌, ◌⊎◌, inl, inr, Bool, true, false, if◌then◌else◌, ltb, Ok, Err, List, [], ◌∷◌, ◌++◌, length, refl, sym, ap, subst, ◌∙◌, arith}
-use Rattle.std.proofs.lemmas.Bool.{ltb-true, ltb-false, lt-ltb, le-ltb}
+use Rattle.std.proofs.Common.{◌≡◌, ℕ, zero, suc, ◌≤◌, ◌==◌, ◌⊎◌, inl, inr, Bool, true, false, if◌then◌else◌, ltb, Ok, Err, List, [], ◌∷◌, ◌++◌, length, refl, sym, ap, subst, ◌∙◌, arith}
+use Rattle.std.proofs.lemmas.Bool.{ltb-true, ltb-false, lt-ltb}
 use Rattle.std.specs.Int.{w8}
 use Rattle.giop_cdr.specs.declared.order.Order.{Order}
 use Rattle.giop_cdr.specs.declared.order.Order.TheVariants.{Big, Little}
 use Rattle.giop_cdr.specs.declared.fault.CdrFault.{CdrFault}
 use Rattle.giop_cdr.specs.declared.fault.CdrKind.TheVariants.{BadBoolean}
 use Rattle.giop_cdr.specs.Cursor.{Cursor, num, pad, place}
-use Rattle.giop_cdr.specs.Reading.{Reading, ◌>>=◌, fault, number_at, boolean_at}
-use Rattle.giop_cdr.specs.Spelling.{Spelling, SpellsNumber, SpellsBoolean}
-use Rattle.giop_cdr.specs.Readers.{Stretch, Refusal, Took, IsExact, Follow, FirstRefused, RefusedBehind, RefusedShort, RefusedBoolean}
+use Rattle.giop_cdr.specs.Reading.{fault, number_at, boolean_at}
+use Rattle.giop_cdr.specs.Spelling.{SpellsNumber, SpellsBoolean}
+use Rattle.giop_cdr.specs.Readers.{Stretch, Refusal, Took, IsExact, Follow, FirstRefused, RefusedShort, RefusedBoolean}
 use Rattle.giop_cdr.proofs.Answers.{follow_exact, guard_exact, known_exact, exact_by}
 use Rattle.giop_cdr.proofs.FieldSpelling.{number_exact}
 

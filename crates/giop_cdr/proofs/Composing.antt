@@ -1,12 +1,12 @@
 -- Exact readers made of exact readers: for the crates above, which compose theirs of these.
-use Rattle.std.proofs.Common.{◌≡◌, ℕ, ◌⊎◌, inl, inr, Bool, true, false, if◌then◌else◌, not, Ok, Err, List, [], length, ◌+◌, refl, subst, sym, ◌∙◌, arith}
+use Rattle.std.proofs.Common.{◌≡◌, ℕ, ◌⊎◌, inl, inr, Bool, true, false, if◌then◌else◌, not, Ok, Err, List, [], refl, subst, sym, ◌∙◌, arith}
 use Rattle.std.proofs.lemmas.Bool.{not-true, not-false}
 use Rattle.giop_cdr.specs.declared.fault.CdrFault.{CdrFault}
 use Rattle.giop_cdr.specs.declared.fault.CdrKind.{CdrKind}
 use Rattle.giop_cdr.specs.Cursor.{Cursor, place}
 use Rattle.giop_cdr.specs.Reading.{Reading, ◌>>=◌, fault, such_at}
 use Rattle.giop_cdr.specs.Spelling.{Spelling, Then, Known, Such, Bounded}
-use Rattle.giop_cdr.specs.Readers.{Stretch, Refusal, Took, IsExact, IsExactHere, Follow, FirstRefused, RefusedBehind, RefusedUnless, NeverRefused}
+use Rattle.giop_cdr.specs.Readers.{Stretch, Refusal, Took, IsExact, IsExactHere, Follow, FirstRefused, RefusedUnless, NeverRefused}
 use Rattle.giop_cdr.proofs.Answers.{follow_exact, guard_exact, exact_by, known_exact}
 use Rattle.giop_cdr.proofs.Stretches.{cursor_is, follow_from_then, then_from_follow}
 

@@ -1,15 +1,14 @@
 -- Counts, and the octets that they count.
-use Rattle.std.proofs.Common.{◌≡◌, ℕ, ◌+◌, ◌<◌, ◌≤◌, ◌⊎◌, inl, inr, Bool, true, false, if◌then◌else◌, ltb, Ok, Err, List, ◌++◌, length, take, drop, refl, sym, ap, subst, ◌∙◌, length-append, arith}
+use Rattle.std.proofs.Common.{◌≡◌, ℕ, ◌≤◌, ◌⊎◌, inl, inr, true, false, if◌then◌else◌, ltb, Ok, Err, List, ◌++◌, length, take, refl, sym, subst, ◌∙◌, length-append, arith}
 use Rattle.std.proofs.lemmas.Bool.{ltb-true, ltb-false, lt-ltb, le-ltb}
 use Rattle.std.proofs.lemmas.List.{take_at, drop_at, length-take-le, take-append-drop}
 use Rattle.std.specs.Int.{w32}
-use Rattle.giop_cdr.specs.declared.order.Order.{Order}
 use Rattle.giop_cdr.specs.declared.fault.CdrFault.{CdrFault}
 use Rattle.giop_cdr.specs.declared.fault.CdrKind.TheVariants.{BadCount, BoundPassed}
 use Rattle.giop_cdr.specs.Cursor.{Cursor, place, skip}
-use Rattle.giop_cdr.specs.Reading.{Reading, ◌>>=◌, fault, number_at, count_at, octets_at, passes}
-use Rattle.giop_cdr.specs.Spelling.{Spelling, SpellsNumber, CountedOctets, SpellsOctets, Bounded}
-use Rattle.giop_cdr.specs.Readers.{Stretch, Refusal, Took, IsExact, IsExactHere, Follow, FirstRefused, RefusedBehind, RefusedShort, Counts, RefusedCount, RefusedOctets}
+use Rattle.giop_cdr.specs.Reading.{fault, number_at, count_at, octets_at, passes}
+use Rattle.giop_cdr.specs.Spelling.{SpellsNumber, CountedOctets, SpellsOctets, Bounded}
+use Rattle.giop_cdr.specs.Readers.{Took, IsExact, Follow, FirstRefused, RefusedShort, Counts, RefusedCount, RefusedOctets}
 use Rattle.giop_cdr.proofs.Answers.{follow_exact, guard_exact, known_exact, exact_by}
 use Rattle.giop_cdr.proofs.Stretches.{cursor_is, follow_from_then, then_from_follow}
 use Rattle.giop_cdr.proofs.FieldSpelling.{number_exact}

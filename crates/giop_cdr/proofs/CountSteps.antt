@@ -1,5 +1,5 @@
 -- Strings and octet sequences, by the steps in which they are read.
-use Rattle.std.proofs.Common.{◌≡◌, ℕ, ◌-◌, Bool, true, false, not, cond, if◌then◌else◌, Result, Ok, Err, List, length, take, refl, sym}
+use Rattle.std.proofs.Common.{◌≡◌, ℕ, ◌-◌, Bool, true, false, not, cond, if◌then◌else◌, Result, Ok, Err, List, take, refl, sym}
 use Rattle.std.specs.Prelude.{IsOk}
 use Rattle.giop_cdr.specs.declared.fault.CdrFault.{CdrFault}
 use Rattle.giop_cdr.specs.declared.fault.CdrKind.TheVariants.{BadString, BoundPassed}

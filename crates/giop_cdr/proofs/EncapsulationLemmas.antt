@@ -1,5 +1,5 @@
 -- What is written between the beginning and the end of an encapsulation is its content, and is opened again.
-use Rattle.std.proofs.Common.{◌≡◌, ℕ, zero, suc, ◌+◌, ◌-◌, ◌<◌, ◌≤◌, ◌^◌, ◌⊎◌, inl, inr, List, [], ◌∷◌, ◌++◌, length, take, drop, get_or, Ok, Err, refl, sym, ap, subst, ◌∙◌, append_assoc, length-append, arith}
+use Rattle.std.proofs.Common.{◌≡◌, ℕ, zero, suc, ◌+◌, ◌-◌, ◌<◌, ◌^◌, ◌⊎◌, inl, inr, List, [], ◌∷◌, ◌++◌, length, take, drop, get_or, Ok, Err, refl, sym, ap, subst, ◌∙◌, append_assoc, length-append, arith}
 use Rattle.std.proofs.lemmas.List.{append-nil, take_at, drop_at, length-replicate}
 use Rattle.std.specs.Prelude.{replicate}
 use Rattle.std.specs.Int.{w32}
@@ -8,10 +8,10 @@ use Rattle.giop_cdr.specs.declared.order.Order.TheVariants.{Big, Little}
 use Rattle.giop_cdr.specs.declared.fault.CdrFault.{CdrFault}
 use Rattle.giop_cdr.specs.declared.fault.CdrKind.TheVariants.{Short, BadOrder}
 use Rattle.giop_cdr.specs.Cursor.{Cursor, pad, place}
-use Rattle.giop_cdr.specs.Reading.{Reading, ◌>>=◌, fault, octets_at}
-use Rattle.giop_cdr.specs.Spelling.{SpellsOctets, Then}
-use Rattle.giop_cdr.specs.Readers.{Took, Refusal, Follow, FirstRefused, RefusedOctets, IsExact, IsExactHere}
-use Rattle.giop_cdr.specs.Output.{Output, append, aligned, octets_of, number_out, octets_out}
+use Rattle.giop_cdr.specs.Reading.{fault, octets_at}
+use Rattle.giop_cdr.specs.Spelling.{SpellsOctets}
+use Rattle.giop_cdr.specs.Readers.{Took, Follow, FirstRefused, RefusedOctets, IsExact, IsExactHere}
+use Rattle.giop_cdr.specs.Output.{Output, octets_of, number_out, octets_out}
 use Rattle.giop_cdr.specs.Encapsulation.{order_octet, content_of, opened_of, encapsulation_at, Opens, SpellsEncapsulation, RefusedEncapsulation, opened, place_opened, closed}
 use Rattle.giop_cdr.specs.RoundTrip.{IsReadBack}
 use Rattle.giop_cdr.proofs.Answers.{follow_exact, exact_by, ok_same}

@@ -1,11 +1,10 @@
 -- A field that is read is a field that is spelled.
-use Rattle.std.proofs.Common.{◌≡◌, ℕ, ℤ, ◌+◌, ◌<◌, ◌≤◌, ◌⊎◌, inl, inr, List, ◌++◌, length, take, drop, Result, Ok, Err, refl, sym, ap, subst, ◌∙◌, append_assoc, length-append, length-drop, arith}
+use Rattle.std.proofs.Common.{◌≡◌, ℕ, ℤ, ◌+◌, ◌<◌, ◌≤◌, inl, inr, List, ◌++◌, length, take, drop, Ok, Err, refl, sym, ap, subst, ◌∙◌, append_assoc, length-append, length-drop, arith}
 use Rattle.std.proofs.Math.Seq.{take-add}
 use Rattle.std.proofs.lemmas.Bool.{cases_lt, lt-ltb, le-ltb}
 use Rattle.std.proofs.lemmas.List.{take_at, drop_at, length-take-le, take-append-drop}
 use Rattle.std.specs.Int.{Width, byte_len, cast_signed}
 use Rattle.giop_cdr.specs.declared.order.Order.{Order}
-use Rattle.giop_cdr.specs.declared.fault.CdrFault.{CdrFault}
 use Rattle.giop_cdr.specs.declared.fault.CdrKind.TheVariants.{Short}
 use Rattle.giop_cdr.specs.Cursor.{Cursor, num, pad, place, skip}
 use Rattle.giop_cdr.specs.Reading.{Reading, ◌>>=◌, fault, field_at, number_at, signed_at}

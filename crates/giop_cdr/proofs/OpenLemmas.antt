@@ -1,11 +1,11 @@
 -- Encapsulations, by the steps in which they are opened.
-use Rattle.std.proofs.Common.{◌≡◌, ℕ, zero, suc, ◌+◌, ◌-◌, ◌<◌, ◌≤◌, List, [], ◌∷◌, length, get_or, take, drop, Ok, Err, refl, sym, ap, ◌∙◌, add-one, drop-cons, arith}
+use Rattle.std.proofs.Common.{◌≡◌, ℕ, zero, suc, ◌+◌, ◌-◌, ◌<◌, ◌≤◌, List, ◌∷◌, length, get_or, take, drop, Ok, Err, refl, ap, ◌∙◌, add-one, drop-cons, arith}
 use Rattle.std.proofs.lemmas.List.{take-take}
 use Rattle.giop_cdr.specs.declared.order.Order.TheVariants.{Big, Little}
 use Rattle.giop_cdr.specs.declared.fault.CdrFault.{CdrFault}
 use Rattle.giop_cdr.specs.declared.fault.CdrKind.TheVariants.{BadOrder}
 use Rattle.giop_cdr.specs.Cursor.{Cursor, place, skip, window}
-use Rattle.giop_cdr.specs.Reading.{Reading, ◌>>=◌, fault, octet_count_at}
+use Rattle.giop_cdr.specs.Reading.{fault, octet_count_at}
 use Rattle.giop_cdr.specs.Encapsulation.{content_of, opened_of, encapsulation_at}
 use Rattle.giop_cdr.proofs.CountSteps.{octets_counted, octets_uncounted}
 

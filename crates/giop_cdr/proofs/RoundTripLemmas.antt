@@ -1,21 +1,20 @@
 -- What is written of a value is read back.
-use Rattle.std.proofs.Common.{◌≡◌, ℕ, ℤ, suc, ◌+◌, ◌<◌, ◌^◌, Bool, true, false, if◌then◌else◌, List, [], ◌∷◌, ◌++◌, length, Ok, refl, sym, ap, subst, ◌∙◌, append_assoc, length-append, add-one, arith}
+use Rattle.std.proofs.Common.{◌≡◌, ℕ, ℤ, suc, ◌+◌, ◌<◌, ◌^◌, Bool, true, false, if◌then◌else◌, List, [], ◌∷◌, ◌++◌, length, refl, subst, append_assoc, length-append, add-one, arith}
 use Rattle.std.specs.Int.{Width, w8, w32, byte_len, cast_unsigned}
 use Rattle.std.specs.Prelude.{FitsSigned}
 use mir.Val.{bits}
-use Rattle.giop_cdr.specs.declared.order.Order.{Order}
 use Rattle.giop_cdr.specs.Cursor.{Cursor}
 use Rattle.giop_cdr.specs.Reading.{Reading, number_at, signed_at, boolean_at, octets_at, string_at, has_null}
-use Rattle.giop_cdr.specs.Spelling.{Spelling, SpellsNumber, SpellsSigned, SpellsBoolean, SpellsOctets, SpellsString, CountedOctets, CountedText, Then}
+use Rattle.giop_cdr.specs.Spelling.{Spelling, SpellsNumber, SpellsSigned, SpellsBoolean, SpellsOctets, SpellsString}
 use Rattle.giop_cdr.specs.Readers.{Took, Refusal, RefusedShort, RefusedBoolean, RefusedOctets, RefusedString, IsExact}
-use Rattle.giop_cdr.specs.Output.{Output, aligned, octets_of, number_out, signed_out, octets_out, string_out}
+use Rattle.giop_cdr.specs.Output.{Output, number_out, signed_out, octets_out, string_out}
 use Rattle.giop_cdr.specs.RoundTrip.{IsReadBack, is_primitive}
 use Rattle.giop_cdr.proofs.FieldSpelling.{number_exact, signed_exact}
 use Rattle.giop_cdr.proofs.CountSpelling.{octets_exact}
 use Rattle.giop_cdr.proofs.TextSpelling.{string_exact}
 use Rattle.giop_cdr.proofs.BooleanSpelling.{boolean_exact, octet_is}
 use Rattle.giop_cdr.proofs.Composing.{unbounded_exact}
-use Rattle.giop_cdr.proofs.WrittenNumbers.{written, spells_written, spells_written_signed, length-octets_of}
+use Rattle.giop_cdr.proofs.WrittenNumbers.{written, spells_written, spells_written_signed}
 
 -- octets that spell a value, behind what was there, are read back
 pub spelled_is_read_back : {A : Type 0} (P : Spelling A) (R : Refusal) (read : Cursor → Reading A) → IsExact (Took P) R read

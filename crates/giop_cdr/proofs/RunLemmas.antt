@@ -1,5 +1,5 @@
 -- Copies of what lies together, made from the front.
-use Rattle.std.proofs.Common.{◌≡◌, ℕ, suc, ◌+◌, ◌-◌, ◌<◌, ◌≤◌, ◌==◌, Bool, true, false, not, ◌&&◌, ◌||◌, List, [], ◌∷◌, ◌++◌, length, get_or, set, take, drop, refl, ap, ◌∙◌, sym, add-one, arith}
+use Rattle.std.proofs.Common.{◌≡◌, ℕ, ◌+◌, ◌-◌, ◌<◌, ◌≤◌, ◌==◌, Bool, true, false, not, ◌&&◌, ◌||◌, List, [], ◌∷◌, ◌++◌, length, get_or, set, take, drop, refl, ap, ◌∙◌, sym, add-one, arith}
 use Rattle.std.proofs.Math.Seq.{take-suc-set, take-suc, take-add}
 use Rattle.std.proofs.lemmas.List.{drop-drop, take-take, length-take-le, get_or-take}
 use Rattle.std.proofs.lemmas.List.Folds.{list_any-append}

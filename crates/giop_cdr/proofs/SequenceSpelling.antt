@@ -1,12 +1,12 @@
 -- Values one after the other, and sequences of them.
-use Rattle.std.proofs.Common.{◌≡◌, ℕ, zero, suc, ◌+◌, ◌<◌, ◌≤◌, ◌⊎◌, inl, inr, Result, Ok, Err, List, [], ◌∷◌, ◌++◌, length, refl, sym, ap, subst, ◌∙◌, append_assoc, length-append, arith}
+use Rattle.std.proofs.Common.{◌≡◌, ℕ, zero, suc, ◌+◌, ◌<◌, ◌≤◌, Ok, List, [], ◌∷◌, ◌++◌, length, refl, sym, ap, subst, ◌∙◌, append_assoc, length-append, arith}
 use Rattle.std.specs.Int.{w32}
 use Rattle.giop_cdr.specs.declared.order.Order.{Order}
 use Rattle.giop_cdr.specs.declared.fault.CdrFault.{CdrFault}
 use Rattle.giop_cdr.specs.Cursor.{Cursor}
 use Rattle.giop_cdr.specs.Reading.{Reading, ◌>>=◌, count_at, items_at, sequence_at}
 use Rattle.giop_cdr.specs.Spelling.{Spelling, SpellsNumber, SpellsEach, CountedItems, SpellsSequence}
-use Rattle.giop_cdr.specs.Readers.{Stretch, Refusal, Took, IsExact, IsExactHere, Follow, FirstRefused, RefusedBehind, Counts, RefusedCount, RefusedAmong, RefusedSequence, TakesOctets}
+use Rattle.giop_cdr.specs.Readers.{Stretch, Refusal, Took, IsExact, IsExactHere, Follow, FirstRefused, Counts, RefusedCount, RefusedAmong, RefusedSequence, TakesOctets}
 use Rattle.giop_cdr.proofs.Answers.{follow_exact, known_exact, exact_by, bind_elim, bind_fails, ok_same}
 use Rattle.giop_cdr.proofs.Stretches.{cursor_is, follow_from_then, then_from_follow}
 use Rattle.giop_cdr.proofs.CountSpelling.{count_exact}

@@ -1,5 +1,5 @@
 -- Strings: the octets that a length counts, and the text in them.
-use Rattle.std.proofs.Common.{◌≡◌, ℕ, zero, suc, ◌+◌, ◌-◌, ◌<◌, ◌≤◌, ◌==◌, ◌&&◌, ◌⊎◌, inl, inr, Bool, true, false, not, if◌then◌else◌, ltb, Ok, Err, List, [], ◌∷◌, ◌++◌, length, get_or, take, drop, refl, sym, ap, subst, ◌∙◌, append_assoc, length-append, add-one, arith}
+use Rattle.std.proofs.Common.{◌≡◌, ℕ, zero, suc, ◌+◌, ◌-◌, ◌≤◌, ◌==◌, ◌&&◌, ◌⊎◌, inl, inr, Bool, true, false, not, if◌then◌else◌, Ok, Err, List, [], ◌∷◌, ◌++◌, length, get_or, take, refl, sym, subst, ◌∙◌, length-append, arith}
 use Rattle.std.proofs.Math.Seq.{take-suc}
 use Rattle.std.proofs.lemmas.Bool.{eqb-true, not-true, not-false}
 use Rattle.std.proofs.lemmas.List.{take_at, drop_at, take_all, take-take, length-take-le, take-append-drop}
@@ -8,9 +8,9 @@ use Rattle.giop_cdr.specs.declared.order.Order.{Order}
 use Rattle.giop_cdr.specs.declared.fault.CdrFault.{CdrFault}
 use Rattle.giop_cdr.specs.declared.fault.CdrKind.TheVariants.{BadString, BoundPassed}
 use Rattle.giop_cdr.specs.Cursor.{Cursor, place, skip}
-use Rattle.giop_cdr.specs.Reading.{Reading, ◌>>=◌, fault, count_at, string_at, has_null, is_text, passes}
-use Rattle.giop_cdr.specs.Spelling.{Spelling, SpellsNumber, CountedText, SpellsString, Bounded}
-use Rattle.giop_cdr.specs.Readers.{Stretch, Refusal, Took, IsExact, IsExactHere, Follow, FirstRefused, RefusedBehind, Counts, RefusedCount, RefusedString}
+use Rattle.giop_cdr.specs.Reading.{fault, count_at, string_at, has_null, is_text, passes}
+use Rattle.giop_cdr.specs.Spelling.{SpellsNumber, CountedText, SpellsString, Bounded}
+use Rattle.giop_cdr.specs.Readers.{Took, IsExact, Follow, FirstRefused, Counts, RefusedCount, RefusedString}
 use Rattle.giop_cdr.proofs.Answers.{follow_exact, guard_exact, known_exact, exact_by}
 use Rattle.giop_cdr.proofs.Stretches.{cursor_is, follow_from_then, then_from_follow}
 use Rattle.giop_cdr.proofs.CountSpelling.{count_exact}

@@ -1,7 +1,6 @@
 -- Longer writings, step by step, and back again: for the crates above, which compose theirs of these.
-use Rattle.std.proofs.Common.{◌≡◌, ℕ, List, [], ◌++◌, length, take, ◌≤◌, ◌+◌, refl, sym, ap, ◌∙◌, append_assoc, length-append, arith}
+use Rattle.std.proofs.Common.{◌≡◌, ℕ, List, [], ◌++◌, length, take, ◌≤◌, refl, sym, ap, ◌∙◌, append_assoc, length-append, arith}
 use Rattle.std.proofs.lemmas.List.{take_at, append-nil}
-use Rattle.giop_cdr.specs.declared.order.Order.{Order}
 use Rattle.giop_cdr.specs.Output.{Output, append, here, back_at}
 use Rattle.giop_cdr.specs.Writing.{Grows}
 

@@ -1,5 +1,5 @@
 -- The octets of a number are as many as its width has, and are worth the number.
-use Rattle.std.proofs.Common.{◌≡◌, ℕ, ℤ, pos, negsuc, ◌+◌, ◌<◌, ◌^◌, Bool, true, false, List, ◌++◌, length, refl, sym, ap, ◌∙◌, arith}
+use Rattle.std.proofs.Common.{◌≡◌, ℕ, ℤ, pos, negsuc, ◌<◌, ◌^◌, true, List, ◌++◌, length, refl, sym, ap, ◌∙◌, arith}
 use Rattle.std.proofs.lemmas.Nat.{from_be_bytes-to_be_bytes_2, from_be_bytes-to_be_bytes_4, from_be_bytes-to_be_bytes_8, from_le_bytes-to_le_bytes_2, from_le_bytes-to_le_bytes_4, from_le_bytes-to_le_bytes_8}
 use Rattle.std.proofs.lemmas.List.{length-replicate}
 use Rattle.std.proofs.lemmas.Int.{to_z-of_z}
@@ -10,9 +10,9 @@ use mir.Val.{bits}
 use Rattle.giop_cdr.specs.declared.order.Order.{Order}
 use Rattle.giop_cdr.specs.declared.order.Order.TheVariants.{Big, Little}
 use Rattle.giop_cdr.specs.Cursor.{num, pad}
-use Rattle.giop_cdr.specs.Output.{Output, aligned, octets_of}
+use Rattle.giop_cdr.specs.Output.{octets_of}
 use Rattle.giop_cdr.specs.RoundTrip.{is_primitive}
-use Rattle.giop_cdr.specs.Spelling.{SpellsField, SpellsNumber, SpellsSigned}
+use Rattle.giop_cdr.specs.Spelling.{SpellsNumber, SpellsSigned}
 
 pub length-octets_of : (o : Order) (w : Width) (n : ℕ) → length (octets_of o w n) ≡ byte_len w
 length-octets_of Big w8 n = refl

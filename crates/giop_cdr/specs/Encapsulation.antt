@@ -1,6 +1,6 @@
--- Encapsulations (CORBA 3.3 Part 2, 9.3.3): a sequence of octets of which the first is the byte order of
--- the rest, and in which alignment begins anew at that octet.
-use Rattle.std.specs.Prelude.{◌≡◌, ℕ, zero, suc, ◌+◌, ◌-◌, ◌<◌, ◌⊎◌, slice_index, List, [], ◌∷◌, ◌++◌, length, take, drop, replicate, Result, Ok, Err}
+-- Encapsulations (CORBA 3.3 Part 2, 9.3.3): a sequence of octets of which the first is the byte
+-- order of the rest, and in which alignment begins anew at that octet.
+use Rattle.std.specs.Prelude.{◌≡◌, ℕ, zero, suc, ◌+◌, ◌-◌, ◌<◌, ◌⊎◌, slice_index, List, [], ◌∷◌, ◌++◌, length, take, drop, replicate, Ok, Err}
 use Rattle.std.specs.Int.{w32}
 use Rattle.giop_cdr.specs.declared.order.Order.{Order}
 use Rattle.giop_cdr.specs.declared.order.Order.TheVariants.{Big, Little}
@@ -22,8 +22,8 @@ order_octet Little = 1
 abbrev pub content_of : Order → List ℕ → Cursor
 content_of order octets = record { order = order; at = 1; rest = octets }
 
--- what the octets of an encapsulation open, of which the first stands at an offset; the second cursor is
--- that of the outer reader
+-- what the octets of an encapsulation open, of which the first stands at an offset; the second
+-- cursor is that of the outer reader
 abbrev pub opened_of : ℕ → List ℕ → Cursor → Reading Cursor
 opened_of at [] after = Err (fault at Short)
 opened_of at (zero ∷ octets) after = Ok (content_of Big octets, after)
@@ -56,7 +56,8 @@ RefusedEncapsulation c e = FirstRefused (Took SpellsOctets) (RefusedOctets 0)
 
 -- ---- writing
 
--- a length that isn't known yet, and the order octet, behind which the inner order and alignment hold
+-- a length that isn't known yet, and the order octet, behind which the inner order and alignment
+-- hold
 unfoldable pub opened : Order → Output → Output
 opened order out =
     record { order = order; at = 1; octets = out.octets ++ (aligned 4 out (replicate 4 0) ++ order_octet order ∷ []) }

@@ -5,8 +5,8 @@ use Rattle.giop_cdr.specs.declared.fault.CdrKind.TheVariants.{NoMemory}
 use Rattle.giop_cdr.specs.Cursor.{Cursor}
 use Rattle.giop_cdr.specs.Reading.{Reading, past}
 
--- a call that takes no memory answers what reading gives, and leaves the cursor behind the value or,
--- where it refuses, where it was
+-- a call that takes no memory answers what reading gives, and leaves the cursor behind the value
+-- or, where it refuses, where it was
 abbrev pub Reads : {A : Type 0} → Cursor → Result A CdrFault → Cursor → Reading A → Type 0
 Reads old (Ok x) new reading = reading ≡ Ok (x, new)
 Reads old (Err e) new reading = (reading ≡ Err e) × (new ≡ old)

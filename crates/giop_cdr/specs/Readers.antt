@@ -1,11 +1,12 @@
--- What it is to read a spelling, to refuse what spells nothing, and what follows (CORBA 3.3 Part 2, 9.3).
+-- What it is to read a spelling, to refuse what spells nothing, and what follows (CORBA 3.3 Part 2,
+-- 9.3).
 use Rattle.std.specs.Prelude.{◌≡◌, ℕ, zero, suc, ◌+◌, ◌-◌, ◌<◌, ◌≤◌, ◌⊎◌, Bool, true, false, List, ◌++◌, length, take, Ok, Err}
 use Rattle.std.specs.Int.{w8, w32}
 use Rattle.giop_cdr.specs.declared.order.Order.{Order}
 use Rattle.giop_cdr.specs.declared.fault.CdrFault.{CdrFault}
 use Rattle.giop_cdr.specs.declared.fault.CdrKind.{CdrKind}
 use Rattle.giop_cdr.specs.declared.fault.CdrKind.TheVariants.{Short, BadBoolean, BadString, BadCount, BoundPassed}
-use Rattle.giop_cdr.specs.Cursor.{Cursor, pad, place, skip}
+use Rattle.giop_cdr.specs.Cursor.{Cursor, pad, place}
 use Rattle.giop_cdr.specs.Reading.{Reading, fault, is_text, passes}
 use Rattle.giop_cdr.specs.Spelling.{Spelling, SpellsNumber}
 

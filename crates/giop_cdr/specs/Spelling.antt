@@ -1,4 +1,5 @@
--- Which octets spell which value, from an offset on and in an order (CORBA 3.3 Part 2, 9.3.1, 9.3.2).
+-- Which octets spell which value, from an offset on and in an order (CORBA 3.3 Part 2, 9.3.1,
+-- 9.3.2).
 use Rattle.std.specs.Prelude.{◌≡◌, ℕ, zero, suc, ◌+◌, ℤ, Bool, true, false, if◌then◌else◌, List, [], ◌∷◌, ◌++◌, length}
 use Rattle.std.specs.Int.{Width, w32, byte_len, cast_signed}
 use Rattle.giop_cdr.specs.declared.order.Order.{Order}
@@ -9,7 +10,8 @@ use Rattle.giop_cdr.specs.Reading.{has_null, passes}
 abbrev pub Spelling : Type 0 → Type 1
 Spelling A = Order → ℕ → A → List ℕ → Type 0
 
--- a value of n octets: the fewest octets up to a multiple of n, whatever they are, and those n octets
+-- a value of n octets: the fewest octets up to a multiple of n, whatever they are, and those n
+-- octets
 pub record SpellsField {A : Type 0} (n : ℕ) (meaning : Order → List ℕ → A) (o : Order) (at : ℕ) (v : A) (b : List ℕ) : Type 0 where
   pub pads : List ℕ
   pub octets : List ℕ

@@ -7,7 +7,8 @@ pub record Grows (old new : Output) : Type 0 where
   pub part : List ℕ
   pub octets : new.octets ≡ old.octets ++ part
 
--- a call that writes a value leaves what is written of it, or, where memory is wanting, what was there
+-- a call that writes a value leaves what is written of it, or, where memory is wanting, what was
+-- there
 abbrev pub Writes : {X E : Type 0} → Output → Result X E → Output → Output → Type 0
 Writes old (Ok _) new done = (new ≡ done) × Grows old new
 Writes old (Err _) new done = new ≡ old

@@ -1,5 +1,5 @@
-// Octets at the end of a list. Room for all of a call is made before anything changes, so a call that
-// fails leaves the list as it was.
+// Octets at the end of a list. Room for all of a call is made before anything changes, so a call
+// that fails leaves the list as it was.
 ghost use Rattle.std.specs.Prelude.{◌≡◌, ◌+◌, ◌<◌, ◌≤◌, ◌^◌, ◌++◌, length, take, drop, replicate, OnOk, OnErr};
 ghost use Rattle.std.specs.Vec.{vec_len, vec_capacity};
 ghost use Rattle.giop_cdr.specs.Cursor.{pad};

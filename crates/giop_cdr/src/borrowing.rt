@@ -6,7 +6,8 @@ use crate::octets::SliceOctets;
 use crate::reader::CdrIn;
 
 impl<'a> CdrIn<'a, SliceOctets<'a>> {
-    /// A sequence of octets, as `read_octets` reads it, as a part of the message and so without memory.
+    /// A sequence of octets, as `read_octets` reads it, as a part of the message and so without
+    /// memory.
     #[tactic(auto, using(crate::proofs::CountSteps::octets_counted, crate::proofs::CountSteps::octets_uncounted))]
     pub fn octets_slice(&mut self, bound: u32) -> Result<&'a [u8], CdrFault>
         ensures { ReadsAs (λ octets. octets.now) self.old result self.new (octets_at bound self.old) }
@@ -19,8 +20,8 @@ impl<'a> CdrIn<'a, SliceOctets<'a>> {
         Ok(octets)
     }
 
-    /// The octets of a string without its null, as `read_string` reads it, as a part of the message and
-    /// so without memory.
+    /// The octets of a string without its null, as `read_string` reads it, as a part of the message
+    /// and so without memory.
     #[tactic(auto, using(crate::proofs::CountSteps::text_counted, crate::proofs::CountSteps::text_uncounted))]
     pub fn string_slice(&mut self, bound: u32) -> Result<&'a [u8], CdrFault>
         ensures { ReadsAs (λ text. text.now) self.old result self.new (string_at bound self.old) }

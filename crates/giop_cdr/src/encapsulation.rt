@@ -1,8 +1,8 @@
 use crate::order::Order;
 use std::marker::Model;
 
-/// Where an encapsulation that is being written began, and what held outside it (9.3.3). Each is given
-/// to `end_encapsulation` once, the latest first.
+/// Where an encapsulation that is being written began, and what held outside it (9.3.3). Each is
+/// given to `end_encapsulation` once, the latest first.
 #[derive(Drop)]
 pub struct Mark {
     // The index of the order octet.

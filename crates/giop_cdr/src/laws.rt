@@ -41,8 +41,8 @@ pub fn strings_are_spelled()
     ensures alone { StandsAlone SpellsString }
 {}
 
-/// Booleans: what `read_boolean` answers is what is spelled, and where nothing is spelled no octet is
-/// there or another than 0 and 1. What `write_boolean` appends is read back.
+/// Booleans: what `read_boolean` answers is what is spelled, and where nothing is spelled no octet
+/// is there or another than 0 and 1. What `write_boolean` appends is read back.
 pub fn booleans_are_spelled()
     ensures exact { IsExact (Took SpellsBoolean) RefusedBoolean boolean_at }
     ensures alone { StandsAlone SpellsBoolean }
@@ -50,8 +50,8 @@ pub fn booleans_are_spelled()
         → IsReadBack SpellsBoolean boolean_at v out (number_out w8 (if v then 1 else 0) out) }
 {}
 
-/// What `write_` appends of a value spells it, and `read_` gives the value back and leaves what stands
-/// behind it: in both orders, at every offset.
+/// What `write_` appends of a value spells it, and `read_` gives the value back and leaves what
+/// stands behind it: in both orders, at every offset.
 pub fn written_values_are_read_back()
     ensures numbers { (w : Width) (n : ℕ) (out : Output) → is_primitive w ≡ true → n < 2 ^ bits w
         → IsReadBack (SpellsNumber w) (number_at w) n out (number_out w n out) }
@@ -64,8 +64,9 @@ pub fn written_values_are_read_back()
 {}
 
 /// Encapsulations: whatever was written between `begin_encapsulation` and `end_encapsulation`, as
-/// octets behind those that the beginning left, is then a sequence of octets: the order octet and what
-/// was written. `open_encapsulation` answers exactly what such octets hold, or the first refused field.
+/// octets behind those that the beginning left, is then a sequence of octets: the order octet and
+/// what was written. `open_encapsulation` answers exactly what such octets hold, or the first
+/// refused field.
 pub fn encapsulations_are_opened_again()
     ensures written { (order : Order) (out now : Output) (content : List ℕ)
         → now.octets ≡ (opened order out).octets ++ content

@@ -13,9 +13,9 @@ use std::marker::Model;
 
 /// Reads CDR values one after the other from a list of octets, in one byte order.
 ///
-/// Contracts see it as a `Cursor`: the octets that are left, the offset of the first of them, and the
-/// order. Offsets count from the first octet of the message's header, or from the byte-order octet of
-/// an encapsulation. A read that is refused leaves the reader where it was.
+/// Contracts see it as a `Cursor`: the octets that are left, the offset of the first of them, and
+/// the order. Offsets count from the first octet of the message's header, or from the byte-order
+/// octet of an encapsulation. A read that is refused leaves the reader where it was.
 #[derive(Drop)]
 pub struct CdrIn<'a, S: Octets> {
     source: &'a S,
@@ -78,7 +78,8 @@ impl<'a, S: Octets> CdrIn<'a, S> {
         self.order
     }
 
-    /// Another reader that stands where this one does: to read ahead, and come back by assigning it.
+    /// Another reader that stands where this one does: to read ahead, and come back by assigning
+    /// it.
     #[inline(always)]
     pub fn fork(&self) -> CdrIn<'a, S>
         ensures { result ≡ self.now }
@@ -113,8 +114,8 @@ impl<'a, S: Octets> CdrIn<'a, S> {
         Ok(octets)
     }
 
-    /// The offset at which the next value begins that is aligned to N octets (9.3.1.1): the place of
-    /// its faults. N is the size of a primitive, 1 to 8.
+    /// The offset at which the next value begins that is aligned to N octets (9.3.1.1): the place
+    /// of its faults. N is the size of a primitive, 1 to 8.
     #[inline(always)]
     pub fn place<const N: usize>(&self) -> usize
         requires some { 0 < N }
@@ -151,12 +152,12 @@ impl<'a, S: Octets> CdrIn<'a, S> {
         text_lies_at(self.source, self.index, count)
     }
 
-    /// An encapsulation (9.3.3): a reader of its content, in its own order and with its own alignment.
-    /// This reader goes on behind the content, in its own order.
+    /// An encapsulation (9.3.3): a reader of its content, in its own order and with its own
+    /// alignment. This reader goes on behind the content, in its own order.
     ///
-    /// Refused at the offset of its length, as a sequence of octets is: as Short or BadCount. Refused at
-    /// the offset behind the length: as Short where the length is 0, as BadOrder where the order octet
-    /// is neither 0 nor 1. The reader then stays where it was.
+    /// Refused at the offset of its length, as a sequence of octets is: as Short or BadCount.
+    /// Refused at the offset behind the length: as Short where the length is 0, as BadOrder where
+    /// the order octet is neither 0 nor 1. The reader then stays where it was.
     #[tactic(auto, using(crate::proofs::OpenLemmas::opened_counted, crate::proofs::OpenLemmas::refused_counted, crate::proofs::OpenLemmas::uncounted))]
     pub fn open_encapsulation(&mut self) -> Result<CdrIn<'a, S>, CdrFault>
         ensures { Reads self.old result self.new (encapsulation_at self.old) }
@@ -170,7 +171,8 @@ impl<'a, S: Octets> CdrIn<'a, S> {
         Ok(content)
     }
 
-    // A reader of what the next octets, which are there, encapsulate; the first of them has an offset.
+    // A reader of what the next octets, which are there, encapsulate; the first of them has an
+    // offset.
     fn content(&self, count: usize, at: usize) -> Result<CdrIn<'a, S>, CdrFault>
         requires { count ≤ length self.now.rest }
         ensures { Exactly result (skip count self.now) (opened_of at (take count self.now.rest) (skip count self.now)) }

@@ -17,8 +17,8 @@ fn passes(bound: u32, length: usize) -> bool
 
 impl<'a, S: Octets> CdrIn<'a, S> {
     /// The count of a sequence (9.3.2.3): an unsigned long, aligned to 4, that is no more than the
-    /// number of octets behind it. What memory it asks for is for the caller to bound: an element of
-    /// one octet on the wire may take many in memory.
+    /// number of octets behind it. What memory it asks for is for the caller to bound: an element
+    /// of one octet on the wire may take many in memory.
     ///
     /// Refused, at the offset of the count: as Short where it isn't there, as BadCount where it is
     /// above the number of octets behind it. The reader then stays where it was.
@@ -87,10 +87,10 @@ impl<'a, S: Octets> CdrIn<'a, S> {
     /// A sequence of octets (9.3.2.3): an unsigned long length, aligned to 4, and as many octets.
     /// A `bound` of 0 is none.
     ///
-    /// Refused, all at the offset of the length: as Short where it isn't there, as BadCount where it
-    /// is above the number of octets behind it, as BoundPassed where it is above `bound`, as NoMemory
-    /// where memory is wanting. The first of these that holds is the answer, and the reader stays
-    /// where it was. No memory is asked for a length that is refused.
+    /// Refused, all at the offset of the length: as Short where it isn't there, as BadCount where
+    /// it is above the number of octets behind it, as BoundPassed where it is above `bound`, as
+    /// NoMemory where memory is wanting. The first of these that holds is the answer, and the
+    /// reader stays where it was. No memory is asked for a length that is refused.
     #[tactic(auto, using(crate::proofs::CountSteps::octets_counted, crate::proofs::CountSteps::octets_there, crate::proofs::CountSteps::octets_uncounted))]
     pub fn read_octets(&mut self, alloc: Global, bound: u32) -> Result<Vec<u8>, CdrFault>
         ensures value { Allocates (λ v. v.items) self.old result self.new (octets_at bound self.old) }
@@ -109,7 +109,8 @@ impl<'a, S: Octets> CdrIn<'a, S> {
         Ok(octets)
     }
 
-    /// Passes over a sequence of octets: as `read_octets`, without the octets and so without memory.
+    /// Passes over a sequence of octets: as `read_octets`, without the octets and so without
+    /// memory.
     #[tactic(auto, using(crate::proofs::CountSteps::octets_passed, crate::proofs::CountSteps::octets_uncounted))]
     pub fn skip_octets(&mut self, bound: u32) -> Result<(), CdrFault>
         ensures { Passes self.old result self.new (octets_at bound self.old) }
@@ -125,11 +126,11 @@ impl<'a, S: Octets> CdrIn<'a, S> {
     /// the octets, the null. What is given are the octets before the null. A length of 0 is read as
     /// the empty string. A `bound` of 0 is none, another counts the octets without the null.
     ///
-    /// Refused, all at the offset of the length: as Short where it isn't there, as BadCount where it
-    /// is above the number of octets behind it, as BadString where no null is at the end or another
-    /// one is inside, as BoundPassed where the string is longer than `bound`, as NoMemory where memory
-    /// is wanting. The first of these that holds is the answer, and the reader stays where it was. No
-    /// memory is asked for a length that is refused.
+    /// Refused, all at the offset of the length: as Short where it isn't there, as BadCount where
+    /// it is above the number of octets behind it, as BadString where no null is at the end or
+    /// another one is inside, as BoundPassed where the string is longer than `bound`, as NoMemory
+    /// where memory is wanting. The first of these that holds is the answer, and the reader stays
+    /// where it was. No memory is asked for a length that is refused.
     #[tactic(auto, using(crate::proofs::CountSteps::text_counted, crate::proofs::CountSteps::text_there, crate::proofs::CountSteps::text_uncounted))]
     pub fn read_string(&mut self, alloc: Global, bound: u32) -> Result<Vec<u8>, CdrFault>
         ensures value { Allocates (λ v. v.items) self.old result self.new (string_at bound self.old) }

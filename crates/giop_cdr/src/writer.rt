@@ -120,8 +120,8 @@ impl CdrOut {
         self.base = point.base;
     }
 
-    /// Begins an encapsulation (9.3.3) whose numbers are in `order`: a length that isn't known yet, and
-    /// the order octet. Until it is ended, alignment counts from that octet.
+    /// Begins an encapsulation (9.3.3) whose numbers are in `order`: a length that isn't known yet,
+    /// and the order octet. Until it is ended, alignment counts from that octet.
     #[tactic(auto, unfolding(crate::specs::Encapsulation::opened, crate::specs::Encapsulation::place_opened))]
     pub fn begin_encapsulation(&mut self, order: Order) -> Result<Mark, AllocError>
         ensures ok { OnOk result (self.new ≡ opened order self.old) }
@@ -143,8 +143,8 @@ impl CdrOut {
         Ok(mark)
     }
 
-    /// Whether an encapsulation that began at `mark` can be ended here: it began in these octets, and
-    /// its content is below 2^32 octets, as its length has to be.
+    /// Whether an encapsulation that began at `mark` can be ended here: it began in these octets,
+    /// and its content is below 2^32 octets, as its length has to be.
     pub fn can_end(&self, mark: &Mark) -> bool
         ensures { IsTrue result ↔ ((mark.now.len ≤ length self.now.octets) × (length self.now.octets - mark.now.len < 2 ^ 32)) }
     {
@@ -152,7 +152,8 @@ impl CdrOut {
     }
 
     /// Ends the encapsulation that began at `mark`: its length is filled in, and the order and the
-    /// alignment of outside hold again. It takes no memory. `can_end` is the test of its conditions.
+    /// alignment of outside hold again. It takes no memory. `can_end` is the test of its
+    /// conditions.
     #[tactic(auto, unfolding(crate::specs::Encapsulation::closed))]
     pub fn end_encapsulation(&mut self, mark: Mark)
         requires begun { mark.len ≤ length self.old.octets }

@@ -113,8 +113,8 @@ impl CdrOut {
         self.append_counted(self.order().ulong_octets(length), octets, &[])
     }
 
-    /// A string (9.3.2.7): an unsigned long length, aligned to 4, that counts the null, the octets, the
-    /// null. So the empty string is its length 1 and a null. No null stands in `text`.
+    /// A string (9.3.2.7): an unsigned long length, aligned to 4, that counts the null, the octets,
+    /// the null. So the empty string is its length 1 and a null. No null stands in `text`.
     #[tactic(auto, unfolding(crate::specs::Output::string_out, crate::specs::Output::number_out))]
     pub fn write_string(&mut self, text: &[u8]) -> Result<(), AllocError>
         requires text { has_null text.now ≡ false }

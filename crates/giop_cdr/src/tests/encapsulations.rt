@@ -40,7 +40,8 @@ fn an_encapsulation_inside_another_has_its_own_order(rt: HostRuntime) -> Result<
     assert!(rt; out.can_end(&outer));
     out.end_encapsulation(outer);
     out.write_ulong(258)?;
-    // Outer length, order octet, 5, pads, inner length, order octet, pad, 258 little, 258 big; then 258.
+    // Outer length, order octet, 5, pads, inner length, order octet, pad, 258 little, 258 big; then
+    // 258.
     let want = [
         14, 0, 0, 0, 0, 5, 0, 0, 0, 0, 0, 4, 1, 0, 2, 1, 1, 2, 0, 0, 2, 1, 0, 0,
     ];

@@ -1,4 +1,4 @@
-use Rattle.std.proofs.Common.{◌≡◌, ◌≤◌, ◌+◌, true, false, drop, take, sym, ap, ◌∙◌, arith}
+use Rattle.std.proofs.Common.{◌≡◌, true, false, drop, take, sym, ◌∙◌, arith}
 use Rattle.giop_cdr.specs.Reading.{has_null}
 use Rattle.giop_cdr.proofs.RunLemmas.{part_of_run, no_null_yet, null_is_among}
 use Rattle.giop_cdr.proofs.runs.null_among.Goals as goal

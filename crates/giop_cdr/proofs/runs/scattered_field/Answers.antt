@@ -1,4 +1,4 @@
-use Rattle.std.proofs.Common.{◌≡◌, drop, take, ℕ, ◌∙◌, sym, ◌+◌, ◌<◌, length, arith, length-drop, length-set, get_or}
+use Rattle.std.proofs.Common.{◌≡◌, drop, take, ◌∙◌, sym, ◌<◌, length, arith, length-drop, length-set, get_or}
 use Rattle.std.proofs.lemmas.List.{get_or-drop, take_all}
 use Rattle.giop_cdr.proofs.RunLemmas.{take-set_next}
 use Rattle.giop_cdr.proofs.runs.scattered_field.Goals as goal

@@ -1,7 +1,6 @@
-use Rattle.std.proofs.Common.{◌≡◌, ◌≤◌, ◌<◌, ◌+◌, ◌-◌, length, get_or, refl, sym, ap, ◌∙◌, arith}
+use Rattle.std.proofs.Common.{◌≡◌, ◌≤◌, ◌<◌, ◌+◌, ◌-◌, length, sym, ◌∙◌, arith}
 use Rattle.giop_cdr.proofs.WindowLemmas.{length-window}
 use Rattle.giop_cdr.proofs.OpenLemmas.{opened_big, opened_little, opened_badly}
-use Rattle.giop_cdr.specs.Cursor.{Cursor, skip, window}
 use Rattle.giop_cdr.proofs.reader.CdrIn.content.Goals as goal
 use Rattle.giop_cdr.proofs.reader.CdrIn.content.Goals.{in-0, in-1}
 
