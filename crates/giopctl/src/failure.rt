@@ -1,4 +1,5 @@
-ghost use Rattle.std.specs.Prelude.{◌≡◌};
+ghost use Rattle.std.specs.Prelude.{◌≡◌, ◌≢◌};
+ghost use Rattle.std.specs.IoError.{error_kind};
 
 use crate::status::Status;
 use std::alloc::AllocError;
@@ -20,7 +21,10 @@ impl Failure {
     ghost use Rattle.giopctl.specs.Status.{failure_status};
 
     /// What an error of reading is.
-    pub fn input(error: io::Error) -> Failure {
+    pub fn input(error: io::Error) -> Failure
+        ensures memory { error_kind error ≡ ErrorKind.OutOfMemory → result ≡ Failure.Memory }
+        ensures value { error_kind error ≢ ErrorKind.OutOfMemory → result ≡ Failure.Input error }
+    {
         match error.kind() {
             ErrorKind::OutOfMemory => Failure::Memory,
             _ => Failure::Input(error),
@@ -39,6 +43,10 @@ impl Failure {
 }
 
 impl From<AllocError> for Failure {
+    ghost use Rattle.giopctl.specs.declared.failure.Failure.TheVariants.{Memory};
+
+    ghost from_gives = { λ _ failure. failure ≡ Memory };
+
     fn from(_error: AllocError) -> Failure {
         Failure::Memory
     }
@@ -46,7 +54,10 @@ impl From<AllocError> for Failure {
 
 /// What an error of writing is.
 impl From<io::Error> for Failure {
-    fn from(error: io::Error) -> Failure {
+    fn from(error: io::Error) -> Failure
+        ensures memory { error_kind error ≡ ErrorKind.OutOfMemory → result ≡ Failure.Memory }
+        ensures value { error_kind error ≢ ErrorKind.OutOfMemory → result ≡ Failure.Output error }
+    {
         match error.kind() {
             ErrorKind::OutOfMemory => Failure::Memory,
             _ => Failure::Output(error),

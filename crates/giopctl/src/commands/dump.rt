@@ -1,4 +1,4 @@
-ghost use Rattle.std.specs.Prelude.{◌≡◌, ◌++◌, IfOk, OnOk};
+ghost use Rattle.std.specs.Prelude.{◌≡◌, ◌++◌, IfErr, IfOk, OnOk};
 ghost use Rattle.giopctl.specs.Dump.{Dumps, DumpsKnown};
 
 use crate::commands::dump_lines::{write_fault, write_message, write_rest};
@@ -67,8 +67,9 @@ pub fn dump_stream<R: Read, W: Write>(
 }
 
 fn feed(framer: &mut Framer, piece: &[u8]) -> Result<(), Failure>
-    ensures { OnOk result (framer.new
+    ensures ok { OnOk result (framer.new
         ≡ record framer.old { octets = framer.old.octets ++ piece.now }) }
+    ensures memory { IfErr result (λ failure. failure ≡ Failure.Memory) }
 {
     match framer.feed(piece) {
         Ok(()) => Ok(()),

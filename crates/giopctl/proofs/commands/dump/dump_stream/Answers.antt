@@ -25,7 +25,7 @@ messages-preserved g c =
     let before = c.messages.invariant in
     let piece = c.in_ok-piece-in-Ok-None.piece.items in
     let waits = rw c.in-Ok-None.field-0-is at c.in-Ok-None.ensures.waits in
-    let fed = c.in_ok-feed-in-Ok-None.ensures in
+    let fed = c.in_ok-feed-in-Ok-None.ensures.ok in
     let octets : c.feed.new.framer.octets ≡ c.messages.framer.octets ++ piece =
     ap (λ (u : Unread). u.octets) fed ∙ ap (λ (u : Unread). u.octets ++ c.deref.result.now) waits.1
     ∙ ap (λ u. c.messages.framer.octets ++ u) c.deref.ensures.value in
