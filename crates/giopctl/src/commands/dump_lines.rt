@@ -14,7 +14,7 @@ use giop_msg::{Kind, Msg, RequestHead, WireFault, WireKind};
 use std::alloc::Global;
 use std::io::Write;
 
-// The lines of the message that begins at this offset.
+/// The lines of the message that begins at this offset of the file.
 pub fn write_message<W: Write>(
     alloc: Global,
     at: usize,
@@ -55,7 +55,7 @@ fn write_head<W: Write>(alloc: Global, message: &Msg, writer: &mut W) -> Result<
     Ok(())
 }
 
-// The last line, where so many octets are left.
+/// The last line, where so many octets are left.
 pub fn write_rest<W: Write>(rest: usize, writer: &mut W) -> Result<Status, Failure>
     ensures text { OnOk result
         (Appends (W.contents writer.old) (W.contents writer.new) (ended (rest_line rest))) }
@@ -69,7 +69,7 @@ pub fn write_rest<W: Write>(rest: usize, writer: &mut W) -> Result<Status, Failu
     })
 }
 
-// The last line, where the header at this offset has a fault.
+/// The last line, where the header at this offset has a fault.
 pub fn write_fault<W: Write>(at: usize, fault: WireFault, writer: &mut W) -> Result<Status, Failure>
     ensures text { OnOk result
         (Appends (W.contents writer.old) (W.contents writer.new) (ended (fault_line at fault))) }
