@@ -1,5 +1,5 @@
-//! 64 MB in pieces of one size, interleaved over 64 ids. `bench/frag/twin.rs` does the same in plain
-//! Rust.
+//! 64 MB in pieces of one size, interleaved over 64 ids. `bench/frag/twin.rs` does the same in
+//! plain Rust.
 ghost use Rattle.std.specs.Prelude.{◌<◌, ◌≤◌};
 
 use giop_cdr::Order;

@@ -1,11 +1,11 @@
 -- Over any run each id's octets are those of its own calls, and the total stays within the limit.
-use Rattle.std.proofs.Common.{◌≡◌, ◌≢◌, ℕ, ◌≤◌, ◌+◌, ◌==◌, nat_lt, Bool, true, false, cond, List, [], ◌∷◌, ◌++◌, length, map, Option, Some, None, is_some, refl, sym, ap, subst, ◌∙◌, arith, append-nil, append_assoc}
+use Rattle.std.proofs.Common.{◌≡◌, ℕ, ◌≤◌, ◌+◌, ◌==◌, Bool, true, false, cond, List, [], ◌∷◌, ◌++◌, length, Option, Some, None, refl, sym, ap, subst, ◌∙◌, arith, append-nil, append_assoc}
 use Rattle.std.proofs.lemmas.Bool.Decides.{nat_tests}
 use Rattle.std.specs.FinMap as finite
 use Rattle.giop_cdr.specs.declared.order.Order.{Order}
 use Rattle.giop_cdr.specs.declared.order.Order.TheVariants.{Big, Little}
-use Rattle.giop_frag.specs.declared.fault.GatherFault.TheVariants.{Stray, OrderDiffers, GatherFull}
-use Rattle.giop_frag.specs.Gathered.{Gathered, Pieces, Lists, put, grown, total_of, octets_in, is_over, room_fault, same_order, add_fault_by}
+use Rattle.giop_frag.specs.declared.fault.GatherFault.TheVariants.{OrderDiffers}
+use Rattle.giop_frag.specs.Gathered.{Gathered, Pieces, Lists, put, grown, total_of, is_over, room_fault, same_order, add_fault_by}
 use Rattle.giop_frag.specs.Runs.{Happening, Begins, Adds, IsFinished, IsDiscarded, Act, own, list_after, alone, after, gathered_after, Accepts, AreAccepted, joined, added, IsJoined}
 use Rattle.giop_frag.proofs.PutLemmas.{get-put, get-put_same, same_entries}
 use Rattle.giop_frag.proofs.TotalLemmas.{total_insert, total_remove, total_grown, no_fault}
@@ -181,7 +181,8 @@ traced_run g (act ∷ acts) id heard accepted traced =
           let here : finite.get (after g act).lists id ≡ list_after (finite.get g.lists id) act.what =
           ap (finite.get (after g act).lists) (sym same) ∙ get-put_same g.lists act.id _ ∙ ap (λ k. list_after (finite.get g.lists k) act.what) same in
           let step = traced_step g id act.what heard (subst (λ (k : ℕ). Accepts g k act.what) same accepted.0) traced in
-          let all = traced_run (after g act) acts id (heard ++ act.what ∷ []) accepted.1 (subst (λ (h : Option Pieces). Traced h (heard ++ act.what ∷ [])) (sym here) step) in
+          let all = traced_run (after g act) acts id (heard ++ act.what ∷ []) accepted.1
+          (subst (λ (h : Option Pieces). Traced h (heard ++ act.what ∷ [])) (sym here) step) in
           subst (Traced (finite.get (gathered_after g (act ∷ acts)).lists id)) (append_assoc heard (act.what ∷ []) (own id acts)) all
       | false ↦ λ e.
           let apart : (id == act.id) ≡ false = grind (arith, nat_tests) in

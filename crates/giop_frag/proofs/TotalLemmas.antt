@@ -45,7 +45,10 @@ unfolding sum_of total_of
 total_of-entries m = refl
 
 pub total_empty : total_of map.empty ≡ 0
-total_empty = total_of-entries map.empty ∙ ap sum_of (no_entries _ (sym (len-entries (map.empty {X = Pieces} {R = nat_cmp})) ∙ len-empty nat_cmp Pieces)) ∙ sum_of-nil
+total_empty =
+    total_of-entries map.empty
+    ∙ ap sum_of (no_entries _ (sym (len-entries (map.empty {X = Pieces} {R = nat_cmp})) ∙ len-empty nat_cmp Pieces))
+    ∙ sum_of-nil
   where
     no_entries : (es : List (ℕ × Pieces)) → length es ≡ 0 → es ≡ []
     no_entries [] e = refl

@@ -1,4 +1,4 @@
--- What a contract sees of a gatherer (9.4.9): the finite map from ids to joined octets, and its limit.
+-- What a contract sees of a gatherer (9.4.9): a finite map from ids to joined octets, and a limit.
 use Rattle.std.specs.Prelude.{◌≡◌, ℕ, ◌+◌, ◌++◌, Bool, true, false, if◌then◌else◌, nat_lt, List, length, sum_by, Option, Some, None, ◌⊎◌, refl}
 use Rattle.std.specs.Ordering.{nat_cmp}
 use Rattle.std.specs.FinMap as map

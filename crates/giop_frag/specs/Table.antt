@@ -1,4 +1,4 @@
--- How a gatherer keeps what it holds: one slot for each id, and the number of all octets beside them.
+-- How a gatherer keeps what it holds: a slot for each id, and the number of all octets.
 use Rattle.std.specs.Prelude.{◌≡◌, ℕ, ◌≤◌, ◌^◌, cond, List, [], ◌∷◌, Option, Some}
 use Rattle.std.specs.Ordering.{nat_cmp}
 use Rattle.std.specs.Map.{lookup}

@@ -3,8 +3,8 @@ ghost use Rattle.std.specs.Prelude.{◌≡◌};
 use giop_cdr::Octets;
 use std::marker::Model;
 
-/// The octets gathered under an id, where they lie. They need not lie together: `run` tells how many
-/// do.
+/// The octets gathered under an id, where they lie. They need not lie together: `run` tells how
+/// many do.
 ///
 /// Contracts see the list of the octets.
 #[derive(Drop)]

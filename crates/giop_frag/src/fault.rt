@@ -1,7 +1,7 @@
 use std::alloc::AllocError;
 
-/// Why octets are not gathered, or not handed out. A refusal changes nothing. Where several hold the
-/// first of them is told.
+/// Why octets are not gathered, or not handed out. A refusal changes nothing. Where several hold,
+/// the first of them is told.
 #[derive(Clone, Copy, Debug, PartialEq, Eq)]
 pub enum GatherFault {
     /// Nothing is gathered under the id.

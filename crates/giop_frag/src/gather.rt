@@ -79,9 +79,9 @@ impl Gather {
 
     /// Joins `octets` to those of the id, behind them.
     ///
-    /// Refusals, in this order: `Stray`, exactly where the id has none; `OrderDiffers`, exactly
-    /// where it began in the other byte order; `GatherFull`, exactly where `total` and the number of
-    /// `octets` together are more than the limit; `NoMemory`. A refusal changes nothing.
+    /// Refusals, in this order: `Stray`, exactly where the id has none; `OrderDiffers`, where it
+    /// began in the other byte order; `GatherFull`, where `total` and the number of `octets`
+    /// together are more than the limit; `NoMemory`. A refusal changes nothing.
     pub fn add(&mut self, id: u32, order: Order, octets: &[u8]) -> Result<(), GatherFault>
         ensures ok { OnOk result (self.new ≡ record self.old {
           lists = put self.old.lists id (grown (map.get self.old.lists id) octets.now);

@@ -1,5 +1,5 @@
-//! What any list of accepted calls leaves. `Does`, in the contracts of `Gather`, says that a call is
-//! such an act.
+//! What any list of accepted calls leaves. `Does`, in the contracts of `Gather`, says that a call
+//! is such an act.
 ghost use Rattle.std.specs.Prelude.{◌≡◌, ◌≤◌, ◌↔◌, ℕ, List, Some, None};
 ghost use Rattle.std.specs.FinMap as map;
 ghost use Rattle.giop_frag.specs.Gathered.{Gathered, Pieces, total_of};

@@ -18,8 +18,8 @@ fn shown(gather: &Gather, id: u32) -> u64 {
     sum
 }
 
-// Begins or adds. Where that is refused for want of memory, all is as it was, and the same call once
-// more is accepted.
+// Begins or adds. Where that is refused for want of memory, all is as it was, and the same call
+// once more is accepted.
 fn put_at_last(rt: &impl Abort, gather: &mut Gather, id: u32, order: Order, octets: &[u8]) {
     let before = (
         shown(gather, 1),
