@@ -41,7 +41,9 @@ pub fn push_field<const N: usize>(
     octets.extend_from_slice(&field)
 }
 
-// An aligned count, and what it counts in two parts.
+// An aligned count, and what it counts in two parts. Inlined, since one of the parts is known to
+// the callers: none or one octet.
+#[inline(always)]
 pub fn push_counted(
     octets: &mut Vec<u8>,
     at: usize,

@@ -37,7 +37,8 @@ impl<'a, S: Octets> CdrIn<'a, S> {
     pub fn read_octet(&mut self) -> Result<u8, CdrFault>
         ensures { Reads self.old result self.new (number_at w8 self.old) }
     {
-        let octets = self.read_field()?;
+        let pad = self.pad_of_field::<1>()?;
+        let octets = self.take_field(pad);
         Ok(match self.order() {
             Order::Big => u8::from_be_bytes(octets),
             Order::Little => u8::from_le_bytes(octets),
@@ -61,7 +62,8 @@ impl<'a, S: Octets> CdrIn<'a, S> {
     pub fn read_short(&mut self) -> Result<i16, CdrFault>
         ensures { Reads self.old result self.new (signed_at w16 self.old) }
     {
-        let octets = self.read_field()?;
+        let pad = self.pad_of_field::<2>()?;
+        let octets = self.take_field(pad);
         Ok(match self.order() {
             Order::Big => i16::from_be_bytes(octets),
             Order::Little => i16::from_le_bytes(octets),
@@ -75,7 +77,8 @@ impl<'a, S: Octets> CdrIn<'a, S> {
     pub fn read_ushort(&mut self) -> Result<u16, CdrFault>
         ensures { Reads self.old result self.new (number_at w16 self.old) }
     {
-        let octets = self.read_field()?;
+        let pad = self.pad_of_field::<2>()?;
+        let octets = self.take_field(pad);
         Ok(match self.order() {
             Order::Big => u16::from_be_bytes(octets),
             Order::Little => u16::from_le_bytes(octets),
@@ -89,7 +92,8 @@ impl<'a, S: Octets> CdrIn<'a, S> {
     pub fn read_long(&mut self) -> Result<i32, CdrFault>
         ensures { Reads self.old result self.new (signed_at w32 self.old) }
     {
-        let octets = self.read_field()?;
+        let pad = self.pad_of_field::<4>()?;
+        let octets = self.take_field(pad);
         Ok(match self.order() {
             Order::Big => i32::from_be_bytes(octets),
             Order::Little => i32::from_le_bytes(octets),
@@ -104,7 +108,8 @@ impl<'a, S: Octets> CdrIn<'a, S> {
         ensures value { Reads self.old result self.new (number_at w32 self.old) }
         ensures place { IfErr result (λ e. e.at ≡ place 4 self.old) }
     {
-        let octets = self.read_field()?;
+        let pad = self.pad_of_field::<4>()?;
+        let octets = self.take_field(pad);
         Ok(match self.order() {
             Order::Big => u32::from_be_bytes(octets),
             Order::Little => u32::from_le_bytes(octets),
@@ -118,7 +123,8 @@ impl<'a, S: Octets> CdrIn<'a, S> {
     pub fn read_longlong(&mut self) -> Result<i64, CdrFault>
         ensures { Reads self.old result self.new (signed_at w64 self.old) }
     {
-        let octets = self.read_field()?;
+        let pad = self.pad_of_field::<8>()?;
+        let octets = self.take_field(pad);
         Ok(match self.order() {
             Order::Big => i64::from_be_bytes(octets),
             Order::Little => i64::from_le_bytes(octets),
@@ -132,7 +138,8 @@ impl<'a, S: Octets> CdrIn<'a, S> {
     pub fn read_ulonglong(&mut self) -> Result<u64, CdrFault>
         ensures { Reads self.old result self.new (number_at w64 self.old) }
     {
-        let octets = self.read_field()?;
+        let pad = self.pad_of_field::<8>()?;
+        let octets = self.take_field(pad);
         Ok(match self.order() {
             Order::Big => u64::from_be_bytes(octets),
             Order::Little => u64::from_le_bytes(octets),

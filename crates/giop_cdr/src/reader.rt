@@ -1,5 +1,5 @@
-ghost use Rattle.std.specs.Prelude.{◌≡◌, ◌+◌, ◌<◌, ◌≤◌, ◌^◌, length, take, IfOk, IfErr};
-ghost use Rattle.giop_cdr.specs.Cursor.{place, skip};
+ghost use Rattle.std.specs.Prelude.{◌≡◌, ◌+◌, ◌<◌, ◌≤◌, ◌^◌, length, take, Ok, Err, IfOk, IfErr};
+ghost use Rattle.giop_cdr.specs.Cursor.{pad, place, skip};
 ghost use Rattle.giop_cdr.specs.Reading.{field_at, is_text};
 ghost use Rattle.giop_cdr.specs.Encapsulation.{opened_of, encapsulation_at};
 ghost use Rattle.giop_cdr.specs.Outcome.{Reads, Exactly};
@@ -93,13 +93,16 @@ impl<'a, S: Octets> CdrIn<'a, S> {
         }
     }
 
-    // The octets of a value of N octets that is aligned to N.
+    // The number of octets before the next value of N octets, which is aligned to N, where that
+    // value is there. The value itself stays out of the result: octets in it would go by memory.
     #[inline(always)]
-    pub(crate) fn read_field<const N: usize>(&mut self) -> Result<[u8; N], CdrFault>
+    pub(crate) fn pad_of_field<const N: usize>(&self) -> Result<usize, CdrFault>
         requires some { 0 < N }
         requires few { N ≤ 8 }
-        ensures value { Reads self.old result self.new (field_at N self.old) }
-        ensures place { IfErr result (λ e. e.at ≡ place N self.old) }
+        ensures aligned { IfOk result (λ skipped. skipped ≡ pad N self.now.at) }
+        ensures there { IfOk result (λ skipped. skipped + N ≤ length self.now.rest) }
+        ensures short { IfErr result (λ e. field_at N self.now ≡ Err e) }
+        ensures place { IfErr result (λ e. e.at ≡ place N self.now) }
     {
         let pad = (N - self.at % N) % N;
         if self.end - self.index < pad + N {
@@ -108,10 +111,22 @@ impl<'a, S: Octets> CdrIn<'a, S> {
                 kind: CdrKind::Short,
             });
         }
-        let octets = field_of(self.source, self.index + pad);
-        self.at += pad + N;
-        self.index += pad + N;
-        Ok(octets)
+        Ok(pad)
+    }
+
+    // The octets of a value of N octets that is there, behind `skipped` octets of padding.
+    #[inline(always)]
+    pub(crate) fn take_field<const N: usize>(&mut self, skipped: usize) -> [u8; N]
+        requires some { 0 < N }
+        requires few { N ≤ 8 }
+        requires aligned { skipped ≡ pad N self.old.at }
+        requires there { skipped + N ≤ length self.old.rest }
+        ensures { field_at N self.old ≡ Ok (result, self.new) }
+    {
+        let octets = field_of(self.source, self.index + skipped);
+        self.at += skipped + N;
+        self.index += skipped + N;
+        octets
     }
 
     /// The offset at which the next value begins that is aligned to N octets (9.3.1.1): the place

@@ -183,6 +183,7 @@ impl CdrOut {
     }
 
     // An aligned count, and the octets that it counts in two parts.
+    #[inline(always)]
     pub(crate) fn append_counted(
         &mut self,
         count: [u8; 4],
