@@ -1,4 +1,6 @@
-//! What no clause says: the text of worked files, and runs that fail.
+//! What no clause says: the text of worked files, runs that fail, and the words that are taken.
 
 mod dump;
 mod failing;
+mod reading;
+mod words;
