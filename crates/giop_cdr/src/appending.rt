@@ -6,7 +6,7 @@ ghost use Rattle.giop_cdr.specs.Cursor.{pad};
 
 use std::alloc::AllocError;
 
-// Zeros, and room for some octets behind them.
+/// Zeros, and room for some octets behind them.
 pub fn push_zeros(octets: &mut Vec<u8>, count: usize, behind: usize) -> Result<(), AllocError>
     requires few { count ≤ 8 }
     requires short { behind ≤ 8 }
@@ -20,7 +20,7 @@ pub fn push_zeros(octets: &mut Vec<u8>, count: usize, behind: usize) -> Result<(
     octets.extend_from_slice(&[0; 8][..count])
 }
 
-// Zeros up to a multiple of N from an offset on, and N octets.
+/// Zeros up to a multiple of N from an offset on, and N octets.
 #[inline(always)]
 pub fn push_field<const N: usize>(
     octets: &mut Vec<u8>,
@@ -41,8 +41,8 @@ pub fn push_field<const N: usize>(
     octets.extend_from_slice(&field)
 }
 
-// An aligned count, and what it counts in two parts. Inlined, since one of the parts is known to
-// the callers: none or one octet.
+/// An aligned count, and what it counts in two parts. Inlined, since one of the parts is known to
+/// the callers: none or one octet.
 #[inline(always)]
 pub fn push_counted(
     octets: &mut Vec<u8>,
@@ -63,7 +63,7 @@ pub fn push_counted(
     octets.extend_from_slice(tail)
 }
 
-// Four octets in the place of those at an index.
+/// Four octets in the place of those at an index.
 pub fn fill(octets: &mut [u8], at: usize, field: [u8; 4])
     requires { at + 4 ≤ length octets.old }
     ensures { octets.new ≡ take at octets.old ++ (field ++ drop (at + 4) octets.old) }

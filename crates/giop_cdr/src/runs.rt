@@ -5,7 +5,7 @@ ghost use Rattle.giop_cdr.specs.Reading.{has_null, is_text};
 use crate::octets::Octets;
 use std::alloc::{AllocError, Global};
 
-// The N octets from an index on.
+/// The N octets from an index on.
 #[inline(always)]
 pub fn field_of<S: Octets, const N: usize>(source: &S, from: usize) -> [u8; N]
     requires some { 0 < N }
@@ -37,7 +37,7 @@ fn scattered_field<S: Octets, const N: usize>(source: &S, from: usize) -> [u8; N
     octets
 }
 
-// A copy of the octets from an index on, run by run.
+/// A copy of the octets from an index on, run by run.
 pub fn copy_of<S: Octets>(
     alloc: Global,
     source: &S,
@@ -57,7 +57,7 @@ pub fn copy_of<S: Octets>(
     Ok(octets)
 }
 
-// Whether one of the octets from an index on is a null.
+/// Whether one of the octets from an index on is a null.
 pub fn null_among<S: Octets>(source: &S, from: usize, count: usize) -> bool
     requires within { from + count ≤ length (S.octets source.now) }
     requires small { from + count < 2 ^ 64 }
@@ -75,7 +75,7 @@ pub fn null_among<S: Octets>(source: &S, from: usize, count: usize) -> bool
     false
 }
 
-// Whether the octets from an index on are those that a string's length counts.
+/// Whether the octets from an index on are those that a string's length counts.
 pub fn text_lies_at<S: Octets>(source: &S, from: usize, count: usize) -> bool
     requires within { from + count ≤ length (S.octets source.now) }
     requires small { from + count < 2 ^ 64 }

@@ -10,7 +10,7 @@ use giop_cdr::Order;
 use std::alloc::Global;
 use std::collections::BTreeMap;
 
-// Puts octets under an id.
+/// Puts octets under an id.
 pub fn begin_list(
     alloc: Global,
     table: &mut BTreeMap<u32, Joined>,
@@ -31,8 +31,8 @@ pub fn begin_list(
     Ok(())
 }
 
-// Appends octets to those under an id, where they come in one order and `over` says that there is
-// room.
+/// Appends octets to those under an id, where they come in one order and `over` says that there is
+/// room.
 pub fn add_to_list(
     table: &mut BTreeMap<u32, Joined>,
     over: bool,
@@ -56,7 +56,7 @@ pub fn add_to_list(
     }
 }
 
-// Takes the octets under an id out.
+/// Takes the octets under an id out.
 pub fn take_list(table: &mut BTreeMap<u32, Joined>, id: u32) -> Option<Joined>
     ensures value { result ≡ map.get (entries_of table.old.entries) id }
     ensures ok { entries_of table.new.entries ≡ map.remove (entries_of table.old.entries) id }
@@ -66,7 +66,7 @@ pub fn take_list(table: &mut BTreeMap<u32, Joined>, id: u32) -> Option<Joined>
     table.remove(&id)
 }
 
-// The number of octets that were taken out.
+/// The number of octets that were taken out.
 pub fn octets_of(taken: &Option<Joined>) -> usize
     ensures { result ≡ octets_in taken.now }
 {
@@ -76,21 +76,21 @@ pub fn octets_of(taken: &Option<Joined>) -> usize
     }
 }
 
-// The octets under an id.
+/// The octets under an id.
 pub fn list_in(table: &BTreeMap<u32, Joined>, id: u32) -> Option<&Joined>
     ensures { option_copied result ≡ map.get (entries_of table.now.entries) id }
 {
     table.get(&id)
 }
 
-// Whether there are octets under an id, or an empty list of them.
+/// Whether there are octets under an id, or an empty list of them.
 pub fn is_in(table: &BTreeMap<u32, Joined>, id: u32) -> bool
     ensures { result ≡ is_some (map.get (entries_of table.now.entries) id) }
 {
     table.contains_key(&id)
 }
 
-// The number of the lists.
+/// The number of the lists.
 pub fn count_of(table: &BTreeMap<u32, Joined>) -> usize
     ensures { result ≡ map.len (entries_of table.now.entries) }
 {

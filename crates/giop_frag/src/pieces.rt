@@ -6,7 +6,7 @@ use giop_cdr::{OctetList, Order};
 use std::alloc::{AllocError, Global};
 use std::marker::Model;
 
-// The octets of one message so far, in one list, and their byte order.
+/// The octets of one message so far, in one list, and their byte order.
 #[derive(Drop)]
 pub struct Joined {
     order: Order,
@@ -24,7 +24,7 @@ impl Model for Joined {
 }
 
 impl Joined {
-    // The first octets.
+    /// The first octets.
     pub fn new(alloc: Global, order: Order, octets: &[u8]) -> Result<Joined, AllocError>
         ensures { IfOk result (λ joined. joined ≡ record { order = order; octets = octets.now }) }
     {
@@ -34,7 +34,7 @@ impl Joined {
         })
     }
 
-    // Appends octets, where they come in the same order and `over` says that there is room.
+    /// Appends octets, where they come in the same order and `over` says that there is room.
     pub fn append(&mut self, over: bool, order: Order, octets: &[u8]) -> Result<(), GatherFault>
         ensures ok { OnOk result
             (self.new ≡ record self.old { octets = self.old.octets ++ octets.now }) }
@@ -53,24 +53,28 @@ impl Joined {
         Ok(())
     }
 
+    /// Their byte order.
     pub fn order(&self) -> Order
         ensures { result ≡ self.now.order }
     {
         self.order
     }
 
+    /// All of them, as one slice.
     pub fn octets(&self) -> &[u8]
         ensures { result.now ≡ self.now.octets }
     {
         self.octets.as_slice()
     }
 
+    /// How many there are.
     pub fn len(&self) -> usize
         ensures { result ≡ length self.now.octets }
     {
         self.octets.len()
     }
 
+    /// Their byte order and the list of them, without memory.
     pub fn into_parts(self) -> (Order, OctetList)
         ensures { result ≡ (self.order, self.octets) }
     {

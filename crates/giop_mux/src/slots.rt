@@ -12,7 +12,7 @@ use crate::{CallRule, Refusal};
 use std::alloc::{AllocError, Global};
 use std::collections::BTreeMap;
 
-// Steps the call of one slot.
+/// Steps the call of one slot.
 pub fn step_slot<R: CallRule>(
     rule: &R,
     slot: &mut Option<R::Entry>,
@@ -26,7 +26,7 @@ pub fn step_slot<R: CallRule>(
     step.outcome
 }
 
-// Steps the call of an id that has an entry, or has none.
+/// Steps the call of an id that has an entry, or has none.
 pub fn step_call<R: CallRule>(
     rule: &R,
     calls: u32,
@@ -62,14 +62,14 @@ pub fn step_call<R: CallRule>(
     }
 }
 
-// The entry under an id.
+/// The entry under an id.
 pub fn entry_in<E>(table: &BTreeMap<u32, Option<E>>, id: u32) -> Option<&E>
     ensures { option_copied result ≡ map.get (entries_of table.now.entries) id }
 {
     table.get(&id)?.as_ref()
 }
 
-// Whether the id has an entry whose call is open.
+/// Whether the id has an entry whose call is open.
 pub fn is_open<R: CallRule>(rule: &R, table: &BTreeMap<u32, Option<R::Entry>>, id: u32) -> bool
     ensures { IsTrue result
         ↔ (option_map (R.closed rule.now) (map.get (entries_of table.now.entries) id)
@@ -81,7 +81,7 @@ pub fn is_open<R: CallRule>(rule: &R, table: &BTreeMap<u32, Option<R::Entry>>, i
     }
 }
 
-// The ids of the slots, ascending.
+/// The ids of the slots, ascending.
 pub fn ids_of<E>(alloc: Global, table: &BTreeMap<u32, Option<E>>) -> Result<Vec<u32>, AllocError>
     requires { AreFull table.now.entries }
     ensures { IfOk result (λ ids. ids.items ≡ map.keys (entries_of table.now.entries)) }
@@ -97,7 +97,7 @@ fn listed_keys<E>(alloc: Global, table: &BTreeMap<u32, Option<E>>) -> Result<Vec
     table.keys().copied().collect(alloc)
 }
 
-// The number of the slots.
+/// The number of the slots.
 pub fn count_of<E>(table: &BTreeMap<u32, Option<E>>) -> usize
     requires { AreFull table.now.entries }
     ensures value { result ≡ map.len (entries_of table.now.entries) }
@@ -106,7 +106,7 @@ pub fn count_of<E>(table: &BTreeMap<u32, Option<E>>) -> usize
     table.len()
 }
 
-// Takes the entry under an id out.
+/// Takes the entry under an id out.
 pub fn take_slot<E: Drop>(table: &mut BTreeMap<u32, Option<E>>, id: u32) -> Option<E>
     requires { AreFull table.old.entries }
     ensures value { result ≡ map.get (entries_of table.old.entries) id }

@@ -1,5 +1,7 @@
 -- The exit statuses of the program.
-use Rattle.std.specs.Prelude.{ℕ}
+use Rattle.std.specs.Prelude.{ℕ, Result, Ok, Err}
+use Rattle.clap.specs.declared.error.kind.ErrorKind.{ErrorKind}
+use Rattle.clap.specs.declared.error.kind.ErrorKind.TheVariants.{OutOfMemory, DisplayHelp, DisplayVersion}
 use Rattle.giopctl.specs.declared.status.Status.{Status}
 use Rattle.giopctl.specs.declared.status.Status.TheVariants.{Done, Refused, Usage, InputOutput}
 use Rattle.giopctl.specs.declared.status.Status.TheVariants.{Memory as memory_status}
@@ -19,3 +21,15 @@ abbrev pub failure_status : Failure → Status
 failure_status Memory = memory_status
 failure_status (Input e) = InputOutput
 failure_status (Output e) = InputOutput
+
+-- the status of what a command answered
+abbrev pub answered_status : Result Status Failure → Status
+answered_status (Ok status) = status
+answered_status (Err failure) = failure_status failure
+
+-- the status of a command line that asks for no task, where its text can be written
+abbrev pub usage_status : ErrorKind → Status
+usage_status OutOfMemory = memory_status
+usage_status DisplayHelp = Done
+usage_status DisplayVersion = Done
+usage_status _ = Usage

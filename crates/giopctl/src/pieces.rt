@@ -1,5 +1,5 @@
 //! Reading piece by piece.
-ghost use Rattle.std.specs.Prelude.{◌≡◌, IfOk, length};
+ghost use Rattle.std.specs.Prelude.{◌≡◌, IfOk, OnOk, length};
 ghost use Rattle.std.specs.Io.{ReadsAtMost};
 ghost use Rattle.std.specs.Io.KnownBytes.{Consumes, IsAtEnd, ReadConsumes};
 
@@ -47,7 +47,9 @@ fn read_some<R: Read>(reader: &mut R, piece: &mut [u8]) -> Result<usize, Failure
 }
 
 /// Reads to the end, and lets go what is read.
-pub fn drain<R: Read>(alloc: Global, reader: &mut R) -> Result<(), Failure> {
+pub fn drain<R: Read>(alloc: Global, reader: &mut R) -> Result<(), Failure>
+    ensures { OnOk result (IsAtEnd (R.remaining reader.new)) }
+{
     for _ in 0..u64::MAX {
         if read_piece(alloc, reader)?.is_empty() {
             return Ok(());

@@ -1,4 +1,8 @@
 //! What is said on standard error, and the status that goes with it.
+ghost use Rattle.std.specs.Prelude.{◌≡◌, ◌≢◌, ◌⊎◌};
+ghost use Rattle.std.specs.IoError.{error_kind};
+ghost use Rattle.clap.specs.Words.{kind_of};
+ghost use Rattle.giopctl.specs.Status.{answered_status, usage_status};
 
 use crate::failure::Failure;
 use crate::status::Status;
@@ -7,7 +11,10 @@ use std::io;
 use std::io::ErrorKind;
 
 /// The words of the command line can't be read: one is no UTF-8, or memory ran out.
-pub fn arguments(rt: &impl Eprint, error: &io::Error) -> Status {
+pub fn arguments(rt: &impl Eprint, error: &io::Error) -> Status
+    ensures memory { error_kind error.now ≡ ErrorKind.OutOfMemory → result ≡ Status.Memory }
+    ensures value { error_kind error.now ≢ ErrorKind.OutOfMemory → result ≡ Status.Usage }
+{
     let _ = eprintln!(rt; "giopctl: the command line: {error}");
     match error.kind() {
         ErrorKind::OutOfMemory => Status::Memory,
@@ -16,7 +23,9 @@ pub fn arguments(rt: &impl Eprint, error: &io::Error) -> Status {
 }
 
 /// The words of the command line ask for help or the version, or for nothing that the program knows.
-pub fn usage(rt: &(impl Print + Eprint), error: &clap::Error) -> Status {
+pub fn usage(rt: &(impl Print + Eprint), error: &clap::Error) -> Status
+    ensures { (result ≡ usage_status (kind_of error.now)) ⊎ (result ≡ Status.InputOutput) }
+{
     if error.print(rt).is_err() {
         return Status::InputOutput;
     }
@@ -28,7 +37,9 @@ pub fn usage(rt: &(impl Print + Eprint), error: &clap::Error) -> Status {
 }
 
 /// What a command on this file answered. Nothing is said where nobody reads the output any more.
-pub fn answer(rt: &impl Eprint, file: &str, answered: Result<Status, Failure>) -> Status {
+pub fn answer(rt: &impl Eprint, file: &str, answered: Result<Status, Failure>) -> Status
+    ensures { result ≡ answered_status answered }
+{
     let failure = match answered {
         Ok(status) => return status,
         Err(failure) => failure,

@@ -1,4 +1,5 @@
 ghost use Rattle.std.specs.Prelude.{◌≡◌, ◌++◌, IfErr, IfOk, OnOk};
+ghost use Rattle.std.specs.Io.KnownBytes.{IsAtEnd};
 ghost use Rattle.giopctl.specs.Dump.{Dumps, DumpsKnown};
 
 use crate::commands::dump_lines::{write_fault, write_message, write_rest};
@@ -35,8 +36,9 @@ pub fn dump_stream<R: Read, W: Write>(
     reader: &mut R,
     writer: &mut W,
 ) -> Result<Status, Failure>
-    ensures { IfOk result (DumpsKnown MESSAGE_LIMIT (R.remaining reader.old)
+    ensures text { IfOk result (DumpsKnown MESSAGE_LIMIT (R.remaining reader.old)
         (W.contents writer.old) (W.contents writer.new)) }
+    ensures end { OnOk result (IsAtEnd (R.remaining reader.new)) }
 {
     let mut framer = Framer::new(alloc, MESSAGE_LIMIT);
     let mut at = 0usize;

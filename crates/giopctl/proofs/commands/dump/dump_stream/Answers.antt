@@ -34,8 +34,8 @@ messages-preserved g c =
       limit = ap (λ (u : Unread). u.limit) fed ∙ ap (λ (u : Unread). u.limit) waits.1 ∙ before.limit;
     }
 
-pub returns-then-is_empty : goal.returns-then-is_empty
-returns-then-is_empty g c =
+pub returns-then-is_empty-clause-text : goal.returns-then-is_empty-clause-text
+returns-then-is_empty-clause-text g c =
     let before = c.messages.invariant in
     let piece = c.in_ok-piece-in-Ok-None.piece in
     let waits = rw c.in-Ok-None.field-0-is at c.in-Ok-None.ensures.waits in
@@ -47,7 +47,7 @@ returns-then-is_empty g c =
     of_rest c.messages.framer _ _ shown before.limit (c.in_ok-piece-in-Ok-None.ensures.end empty) waits.0 (rw (← n) c.write_rest.ensures.text)
     (rw (← n) c.write_rest.ensures.ok)
 
-pub returns-in-Err : goal.returns-in-Err
-returns-in-Err g c =
+pub returns-in-Err-clause-text : goal.returns-in-Err-clause-text
+returns-in-Err-clause-text g c =
     of_fault c.messages.framer _ _ _ c.messages.invariant.shown c.messages.invariant.limit c.in-Err.ensures.err c.write_fault.ensures.text
     c.write_fault.ensures.ok
