@@ -61,3 +61,15 @@ fn each_failure_has_its_status(rt: HostRuntime) {
     let disk = Failure::from(io::Error::from(ErrorKind::StorageFull));
     assert_eq!(rt; disk.status(), Status::InputOutput);
 }
+
+#[test]
+fn each_failure_has_its_text(rt: HostRuntime) -> Result<(), Fail> {
+    let memory = Failure::Memory.to_string(rt.alloc())?;
+    assert_eq!(rt; memory.as_str(), "out of memory");
+    let told = io::Error::from(ErrorKind::StorageFull).to_string(rt.alloc())?;
+    let input = Failure::Input(io::Error::from(ErrorKind::StorageFull)).to_string(rt.alloc())?;
+    assert_eq!(rt; input.as_str(), told.as_str());
+    let output = Failure::Output(io::Error::from(ErrorKind::StorageFull)).to_string(rt.alloc())?;
+    assert_eq!(rt; output.as_str(), told.as_str());
+    Ok(())
+}
