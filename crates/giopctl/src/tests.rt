@@ -3,4 +3,5 @@
 mod dump;
 mod failing;
 mod reading;
+mod recorded;
 mod words;
