@@ -1,0 +1,6 @@
+pub mod ViewLemmas
+pub mod MemberLoops
+pub mod AsExact
+pub mod CountedExact
+pub mod Takes
+pub mod ShapeExact

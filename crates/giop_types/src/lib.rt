@@ -1,0 +1,10 @@
+//! Descriptions of CDR types and the values that they describe.
+#![tactic(auto)]
+
+mod desc;
+mod reading;
+mod skip;
+mod value;
+
+pub use desc::{CaseDesc, Desc, NamedDesc};
+pub use value::Value;
