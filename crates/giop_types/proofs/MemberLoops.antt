@@ -1,18 +1,20 @@
 -- Members that are passed over, or read, one after the other by a loop over their descriptions.
-use Rattle.std.proofs.Common.{◌≡◌, ℕ, ℤ, ◌+◌, ◌<◌, ◌≤◌, Bool, true, false, Result, Ok, Err, List, [], ◌∷◌, ◌++◌, map, drop, get_or, length, refl, sym, ap, ◌∙◌, append_assoc, arith}
-use Rattle.std.proofs.lemmas.List.{drop_more, append-nil}
+use Rattle.std.proofs.Common.{◌≡◌, ℕ, ℤ, ◌+◌, ◌<◌, ◌≤◌, Bool, true, false, Option, None, Result, Ok, Err, inr, subst, List, [], ◌∷◌, ◌++◌, map, drop, get_or, length, refl, sym, ap, ◌∙◌, append_assoc, arith}
+use Rattle.std.proofs.lemmas.List.{drop_more, append-nil, map-append}
 use Rattle.std.proofs.Math.ListN.{drop_of_length-le}
 use Rattle.giop_cdr.specs.declared.fault.CdrFault.{CdrFault}
 use Rattle.giop_cdr.specs.Cursor.{Cursor}
 use Rattle.giop_cdr.specs.Reading.{Reading, ◌>>=◌, past}
-use Rattle.giop_cdr.specs.Outcome.{Skips}
+use Rattle.giop_cdr.specs.Outcome.{Skips, Follows}
+use Rattle.giop_cdr.proofs.ItemLoops.{with_front, regroup}
+use Rattle.giop_types.specs.declared.value.Value.{Value}
 use Rattle.giop_types.specs.declared.desc.NamedDesc.{NamedDesc}
 use Rattle.giop_types.specs.declared.desc.CaseDesc.{CaseDesc}
 use Rattle.giop_types.specs.Tree.{Tree, choice_of}
-use Rattle.giop_types.specs.Outcome.{SkipsCase}
+use Rattle.giop_types.specs.Outcome.{SkipsCase, FollowsCase, MakesChoice}
 use Rattle.giop_types.specs.Shape.{Shape, choice, Fields, no_fields, field, Branches, branch}
 use Rattle.giop_types.specs.Decoding.{decode_at, fields_at, branches_at, label_at, is_label, as_read}
-use Rattle.giop_types.specs.Views.{desc_view, named_view, case_view, fields_of, branches_of, trees_of}
+use Rattle.giop_types.specs.Views.{desc_view, named_view, case_view, fields_of, branches_of, trees_of, value_view}
 use Rattle.giop_types.proofs.ViewLemmas.{view-Named, view-Case}
 
 -- what is left of a list, from one of its items on
@@ -119,3 +121,57 @@ choice_by_default disc bs fallback c m e label h default read =
 pub case_absent : (b : Bool) (old new : Cursor) (r s : Reading (List Tree)) → b ≡ false → SkipsCase (Ok b) old new r s → (r ≡ s) × (new ≡ old)
 case_absent true old new r s off h = absurd cc
 case_absent false old new r s off h = h
+
+-- ---- members that are read
+
+pub members_read_on : (front : List Tree) (ms : List NamedDesc) (i : ℕ) (m : NamedDesc) (c : Cursor) (v : Tree) (d : Cursor) (total : Reading (List Tree))
+    → i < length ms → m ≡ get_or ms i m → decode_at (desc_view m.desc) c ≡ Ok (v, d)
+    → with_front front (fields_at (fields_of (map named_view (drop i ms))) c) ≡ total
+    → with_front (front ++ v ∷ []) (fields_at (fields_of (map named_view (drop (i + 1) ms))) d) ≡ total
+unfolding decode_at
+members_read_on front ms i m c v d total lt is h so_far =
+    let one : with_front front (fields_at (fields_of (map named_view (drop i ms))) c)
+        ≡ with_front (front ++ v ∷ []) (fields_at (fields_of (map named_view (drop (i + 1) ms))) d)
+    = rw (fields_left ms i m lt is, h) (regroup front v (fields_at (fields_of (map named_view (drop (i + 1) ms))) d)) in
+    sym one ∙ so_far
+
+pub members_read_end : (front : List Tree) (ms : List NamedDesc) (i : ℕ) (m : NamedDesc) (c : Cursor) (e : CdrFault) (total : Reading (List Tree))
+    → i < length ms → m ≡ get_or ms i m → decode_at (desc_view m.desc) c ≡ Err e
+    → with_front front (fields_at (fields_of (map named_view (drop i ms))) c) ≡ total → total ≡ Err e
+unfolding decode_at
+members_read_end front ms i m c e total lt is h so_far =
+    let one : with_front front (fields_at (fields_of (map named_view (drop i ms))) c) ≡ Err e = rw (fields_left ms i m lt is, h) refl in
+    sym so_far ∙ one
+
+pub members_read : (front : List Tree) (ms : List NamedDesc) (i : ℕ) (c : Cursor) (total : Reading (List Tree)) → length ms ≤ i
+    → with_front front (fields_at (fields_of (map named_view (drop i ms))) c) ≡ total → total ≡ Ok (front, c)
+unfolding decode_at
+members_read front ms i c total le so_far =
+    let one : with_front front (fields_at (fields_of (map named_view (drop i ms))) c) ≡ Ok (front, c)
+    = rw (drop_of_length-le ms le) (ap (λ (vs : List Tree). Ok (vs, c)) (append-nil front)) in
+    sym so_far ∙ one
+
+-- a value behind those that are there
+pub one_more : (vs : List Value) (v : Value) → map value_view (vs ++ v ∷ []) ≡ map value_view vs ++ value_view v ∷ []
+one_more vs v = map-append value_view vs (v ∷ [])
+
+-- ---- unions that are read
+
+pub value_absent : (old new : Cursor) (r s : Reading (List Tree)) (o : Option Value) → o ≡ None → FollowsCase (Ok o) old new r s → (r ≡ s) × (new ≡ old)
+value_absent old new r s o none h = subst (λ (p : Option Value). FollowsCase (Ok p) old new r s) none h
+
+pub choice_read : (disc : Shape) (bs : Branches) (fallback : Fields) (c m e : Cursor) (label : ℤ) (ts : List Tree) → label_at disc c ≡ Ok (label, m)
+    → branches_at bs (fields_at fallback) label m ≡ Ok (ts, e) → decode_at (choice disc bs fallback) c ≡ Ok (choice_of label (trees_of ts), e)
+unfolding decode_at
+choice_read disc bs fallback c m e label ts h read = rw (h, read) refl
+
+pub choice_refused : (disc : Shape) (bs : Branches) (fallback : Fields) (c m : Cursor) (label : ℤ) (f : CdrFault) → label_at disc c ≡ Ok (label, m)
+    → branches_at bs (fields_at fallback) label m ≡ Err f → decode_at (choice disc bs fallback) c ≡ Err f
+unfolding decode_at
+choice_refused disc bs fallback c m label f h refused = rw (h, refused) refl
+
+-- where the value was made, it is the one that was read
+pub choice_follows : (label : ℤ) (ts : List Tree) (result : Result Value CdrFault) (new : Cursor) (r : Reading Tree)
+    → MakesChoice label ts result → r ≡ Ok (choice_of label (trees_of ts), new) → Follows value_view result new r
+choice_follows label ts (Ok v) new r made read = read ∙ ap (λ t. Ok (t, new)) (sym made)
+choice_follows label ts (Err e) new r made read = inr made

@@ -1,11 +1,15 @@
 -- What a description says, variant by variant.
-use Rattle.std.proofs.Common.{◌≡◌, rules, ℕ, List, [], ◌∷◌, map, refl, Option, Some, None}
+use Rattle.std.proofs.Common.{◌≡◌, rules, ℕ, ℤ, List, [], ◌∷◌, map, refl, Option, Some, None}
 use Rattle.giop_types.specs.declared.desc.Desc.{Desc, the_lemmas}
 use Rattle.giop_types.specs.declared.desc.Desc.TheVariants as desc
 use Rattle.giop_types.specs.declared.desc.NamedDesc.{NamedDesc}
 use Rattle.giop_types.specs.declared.desc.CaseDesc.{CaseDesc}
+use Rattle.giop_types.specs.declared.value.Value.{Value}
+use Rattle.giop_types.specs.declared.value.Value.{the_lemmas as value_lemmas}
+use Rattle.giop_types.specs.declared.value.Value.TheVariants as value
+use Rattle.giop_types.specs.Tree.{choice_of, no_trees, tree}
 use Rattle.giop_types.specs.Shape.{members, choice, items, row}
-use Rattle.giop_types.specs.Views.{desc_view, named_view, case_view, fallback_view, fields_of, branches_of}
+use Rattle.giop_types.specs.Views.{value_view, desc_view, named_view, case_view, fallback_view, fields_of, branches_of}
 
 pub view-Members : (ms : _) → desc_view (desc.Members ms) ≡ members (fields_of (map named_view ms.items))
 view-Members ms = search (rules, the_lemmas)
@@ -25,3 +29,9 @@ view-Named m = search (rules, the_lemmas)
 
 pub view-Case : (b : CaseDesc) → case_view b ≡ record { labels = b.labels.items; name = b.name; shape = desc_view b.desc }
 view-Case b = search (rules, the_lemmas)
+
+pub chosen_view : (label : ℤ) (v : _) → value_view (value.Choice label (Some v)) ≡ choice_of label (tree (value_view v.value) no_trees)
+chosen_view label v = search (rules, value_lemmas)
+
+pub bare_view : (label : ℤ) → value_view (value.Choice label None) ≡ choice_of label no_trees
+bare_view label = search (rules, value_lemmas)

@@ -1,12 +1,31 @@
 -- What a call says that may find its value by a case, or leave it to the default.
-use Rattle.std.specs.Prelude.{◌≡◌, Bool, true, false, List, Result, Ok, Err}
+use Rattle.std.specs.Prelude.{◌≡◌, ◌⊎◌, ℤ, Bool, true, false, List, [], ◌∷◌, Option, Some, None, Result, Ok, Err}
+use Rattle.giop_cdr.specs.declared.fault.CdrKind.TheVariants.{NoMemory}
+use Rattle.giop_types.specs.declared.value.Value.{Value}
+use Rattle.giop_types.specs.Views.{value_view, trees_of}
 use Rattle.giop_cdr.specs.declared.fault.CdrFault.{CdrFault}
 use Rattle.giop_cdr.specs.Cursor.{Cursor}
 use Rattle.giop_cdr.specs.Reading.{Reading, past}
-use Rattle.giop_types.specs.Tree.{Tree}
+use Rattle.giop_types.specs.Tree.{Tree, choice_of}
 
 -- a case was passed over, or none is there and the reading is another one
 abbrev pub SkipsCase : Result Bool CdrFault → Cursor → Cursor → Reading (List Tree) → Reading (List Tree) → Type 0
 SkipsCase (Ok true) old new reading other = past reading ≡ Ok new
 SkipsCase (Ok false) old new reading other = (reading ≡ other) × (new ≡ old)
 SkipsCase (Err e) old new reading other = reading ≡ Err e
+
+-- a case was read, or none is there and the reading is another one
+abbrev pub FollowsCase : Result (Option Value) CdrFault → Cursor → Cursor → Reading (List Tree) → Reading (List Tree) → Type 0
+FollowsCase (Ok (Some v)) old new reading other = reading ≡ Ok (value_view v ∷ [], new)
+FollowsCase (Ok None) old new reading other = (reading ≡ other) × (new ≡ old)
+FollowsCase (Err e) old new reading other = (reading ≡ Err e) ⊎ (e.kind ≡ NoMemory)
+
+-- the value, where there is one
+abbrev pub one_or_none : Option Value → List Tree
+one_or_none (Some v) = value_view v ∷ []
+one_or_none None = []
+
+-- a union's value was made of its discriminant and its member, or memory is wanting
+abbrev pub MakesChoice : ℤ → List Tree → Result Value CdrFault → Type 0
+MakesChoice label ts (Ok v) = value_view v ≡ choice_of label (trees_of ts)
+MakesChoice label ts (Err e) = e.kind ≡ NoMemory

@@ -1,6 +1,7 @@
 //! Descriptions of CDR types and the values that they describe.
 #![tactic(auto)]
 
+mod build;
 mod desc;
 mod reading;
 mod skip;
