@@ -4,3 +4,4 @@ pub mod AsExact
 pub mod CountedExact
 pub mod Takes
 pub mod ShapeExact
+pub mod DecodeLemmas

@@ -29,3 +29,8 @@ one_or_none None = []
 abbrev pub MakesChoice : ℤ → List Tree → Result Value CdrFault → Type 0
 MakesChoice label ts (Ok v) = value_view v ≡ choice_of label (trees_of ts)
 MakesChoice label ts (Err e) = e.kind ≡ NoMemory
+
+-- this value is the answer and the reader stands behind it, unless memory is wanting
+abbrev pub IsDecoded : Result Value CdrFault → Cursor → Tree → Cursor → Type 0
+IsDecoded (Ok v) new t after = (value_view v ≡ t) × (new ≡ after)
+IsDecoded (Err e) new t after = e.kind ≡ NoMemory

@@ -1,7 +1,7 @@
 use giop_cdr::OctetList;
 
 /// What a value looks like on the wire: a type of IDL, without its name (CORBA 3.3 Part 2, 9.3).
-#[derive(Debug, Drop)]
+#[derive(Debug, Drop, PartialEq, Eq)]
 #[cycle(desc)]
 pub enum Desc {
     /// A boolean.
@@ -46,7 +46,7 @@ pub enum Desc {
 }
 
 /// A member of a struct, or of a union by default.
-#[derive(Debug, Drop)]
+#[derive(Debug, Drop, PartialEq, Eq)]
 #[cycle(desc)]
 pub struct NamedDesc {
     /// Its name.
@@ -56,7 +56,7 @@ pub struct NamedDesc {
 }
 
 /// A member of a union that labels select.
-#[derive(Debug, Drop)]
+#[derive(Debug, Drop, PartialEq, Eq)]
 #[cycle(desc)]
 pub struct CaseDesc {
     /// The labels: of a boolean 0 or 1, of a char its octet, of an enum its ordinal.

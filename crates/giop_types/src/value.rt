@@ -1,7 +1,7 @@
 use giop_cdr::OctetList;
 
 /// A value of a description: a variant for each of `Desc`.
-#[derive(Debug, Drop)]
+#[derive(Debug, Drop, PartialEq, Eq)]
 #[cycle(value)]
 pub enum Value {
     Boolean(bool),

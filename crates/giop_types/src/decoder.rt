@@ -1,0 +1,71 @@
+ghost use Rattle.std.specs.Prelude.{◌≡◌, true, IfOk};
+ghost use Rattle.giop_cdr.specs.Outcome.{Allocates};
+ghost use Rattle.giop_cdr.specs.Readers.{Took};
+ghost use Rattle.giop_types.specs.Decoding.{decode_at};
+ghost use Rattle.giop_types.specs.Full.{is_full};
+ghost use Rattle.giop_types.specs.Outcome.{IsDecoded};
+ghost use Rattle.giop_types.specs.Spells.{Spells};
+ghost use Rattle.giop_types.specs.Views.{desc_view, value_view};
+
+use crate::build::build;
+use crate::desc::Desc;
+use crate::skip::skip;
+use crate::value::Value;
+use giop_cdr::{CdrFault, CdrIn, CdrKind, Octets};
+use std::alloc::Global;
+
+/// A value of this description (9.3.2), which `input` stands at.
+///
+/// The first field in reading order that isn't spelled is refused, as giop_cdr's reader of its kind
+/// refuses it; besides, as BadLabel at its place where it is the ordinal of no name, as BoundPassed
+/// at the place of a count that is above the bound, and as BadCount where the reader stands at an
+/// array of more values than octets are left. As NoMemory where nothing else is refused and memory
+/// is wanting. The reader then stays where it was.
+pub fn decode<S: Octets>(
+    alloc: Global,
+    desc: &Desc,
+    input: &mut CdrIn<S>,
+) -> Result<Value, CdrFault>
+    requires { is_full (desc_view desc.now) ≡ true }
+    // What is answered is what is spelled there, and what is spelled there is answered.
+    ensures found { IfOk result (λ value.
+        Took (Spells (desc_view desc.now)) input.old (value_view value) input.new) }
+    ensures only { (tree : _) (after : _) → Took (Spells (desc_view desc.now)) input.old tree after
+        → IsDecoded result input.new tree after }
+
+    // Which refusal it is.
+    ensures value { Allocates value_view input.old result input.new
+        (decode_at (desc_view desc.now) input.old) }
+{
+    value_of(alloc, desc, input)
+}
+
+// The value, in one pass where all goes well. Memory comes last: where it is wanting, a second pass
+// without memory looks for a fault.
+fn value_of<S: Octets>(
+    alloc: Global,
+    desc: &Desc,
+    input: &mut CdrIn<S>,
+) -> Result<Value, CdrFault>
+    ensures { Allocates value_view input.old result input.new
+        (decode_at (desc_view desc.now) input.old) }
+{
+    let mut ahead = input.fork();
+    let fault = match build(alloc, desc, &mut ahead) {
+        Ok(value) => {
+            *input = ahead;
+            return Ok(value);
+        }
+        Err(fault) => fault,
+    };
+    match fault.kind {
+        CdrKind::NoMemory => {
+            skip(desc, &mut input.fork())?;
+            Err(CdrFault {
+                at: input.position(),
+                ..fault
+            })
+        }
+        _ => Err(fault),
+    }
+}
