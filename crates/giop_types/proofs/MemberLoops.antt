@@ -131,7 +131,7 @@ pub members_read_on : (front : List Tree) (ms : List NamedDesc) (i : ℕ) (m : N
 unfolding decode_at
 members_read_on front ms i m c v d total lt is h so_far =
     let one : with_front front (fields_at (fields_of (map named_view (drop i ms))) c)
-        ≡ with_front (front ++ v ∷ []) (fields_at (fields_of (map named_view (drop (i + 1) ms))) d)
+    ≡ with_front (front ++ v ∷ []) (fields_at (fields_of (map named_view (drop (i + 1) ms))) d)
     = rw (fields_left ms i m lt is, h) (regroup front v (fields_at (fields_of (map named_view (drop (i + 1) ms))) d)) in
     sym one ∙ so_far
 

@@ -15,11 +15,7 @@ use std::alloc::Global;
 /// A value.
 #[cycle(build)]
 #[tactic(auto, unfolding(crate::specs::Decoding::decode_at))]
-pub fn build<S: Octets>(
-    alloc: Global,
-    desc: &Desc,
-    input: &mut CdrIn<S>,
-) -> Result<Value, CdrFault>
+pub fn build<S: Octets>(alloc: Global, desc: &Desc, input: &mut CdrIn<S>) -> Result<Value, CdrFault>
     ensures { Follows value_view result input.new (decode_at (desc_view desc.now) input.old) }
 {
     match desc {
@@ -33,7 +29,9 @@ pub fn build<S: Octets>(
         Desc::LongLong => Ok(Value::LongLong(input.read_longlong()?)),
         Desc::ULongLong => Ok(Value::ULongLong(input.read_ulonglong()?)),
         Desc::Text(bound) => Ok(Value::Text(OctetList::from(input.read_string(alloc, *bound)?))),
-        Desc::Octets(bound) => Ok(Value::Octets(OctetList::from(input.read_octets(alloc, *bound)?))),
+        Desc::Octets(bound) => Ok(Value::Octets(OctetList::from(input.read_octets(
+            alloc, *bound,
+        )?))),
         Desc::Labels(names) => Ok(Value::Label(read_ordinal(names.len(), input)?)),
         Desc::Members(members) => Ok(Value::Members(build_members(alloc, members, input)?)),
         Desc::Choice {

@@ -29,10 +29,7 @@ pub fn read_ordinal<S: Octets>(names: usize, input: &mut CdrIn<S>) -> Result<u32
 /// The count of a sequence within its bound, where 0 is none. Refused at its place: as `read_count`
 /// refuses it, and as BoundPassed where it is above the bound.
 #[tactic(auto, unfolding(giop_cdr::specs::Reading::octet_count_at))]
-pub fn read_bounded_count<S: Octets>(
-    bound: u32,
-    input: &mut CdrIn<S>,
-) -> Result<usize, CdrFault>
+pub fn read_bounded_count<S: Octets>(bound: u32, input: &mut CdrIn<S>) -> Result<usize, CdrFault>
     ensures value { Exactly result input.new (octet_count_at bound input.old) }
     ensures within { IfOk result (λ count. count ≤ length input.new.rest) }
 {

@@ -84,9 +84,9 @@ build_case-loop-case-preserved g t c =
     let test : c.has_label.result ≡ is_label c.args.label.now c.case-item.result.labels.items = rw c.deref.ensures.value at c.has_label.ensures in
     record {
       read = λ other.
-        sym (case_passed c.args.cases.now c.loop-case.case-index c.case-item.result c.args.label.now other c.args.input.now c.loop-case-test.true c.case-item.is
+          sym (case_passed c.args.cases.now c.loop-case.case-index c.case-item.result c.args.label.now other c.args.input.now c.loop-case-test.true c.case-item.is
           (sym test ∙ c.if-has_label.false))
-        ∙ c.loop-case.invariant.read other;
+          ∙ c.loop-case.invariant.read other;
       stays = c.loop-case.invariant.stays;
     }
 
@@ -140,7 +140,7 @@ build-returns-in_ok-member-in-Choice-2 g t c =
     let read : label_at (desc_view u.disc.value) c.args.input.now ≡ Ok (label, middle) = rw c.deref-in-Choice.ensures at c.in_ok-label-in-Choice.ensures in
     let passed : (branches_at (branches_of (map case_view u.cases.items)) other label middle ≡ other middle) × (c.build_case.new.input ≡ middle)
     = rw (same, c.deref-in-Choice-2.ensures.value) at (value_absent middle c.build_case.new.input _ _ c.in_ok-member-in-Choice.field-0 c.in_default.is
-      (c.in_ok-member-in-Choice.ensures other)) in
+    (c.in_ok-member-in-Choice.ensures other)) in
     let default : other middle ≡ Ok (one_or_none member, c.build_fallback.new.input) = rw passed.1 at c.in_ok-member-in-Choice-2.ensures in
     let made = rw same at c.choice-in-Choice.ensures in
     rw (u.is, view-Choice u.disc u.cases u.fallback) (choice_follows label (one_or_none member) c.choice-in-Choice.result c.build_fallback.new.input

@@ -56,9 +56,9 @@ skip_case-loop-case-preserved g t c =
     let test : c.has_label.result ≡ is_label c.args.label.now c.case-item.result.labels.items = rw c.deref.ensures.value at c.has_label.ensures in
     record {
       read = λ other.
-        sym (case_passed c.args.cases.now c.loop-case.case-index c.case-item.result c.args.label.now other c.args.input.now c.loop-case-test.true c.case-item.is
+          sym (case_passed c.args.cases.now c.loop-case.case-index c.case-item.result c.args.label.now other c.args.input.now c.loop-case-test.true c.case-item.is
           (sym test ∙ c.if-has_label.false))
-        ∙ c.loop-case.invariant.read other;
+          ∙ c.loop-case.invariant.read other;
       stays = c.loop-case.invariant.stays;
     }
 
@@ -92,7 +92,7 @@ skip-returns-in_ok-skip_fallback-in-Choice g t c =
     let read : label_at (desc_view u.disc.value) c.args.input.now ≡ Ok (label, middle) = rw c.deref-in-Choice.ensures at c.in_ok-label-in-Choice.ensures in
     let passed : (branches_at (branches_of (map case_view u.cases.items)) other label middle ≡ other middle) × (c.skip_case.new.input ≡ middle)
     = rw (same, c.deref-in-Choice-2.ensures.value) at (case_absent c.in_ok-skip_case-in-Choice.field-0 middle c.skip_case.new.input _ _ c.if-not-branch.true
-      (c.in_ok-skip_case-in-Choice.ensures other)) in
+    (c.in_ok-skip_case-in-Choice.ensures other)) in
     let default : past (other middle) ≡ Ok c.skip_fallback.new.input = rw passed.1 at c.in_ok-skip_fallback-in-Choice.ensures in
     rw (u.is, view-Choice u.disc u.cases u.fallback) (choice_by_default (desc_view u.disc.value) (branches_of (map case_view u.cases.items)) (fallback_view u.fallback)
     c.args.input.now middle c.skip_fallback.new.input label read passed.0 default)
