@@ -1,5 +1,5 @@
 -- What decoding answers is what is spelled.
-use Rattle.std.proofs.Common.{◌≡◌, ◌⊎◌, inl, inr, true, Result, Ok, Err, IfOk, refl, sym, ap, ◌∙◌}
+use Rattle.std.proofs.Common.{◌≡◌, ◌≤◌, ◌+◌, ◌⊎◌, inl, inr, true, length, length-append, arith, Result, Ok, Err, IfOk, refl, sym, ap, ◌∙◌}
 use Rattle.giop_cdr.specs.declared.fault.CdrFault.{CdrFault}
 use Rattle.giop_cdr.specs.Cursor.{Cursor}
 use Rattle.giop_cdr.specs.Outcome.{Allocates}
@@ -13,7 +13,9 @@ use Rattle.giop_types.specs.Full.{is_full}
 use Rattle.giop_types.specs.Outcome.{IsDecoded}
 use Rattle.giop_types.specs.Spells.{Spells}
 use Rattle.giop_types.specs.Views.{value_view}
+use Rattle.giop_types.specs.Leaves.{leaves}
 use Rattle.giop_types.proofs.ShapeExact.{shape_exact}
+use Rattle.giop_types.proofs.LeavesLemmas.{shape_within}
 
 pub found_there : (s : Shape) → is_full s ≡ true → (old : Cursor) (result : Result Value CdrFault) (new : Cursor)
     → Allocates value_view old result new (decode_at s old) → IfOk result (λ v. Took (Spells s) old (value_view v) new)
@@ -31,3 +33,12 @@ answered_there s full old (Err e) new h t after there =
       | inl refused ↦ absurd cc
       | inr memory ↦ memory.0
     ]
+
+pub bounded_there : (s : Shape) → is_full s ≡ true → (old : Cursor) (result : Result Value CdrFault) (new : Cursor)
+    → Allocates value_view old result new (decode_at s old) → IfOk result (λ v. leaves (value_view v) + length new.rest ≤ length old.rest)
+bounded_there s full old (Ok v) new h =
+    let t = (shape_exact s full old).found (value_view v) new h in
+    let few : leaves (value_view v) ≤ length t.octets = shape_within s full old.order old.at (value_view v) t.octets t.spells in
+    let whole : length old.rest ≡ length t.octets + length new.rest = ap length t.front ∙ length-append t.octets new.rest in
+    omega arith
+bounded_there s full old (Err e) new h = tt

@@ -4,4 +4,5 @@ pub mod AsExact
 pub mod CountedExact
 pub mod Takes
 pub mod ShapeExact
+pub mod LeavesLemmas
 pub mod DecodeLemmas

@@ -6,3 +6,4 @@ pub mod Spells
 pub mod Refusals
 pub mod Full
 pub mod Outcome
+pub mod Leaves

@@ -1,8 +1,9 @@
-ghost use Rattle.std.specs.Prelude.{◌≡◌, true, IfOk};
+ghost use Rattle.std.specs.Prelude.{◌≡◌, ◌+◌, ◌≤◌, length, true, IfOk};
 ghost use Rattle.giop_cdr.specs.Outcome.{Allocates};
 ghost use Rattle.giop_cdr.specs.Readers.{Took};
 ghost use Rattle.giop_types.specs.Decoding.{decode_at};
 ghost use Rattle.giop_types.specs.Full.{is_full};
+ghost use Rattle.giop_types.specs.Leaves.{leaves};
 ghost use Rattle.giop_types.specs.Outcome.{IsDecoded};
 ghost use Rattle.giop_types.specs.Spells.{Spells};
 ghost use Rattle.giop_types.specs.Views.{desc_view, value_view};
@@ -32,6 +33,10 @@ pub fn decode<S: Octets>(
         Took (Spells (desc_view desc.now)) input.old (value_view value) input.new) }
     ensures only { (tree : _) (after : _) → Took (Spells (desc_view desc.now)) input.old tree after
         → IsDecoded result input.new tree after }
+
+    // It has no more leaves than octets were read.
+    ensures bounded { IfOk result (λ value.
+        leaves (value_view value) + length input.new.rest ≤ length input.old.rest) }
 
     // Which refusal it is.
     ensures value { Allocates value_view input.old result input.new

@@ -11,7 +11,7 @@ mod value;
 
 pub use decoder::decode;
 pub use desc::{CaseDesc, Desc, NamedDesc};
-pub use laws::values_are_spelled;
+pub use laws::{values_are_bounded, values_are_spelled};
 pub use value::Value;
 
 #[cfg(test)]

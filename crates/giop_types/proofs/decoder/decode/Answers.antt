@@ -1,5 +1,5 @@
 use Rattle.giop_types.specs.Views.{desc_view}
-use Rattle.giop_types.proofs.DecodeLemmas.{found_there, answered_there}
+use Rattle.giop_types.proofs.DecodeLemmas.{found_there, answered_there, bounded_there}
 use Rattle.giop_types.proofs.decoder.decode.Goals as goal
 
 pub returns-clause-found : goal.returns-clause-found
@@ -8,3 +8,6 @@ returns-clause-found g c = found_there (desc_view c.args.desc.now) c.requires c.
 pub returns-clause-only : goal.returns-clause-only
 returns-clause-only g c = λ tree after. answered_there (desc_view c.args.desc.now) c.requires c.args.input.now c.value_of.result c.value_of.new.input c.value_of.ensures
     tree after
+
+pub returns-clause-bounded : goal.returns-clause-bounded
+returns-clause-bounded g c = bounded_there (desc_view c.args.desc.now) c.requires c.args.input.now c.value_of.result c.value_of.new.input c.value_of.ensures
