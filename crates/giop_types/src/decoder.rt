@@ -47,7 +47,11 @@ pub fn decode<S: Octets>(
 
 // The value, in one pass where all goes well. Memory comes last: where it is wanting, a second pass
 // without memory looks for a fault.
-fn value_of<S: Octets>(alloc: Global, desc: &Desc, input: &mut CdrIn<S>) -> Result<Value, CdrFault>
+pub(crate) fn value_of<S: Octets>(
+    alloc: Global,
+    desc: &Desc,
+    input: &mut CdrIn<S>,
+) -> Result<Value, CdrFault>
     ensures { Allocates value_view input.old result input.new
         (decode_at (desc_view desc.now) input.old) }
 {

@@ -1,1 +1,5 @@
 //! What no clause says: worked octets, and runs without memory.
+
+mod decoding;
+mod memory;
+mod samples;

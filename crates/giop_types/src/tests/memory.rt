@@ -1,0 +1,58 @@
+use super::samples::{items, named, reference, union};
+use crate::Desc;
+use crate::decoder::value_of;
+use giop_cdr::{CdrFault, CdrIn, CdrKind, Order, SliceOctets};
+use std::test::Fail;
+
+// struct { sequence<union> choices; IOR reference; }: two unions, and a reference of one profile.
+const OCTETS: [u8; 55] = [
+    0, 0, 0, 2, 0, 0, 0, 1, 0xFF, 0xFE, 0, 0, 0, 0, 0, 9, 5, 0, 0, 0, 0, 0, 0, 4, b'I', b'D', b'L',
+    0, 0, 0, 0, 2, 0, 0, 0, 0, 0, 0, 0, 1, 0xAA, 0, 0, 0, 0, 0, 0, 1, 0, 0, 0, 2, 1, 2, 3,
+];
+
+// Where memory is wanting the reader stays, and the same call made again reads all.
+#[test]
+fn a_value_without_memory_is_left_unread(rt: HostRuntime) -> Result<(), Fail> {
+    let alloc = rt.alloc();
+    let desc = Desc::Members(vec![in alloc;
+        named(alloc, "choices", items(alloc, union(alloc, true)?, 0)?)?,
+        named(alloc, "reference", reference(alloc)?)?,
+    ]?);
+    let source = SliceOctets::new(&OCTETS);
+    let mut input = CdrIn::new(&source, Order::Big, 0);
+    let first = value_of(alloc, &desc, &mut input);
+    let wanting = CdrFault {
+        at: 0,
+        kind: CdrKind::NoMemory,
+    };
+    match first {
+        Ok(_) => {}
+        Err(fault) => {
+            assert_eq!(rt; fault, wanting);
+            assert_eq!(rt; input.position(), 0);
+            let again = value_of(alloc, &desc, &mut input);
+            assert!(rt; again.is_ok());
+        }
+    }
+    assert_eq!(rt; input.position(), 54);
+    Ok(())
+}
+
+// A fault is told also where memory is wanting before it.
+#[test]
+fn want_of_memory_hides_no_fault(rt: HostRuntime) -> Result<(), Fail> {
+    let alloc = rt.alloc();
+    let desc = reference(alloc)?;
+    let octets = [
+        0, 0, 0, 2, b'A', 0, 0, 0, 0, 0, 0, 1, 0, 0, 0, 0, 0, 0, 0, 9, 1,
+    ];
+    let source = SliceOctets::new(&octets);
+    let mut input = CdrIn::new(&source, Order::Big, 0);
+    let wanted = CdrFault {
+        at: 16,
+        kind: CdrKind::BadCount,
+    };
+    assert_eq!(rt; value_of(alloc, &desc, &mut input), Err(wanted));
+    assert_eq!(rt; input.position(), 0);
+    Ok(())
+}
