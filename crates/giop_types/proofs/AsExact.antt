@@ -1,12 +1,12 @@
 -- Exact readers of the parts that shapes are made of.
-use Rattle.std.proofs.Common.{◌≡◌, ◌≤◌, ◌<◌, ◌⊎◌, inl, inr, ℕ, ℤ, pos, nat_lt, not, Bool, true, false, if◌then◌else◌, List, [], ◌∷◌, length, Ok, Err, refl, subst, sym, ◌∙◌, ap, arith}
-use Rattle.std.specs.Int.{w8, w16, w32, w64}
+use Rattle.std.proofs.Common.{◌≡◌, inl, inr, ℕ, nat_lt, Bool, true, false, if◌then◌else◌, Ok, Err, refl}
+use Rattle.std.specs.Int.{w32}
 use Rattle.giop_cdr.specs.declared.fault.CdrFault.{CdrFault}
-use Rattle.giop_cdr.specs.declared.fault.CdrKind.TheVariants.{BadLabel, BadCount, BoundPassed}
+use Rattle.giop_cdr.specs.declared.fault.CdrKind.TheVariants.{BadLabel}
 use Rattle.giop_cdr.specs.Cursor.{Cursor}
-use Rattle.giop_cdr.specs.Reading.{Reading, ◌>>=◌, fault, number_at, signed_at, boolean_at}
-use Rattle.giop_cdr.specs.Spelling.{Spelling, SpellsNumber, Then, Known}
-use Rattle.giop_cdr.specs.Readers.{Stretch, Refusal, Took, IsExact, FirstRefused, NeverRefused, RefusedShort}
+use Rattle.giop_cdr.specs.Reading.{Reading, fault, number_at}
+use Rattle.giop_cdr.specs.Spelling.{Spelling, SpellsNumber, Known}
+use Rattle.giop_cdr.specs.Readers.{Refusal, Took, IsExact, FirstRefused, NeverRefused, RefusedShort}
 use Rattle.giop_cdr.proofs.Answers.{exact_by}
 use Rattle.giop_cdr.proofs.Composing.{then_exact, nothing_exact, such_exact}
 use Rattle.giop_cdr.proofs.FieldSpelling.{number_exact}

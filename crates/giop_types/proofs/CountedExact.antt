@@ -1,13 +1,15 @@
 -- Sequences within a bound, and arrays.
-use Rattle.std.proofs.Common.{◌≡◌, ◌≤◌, ◌<◌, ◌⊎◌, inl, inr, ℕ, ◌+◌, nat_lt, not, Bool, true, false, if◌then◌else◌, List, ◌++◌, length, Ok, Err, refl, subst, sym, ◌∙◌, ap, length-append, arith}
+use Rattle.std.proofs.Common.{◌≡◌, ◌≤◌, ◌⊎◌, inl, inr, ℕ, ◌+◌, nat_lt, not, true, false, if◌then◌else◌, List}
+use Rattle.std.proofs.Common.{length, Err, refl, ◌∙◌, ap, length-append, arith}
 use Rattle.std.proofs.lemmas.Bool.{lt-ltb, le-ltb, ltb-true, ltb-false, not-true}
 use Rattle.std.specs.Int.{w32}
 use Rattle.giop_cdr.specs.declared.fault.CdrFault.{CdrFault}
 use Rattle.giop_cdr.specs.declared.fault.CdrKind.TheVariants.{BadCount, BoundPassed}
 use Rattle.giop_cdr.specs.Cursor.{Cursor, place}
-use Rattle.giop_cdr.specs.Reading.{Reading, ◌>>=◌, fault, count_at, items_at, passes}
-use Rattle.giop_cdr.specs.Spelling.{Spelling, SpellsNumber, Then, Such, CountedItems}
-use Rattle.giop_cdr.specs.Readers.{Stretch, Refusal, Took, IsExact, IsExactHere, Follow, FirstRefused, Counts, RefusedCount, RefusedAmong, TakesOctets}
+use Rattle.giop_cdr.specs.Reading.{Reading, fault, count_at, items_at, passes}
+use Rattle.giop_cdr.specs.Spelling.{Spelling, SpellsNumber, Such, CountedItems}
+use Rattle.giop_cdr.specs.Readers.{Stretch, Refusal, Took, IsExact, Follow, Counts, RefusedCount}
+use Rattle.giop_cdr.specs.Readers.{RefusedAmong, TakesOctets}
 use Rattle.giop_cdr.proofs.Answers.{exact_by, follow_exact, guard_exact}
 use Rattle.giop_cdr.proofs.CountSpelling.{count_exact}
 use Rattle.giop_cdr.proofs.SequenceSpelling.{items_exact, each_is_long}

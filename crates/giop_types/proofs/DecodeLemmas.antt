@@ -1,5 +1,6 @@
 -- What decoding answers is what is spelled.
-use Rattle.std.proofs.Common.{◌≡◌, ◌≤◌, ◌+◌, ◌⊎◌, inl, inr, true, length, length-append, arith, Result, Ok, Err, IfOk, refl, sym, ap, ◌∙◌}
+use Rattle.std.proofs.Common.{◌≡◌, ◌≤◌, ◌+◌, inl, inr, true, length, length-append, arith, Result, Ok, Err}
+use Rattle.std.proofs.Common.{IfOk, sym, ap, ◌∙◌}
 use Rattle.giop_cdr.specs.declared.fault.CdrFault.{CdrFault}
 use Rattle.giop_cdr.specs.Cursor.{Cursor}
 use Rattle.giop_cdr.specs.Outcome.{Allocates}

@@ -1,15 +1,18 @@
 -- A value has no more leaves than octets spell it.
-use Rattle.std.proofs.Common.{◌≡◌, ◌≤◌, ◌<◌, ℕ, zero, suc, ◌+◌, ℤ, nat_lt, ◌&&◌, not, max, Bool, true, false, List, [], ◌∷◌, ◌++◌, length, refl, ap, ◌∙◌, length-append, arith}
-use Rattle.std.proofs.lemmas.Bool.{ltb-true}
-use Rattle.std.specs.Int.{w32}
+use Rattle.std.proofs.Common.{◌≡◌, ◌≤◌, ◌<◌, ℕ, zero, suc, ◌+◌, ℤ, nat_lt, ◌&&◌, max, Bool, true, false, List}
+use Rattle.std.proofs.Common.{[], ◌∷◌, length, refl, ap, ◌∙◌, length-append, arith}
 use Rattle.giop_cdr.specs.declared.order.Order.{Order}
-use Rattle.giop_cdr.specs.Reading.{passes}
-use Rattle.giop_cdr.specs.Spelling.{Spelling, SpellsNumber, SpellsString, SpellsOctets, SpellsEach, CountedItems, CountedText, CountedOctets, Then, Such, Known, Bounded}
-use Rattle.giop_types.specs.Shape.{Shape, boolean, octet, char, short, ushort, long, ulong, longlong, ulonglong, text, octets, labels, members, choice, items, row, Fields, no_fields, field, Branches, no_branches, branch}
-use Rattle.giop_types.specs.Tree.{Tree, boolean_of, octet_of, char_of, short_of, ushort_of, long_of, ulong_of, longlong_of, ulonglong_of, text_of, octets_of, label_of, members_of, choice_of, items_of, row_of, Trees, no_trees, tree}
+use Rattle.giop_cdr.specs.Spelling.{Spelling, SpellsString, SpellsOctets, SpellsEach, CountedItems}
+use Rattle.giop_cdr.specs.Spelling.{CountedText, Bounded}
+use Rattle.giop_types.specs.Shape.{Shape, boolean, octet, char, short, ushort, long, ulong, longlong}
+use Rattle.giop_types.specs.Shape.{ulonglong, text, octets, labels, members, choice, items, row, Fields}
+use Rattle.giop_types.specs.Shape.{no_fields, field, Branches, no_branches, branch}
+use Rattle.giop_types.specs.Tree.{Tree, boolean_of, octet_of, char_of, short_of, ushort_of, long_of, ulong_of}
+use Rattle.giop_types.specs.Tree.{longlong_of, ulonglong_of, text_of, octets_of, label_of, members_of}
+use Rattle.giop_types.specs.Tree.{items_of, row_of}
 use Rattle.giop_types.specs.Views.{trees_of}
 use Rattle.giop_types.specs.Decoding.{is_label}
-use Rattle.giop_types.specs.Spells.{As, Chosen, SpellsBounded, SpellsLabel, Spells, SpellsFields, SpellsBranches}
+use Rattle.giop_types.specs.Spells.{As, Chosen, SpellsBounded, Spells, SpellsFields, SpellsBranches}
 use Rattle.giop_types.specs.Full.{is_discriminant, has_fields, is_full, are_full, all_full}
 use Rattle.giop_types.specs.Leaves.{leaves, leaves_of}
 use Rattle.giop_types.proofs.Takes.{and_parts, shape_takes, label_takes}

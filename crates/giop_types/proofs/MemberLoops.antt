@@ -1,5 +1,6 @@
 -- Members that are passed over, or read, one after the other by a loop over their descriptions.
-use Rattle.std.proofs.Common.{◌≡◌, ℕ, ℤ, ◌+◌, ◌<◌, ◌≤◌, Bool, true, false, Option, None, Result, Ok, Err, inr, subst, List, [], ◌∷◌, ◌++◌, map, drop, get_or, length, refl, sym, ap, ◌∙◌, append_assoc, arith}
+use Rattle.std.proofs.Common.{◌≡◌, ℕ, ℤ, ◌+◌, ◌<◌, ◌≤◌, Bool, true, false, Option, None, Result, Ok, Err, inr}
+use Rattle.std.proofs.Common.{subst, List, [], ◌∷◌, ◌++◌, map, drop, get_or, length, refl, sym, ap, ◌∙◌}
 use Rattle.std.proofs.lemmas.List.{drop_more, append-nil, map-append}
 use Rattle.std.proofs.Math.ListN.{drop_of_length-le}
 use Rattle.giop_cdr.specs.declared.fault.CdrFault.{CdrFault}

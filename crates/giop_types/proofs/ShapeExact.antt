@@ -1,22 +1,27 @@
 -- A value of a full shape that is read is one that is spelled, and what is refused is refused.
-use Rattle.std.proofs.Common.{◌≡◌, ◌≤◌, ◌<◌, ℕ, ℤ, pos, nat_lt, not, ◌&&◌, Bool, true, false, if◌then◌else◌, List, [], ◌∷◌, length, Ok, Err, refl, arith}
-use Rattle.std.proofs.lemmas.Bool.{ltb-true}
+use Rattle.std.proofs.Common.{◌≡◌, ℤ, pos, nat_lt, ◌&&◌, true, if◌then◌else◌, [], ◌∷◌, length}
 use Rattle.std.specs.Int.{w8, w16, w32, w64}
-use Rattle.giop_cdr.specs.Cursor.{Cursor}
-use Rattle.giop_cdr.specs.Reading.{Reading, ◌>>=◌, number_at, signed_at, boolean_at, octets_at, string_at}
-use Rattle.giop_cdr.specs.Spelling.{Spelling, SpellsNumber, SpellsSigned, SpellsBoolean, SpellsString, SpellsOctets, CountedItems, Then, Known, Bounded}
-use Rattle.giop_cdr.specs.Readers.{Refusal, Took, IsExact, NeverRefused, RefusedShort, RefusedBoolean, RefusedString, RefusedOctets}
+use Rattle.giop_cdr.specs.Reading.{number_at, signed_at, boolean_at, octets_at, string_at}
+use Rattle.giop_cdr.specs.Spelling.{SpellsNumber, SpellsSigned, SpellsBoolean, SpellsString, SpellsOctets}
+use Rattle.giop_cdr.specs.Spelling.{CountedItems, Bounded}
+use Rattle.giop_cdr.specs.Readers.{Took, IsExact, RefusedShort, RefusedBoolean, RefusedString, RefusedOctets}
 use Rattle.giop_cdr.proofs.FieldSpelling.{number_exact, signed_exact}
 use Rattle.giop_cdr.proofs.BooleanSpelling.{boolean_exact}
 use Rattle.giop_cdr.proofs.CountSpelling.{octets_exact}
 use Rattle.giop_cdr.proofs.TextSpelling.{string_exact}
 use Rattle.giop_cdr.proofs.Composing.{then_exact, nothing_exact}
-use Rattle.giop_types.specs.Shape.{Shape, boolean, octet, char, short, ushort, long, ulong, longlong, ulonglong, text, octets, labels, members, choice, items, row, Fields, no_fields, field, Branches, no_branches, branch}
-use Rattle.giop_types.specs.Tree.{Tree, boolean_of, octet_of, char_of, short_of, ushort_of, long_of, ulong_of, longlong_of, ulonglong_of, text_of, octets_of, label_of, members_of, choice_of, items_of, row_of}
+use Rattle.giop_types.specs.Shape.{Shape, boolean, octet, char, short, ushort, long, ulong, longlong}
+use Rattle.giop_types.specs.Shape.{ulonglong, text, octets, labels, members, choice, items, row, Fields}
+use Rattle.giop_types.specs.Shape.{no_fields, field, Branches, no_branches, branch}
+use Rattle.giop_types.specs.Tree.{boolean_of, octet_of, char_of, short_of, ushort_of, long_of, ulong_of}
+use Rattle.giop_types.specs.Tree.{longlong_of, ulonglong_of, text_of, octets_of, label_of, members_of}
+use Rattle.giop_types.specs.Tree.{choice_of, items_of, row_of}
 use Rattle.giop_types.specs.Views.{trees_of}
-use Rattle.giop_types.specs.Decoding.{as_read, ordinal_at, label_at, is_label, bounded_at, row_at, decode_at, fields_at, branches_at}
-use Rattle.giop_types.specs.Spells.{As, Nothing, Chosen, SpellsOrdinal, SpellsBounded, SpellsLabel, Spells, SpellsFields, SpellsBranches}
-use Rattle.giop_types.specs.Refusals.{RefusedOrdinal, RefusedLabel, RefusedBounded, RefusedRow, RefusedBy, RefusedShape, RefusedFields, RefusedBranches}
+use Rattle.giop_types.specs.Decoding.{as_read, ordinal_at, label_at, is_label, bounded_at, row_at, decode_at}
+use Rattle.giop_types.specs.Decoding.{fields_at, branches_at}
+use Rattle.giop_types.specs.Spells.{As, SpellsOrdinal, SpellsBounded, SpellsLabel, Spells, SpellsFields, SpellsBranches}
+use Rattle.giop_types.specs.Refusals.{RefusedOrdinal, RefusedLabel, RefusedBounded, RefusedRow, RefusedShape}
+use Rattle.giop_types.specs.Refusals.{RefusedFields, RefusedBranches}
 use Rattle.giop_types.specs.Full.{is_discriminant, has_fields, is_full, are_full, all_full}
 use Rattle.giop_types.proofs.AsExact.{as_exact, ordinal_exact, none_exact, chosen_exact}
 use Rattle.giop_types.proofs.CountedExact.{bounded_exact, row_exact}

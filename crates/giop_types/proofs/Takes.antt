@@ -1,18 +1,24 @@
 -- Every value of a full shape takes an octet.
-use Rattle.std.proofs.Common.{◌≡◌, ◌≤◌, ◌<◌, ℕ, zero, suc, ℤ, pos, ◌+◌, nat_lt, not, ◌&&◌, Bool, true, false, List, ◌∷◌, ◌++◌, length, refl, ap, ◌∙◌, length-append, arith}
+use Rattle.std.proofs.Common.{◌≡◌, ◌≤◌, ◌<◌, ℕ, pos, ◌+◌, nat_lt, not, ◌&&◌, Bool, true, false, List, ◌∷◌}
+use Rattle.std.proofs.Common.{length, refl, ap, ◌∙◌, length-append, arith}
 use Rattle.std.proofs.lemmas.Bool.{ltb-true}
 use Rattle.std.specs.Int.{Width, w8, w16, w32, w64, byte_len}
 use Rattle.giop_cdr.specs.declared.order.Order.{Order}
 use Rattle.giop_cdr.specs.Reading.{passes}
-use Rattle.giop_cdr.specs.Spelling.{Spelling, SpellsField, SpellsNumber, SpellsSigned, SpellsBoolean, SpellsString, SpellsOctets, CountedItems, Then, Such, Known, Bounded}
+use Rattle.giop_cdr.specs.Spelling.{Spelling, SpellsField, SpellsNumber, SpellsSigned, SpellsBoolean}
+use Rattle.giop_cdr.specs.Spelling.{SpellsString, SpellsOctets, CountedItems, Then, Such, Known, Bounded}
 use Rattle.giop_cdr.specs.Readers.{TakesOctets}
 use Rattle.giop_cdr.proofs.SequenceSpelling.{each_is_long}
-use Rattle.giop_types.specs.Shape.{Shape, boolean, octet, char, short, ushort, long, ulong, longlong, ulonglong, text, octets, labels, members, choice, items, row, Fields, no_fields, field, Branches, no_branches, branch}
-use Rattle.giop_types.specs.Tree.{Tree, boolean_of, octet_of, char_of, short_of, ushort_of, long_of, ulong_of, longlong_of, ulonglong_of, text_of, octets_of, label_of, members_of, choice_of, items_of, row_of}
+use Rattle.giop_types.specs.Shape.{Shape, boolean, octet, char, short, ushort, long, ulong, longlong}
+use Rattle.giop_types.specs.Shape.{ulonglong, text, octets, labels, members, choice, items, row, Fields}
+use Rattle.giop_types.specs.Shape.{no_fields, field}
+use Rattle.giop_types.specs.Tree.{Tree, boolean_of, octet_of, char_of, short_of, ushort_of, long_of, ulong_of}
+use Rattle.giop_types.specs.Tree.{longlong_of, ulonglong_of, text_of, octets_of, label_of, members_of}
+use Rattle.giop_types.specs.Tree.{choice_of, items_of, row_of}
 use Rattle.giop_types.specs.Views.{trees_of}
-use Rattle.giop_types.specs.Decoding.{is_label}
-use Rattle.giop_types.specs.Spells.{As, Nothing, Chosen, SpellsOrdinal, SpellsBounded, SpellsLabel, Spells, SpellsFields, SpellsBranches}
-use Rattle.giop_types.specs.Full.{is_discriminant, has_fields, is_full, are_full, all_full}
+use Rattle.giop_types.specs.Spells.{As, Nothing, SpellsOrdinal, SpellsBounded, SpellsLabel, Spells}
+use Rattle.giop_types.specs.Spells.{SpellsFields, SpellsBranches}
+use Rattle.giop_types.specs.Full.{has_fields, is_full, are_full}
 
 pub and_parts : (a b : Bool) → (a && b) ≡ true → (a ≡ true) × (b ≡ true)
 and_parts true true h = (refl, refl)

@@ -1,10 +1,9 @@
 -- What a description says, variant by variant.
-use Rattle.std.proofs.Common.{◌≡◌, rules, ℕ, ℤ, List, [], ◌∷◌, map, refl, Option, Some, None}
-use Rattle.giop_types.specs.declared.desc.Desc.{Desc, the_lemmas}
+use Rattle.std.proofs.Common.{◌≡◌, rules, ℕ, ℤ, map, Some, None}
+use Rattle.giop_types.specs.declared.desc.Desc.{the_lemmas}
 use Rattle.giop_types.specs.declared.desc.Desc.TheVariants as desc
 use Rattle.giop_types.specs.declared.desc.NamedDesc.{NamedDesc}
 use Rattle.giop_types.specs.declared.desc.CaseDesc.{CaseDesc}
-use Rattle.giop_types.specs.declared.value.Value.{Value}
 use Rattle.giop_types.specs.declared.value.Value.{the_lemmas as value_lemmas}
 use Rattle.giop_types.specs.declared.value.Value.TheVariants as value
 use Rattle.giop_types.specs.Tree.{choice_of, no_trees, tree}

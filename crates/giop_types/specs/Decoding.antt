@@ -1,15 +1,19 @@
 -- What reading a value of a shape answers: the value and the cursor behind it, or the first fault
 -- (CORBA 3.3 Part 2, 9.3.2 constructed types).
-use Rattle.std.specs.Prelude.{ℕ, ℤ, pos, ◌==◌, nat_lt, not, Bool, true, false, if◌then◌else◌, List, [], ◌∷◌, length, Result, Ok, Err}
+use Rattle.std.specs.Prelude.{ℕ, ℤ, pos, nat_lt, Bool, if◌then◌else◌, List, [], ◌∷◌, length, Ok, Err}
 use Rattle.std.specs.List.{list_any}
 use Rattle.std.specs.Ordering.{int_eq}
 use Rattle.std.specs.Int.{w8, w16, w32, w64}
-use Rattle.giop_cdr.specs.declared.fault.CdrFault.{CdrFault}
 use Rattle.giop_cdr.specs.declared.fault.CdrKind.TheVariants.{BadLabel, BadCount, BoundPassed}
 use Rattle.giop_cdr.specs.Cursor.{Cursor, place}
-use Rattle.giop_cdr.specs.Reading.{Reading, ◌>>=◌, fault, number_at, signed_at, boolean_at, count_at, octets_at, string_at, passes, such_at, items_at}
-use Rattle.giop_types.specs.Shape.{Shape, boolean, octet, char, short, ushort, long, ulong, longlong, ulonglong, text, octets, labels, members, choice, items, row, Fields, no_fields, field, Branches, no_branches, branch}
-use Rattle.giop_types.specs.Tree.{Tree, boolean_of, octet_of, char_of, short_of, ushort_of, long_of, ulong_of, longlong_of, ulonglong_of, text_of, octets_of, label_of, members_of, choice_of, items_of, row_of, Trees}
+use Rattle.giop_cdr.specs.Reading.{Reading, ◌>>=◌, fault, number_at, signed_at, boolean_at, count_at}
+use Rattle.giop_cdr.specs.Reading.{octets_at, string_at, passes, such_at, items_at}
+use Rattle.giop_types.specs.Shape.{Shape, boolean, octet, char, short, ushort, long, ulong, longlong}
+use Rattle.giop_types.specs.Shape.{ulonglong, text, octets, labels, members, choice, items, row, Fields}
+use Rattle.giop_types.specs.Shape.{no_fields, field, Branches, no_branches, branch}
+use Rattle.giop_types.specs.Tree.{Tree, boolean_of, octet_of, char_of, short_of, ushort_of, long_of, ulong_of}
+use Rattle.giop_types.specs.Tree.{longlong_of, ulonglong_of, text_of, octets_of, label_of, members_of}
+use Rattle.giop_types.specs.Tree.{choice_of, items_of, row_of}
 use Rattle.giop_types.specs.Views.{trees_of}
 
 -- a value that is read as another is
@@ -43,7 +47,7 @@ bounded_at item bound c = do
   n ← count_at c
   if passes bound n.0 then Err (fault (place 4 c) BoundPassed) else items_at item n.0 n.1
 
--- the member that a label selects by a case, or else by default
+-- whether a label is among those of a case
 abbrev pub is_label : ℤ → List ℤ → Bool
 is_label label ls = list_any (λ l. int_eq l label) ls
 

@@ -1,6 +1,8 @@
 -- Shapes whose every value takes an octet: so a count above what remains can't be met.
-use Rattle.std.specs.Prelude.{ℕ, ◌<◌, nat_lt, ◌&&◌, Bool, true, false, List, []}
-use Rattle.giop_types.specs.Shape.{Shape, boolean, octet, char, short, ushort, long, ulong, longlong, ulonglong, text, octets, labels, members, choice, items, row, Fields, no_fields, field, Branches, no_branches, branch}
+use Rattle.std.specs.Prelude.{nat_lt, ◌&&◌, Bool, true, false}
+use Rattle.giop_types.specs.Shape.{Shape, boolean, char, short, ushort, long, ulong, longlong, ulonglong}
+use Rattle.giop_types.specs.Shape.{labels, members, choice, items, row, Fields, no_fields, field, Branches}
+use Rattle.giop_types.specs.Shape.{no_branches, branch}
 
 -- whether a discriminant can have this shape
 abbrev pub is_discriminant : Shape → Bool

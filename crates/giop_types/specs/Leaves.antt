@@ -1,6 +1,7 @@
 -- How much a value holds: its primitives, and the octets of its texts.
-use Rattle.std.specs.Prelude.{ℕ, ◌+◌, List, length, max}
-use Rattle.giop_types.specs.Tree.{Tree, boolean_of, octet_of, char_of, short_of, ushort_of, long_of, ulong_of, longlong_of, ulonglong_of, text_of, octets_of, label_of, members_of, choice_of, items_of, row_of, Trees, no_trees, tree}
+use Rattle.std.specs.Prelude.{ℕ, ◌+◌, length, max}
+use Rattle.giop_types.specs.Tree.{Tree, text_of, octets_of, members_of, choice_of, items_of, row_of, Trees}
+use Rattle.giop_types.specs.Tree.{no_trees, tree}
 
 -- the leaves of a value; an empty list or text is one, and so is a discriminant
 abbrev mutual

@@ -1,17 +1,20 @@
 -- Which octets are refused where a value of a shape is read, and where: the first field in reading
 -- order that isn't spelled, while all before it are (CORBA 3.3 Part 2, 9.3.2).
-use Rattle.std.specs.Prelude.{◌≡◌, ◌≤◌, ◌<◌, ◌⊎◌, ℕ, ℤ, nat_lt, not, Bool, true, false, List, [], length}
-use Rattle.giop_cdr.specs.declared.fault.CdrFault.{CdrFault}
+use Rattle.std.specs.Prelude.{◌≡◌, ◌≤◌, ◌<◌, ◌⊎◌, ℕ, ℤ, nat_lt, Bool, true, false, length}
 use Rattle.giop_cdr.specs.declared.fault.CdrKind.TheVariants.{BadLabel, BadCount, BoundPassed}
-use Rattle.giop_cdr.specs.Cursor.{Cursor, place}
+use Rattle.giop_cdr.specs.Cursor.{place}
 use Rattle.giop_cdr.specs.Reading.{fault, passes}
-use Rattle.giop_cdr.specs.Spelling.{Spelling, SpellsNumber}
+use Rattle.giop_cdr.specs.Spelling.{SpellsNumber}
 use Rattle.std.specs.Int.{w32}
-use Rattle.giop_cdr.specs.Readers.{Stretch, Refusal, Took, Counts, RefusedCount, FirstRefused, NeverRefused, RefusedShort, RefusedBoolean, RefusedString, RefusedOctets, RefusedUnless, RefusedAmong}
-use Rattle.giop_types.specs.Shape.{Shape, boolean, octet, char, short, ushort, long, ulong, longlong, ulonglong, text, octets, labels, members, choice, items, row, Fields, no_fields, field, Branches, no_branches, branch}
+use Rattle.giop_cdr.specs.Readers.{Stretch, Refusal, Took, Counts, RefusedCount, FirstRefused, NeverRefused}
+use Rattle.giop_cdr.specs.Readers.{RefusedShort, RefusedBoolean, RefusedString, RefusedOctets, RefusedUnless}
+use Rattle.giop_cdr.specs.Readers.{RefusedAmong}
+use Rattle.giop_types.specs.Shape.{Shape, boolean, octet, char, short, ushort, long, ulong, longlong}
+use Rattle.giop_types.specs.Shape.{ulonglong, text, octets, labels, members, choice, items, row, Fields}
+use Rattle.giop_types.specs.Shape.{no_fields, field, Branches, no_branches, branch}
 use Rattle.giop_types.specs.Tree.{Tree}
 use Rattle.giop_types.specs.Decoding.{is_label}
-use Rattle.giop_types.specs.Spells.{Spells, SpellsFields, SpellsLabel}
+use Rattle.giop_types.specs.Spells.{Spells, SpellsLabel}
 
 -- no unsigned long is there, or the ordinal of no name
 abbrev pub RefusedOrdinal : ℕ → Refusal

@@ -1,11 +1,15 @@
 -- Which octets spell which value of a shape, and which are refused (CORBA 3.3 Part 2, 9.3.2).
-use Rattle.std.specs.Prelude.{◌≡◌, ◌≤◌, ◌<◌, ℕ, ℤ, pos, ◌==◌, nat_lt, not, Bool, true, false, if◌then◌else◌, List, [], ◌∷◌, length}
+use Rattle.std.specs.Prelude.{ℕ, ℤ, pos, nat_lt, not, Bool, true, false, if◌then◌else◌, List, [], ◌∷◌, length}
 use Rattle.std.specs.Int.{w8, w16, w32, w64}
-use Rattle.giop_cdr.specs.declared.fault.CdrKind.TheVariants.{BadLabel, BadCount, BoundPassed}
-use Rattle.giop_cdr.specs.Reading.{fault, passes}
-use Rattle.giop_cdr.specs.Spelling.{Spelling, SpellsNumber, SpellsSigned, SpellsBoolean, SpellsString, SpellsOctets, SpellsEach, CountedItems, Then, Such, Known, Bounded}
-use Rattle.giop_types.specs.Shape.{Shape, boolean, octet, char, short, ushort, long, ulong, longlong, ulonglong, text, octets, labels, members, choice, items, row, Fields, no_fields, field, Branches, no_branches, branch}
-use Rattle.giop_types.specs.Tree.{Tree, boolean_of, octet_of, char_of, short_of, ushort_of, long_of, ulong_of, longlong_of, ulonglong_of, text_of, octets_of, label_of, members_of, choice_of, items_of, row_of, Trees}
+use Rattle.giop_cdr.specs.Reading.{passes}
+use Rattle.giop_cdr.specs.Spelling.{Spelling, SpellsNumber, SpellsSigned, SpellsBoolean, SpellsString}
+use Rattle.giop_cdr.specs.Spelling.{SpellsOctets, CountedItems, Then, Such, Known, Bounded}
+use Rattle.giop_types.specs.Shape.{Shape, boolean, octet, char, short, ushort, long, ulong, longlong}
+use Rattle.giop_types.specs.Shape.{ulonglong, text, octets, labels, members, choice, items, row, Fields}
+use Rattle.giop_types.specs.Shape.{no_fields, field, Branches, no_branches, branch}
+use Rattle.giop_types.specs.Tree.{Tree, boolean_of, octet_of, char_of, short_of, ushort_of, long_of, ulong_of}
+use Rattle.giop_types.specs.Tree.{longlong_of, ulonglong_of, text_of, octets_of, label_of, members_of}
+use Rattle.giop_types.specs.Tree.{choice_of, items_of, row_of}
 use Rattle.giop_types.specs.Views.{trees_of}
 use Rattle.giop_types.specs.Decoding.{is_label}
 

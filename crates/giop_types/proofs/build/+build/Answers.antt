@@ -1,4 +1,4 @@
-use Rattle.std.proofs.Common.{◌≡◌, ◌⊎◌, inl, inr, Ok, Err, List, [], ◌∷◌, ◌++◌, map, to_z, of_z, arith, refl, sym, ap, ◌∙◌}
+use Rattle.std.proofs.Common.{◌≡◌, ◌⊎◌, inl, inr, Ok, Err, [], ◌∷◌, ◌++◌, map, to_z, of_z, arith, refl, sym, ◌∙◌}
 use Rattle.std.proofs.lemmas.Grind.{common_steps}
 use Rattle.std.proofs.lemmas.Result.{err_from_is_err_and}
 use Rattle.giop_cdr.specs.declared.fault.CdrKind.TheVariants.{NoMemory}
@@ -6,7 +6,9 @@ use Rattle.giop_cdr.specs.Reading.{items_at}
 use Rattle.giop_cdr.proofs.ItemLoops.{goes_on, ends, is_done}
 use Rattle.giop_types.specs.Decoding.{decode_at, fields_at, branches_at, is_label, label_at}
 use Rattle.giop_types.specs.Views.{desc_view, named_view, case_view, fallback_view, value_view, fields_of, branches_of}
-use Rattle.giop_types.proofs.MemberLoops.{members_read_on, members_read_end, members_read, one_more, default_read, nothing_read, case_found, case_passed, no_case, value_absent, choice_read, choice_refused, choice_follows}
+use Rattle.giop_types.proofs.MemberLoops.{members_read_on, members_read_end, members_read, one_more}
+use Rattle.giop_types.proofs.MemberLoops.{default_read, nothing_read, case_found, case_passed, no_case}
+use Rattle.giop_types.proofs.MemberLoops.{value_absent, choice_read, choice_refused, choice_follows}
 use Rattle.giop_types.proofs.ViewLemmas.{view-Choice}
 use Rattle.giop_types.specs.Outcome.{one_or_none}
 use Rattle.giop_types.specs.Shape.{choice}

@@ -6,7 +6,9 @@ use Rattle.std.specs.Int.{w128}
 use Rattle.std.proofs.lemmas.Int.{to_z-of_z}
 use Rattle.giop_types.specs.Decoding.{decode_at, fields_at, branches_at, is_label, label_at}
 use Rattle.giop_types.specs.Views.{desc_view, named_view, case_view, fallback_view, fields_of, branches_of}
-use Rattle.giop_types.proofs.MemberLoops.{members_skip_on, members_skip_end, members_skipped, default_read, nothing_read, skips_one, case_found, case_passed, no_case, past_one, case_absent, choice_by_default}
+use Rattle.giop_types.proofs.MemberLoops.{members_skip_on, members_skip_end, members_skipped, default_read}
+use Rattle.giop_types.proofs.MemberLoops.{nothing_read, skips_one, case_found, case_passed, no_case, past_one}
+use Rattle.giop_types.proofs.MemberLoops.{case_absent, choice_by_default}
 use Rattle.giop_types.proofs.ViewLemmas.{view-Choice}
 use Rattle.giop_types.proofs.skip.+skip.Goals as goal
 

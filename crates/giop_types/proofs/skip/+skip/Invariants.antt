@@ -3,7 +3,7 @@ use Rattle.giop_cdr.specs.Cursor.{Cursor}
 use Rattle.giop_cdr.specs.Reading.{Reading, past, items_at}
 use Rattle.giop_types.specs.Tree.{Tree}
 use Rattle.giop_types.specs.Decoding.{decode_at, fields_at, branches_at}
-use Rattle.giop_types.specs.Views.{desc_view, named_view, case_view, fallback_view, fields_of, branches_of}
+use Rattle.giop_types.specs.Views.{desc_view, named_view, case_view, fields_of, branches_of}
 use Rattle.giop_types.proofs.skip.+skip.Given as goal
 
 abbrev pub invariant-skip_members-loop-member : goal.invariant-skip_members-loop-member
