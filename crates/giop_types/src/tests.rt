@@ -2,4 +2,5 @@
 
 mod decoding;
 mod memory;
+mod recorded;
 mod samples;

@@ -6,8 +6,8 @@ use std::alloc::Global;
 use std::process::Abort;
 use std::test::Fail;
 
-// What is read of octets whose first has the offset `start`, and the offset behind it.
-fn read(
+/// What is read of octets whose first has the offset `start`, and the offset behind it.
+pub fn read(
     alloc: Global,
     desc: &Desc,
     octets: &[u8],

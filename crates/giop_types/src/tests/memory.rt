@@ -19,22 +19,22 @@ fn a_value_without_memory_is_left_unread(rt: HostRuntime) -> Result<(), Fail> {
         named(alloc, "reference", reference(alloc)?)?,
     ]?);
     let source = SliceOctets::new(&OCTETS);
-    let mut input = CdrIn::new(&source, Order::Big, 0);
+    let mut input = CdrIn::new(&source, Order::Big, 8);
     let first = value_of(alloc, &desc, &mut input);
     let wanting = CdrFault {
-        at: 0,
+        at: 8,
         kind: CdrKind::NoMemory,
     };
     match first {
         Ok(_) => {}
         Err(fault) => {
             assert_eq!(rt; fault, wanting);
-            assert_eq!(rt; input.position(), 0);
+            assert_eq!(rt; input.position(), 8);
             let again = value_of(alloc, &desc, &mut input);
             assert!(rt; again.is_ok());
         }
     }
-    assert_eq!(rt; input.position(), 54);
+    assert_eq!(rt; input.position(), 62);
     Ok(())
 }
 
