@@ -3,7 +3,6 @@ use Rattle.std.proofs.Common.{◌≡◌, ◌≤◌, ◌+◌, inl, inr, true, len
 use Rattle.std.proofs.Common.{IfOk, sym, ap, ◌∙◌}
 use Rattle.giop_cdr.specs.declared.fault.CdrFault.{CdrFault}
 use Rattle.giop_cdr.specs.Cursor.{Cursor}
-use Rattle.giop_cdr.specs.Outcome.{Allocates}
 use Rattle.giop_cdr.specs.Readers.{Took}
 use Rattle.giop_cdr.proofs.Answers.{ok_same}
 use Rattle.giop_types.specs.declared.value.Value.{Value}
@@ -11,7 +10,7 @@ use Rattle.giop_types.specs.Shape.{Shape}
 use Rattle.giop_types.specs.Tree.{Tree}
 use Rattle.giop_types.specs.Decoding.{decode_at}
 use Rattle.giop_types.specs.Full.{is_full}
-use Rattle.giop_types.specs.Outcome.{IsDecoded}
+use Rattle.giop_types.specs.Outcome.{Decodes, IsDecoded}
 use Rattle.giop_types.specs.Spells.{Spells}
 use Rattle.giop_types.specs.Views.{value_view}
 use Rattle.giop_types.specs.Leaves.{leaves}
@@ -19,12 +18,12 @@ use Rattle.giop_types.proofs.ShapeExact.{shape_exact}
 use Rattle.giop_types.proofs.LeavesLemmas.{shape_within}
 
 pub found_there : (s : Shape) → is_full s ≡ true → (old : Cursor) (result : Result Value CdrFault) (new : Cursor)
-    → Allocates value_view old result new (decode_at s old) → IfOk result (λ v. Took (Spells s) old (value_view v) new)
+    → Decodes old result new (decode_at s old) → IfOk result (λ v. Took (Spells s) old (value_view v) new)
 found_there s full old (Ok v) new h = (shape_exact s full old).found (value_view v) new h
 found_there s full old (Err e) new h = tt
 
 pub answered_there : (s : Shape) → is_full s ≡ true → (old : Cursor) (result : Result Value CdrFault) (new : Cursor)
-    → Allocates value_view old result new (decode_at s old) → (t : Tree) (after : Cursor) → Took (Spells s) old t after → IsDecoded result new t after
+    → Decodes old result new (decode_at s old) → (t : Tree) (after : Cursor) → Took (Spells s) old t after → IsDecoded result new t after
 answered_there s full old (Ok v) new h t after there =
     let same : (value_view v, new) ≡ (t, after) = ok_same (value_view v, new) (t, after) (sym h ∙ (shape_exact s full old).only t after there) in
     (ap (λ (p : Tree × Cursor). p.0) same, ap (λ (p : Tree × Cursor). p.1) same)
@@ -32,11 +31,11 @@ answered_there s full old (Err e) new h t after there =
     let read = (shape_exact s full old).only t after there in
     elim h.0 [
       | inl refused ↦ absurd cc
-      | inr memory ↦ memory.0
+      | inr memory ↦ ap (λ (f : CdrFault). f.kind) memory.0
     ]
 
 pub bounded_there : (s : Shape) → is_full s ≡ true → (old : Cursor) (result : Result Value CdrFault) (new : Cursor)
-    → Allocates value_view old result new (decode_at s old) → IfOk result (λ v. leaves (value_view v) + length new.rest ≤ length old.rest)
+    → Decodes old result new (decode_at s old) → IfOk result (λ v. leaves (value_view v) + length new.rest ≤ length old.rest)
 bounded_there s full old (Ok v) new h =
     let t = (shape_exact s full old).found (value_view v) new h in
     let few : leaves (value_view v) ≤ length t.octets = shape_within s full old.order old.at (value_view v) t.octets t.spells in

@@ -1,11 +1,11 @@
 -- What a call says that may find its value by a case, or leave it to the default.
-use Rattle.std.specs.Prelude.{◌≡◌, ◌⊎◌, ℤ, Bool, true, false, List, [], ◌∷◌, Option, Some, None, Result, Ok, Err}
+use Rattle.std.specs.Prelude.{◌≡◌, ◌⊎◌, ℤ, Bool, true, false, List, [], ◌∷◌, Option, Some, None, Result, Ok, Err, IsOk}
 use Rattle.giop_cdr.specs.declared.fault.CdrKind.TheVariants.{NoMemory}
 use Rattle.giop_types.specs.declared.value.Value.{Value}
 use Rattle.giop_types.specs.Views.{value_view, trees_of}
 use Rattle.giop_cdr.specs.declared.fault.CdrFault.{CdrFault}
 use Rattle.giop_cdr.specs.Cursor.{Cursor}
-use Rattle.giop_cdr.specs.Reading.{Reading, past}
+use Rattle.giop_cdr.specs.Reading.{Reading, fault, past}
 use Rattle.giop_types.specs.Tree.{Tree, choice_of}
 
 -- a case was passed over, or none is there and the reading is another one
@@ -29,6 +29,12 @@ one_or_none None = []
 abbrev pub MakesChoice : ℤ → List Tree → Result Value CdrFault → Type 0
 MakesChoice label ts (Ok v) = value_view v ≡ choice_of label (trees_of ts)
 MakesChoice label ts (Err e) = e.kind ≡ NoMemory
+
+-- a value was read, or refused so, or memory is wanting where nothing is refused, which is told where
+-- the reader stands; a refusal leaves the reader
+abbrev pub Decodes : Cursor → Result Value CdrFault → Cursor → Reading Tree → Type 0
+Decodes old (Ok v) new reading = reading ≡ Ok (value_view v, new)
+Decodes old (Err e) new reading = ((reading ≡ Err e) ⊎ ((e ≡ fault old.at NoMemory) × IsOk reading)) × (new ≡ old)
 
 -- this value is the answer and the reader stands behind it, unless memory is wanting
 abbrev pub IsDecoded : Result Value CdrFault → Cursor → Tree → Cursor → Type 0

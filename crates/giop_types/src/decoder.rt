@@ -1,10 +1,9 @@
 ghost use Rattle.std.specs.Prelude.{◌≡◌, ◌+◌, ◌≤◌, length, true, IfOk};
-ghost use Rattle.giop_cdr.specs.Outcome.{Allocates};
 ghost use Rattle.giop_cdr.specs.Readers.{Took};
 ghost use Rattle.giop_types.specs.Decoding.{decode_at};
 ghost use Rattle.giop_types.specs.Full.{is_full};
 ghost use Rattle.giop_types.specs.Leaves.{leaves};
-ghost use Rattle.giop_types.specs.Outcome.{IsDecoded};
+ghost use Rattle.giop_types.specs.Outcome.{Decodes, IsDecoded};
 ghost use Rattle.giop_types.specs.Spells.{Spells};
 ghost use Rattle.giop_types.specs.Views.{desc_view, value_view};
 
@@ -20,8 +19,8 @@ use std::alloc::Global;
 /// The first field in reading order that isn't spelled is refused, as giop_cdr's reader of its kind
 /// refuses it; besides, as BadLabel at its place where it is the ordinal of no name, as BoundPassed
 /// at the place of a count that is above the bound, and as BadCount where the reader stands at an
-/// array of more values than octets are left. As NoMemory where nothing else is refused and memory
-/// is wanting. The reader then stays where it was.
+/// array of more values than octets are left. As NoMemory, where the reader stands, if nothing else
+/// is refused and memory is wanting. The reader then stays where it was.
 pub fn decode<S: Octets>(
     alloc: Global,
     desc: &Desc,
@@ -39,8 +38,7 @@ pub fn decode<S: Octets>(
         leaves (value_view value) + length input.new.rest ≤ length input.old.rest) }
 
     // Which refusal it is.
-    ensures value { Allocates value_view input.old result input.new
-        (decode_at (desc_view desc.now) input.old) }
+    ensures value { Decodes input.old result input.new (decode_at (desc_view desc.now) input.old) }
 {
     value_of(alloc, desc, input)
 }
@@ -52,8 +50,7 @@ pub(crate) fn value_of<S: Octets>(
     desc: &Desc,
     input: &mut CdrIn<S>,
 ) -> Result<Value, CdrFault>
-    ensures { Allocates value_view input.old result input.new
-        (decode_at (desc_view desc.now) input.old) }
+    ensures { Decodes input.old result input.new (decode_at (desc_view desc.now) input.old) }
 {
     let mut ahead = input.fork();
     let fault = match build(alloc, desc, &mut ahead) {
