@@ -6,3 +6,7 @@ pub mod Takes
 pub mod ShapeExact
 pub mod LeavesLemmas
 pub mod DecodeLemmas
+pub mod ListLoops
+pub mod NameLemmas
+pub mod LabelLemmas
+pub mod CheckLemmas

@@ -7,3 +7,5 @@ pub mod Refusals
 pub mod Full
 pub mod Outcome
 pub mod Leaves
+pub mod Checked
+pub mod CheckedShape

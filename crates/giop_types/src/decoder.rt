@@ -1,13 +1,14 @@
-ghost use Rattle.std.specs.Prelude.{◌≡◌, ◌+◌, ◌≤◌, length, true, IfOk};
+ghost use Rattle.std.specs.Prelude.{◌≡◌, ◌+◌, ◌≤◌, length, IfOk};
 ghost use Rattle.giop_cdr.specs.Readers.{Took};
 ghost use Rattle.giop_types.specs.Decoding.{decode_at};
-ghost use Rattle.giop_types.specs.Full.{is_full};
+ghost use Rattle.giop_types.specs.CheckedShape.{checked_shape};
 ghost use Rattle.giop_types.specs.Leaves.{leaves};
 ghost use Rattle.giop_types.specs.Outcome.{Decodes, IsDecoded};
 ghost use Rattle.giop_types.specs.Spells.{Spells};
 ghost use Rattle.giop_types.specs.Views.{desc_view, value_view};
 
 use crate::build::build;
+use crate::checked_desc::CheckedDesc;
 use crate::desc::Desc;
 use crate::skip::skip;
 use crate::value::Value;
@@ -23,14 +24,13 @@ use std::alloc::Global;
 /// is refused and memory is wanting. The reader then stays where it was.
 pub fn decode<S: Octets>(
     alloc: Global,
-    desc: &Desc,
+    desc: &CheckedDesc,
     input: &mut CdrIn<S>,
 ) -> Result<Value, CdrFault>
-    requires { is_full (desc_view desc.now) ≡ true }
     // What is answered is what is spelled there, and what is spelled there is answered.
     ensures found { IfOk result (λ value.
-        Took (Spells (desc_view desc.now)) input.old (value_view value) input.new) }
-    ensures only { (tree : _) (after : _) → Took (Spells (desc_view desc.now)) input.old tree after
+        Took (Spells (checked_shape desc.now)) input.old (value_view value) input.new) }
+    ensures only { (tree : _) (after : _) → Took (Spells (checked_shape desc.now)) input.old tree after
         → IsDecoded result input.new tree after }
 
     // It has no more leaves than octets were read.
@@ -38,18 +38,14 @@ pub fn decode<S: Octets>(
         leaves (value_view value) + length input.new.rest ≤ length input.old.rest) }
 
     // Which refusal it is.
-    ensures value { Decodes input.old result input.new (decode_at (desc_view desc.now) input.old) }
+    ensures value { Decodes input.old result input.new (decode_at (checked_shape desc.now) input.old) }
 {
-    value_of(alloc, desc, input)
+    value_of(alloc, desc.desc(), input)
 }
 
 // The value, in one pass where all goes well. Memory comes last: where it is wanting, a second pass
 // without memory looks for a fault.
-pub(crate) fn value_of<S: Octets>(
-    alloc: Global,
-    desc: &Desc,
-    input: &mut CdrIn<S>,
-) -> Result<Value, CdrFault>
+fn value_of<S: Octets>(alloc: Global, desc: &Desc, input: &mut CdrIn<S>) -> Result<Value, CdrFault>
     ensures { Decodes input.old result input.new (decode_at (desc_view desc.now) input.old) }
 {
     let mut ahead = input.fork();

@@ -2,17 +2,23 @@
 #![tactic(auto)]
 
 mod build;
+mod check;
+mod checked_desc;
 mod decoder;
 mod desc;
+mod desc_fault;
+mod label_check;
 mod laws;
+mod name_check;
 mod reading;
 mod skip;
-mod value;
-
-pub use decoder::decode;
-pub use desc::{CaseDesc, Desc, NamedDesc};
-pub use laws::{values_are_bounded, values_are_spelled};
-pub use value::Value;
-
 #[cfg(test)]
 mod tests;
+mod value;
+
+pub use checked_desc::CheckedDesc;
+pub use decoder::decode;
+pub use desc::{CaseDesc, Desc, NamedDesc};
+pub use desc_fault::DescFault;
+pub use laws::{values_are_bounded, values_are_spelled};
+pub use value::Value;

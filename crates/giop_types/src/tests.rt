@@ -1,5 +1,6 @@
 //! What no clause says: worked octets, and runs without memory.
 
+mod check;
 mod decoding;
 mod memory;
 mod recorded;

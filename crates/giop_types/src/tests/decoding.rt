@@ -1,6 +1,5 @@
-use super::samples::{case, items, labels, named, pair, reference, row, union};
-use crate::decoder::value_of;
-use crate::{Desc, Value};
+use super::samples::{case, checked, items, labels, named, pair, reference, row, union};
+use crate::{CheckedDesc, Desc, Value, decode};
 use giop_cdr::{CdrFault, CdrIn, CdrKind, OctetList, Order, SliceOctets};
 use std::alloc::Global;
 use std::process::Abort;
@@ -9,7 +8,7 @@ use std::test::Fail;
 /// What is read of octets whose first has the offset `start`, and the offset behind it.
 pub fn read(
     alloc: Global,
-    desc: &Desc,
+    desc: &CheckedDesc,
     octets: &[u8],
     order: Order,
     start: u16,
@@ -17,16 +16,23 @@ pub fn read(
     let octets = &octets[..octets.len().min(1 << 20)];
     let source = SliceOctets::new(octets);
     let mut input = CdrIn::new(&source, order, start as usize);
-    let value = value_of(alloc, desc, &mut input)?;
+    let value = decode(alloc, desc, &mut input)?;
     Ok((value, input.position()))
 }
 
-fn expect(rt: &impl Abort, alloc: Global, desc: &Desc, octets: &[u8], value: Value) {
+fn expect(rt: &impl Abort, alloc: Global, desc: &CheckedDesc, octets: &[u8], value: Value) {
     let wanted = Ok((value, octets.len()));
     assert_eq!(rt; read(alloc, desc, octets, Order::Big, 0), wanted);
 }
 
-fn refuse(rt: &impl Abort, alloc: Global, desc: &Desc, octets: &[u8], at: usize, kind: CdrKind) {
+fn refuse(
+    rt: &impl Abort,
+    alloc: Global,
+    desc: &CheckedDesc,
+    octets: &[u8],
+    at: usize,
+    kind: CdrKind,
+) {
     let wanted = Err(CdrFault { at, kind });
     assert_eq!(rt; read(alloc, desc, octets, Order::Big, 0), wanted);
 }
@@ -34,7 +40,7 @@ fn refuse(rt: &impl Abort, alloc: Global, desc: &Desc, octets: &[u8], at: usize,
 #[test]
 fn a_struct_is_its_members_in_their_order(rt: HostRuntime) -> Result<(), Fail> {
     let alloc = rt.alloc();
-    let pair = pair(alloc)?;
+    let pair = checked(pair(alloc)?)?;
     let rows: [(&[u8], Order, u16); 3] = [
         (
             &[1, 0, 0, 0, 0, 0, 0, 0, 0, 0, 0, 0, 0, 0, 0, 2],
@@ -68,7 +74,7 @@ fn a_struct_is_its_members_in_their_order(rt: HostRuntime) -> Result<(), Fail> {
 
 #[test]
 fn an_enum_is_the_ordinal_of_a_name(rt: HostRuntime) -> Result<(), Fail> {
-    let colour = labels(rt.alloc(), &["RED", "GREEN"])?;
+    let colour = checked(labels(rt.alloc(), &["RED", "GREEN"])?)?;
     expect(&rt, rt.alloc(), &colour, &[0, 0, 0, 1], Value::Label(1));
     refuse(
         &rt,
@@ -85,7 +91,7 @@ fn an_enum_is_the_ordinal_of_a_name(rt: HostRuntime) -> Result<(), Fail> {
 #[test]
 fn a_union_is_its_discriminant_and_a_member(rt: HostRuntime) -> Result<(), Fail> {
     let alloc = rt.alloc();
-    let with_default = union(alloc, true)?;
+    let with_default = checked(union(alloc, true)?)?;
     for disc in [1, 2] {
         let member = Some(Box::new(alloc, Value::Short(-2))?);
         let octets = [0, 0, 0, disc, 0xFF, 0xFE];
@@ -107,7 +113,7 @@ fn a_union_is_its_discriminant_and_a_member(rt: HostRuntime) -> Result<(), Fail>
         &octets,
         Value::Choice { disc: -1, member },
     );
-    let without = union(alloc, false)?;
+    let without = checked(union(alloc, false)?)?;
     let octets = [0, 0, 0, 7];
     let bare = Value::Choice {
         disc: 7,
@@ -152,7 +158,7 @@ fn each_discriminant_selects_by_its_number(rt: HostRuntime) -> Result<(), Fail> 
         expect(
             &rt,
             alloc,
-            &selected,
+            &checked(selected)?,
             octets,
             Value::Choice { disc, member },
         );
@@ -173,14 +179,21 @@ fn a_wrong_discriminant_is_refused_at_its_place(rt: HostRuntime) -> Result<(), F
         named(alloc, "second", selected)?,
     ]?);
     let octets = [1, 0, 0, 0, 0, 0, 0, 2, 9];
-    refuse(&rt, alloc, &behind_an_octet, &octets, 4, CdrKind::BadLabel);
+    refuse(
+        &rt,
+        alloc,
+        &checked(behind_an_octet)?,
+        &octets,
+        4,
+        CdrKind::BadLabel,
+    );
     Ok(())
 }
 
 #[test]
 fn a_sequence_is_its_count_and_as_many_values(rt: HostRuntime) -> Result<(), Fail> {
     let alloc = rt.alloc();
-    let shorts = items(alloc, Desc::UShort, 2)?;
+    let shorts = checked(items(alloc, Desc::UShort, 2)?)?;
     let values = vec![in alloc; Value::UShort(7), Value::UShort(8)]?;
     let octets = [0, 0, 0, 2, 0, 7, 0, 8];
     expect(&rt, alloc, &shorts, &octets, Value::Items(values));
@@ -200,7 +213,7 @@ fn a_sequence_is_its_count_and_as_many_values(rt: HostRuntime) -> Result<(), Fai
     refuse(
         &rt,
         alloc,
-        &items(alloc, Desc::Octet, 0)?,
+        &checked(items(alloc, Desc::Octet, 0)?)?,
         &claims,
         0,
         CdrKind::BadCount,
@@ -211,11 +224,11 @@ fn a_sequence_is_its_count_and_as_many_values(rt: HostRuntime) -> Result<(), Fai
 #[test]
 fn an_array_is_its_values(rt: HostRuntime) -> Result<(), Fail> {
     let alloc = rt.alloc();
-    let octets = row(alloc, Desc::Octet, 3)?;
+    let octets = checked(row(alloc, Desc::Octet, 3)?)?;
     let values = vec![in alloc; Value::Octet(1), Value::Octet(2), Value::Octet(3)]?;
     expect(&rt, alloc, &octets, &[1, 2, 3], Value::Row(values));
     refuse(&rt, alloc, &octets, &[1, 2], 0, CdrKind::BadCount);
-    let ulongs = row(alloc, Desc::ULong, 2)?;
+    let ulongs = checked(row(alloc, Desc::ULong, 2)?)?;
     refuse(&rt, alloc, &ulongs, &[0, 0, 0, 1, 0, 0], 4, CdrKind::Short);
     let wanted = Err(CdrFault {
         at: 3,
@@ -230,17 +243,37 @@ fn texts_and_octets_are_bounded(rt: HostRuntime) -> Result<(), Fail> {
     let alloc = rt.alloc();
     let hello = OctetList::from_slice(alloc, b"hi")?;
     let octets = [0, 0, 0, 3, b'h', b'i', 0];
-    expect(&rt, alloc, &Desc::Text(2), &octets, Value::Text(hello));
-    refuse(&rt, alloc, &Desc::Text(1), &octets, 0, CdrKind::BoundPassed);
+    expect(
+        &rt,
+        alloc,
+        &checked(Desc::Text(2))?,
+        &octets,
+        Value::Text(hello),
+    );
     refuse(
         &rt,
         alloc,
-        &Desc::Octets(2),
+        &checked(Desc::Text(1))?,
         &octets,
         0,
         CdrKind::BoundPassed,
     );
-    refuse(&rt, alloc, &Desc::Boolean, &[2], 0, CdrKind::BadBoolean);
+    refuse(
+        &rt,
+        alloc,
+        &checked(Desc::Octets(2))?,
+        &octets,
+        0,
+        CdrKind::BoundPassed,
+    );
+    refuse(
+        &rt,
+        alloc,
+        &checked(Desc::Boolean)?,
+        &[2],
+        0,
+        CdrKind::BadBoolean,
+    );
     Ok(())
 }
 
@@ -255,7 +288,7 @@ fn a_nil_reference_is_a_struct(rt: HostRuntime) -> Result<(), Fail> {
     expect(
         &rt,
         alloc,
-        &reference(alloc)?,
+        &checked(reference(alloc)?)?,
         &octets,
         Value::Members(members),
     );

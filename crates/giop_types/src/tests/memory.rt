@@ -1,6 +1,5 @@
-use super::samples::{items, named, reference, union};
-use crate::Desc;
-use crate::decoder::value_of;
+use super::samples::{checked, items, named, reference, union};
+use crate::{Desc, decode};
 use giop_cdr::{CdrFault, CdrIn, CdrKind, Order, SliceOctets};
 use std::test::Fail;
 
@@ -14,13 +13,13 @@ const OCTETS: [u8; 55] = [
 #[test]
 fn a_value_without_memory_is_left_unread(rt: HostRuntime) -> Result<(), Fail> {
     let alloc = rt.alloc();
-    let desc = Desc::Members(vec![in alloc;
+    let desc = checked(Desc::Members(vec![in alloc;
         named(alloc, "choices", items(alloc, union(alloc, true)?, 0)?)?,
         named(alloc, "reference", reference(alloc)?)?,
-    ]?);
+    ]?))?;
     let source = SliceOctets::new(&OCTETS);
     let mut input = CdrIn::new(&source, Order::Big, 8);
-    let first = value_of(alloc, &desc, &mut input);
+    let first = decode(alloc, &desc, &mut input);
     let wanting = CdrFault {
         at: 8,
         kind: CdrKind::NoMemory,
@@ -30,7 +29,7 @@ fn a_value_without_memory_is_left_unread(rt: HostRuntime) -> Result<(), Fail> {
         Err(fault) => {
             assert_eq!(rt; fault, wanting);
             assert_eq!(rt; input.position(), 8);
-            let again = value_of(alloc, &desc, &mut input);
+            let again = decode(alloc, &desc, &mut input);
             assert!(rt; again.is_ok());
         }
     }
@@ -42,7 +41,7 @@ fn a_value_without_memory_is_left_unread(rt: HostRuntime) -> Result<(), Fail> {
 #[test]
 fn want_of_memory_hides_no_fault(rt: HostRuntime) -> Result<(), Fail> {
     let alloc = rt.alloc();
-    let desc = reference(alloc)?;
+    let desc = checked(reference(alloc)?)?;
     let octets = [
         0, 0, 0, 2, b'A', 0, 0, 0, 0, 0, 0, 1, 0, 0, 0, 0, 0, 0, 0, 9, 1,
     ];
@@ -52,7 +51,7 @@ fn want_of_memory_hides_no_fault(rt: HostRuntime) -> Result<(), Fail> {
         at: 16,
         kind: CdrKind::BadCount,
     };
-    assert_eq!(rt; value_of(alloc, &desc, &mut input), Err(wanted));
+    assert_eq!(rt; decode(alloc, &desc, &mut input), Err(wanted));
     assert_eq!(rt; input.position(), 0);
     Ok(())
 }

@@ -1,5 +1,5 @@
 use super::decoding::read;
-use super::samples::{case, items, labels, named, row};
+use super::samples::{case, checked, items, labels, named, row};
 use crate::{Desc, Value};
 use giop_cdr::{OctetList, Order};
 use std::alloc::{AllocError, Global};
@@ -98,7 +98,7 @@ fn sent(alloc: Global) -> Result<Value, AllocError> {
 #[test]
 fn a_body_of_another_broker_is_read(rt: HostRuntime) -> Result<(), Fail> {
     let alloc = rt.alloc();
-    let answered = read(alloc, &all(alloc)?, &BODY, Order::Little, 48);
+    let answered = read(alloc, &checked(all(alloc)?)?, &BODY, Order::Little, 48);
     assert_eq!(rt; answered, Ok((sent(alloc)?, 48 + 105)));
     Ok(())
 }

@@ -1,7 +1,8 @@
 // Descriptions that the tests share.
-use crate::{CaseDesc, Desc, NamedDesc};
+use crate::{CaseDesc, CheckedDesc, Desc, NamedDesc};
 use giop_cdr::OctetList;
 use std::alloc::{AllocError, Global};
+use std::test::Fail;
 
 pub fn named(alloc: Global, name: &str, desc: Desc) -> Result<NamedDesc, AllocError> {
     let name = OctetList::from_slice(alloc, name.as_bytes())?;
@@ -70,4 +71,11 @@ pub fn reference(alloc: Global) -> Result<Desc, AllocError> {
         named(alloc, "type_id", Desc::Text(0))?,
         named(alloc, "profiles", items(alloc, profile, 0)?)?,
     ]?))
+}
+
+pub fn checked(desc: Desc) -> Result<CheckedDesc, Fail> {
+    match CheckedDesc::check(desc) {
+        Ok(checked) => Ok(checked),
+        Err(_) => Err(Fail::from("a description is refused")),
+    }
 }

@@ -1,0 +1,44 @@
+//! Descriptions that were checked.
+ghost use Rattle.std.specs.Prelude.{◌≡◌, true, IfOk, IfErr};
+ghost use Rattle.giop_types.specs.Full.{is_full};
+ghost use Rattle.giop_types.specs.Views.{desc_view};
+
+use crate::check::check_desc;
+use crate::desc::Desc;
+use crate::desc_fault::DescFault;
+
+/// A description that was checked: nothing of it is empty, no name or label stands twice, each
+/// union's labels are values of its discriminant, and it is nested no more than 32 deep. So each of
+/// its values takes an octet or more.
+#[derive(Debug, Drop)]
+pub struct CheckedDesc {
+    desc: Desc,
+    pub ghost full: { is_full (desc_view desc) ≡ true },
+}
+
+impl CheckedDesc {
+    ghost use Rattle.giop_types.specs.Checked.{desc_fault};
+    ghost use Rattle.giop_types.specs.CheckedShape.{checked_shape};
+
+    /// Checks a description. It takes no memory, and no more stack than 32 nested descriptions ask.
+    /// Refused, and dropped, with the fault of the first node in reading order that has one, the
+    /// node itself before its parts: of a union the discriminant, then the cases in their order,
+    /// then the default. Of one node the first fault of these is told: TooDeep, Empty,
+    /// BadDiscriminant, Doubled.
+    pub fn check(desc: Desc) -> Result<CheckedDesc, DescFault>
+        ensures ok { IfOk result (λ checked.
+            (desc_fault 1 (desc_view desc) ≡ None) × (checked_shape checked ≡ desc_view desc)) }
+        ensures err { IfErr result (λ fault. desc_fault 1 (desc_view desc) ≡ Some fault) }
+    {
+        check_desc(&desc, 1)?;
+        Ok(CheckedDesc { desc })
+    }
+
+    /// The description.
+    pub fn desc(&self) -> &Desc
+        ensures same { desc_view result.now ≡ checked_shape self.now }
+        ensures full { is_full (desc_view result.now) ≡ true }
+    {
+        &self.desc
+    }
+}
