@@ -10,3 +10,4 @@ pub mod ListLoops
 pub mod NameLemmas
 pub mod LabelLemmas
 pub mod CheckLemmas
+pub mod WrittenLemmas

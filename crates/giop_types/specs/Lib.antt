@@ -9,3 +9,6 @@ pub mod Outcome
 pub mod Leaves
 pub mod Checked
 pub mod CheckedShape
+pub mod Fits
+pub mod Written
+pub mod Ranges
