@@ -2,14 +2,19 @@
 // program calls these.
 ghost use Rattle.std.specs.Prelude.{◌≡◌, ◌≤◌, ℕ, List, length, true};
 ghost use Rattle.giop_cdr.specs.declared.order.Order.{Order};
+ghost use Rattle.giop_cdr.specs.Output.{Output};
 ghost use Rattle.giop_cdr.specs.Readers.{IsExact, Took, StandsAlone};
+ghost use Rattle.giop_cdr.specs.RoundTrip.{IsReadBack};
 ghost use Rattle.giop_types.specs.Decoding.{decode_at};
+ghost use Rattle.giop_types.specs.Fits.{fits};
 ghost use Rattle.giop_types.specs.Full.{is_full};
 ghost use Rattle.giop_types.specs.Refusals.{RefusedShape};
 ghost use Rattle.giop_types.specs.Shape.{Shape};
 ghost use Rattle.giop_types.specs.Leaves.{leaves};
+ghost use Rattle.giop_types.specs.Ranges.{IsInRange};
 ghost use Rattle.giop_types.specs.Spells.{Spells};
 ghost use Rattle.giop_types.specs.Tree.{Tree};
+ghost use Rattle.giop_types.specs.Written.{value_out};
 
 /// Values of every description that can be checked (9.3.2): what is read is what is spelled, and
 /// where nothing is spelled the first refused field is answered. No spelling of a value begins
@@ -24,4 +29,11 @@ pub fn values_are_spelled()
 pub fn values_are_bounded()
     ensures { (shape : Shape) → is_full shape ≡ true → (order : Order) (at : ℕ) (tree : Tree) (octets : List ℕ)
         → Spells shape order at tree octets → leaves tree ≤ length octets }
+{}
+
+/// What is written of a fitting value spells it, and reading gives the value back and leaves what
+/// stands behind it: in both orders, at every offset.
+pub fn written_values_are_read_back()
+    ensures { (shape : Shape) → is_full shape ≡ true → (tree : Tree) → fits shape tree ≡ true → IsInRange tree
+        → (out : Output) → IsReadBack (Spells shape) (decode_at shape) tree out (value_out shape tree out) }
 {}

@@ -20,5 +20,5 @@ pub use checked_desc::CheckedDesc;
 pub use decoder::decode;
 pub use desc::{CaseDesc, Desc, NamedDesc};
 pub use desc_fault::DescFault;
-pub use laws::{values_are_bounded, values_are_spelled};
+pub use laws::{values_are_bounded, values_are_spelled, written_values_are_read_back};
 pub use value::Value;
