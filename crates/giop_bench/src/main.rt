@@ -5,6 +5,7 @@
 mod frag;
 mod mux;
 mod read;
+mod types;
 mod work;
 mod write;
 
@@ -12,7 +13,7 @@ use std::alloc::Global;
 use std::{env, io};
 use work::Work;
 
-const USAGE: &str = "usage: giop_bench LOOP, where LOOP is frag24, frag512, frag4096 or mux,
+const USAGE: &str = "usage: giop_bench LOOP, where LOOP is frag24, frag512, frag4096, mux or types,
 or giop_bench (read|write)-VALUES-(big|little) TIMES, where VALUES is ulong, string, octets or widths";
 
 // The checksum of a loop over CDR, or none where it isn't one or fails.
@@ -35,6 +36,7 @@ fn main(rt: HostRuntime) -> io::Result<()> {
         "frag512" => println!(rt; "{}", frag::run(rt.alloc(), 512)),
         "frag4096" => println!(rt; "{}", frag::run(rt.alloc(), 4096)),
         "mux" => println!(rt; "{}", mux::run(rt.alloc())),
+        "types" => println!(rt; "{}", types::run(rt.alloc()).unwrap_or(0)),
         name => match cdr(rt.alloc(), name, times) {
             Some(sum) => println!(rt; "{sum}"),
             None => println!(rt; "{USAGE}"),
