@@ -4,3 +4,6 @@ pub mod AsExact
 pub mod CountedExact
 pub mod Takes
 pub mod ShapeExact
+pub mod ListLoops
+pub mod NameLemmas
+pub mod LabelLemmas

@@ -18,7 +18,7 @@ use Rattle.giop_types.specs.Views.{desc_view, named_view, case_view, fields_of, 
 use Rattle.giop_types.proofs.ViewLemmas.{view-Named, view-Case}
 
 -- what is left of a list, from one of its items on
-left_is : {X : Type 0} (xs : List X) (i : ℕ) (x : X) → i < length xs → x ≡ get_or xs i x → drop i xs ≡ x ∷ drop (i + 1) xs
+pub left_is : {X : Type 0} (xs : List X) (i : ℕ) (x : X) → i < length xs → x ≡ get_or xs i x → drop i xs ≡ x ∷ drop (i + 1) xs
 left_is xs i x lt is = drop_more xs i x lt ∙ ap (λ y. y ∷ drop (i + 1) xs) (sym is)
 
 past_as : {B C : Type 0} (f : B → C) (r : Reading B) → past (r >>= λ y. Ok (f y.0, y.1)) ≡ past r

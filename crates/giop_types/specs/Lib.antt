@@ -6,3 +6,5 @@ pub mod Spells
 pub mod Refusals
 pub mod Full
 pub mod Outcome
+pub mod Checked
+pub mod CheckedShape

@@ -2,10 +2,17 @@
 #![tactic(auto)]
 
 mod build;
+mod check;
+mod checked_desc;
 mod desc;
+mod desc_fault;
+mod label_check;
+mod name_check;
 mod reading;
 mod skip;
 mod value;
 
+pub use checked_desc::CheckedDesc;
 pub use desc::{CaseDesc, Desc, NamedDesc};
+pub use desc_fault::DescFault;
 pub use value::Value;

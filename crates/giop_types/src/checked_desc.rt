@@ -1,0 +1,42 @@
+//! Descriptions that were checked.
+ghost use Rattle.std.specs.Prelude.{◌≡◌, true, IfOk, IfErr};
+ghost use Rattle.giop_types.specs.Full.{is_full};
+ghost use Rattle.giop_types.specs.Views.{desc_view};
+
+use crate::check::check_desc;
+use crate::desc::Desc;
+use crate::desc_fault::DescFault;
+
+/// A description that was checked: it describes a type of IDL, is nested no more than 32 deep, and
+/// is full. So each of its values but an empty struct's takes an octet or more, and a count above the octets that remain is met by none.
+#[derive(Debug, Drop)]
+pub struct CheckedDesc {
+    desc: Desc,
+    pub ghost full: { is_full (desc_view desc) ≡ true },
+}
+
+impl CheckedDesc {
+    ghost use Rattle.giop_types.specs.Checked.{desc_fault};
+    ghost use Rattle.giop_types.specs.CheckedShape.{checked_shape};
+
+    /// Checks a description. It takes no memory. Refused with the fault of the first node in reading
+    /// order that has one, the node itself before its parts: of a union the discriminant, then the
+    /// cases in their order, then the default. A refused description is dropped. Of one node the
+    /// first of these is told: `TooDeep`, `Empty`, `BadDiscriminant`, `Doubled`.
+    pub fn check(desc: Desc) -> Result<CheckedDesc, DescFault>
+        ensures ok { IfOk result (λ checked.
+            (desc_fault 1 (desc_view desc) ≡ None) × (checked_shape checked ≡ desc_view desc)) }
+        ensures err { IfErr result (λ fault. desc_fault 1 (desc_view desc) ≡ Some fault) }
+    {
+        check_desc(&desc, 1)?;
+        Ok(CheckedDesc { desc })
+    }
+
+    /// The description.
+    pub fn desc(&self) -> &Desc
+        ensures same { desc_view result.now ≡ checked_shape self.now }
+        ensures full { is_full (desc_view result.now) ≡ true }
+    {
+        &self.desc
+    }
+}
