@@ -7,3 +7,4 @@ pub mod ShapeExact
 pub mod ListLoops
 pub mod NameLemmas
 pub mod LabelLemmas
+pub mod CheckLemmas

@@ -1,4 +1,5 @@
 use Rattle.std.proofs.Common.{◌≡◌, map, drop, ◌+◌, true, false, sym, ◌∙◌}
+use Rattle.std.proofs.lemmas.List.{take_rest}
 use Rattle.std.specs.Ordering.{int_eq}
 use Rattle.giop_types.specs.Checked.{all_labels, is_repeated}
 use Rattle.giop_types.specs.Views.{case_view, branches_of}
@@ -9,13 +10,13 @@ use Rattle.giop_types.proofs.label_check.has_doubled_label.Goals as goal
 pub returns-then-is_repeated : goal.returns-then-is_repeated
 returns-then-is_repeated c =
     let test : c.is_repeated.result ≡ is_repeated int_eq c.index-cases-i.result.labels.items (all_labels (branches_of (map case_view (drop (c.loop-i.i + 1) c.args.cases.now))))
-    = rw c.deref.ensures.value at c.is_repeated.ensures in
+    = rw (c.deref.ensures.value, take_rest) at c.is_repeated.ensures in
     some_found doubled_labels-some c.args.cases.now c.loop-i.i c.index-cases-i.result (doubled_labels c.args.cases.now) c.loop-i-test.true c.index-cases-i.is
     (sym test ∙ c.if-is_repeated.true) c.loop-i.invariant
 
 pub loop-i-preserved : goal.loop-i-preserved
 loop-i-preserved c =
     let test : c.is_repeated.result ≡ is_repeated int_eq c.index-cases-i.result.labels.items (all_labels (branches_of (map case_view (drop (c.loop-i.i + 1) c.args.cases.now))))
-    = rw c.deref.ensures.value at c.is_repeated.ensures in
+    = rw (c.deref.ensures.value, take_rest) at c.is_repeated.ensures in
     some_passed doubled_labels-some c.args.cases.now c.loop-i.i c.index-cases-i.result (doubled_labels c.args.cases.now) c.loop-i-test.true c.index-cases-i.is
     (sym test ∙ c.if-is_repeated.false) c.loop-i.invariant
