@@ -93,7 +93,7 @@ mutual
       and_from (has_fields fs) (are_full fs) (not-false (has_fields fs) (node_parts depth (members fs) parts.0).0) (faultless_fields (depth + 1) fs parts.1)
   faultless_full depth (choice disc bs other) h =
       let parts = none_parts (node_fault depth (choice disc bs other))
-        (option_or (desc_fault (depth + 1) disc) (option_or (branches_fault (depth + 1) bs) (fields_fault (depth + 1) other))) h in
+      (option_or (desc_fault (depth + 1) disc) (option_or (branches_fault (depth + 1) bs) (fields_fault (depth + 1) other))) h in
       let rest = none_parts (desc_fault (depth + 1) disc) (option_or (branches_fault (depth + 1) bs) (fields_fault (depth + 1) other)) parts.1 in
       let last = none_parts (branches_fault (depth + 1) bs) (fields_fault (depth + 1) other) rest.1 in
       let labelled = list_all (is_label_of disc) (all_labels bs) in

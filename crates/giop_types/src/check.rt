@@ -73,7 +73,9 @@ fn has_doubles(desc: &Desc) -> bool
         Desc::Labels(names) => has_doubled_name(names),
         Desc::Members(members) => has_doubled_member(members),
         Desc::Choice {
-            cases, fallback, ..
+            cases,
+            fallback,
+            ..
         } => has_doubled_choice(cases, fallback) || has_doubled_label(cases),
         _ => false,
     }

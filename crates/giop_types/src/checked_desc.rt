@@ -7,8 +7,9 @@ use crate::check::check_desc;
 use crate::desc::Desc;
 use crate::desc_fault::DescFault;
 
-/// A description that was checked: it describes a type of IDL, is nested no more than 32 deep, and
-/// is full. So each of its values but an empty struct's takes an octet or more, and a count above the octets that remain is met by none.
+/// A description that was checked: nothing of it is empty, no name or label stands twice, each
+/// union's labels are values of its discriminant, and it is nested no more than 32 deep. So each of
+/// its values takes an octet or more.
 #[derive(Debug, Drop)]
 pub struct CheckedDesc {
     desc: Desc,
@@ -19,10 +20,11 @@ impl CheckedDesc {
     ghost use Rattle.giop_types.specs.Checked.{desc_fault};
     ghost use Rattle.giop_types.specs.CheckedShape.{checked_shape};
 
-    /// Checks a description. It takes no memory. Refused with the fault of the first node in reading
-    /// order that has one, the node itself before its parts: of a union the discriminant, then the
-    /// cases in their order, then the default. A refused description is dropped. Of one node the
-    /// first of these is told: `TooDeep`, `Empty`, `BadDiscriminant`, `Doubled`.
+    /// Checks a description. It takes no memory, and no more stack than 32 nested descriptions ask.
+    /// Refused, and dropped, with the fault of the first node in reading order that has one, the
+    /// node itself before its parts: of a union the discriminant, then the cases in their order,
+    /// then the default. Of one node the first fault of these is told: TooDeep, Empty,
+    /// BadDiscriminant, Doubled.
     pub fn check(desc: Desc) -> Result<CheckedDesc, DescFault>
         ensures ok { IfOk result (λ checked.
             (desc_fault 1 (desc_view desc) ≡ None) × (checked_shape checked ≡ desc_view desc)) }

@@ -10,6 +10,8 @@ mod label_check;
 mod name_check;
 mod reading;
 mod skip;
+#[cfg(test)]
+mod tests;
 mod value;
 
 pub use checked_desc::CheckedDesc;
