@@ -1,5 +1,5 @@
 -- Names of members and cases, one after the other.
-use Rattle.std.proofs.Common.{◌≡◌, ℕ, Bool, ◌||◌, List, [], ◌∷◌, map, refl}
+use Rattle.std.proofs.Common.{ℕ, Bool, List, map, refl}
 use Rattle.std.specs.List.{list_any}
 use Rattle.giop_types.specs.declared.desc.NamedDesc.{NamedDesc}
 use Rattle.giop_types.specs.declared.desc.CaseDesc.{CaseDesc}

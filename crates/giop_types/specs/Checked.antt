@@ -7,7 +7,7 @@ use Rattle.std.specs.Ordering.{int_eq}
 use Rattle.std.specs.Cmp.Lexicographic.{pointwise}
 use Rattle.giop_types.specs.declared.desc_fault.DescFault.{DescFault}
 use Rattle.giop_types.specs.declared.desc_fault.DescFault.TheVariants.{Empty, Doubled, BadDiscriminant, TooDeep}
-use Rattle.giop_types.specs.Shape.{Shape, boolean, octet, char, short, ushort, long, ulong, longlong, ulonglong, text, octets, labels, members, choice, items, row, Fields, no_fields, field, Branches, no_branches, branch}
+use Rattle.giop_types.specs.Shape.{Shape, boolean, char, short, ushort, long, ulong, longlong, ulonglong, labels, members, choice, items, row, Fields, no_fields, field, Branches, no_branches, branch}
 use Rattle.giop_types.specs.Full.{is_discriminant, has_fields}
 
 -- this fault, where a test finds it

@@ -1,5 +1,5 @@
 //! The labels of a union: whether each is a value of the discriminant, and whether two are equal.
-ghost use Rattle.std.specs.Prelude.{◌≡◌, map, length};
+ghost use Rattle.std.specs.Prelude.{◌≡◌, map};
 ghost use Rattle.std.specs.List.{list_all};
 ghost use Rattle.std.specs.Ordering.{int_eq};
 ghost use Rattle.giop_types.specs.Decoding.{is_label};

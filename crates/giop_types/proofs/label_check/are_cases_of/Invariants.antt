@@ -1,5 +1,4 @@
 use Rattle.std.proofs.Common.{◌≡◌, drop}
-use Rattle.giop_types.specs.Checked.{is_label_of}
 use Rattle.giop_types.specs.Views.{desc_view}
 use Rattle.giop_types.proofs.LabelLemmas.{cases_of}
 use Rattle.giop_types.proofs.label_check.are_cases_of.Given as goal

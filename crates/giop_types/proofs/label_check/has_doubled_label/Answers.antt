@@ -1,4 +1,4 @@
-use Rattle.std.proofs.Common.{◌≡◌, map, drop, ◌+◌, true, false, sym, ◌∙◌}
+use Rattle.std.proofs.Common.{◌≡◌, map, drop, ◌+◌, sym, ◌∙◌}
 use Rattle.std.proofs.lemmas.List.{take_rest}
 use Rattle.std.specs.Ordering.{int_eq}
 use Rattle.giop_types.specs.Checked.{all_labels, is_repeated}

@@ -1,4 +1,4 @@
-use Rattle.std.proofs.Common.{◌≡◌, map, drop}
+use Rattle.std.proofs.Common.{◌≡◌, drop}
 use Rattle.giop_types.proofs.NameLemmas.{is_member}
 use Rattle.giop_types.proofs.name_check.has_member.Given as goal
 
