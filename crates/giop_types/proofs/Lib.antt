@@ -8,3 +8,4 @@ pub mod ListLoops
 pub mod NameLemmas
 pub mod LabelLemmas
 pub mod CheckLemmas
+pub mod DoubledLemmas
