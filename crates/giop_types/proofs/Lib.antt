@@ -11,3 +11,4 @@ pub mod NameLemmas
 pub mod LabelLemmas
 pub mod CheckLemmas
 pub mod WrittenLemmas
+pub mod DoubledLemmas

@@ -1,14 +1,17 @@
 -- A fitting value that is written is spelled.
-use Rattle.std.proofs.Common.{◌≡◌, ◌<◌, ◌≤◌, ◌^◌, ◌+◌, ℕ, suc, ℤ, pos, negsuc, nat_lt, ◌&&◌, ◌==◌, not, Bool, true, false, if◌then◌else◌}
-use Rattle.std.proofs.Common.{List, [], ◌∷◌, length, refl, sym, ap, ◌∙◌, subst, arith, FitsSigned, zero, min, int_le, int_lt}
+use Rattle.std.proofs.Common.{◌≡◌, ◌<◌, ◌≤◌, ◌^◌, ◌+◌, ℕ, suc, ℤ, pos, negsuc, nat_lt, ◌&&◌, ◌==◌, not, Bool}
+use Rattle.std.proofs.Common.{true, false, if◌then◌else◌}
+use Rattle.std.proofs.Common.{List, [], ◌∷◌, length, refl, ap, subst, arith, FitsSigned, zero, min}
+use Rattle.std.proofs.Common.{int_le, int_lt}
 use Rattle.std.proofs.lemmas.Int.{ints}
 use mir.Val.{bits, hbits}
 use Rattle.std.proofs.lemmas.Bool.{lt-ltb, ltb-true, leb-true, eqb-true, not-true}
 use Rattle.std.specs.List.{list_all, AllByRecursion}
 use Rattle.std.specs.Int.{Width, w8, w16, w32, w64, cast_unsigned}
 use Rattle.giop_cdr.specs.Reading.{number_at, signed_at, boolean_at, octets_at, string_at, has_null, passes}
-use Rattle.giop_cdr.specs.Spelling.{Spelling, SpellsNumber, SpellsSigned, SpellsBoolean, SpellsString, SpellsOctets, SpellsEach}
-use Rattle.giop_cdr.specs.Spelling.{CountedItems, Then, Such, Known, Bounded}
+use Rattle.giop_cdr.specs.Spelling.{Spelling, SpellsNumber, SpellsSigned, SpellsBoolean, SpellsString}
+use Rattle.giop_cdr.specs.Spelling.{SpellsOctets}
+use Rattle.giop_cdr.specs.Spelling.{CountedItems, Such, Known, Bounded}
 use Rattle.giop_cdr.specs.Output.{Output, number_out, signed_out, octets_out, string_out, items_out, sequence_out}
 use Rattle.giop_cdr.specs.RoundTrip.{IsSpelled, is_primitive}
 use Rattle.giop_cdr.proofs.RoundTripLemmas.{number_back, signed_back, octets_back, string_back, boolean_back}
@@ -21,8 +24,9 @@ use Rattle.giop_types.specs.Tree.{longlong_of, ulonglong_of, text_of, octets_of,
 use Rattle.giop_types.specs.Tree.{choice_of, items_of, row_of, Trees, no_trees, tree}
 use Rattle.giop_types.specs.Views.{trees_of}
 use Rattle.giop_types.specs.Decoding.{is_label}
-use Rattle.giop_types.specs.Spells.{As, Chosen, SpellsOrdinal, SpellsBounded, SpellsLabel, Spells, SpellsFields, SpellsBranches}
-use Rattle.giop_types.specs.Checked.{is_label_of, is_between, is_ordinal}
+use Rattle.giop_types.specs.Spells.{As, Chosen, SpellsOrdinal, SpellsBounded, SpellsLabel, Spells}
+use Rattle.giop_types.specs.Spells.{SpellsFields, SpellsBranches}
+use Rattle.giop_types.specs.Checked.{is_between, is_ordinal}
 use Rattle.giop_types.specs.Fits.{list_of, fits_label, is_counted, is_text_of, is_one, fits, fields_fit, branches_fit}
 use Rattle.giop_types.specs.Written.{label_out, one_out, value_out, fields_out, branches_out}
 use Rattle.giop_types.specs.Ranges.{IsInRange, AreInRange}
@@ -252,6 +256,6 @@ mutual
       (chosen_spelled (is_label label ls) (As (λ t. t ∷ []) (Spells s)) (SpellsBranches bs (SpellsFields other) label) (list_of ts) out
       (one_out (value_out s) (list_of ts) out) (branches_out bs (fields_out other) label (list_of ts) out)
       (λ is. one_spelled (Spells s) (value_out s) (fits s) (λ t o g h. shape_spelled s t o g h) ts out
-        (if_true (is_label label ls) (is_one (fits s) (list_of ts)) (branches_fit bs (fields_fit other) label (list_of ts)) is f) r)
+      (if_true (is_label label ls) (is_one (fits s) (list_of ts)) (branches_fit bs (fields_fit other) label (list_of ts)) is f) r)
       (λ is. branches_spelled bs other label ts out default
-        (if_false (is_label label ls) (is_one (fits s) (list_of ts)) (branches_fit bs (fields_fit other) label (list_of ts)) is f) r))
+      (if_false (is_label label ls) (is_one (fits s) (list_of ts)) (branches_fit bs (fields_fit other) label (list_of ts)) is f) r))

@@ -21,11 +21,12 @@ fault_if false e = None
 
 -- ---- what should have a part and has none
 
+-- whether a union has a case
 abbrev pub has_branches : Branches → Bool
 has_branches no_branches = false
 has_branches (branch ls name s bs) = true
 
--- whether a case has no label
+-- whether a case has no label: each has one or more (9.3.2.2)
 abbrev pub has_bare_branch : Branches → Bool
 has_bare_branch no_branches = false
 has_bare_branch (branch ls name s bs) = length ls == 0 || has_bare_branch bs
@@ -89,10 +90,12 @@ is_repeated equal (x ∷ xs) later = list_any (λ y. equal y x) (xs ++ later) ||
 abbrev pub same_name : List ℕ → List ℕ → Bool
 same_name = pointwise nat_eq
 
+-- the names of a struct's members, or of a union's default
 abbrev pub field_names : Fields → List (List ℕ)
 field_names no_fields = []
 field_names (field name s fs) = name ∷ field_names fs
 
+-- the names of a union's cases
 abbrev pub branch_names : Branches → List (List ℕ)
 branch_names no_branches = []
 branch_names (branch ls name s bs) = name ∷ branch_names bs
@@ -117,7 +120,8 @@ own_fault s =
 abbrev pub node_fault : ℕ → Shape → Option DescFault
 node_fault depth s = option_or (fault_if (nat_lt 32 depth) TooDeep) (own_fault s)
 
--- the fault of the first node in reading order that has one, the node itself before its parts
+-- the fault of the first node in reading order that has one: the node itself before its parts, and
+-- of a union the discriminant, then the cases in their order, then the default
 unfoldable mutual
   pub desc_fault : ℕ → Shape → Option DescFault
   desc_fault depth (members fs) = option_or (node_fault depth (members fs)) (fields_fault (depth + 1) fs)

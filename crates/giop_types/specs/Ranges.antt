@@ -1,8 +1,8 @@
 -- Values as a program holds them: their numbers are in the ranges of their types.
-use Rattle.std.specs.Prelude.{ℕ, ◌<◌, ◌^◌, ⊤, FitsSigned}
+use Rattle.std.specs.Prelude.{◌<◌, ◌^◌, ⊤, FitsSigned}
 use Rattle.std.specs.Int.{w16, w32, w64}
-use Rattle.giop_types.specs.Tree.{Tree, boolean_of, octet_of, char_of, short_of, ushort_of, long_of, ulong_of}
-use Rattle.giop_types.specs.Tree.{longlong_of, ulonglong_of, text_of, octets_of, label_of, members_of}
+use Rattle.giop_types.specs.Tree.{Tree, octet_of, char_of, short_of, ushort_of, long_of, ulong_of}
+use Rattle.giop_types.specs.Tree.{longlong_of, ulonglong_of, label_of, members_of}
 use Rattle.giop_types.specs.Tree.{choice_of, items_of, row_of, Trees, no_trees, tree}
 
 abbrev mutual

@@ -1,10 +1,10 @@
 -- What is written of a value (CORBA 3.3 Part 2, 9.3.2): pads of zeros, and no string of length 0.
-use Rattle.std.specs.Prelude.{ℕ, ℤ, Bool, if◌then◌else◌, List, [], ◌∷◌}
+use Rattle.std.specs.Prelude.{ℤ, if◌then◌else◌, List, [], ◌∷◌}
 use Rattle.std.specs.Int.{w8, w16, w32, w64, cast_unsigned}
 use Rattle.giop_cdr.specs.Output.{Output, number_out, signed_out, octets_out, string_out, items_out, sequence_out}
 use Rattle.giop_types.specs.Shape.{Shape, boolean, octet, char, short, ushort, long, ulong, longlong}
 use Rattle.giop_types.specs.Shape.{ulonglong, text, octets, labels, members, choice, items, row, Fields}
-use Rattle.giop_types.specs.Shape.{no_fields, field, Branches, no_branches, branch}
+use Rattle.giop_types.specs.Shape.{field, Branches, no_branches, branch}
 use Rattle.giop_types.specs.Tree.{Tree, boolean_of, octet_of, char_of, short_of, ushort_of, long_of, ulong_of}
 use Rattle.giop_types.specs.Tree.{longlong_of, ulonglong_of, text_of, octets_of, label_of, members_of}
 use Rattle.giop_types.specs.Tree.{choice_of, items_of, row_of}

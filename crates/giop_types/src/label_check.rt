@@ -1,6 +1,6 @@
 //! The labels of a union: whether each is a value of the discriminant, and whether two are equal.
-ghost use Rattle.std.specs.Prelude.{◌≡◌, map};
-ghost use Rattle.std.specs.List.{list_all};
+ghost use Rattle.std.specs.Prelude.{◌≡◌, ◌≢◌, ◌↔◌, map, false};
+ghost use Rattle.std.specs.List.{list_all, AllPairs};
 ghost use Rattle.std.specs.Ordering.{int_eq};
 ghost use Rattle.giop_types.specs.Decoding.{is_label};
 ghost use Rattle.giop_types.specs.Checked.{is_between, is_label_of, is_ordinal, all_labels, has_doubled, is_repeated};
@@ -91,7 +91,8 @@ fn is_repeated(labels: &[i128], later: &[CaseDesc]) -> bool
 
 /// Whether two labels of a union are equal.
 pub fn has_doubled_label(cases: &[CaseDesc]) -> bool
-    ensures { result ≡ has_doubled int_eq (all_labels (branches_of (map case_view cases.now))) }
+    ensures value { result ≡ has_doubled int_eq (all_labels (branches_of (map case_view cases.now))) }
+    ensures apart { (result ≡ false) ↔ AllPairs (λ one other. one ≢ other) (all_labels (branches_of (map case_view cases.now))) }
 {
     for (i, case) in cases.iter().enumerate() {
         if is_repeated(&case.labels, &cases[i + 1..]) {

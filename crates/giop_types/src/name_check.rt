@@ -1,6 +1,6 @@
 //! The names of enums, structs and unions: whether two are the same.
-ghost use Rattle.std.specs.Prelude.{◌≡◌, ◌++◌, map};
-ghost use Rattle.std.specs.List.{list_any};
+ghost use Rattle.std.specs.Prelude.{◌≡◌, ◌≢◌, ◌↔◌, ◌++◌, map, false};
+ghost use Rattle.std.specs.List.{list_any, AllPairs};
 ghost use Rattle.giop_types.specs.Checked.{has_doubled, same_name, field_names, branch_names};
 ghost use Rattle.giop_types.specs.Views.{named_view, case_view, fallback_view, fields_of, branches_of};
 
@@ -9,7 +9,8 @@ use giop_cdr::OctetList;
 
 /// Whether two names are the same.
 pub fn has_doubled_name(names: &[OctetList]) -> bool
-    ensures { result ≡ has_doubled same_name names.now }
+    ensures value { result ≡ has_doubled same_name names.now }
+    ensures apart { (result ≡ false) ↔ AllPairs (λ one other. one ≢ other) names.now }
 {
     for (i, name) in names.iter().enumerate() {
         if names[i + 1..].contains(name) {

@@ -289,3 +289,12 @@ fn a_checked_description_is_handed_out(rt: HostRuntime) -> Result<(), Fail> {
     }
     Ok(())
 }
+
+#[test]
+fn faults_are_numbered_from_1_to_4(rt: HostRuntime) -> Result<(), Fail> {
+    assert_eq!(rt; DescFault::Empty as u8, 1);
+    assert_eq!(rt; DescFault::Doubled as u8, 2);
+    assert_eq!(rt; DescFault::BadDiscriminant as u8, 3);
+    assert_eq!(rt; DescFault::TooDeep as u8, 4);
+    Ok(())
+}

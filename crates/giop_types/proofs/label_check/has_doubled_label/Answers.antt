@@ -1,9 +1,10 @@
-use Rattle.std.proofs.Common.{◌≡◌, map, drop, ◌+◌, sym, ◌∙◌}
+use Rattle.std.proofs.Common.{◌≡◌, map, drop, ◌+◌, true, false, sym, ◌∙◌}
 use Rattle.std.proofs.lemmas.List.{take_rest}
 use Rattle.std.specs.Ordering.{int_eq}
 use Rattle.giop_types.specs.Checked.{all_labels, is_repeated}
 use Rattle.giop_types.specs.Views.{case_view, branches_of}
-use Rattle.giop_types.proofs.ListLoops.{some_found, some_passed}
+use Rattle.giop_types.proofs.ListLoops.{some_found, some_passed, some_absent}
+use Rattle.giop_types.proofs.DoubledLemmas.{labels_apart}
 use Rattle.giop_types.proofs.LabelLemmas.{doubled_labels, doubled_labels-some}
 use Rattle.giop_types.proofs.label_check.has_doubled_label.Goals as goal
 
@@ -11,8 +12,16 @@ pub returns-then-is_repeated : goal.returns-then-is_repeated
 returns-then-is_repeated c =
     let test : c.is_repeated.result ≡ is_repeated int_eq c.index-cases-i.result.labels.items (all_labels (branches_of (map case_view (drop (c.loop-i.i + 1) c.args.cases.now))))
     = rw (c.deref.ensures.value, take_rest) at c.is_repeated.ensures in
-    some_found doubled_labels-some c.args.cases.now c.loop-i.i c.index-cases-i.result (doubled_labels c.args.cases.now) c.loop-i-test.true c.index-cases-i.is
-    (sym test ∙ c.if-is_repeated.true) c.loop-i.invariant
+    let found : true ≡ doubled_labels c.args.cases.now
+    = some_found doubled_labels-some c.args.cases.now c.loop-i.i c.index-cases-i.result (doubled_labels c.args.cases.now) c.loop-i-test.true c.index-cases-i.is
+    (sym test ∙ c.if-is_repeated.true) c.loop-i.invariant in
+    record { value = found; apart = labels_apart true (all_labels (branches_of (map case_view c.args.cases.now))) found }
+
+pub returns : goal.returns
+returns c =
+    let none : false ≡ doubled_labels c.args.cases.now
+    = some_absent doubled_labels-some c.args.cases.now c.loop-i.i (doubled_labels c.args.cases.now) c.loop-i-test.false c.loop-i.invariant in
+    record { value = none; apart = labels_apart false (all_labels (branches_of (map case_view c.args.cases.now))) none }
 
 pub loop-i-preserved : goal.loop-i-preserved
 loop-i-preserved c =
