@@ -7,7 +7,7 @@ use Rattle.std.proofs.lemmas.List.Elements.{All-append, All-cons, All-nil}
 use Rattle.std.proofs.lemmas.Bool.{le-leb}
 use Rattle.std.proofs.lemmas.Bool.Decides.{leb_tells, eqb_tells}
 use Rattle.std.specs.List.{All, flat_map}
-use Rattle.std.specs.Io.KnownBytes.{Appends, Consumes, IsAtEnd}
+use Rattle.std.specs.Io.KnownBytes.{Appends, Consumes, IsAtEnd, Keeps}
 use Rattle.giop_msg.specs.declared.msg.Msg.{Msg}
 use Rattle.giop_msg.specs.declared.fault.WireFault.{WireFault}
 use Rattle.giop_msg.specs.declared.fault.WireKind.TheVariants.{NoMemory}
@@ -32,6 +32,13 @@ Appends-append (Some a) (Some b) (Some c) xs ys p q = q ∙ ap (λ u. u ++ ys) p
 pub Appends-nil : (a : Option (List ℕ)) → Appends a a []
 Appends-nil None = tt
 Appends-nil (Some a) = grind (arith, common_steps)
+
+-- they grew, and were then kept
+pub Appends-kept : (a b c : Option (List ℕ)) (xs : List ℕ) → Appends a b xs → Keeps b c → Appends a c xs
+Appends-kept None b c xs grew kept = tt
+Appends-kept (Some a) None c xs grew kept = absurd grew
+Appends-kept (Some a) (Some b) None xs grew kept = absurd kept
+Appends-kept (Some a) (Some b) (Some c) xs grew kept = kept ∙ grew
 
 -- how many octets some messages and one more are
 pub octets-more : (ms : List Msg) (m : Msg) → flat_map message_octets (ms ++ m ∷ []) ≡ flat_map message_octets ms ++ message_octets m
@@ -92,6 +99,17 @@ shows_piece {limit} {octets} {start} {now} {unread} {at} {messages} piece left m
   each = shown.each;
   place = shown.place;
   text = shown.text;
+}
+
+-- what is shown is kept, as when the writer is flushed
+pub shows_kept : {limit : ℕ} {octets : List ℕ} {start now : Option (List ℕ)} {unread left : List ℕ} {at : ℕ} {messages : List Msg}
+    (next : Option (List ℕ)) → Shown limit octets start now unread left at messages → Keeps now next
+    → Shown limit octets start next unread left at messages
+shows_kept {limit} {octets} {start} {now} {unread} {left} {at} {messages} next shown kept = record {
+  whole = shown.whole;
+  each = shown.each;
+  place = shown.place;
+  text = Appends-kept start now next (messages_text 0 messages) shown.text kept;
 }
 
 -- the last line, behind the lines of all messages
@@ -219,6 +237,20 @@ pub of_piece : {limit : ℕ} {all left start now : Option (List ℕ)} {unread : 
     → ShownOf limit all left start now unread at → Consumes left rest piece → ShownOf limit all rest start now (unread ++ piece) at
 of_piece {limit} {all} {left} {start} {now} {unread} {at} rest piece shown takes =
     record { known = known_piece limit start now unread at all left rest piece shown.known takes }
+
+known_kept : (limit : ℕ) (start now : Option (List ℕ)) (unread : List ℕ) (at : ℕ) (all left next : Option (List ℕ))
+    → Known limit all left start now unread at → Keeps now next → Known limit all left start next unread at
+unfolding Known
+known_kept limit start now unread at None left next shown kept = tt
+known_kept limit start now unread at (Some octets) None next shown kept = absurd shown
+known_kept limit start now unread at (Some octets) (Some left) next shown kept =
+    (shown.0, shows_kept next shown.1 kept)
+
+-- the writer keeps what it has, as when it is flushed
+pub of_kept : {limit : ℕ} {all left start now : Option (List ℕ)} {unread : List ℕ} {at : ℕ} (next : Option (List ℕ))
+    → ShownOf limit all left start now unread at → Keeps now next → ShownOf limit all left start next unread at
+of_kept {limit} {all} {left} {start} {now} {unread} {at} next shown kept =
+    record { known = known_kept limit start now unread at all left next shown.known kept }
 
 known_rest : (limit : ℕ) (start now : Option (List ℕ)) (at : ℕ) (all left : Option (List ℕ)) (unread : Unread) (next : Option (List ℕ)) (s : Status)
     → Known limit all left start now unread.octets at → unread.limit ≡ limit → IsAtEnd left → Waits unread

@@ -3,4 +3,4 @@
 mod dump;
 mod dump_lines;
 
-pub use dump::{dump_octets, dump_stream};
+pub use dump::{BehindFault, dump_octets, dump_stream};

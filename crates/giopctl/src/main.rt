@@ -12,6 +12,7 @@ mod status;
 mod tests;
 
 use cli::Task;
+use commands::BehindFault;
 use failure::Failure;
 use status::Status;
 use std::io::{BufWriter, Read, Write};
@@ -42,19 +43,33 @@ fn words(rt: &HostRuntime) -> io::Result<Vec<String>> {
     Ok(env::args(rt)?.collect(rt.alloc())?)
 }
 
+// A regular file is read to its end even behind a fault; a pipe or a device may have none.
 fn dump(rt: &HostRuntime, file: &str) -> Result<Status, Failure> {
     if file == "-" {
-        return dump_from(rt, &mut rt.reader());
+        return dump_from(rt, &mut rt.reader(), BehindFault::Leave);
     }
-    match fs::open(rt, file) {
-        Ok(mut opened) => dump_from(rt, &mut opened),
+    match opened(rt, file) {
+        Ok((mut file, behind)) => dump_from(rt, &mut file, behind),
         Err(error) => Err(Failure::input(error)),
     }
 }
 
-fn dump_from<R: Read>(rt: &HostRuntime, reader: &mut R) -> Result<Status, Failure> {
+fn opened(rt: &HostRuntime, file: &str) -> io::Result<(fs::File, BehindFault)> {
+    let file = fs::File::open(rt, file)?;
+    let behind = match file.metadata()?.is_file() {
+        true => BehindFault::Read,
+        false => BehindFault::Leave,
+    };
+    Ok((file, behind))
+}
+
+fn dump_from<R: Read>(
+    rt: &HostRuntime,
+    reader: &mut R,
+    behind: BehindFault,
+) -> Result<Status, Failure> {
     let mut writer = BufWriter::with_capacity(rt.alloc(), OUTPUT_BUFFER, io::writer(rt))?;
-    let status = commands::dump_stream(rt.alloc(), reader, &mut writer)?;
+    let status = commands::dump_stream(rt.alloc(), reader, &mut writer, behind)?;
     writer.flush()?;
     Ok(status)
 }

@@ -26,7 +26,8 @@ pub fn arguments(rt: &impl Eprint, error: &io::Error) -> Status
 pub fn usage(rt: &(impl Print + Eprint), error: &clap::Error) -> Status
     ensures { (result ≡ usage_status (kind_of error.now)) ⊎ (result ≡ Status.InputOutput) }
 {
-    if error.print(rt).is_err() {
+    if let Err(failed) = error.print(rt) {
+        output_failed(rt, &failed);
         return Status::InputOutput;
     }
     match error.kind() {
@@ -36,7 +37,7 @@ pub fn usage(rt: &(impl Print + Eprint), error: &clap::Error) -> Status
     }
 }
 
-/// What a command on this file answered. Nothing is said where nobody reads the output any more.
+/// What a command on this file answered.
 pub fn answer(rt: &impl Eprint, file: &str, answered: Result<Status, Failure>) -> Status
     ensures { result ≡ answered_status answered }
 {
@@ -44,11 +45,21 @@ pub fn answer(rt: &impl Eprint, file: &str, answered: Result<Status, Failure>) -
         Ok(status) => return status,
         Err(failure) => failure,
     };
-    let _ = match &failure {
-        Failure::Memory => eprintln!(rt; "giopctl: {failure}"),
-        Failure::Input(_) => eprintln!(rt; "giopctl: {file}: {failure}"),
-        Failure::Output(error) if error.kind() == ErrorKind::BrokenPipe => Ok(()),
-        Failure::Output(_) => eprintln!(rt; "giopctl: standard output: {failure}"),
-    };
+    match &failure {
+        Failure::Memory => {
+            let _ = eprintln!(rt; "giopctl: {failure}");
+        }
+        Failure::Input(_) => {
+            let _ = eprintln!(rt; "giopctl: {file}: {failure}");
+        }
+        Failure::Output(error) => output_failed(rt, error),
+    }
     failure.status()
+}
+
+// The standard output can't be written. Nothing is said where nobody reads it any more.
+fn output_failed(rt: &impl Eprint, error: &io::Error) {
+    if error.kind() != ErrorKind::BrokenPipe {
+        let _ = eprintln!(rt; "giopctl: standard output: {error}");
+    }
 }

@@ -4,7 +4,7 @@ ghost use Rattle.giopctl.specs.Dump.{Dumps, DumpsKnown};
 
 use crate::commands::dump_lines::{write_fault, write_message, write_rest};
 use crate::failure::Failure;
-use crate::pieces::{drain, read_piece};
+use crate::pieces::{PieceBuffer, drain};
 use crate::status::Status;
 use giop_msg::Framer;
 use std::alloc::Global;
@@ -14,33 +14,49 @@ use std::io::{ErrorKind, Read, Write};
 /// The greatest message size that the program takes, the header not counted.
 pub const MESSAGE_LIMIT: u32 = 1_048_576;
 
+/// What becomes of the input behind a fault in a header, of which nothing is shown.
+#[derive(Clone, Copy, Debug, PartialEq, Eq)]
+pub enum BehindFault {
+    /// It is read to its end before the fault is told, so that a reading that fails comes first: for
+    /// files.
+    Read,
+    /// It is left unread, and the fault told at once: for what may never end.
+    Leave,
+}
+
 /// Writes the messages that the octets of a file are, and then how many octets are left, or the
 /// fault that ends it. It is `Done` where the file is messages and nothing else, else `Refused`.
 ///
 /// Where writing fails the answer is `InputOutput`, and where memory is wanting `Memory`; then a part
-/// of the text is written. The writer isn't flushed.
+/// of the text is written.
 pub fn dump_octets<W: Write>(alloc: Global, octets: &[u8], writer: &mut W) -> Status
     ensures { Dumps MESSAGE_LIMIT octets.now (W.contents writer.old) (W.contents writer.new) result }
 {
     let mut left = octets;
-    match dump_stream(alloc, &mut left, writer) {
+    match dump_stream(alloc, &mut left, writer, BehindFault::Read) {
         Ok(status) => status,
         Err(failure) => failure.status(),
     }
 }
 
-/// The same for the octets that a reader gives, with what failed where something did. They are read
-/// to their end, also after a fault, and no more of them is held than a message and a piece.
+/// The same for the octets that a reader gives, with what failed where something did. No more of
+/// them is held than a message and a piece.
+///
+/// The writer is flushed before each read, so that a message is shown as soon as it is whole. What
+/// is written last, the rest or the fault, is left to the caller to flush.
 pub fn dump_stream<R: Read, W: Write>(
     alloc: Global,
     reader: &mut R,
     writer: &mut W,
+    behind: BehindFault,
 ) -> Result<Status, Failure>
     ensures text { IfOk result (DumpsKnown MESSAGE_LIMIT (R.remaining reader.old)
         (W.contents writer.old) (W.contents writer.new)) }
-    ensures end { OnOk result (IsAtEnd (R.remaining reader.new)) }
+    ensures end { OnOk result (behind ≡ BehindFault.Read → IsAtEnd (R.remaining reader.new)) }
+    ensures done { IfOk result (λ status. status ≡ Status.Done → IsAtEnd (R.remaining reader.new)) }
 {
     let mut framer = Framer::new(alloc, MESSAGE_LIMIT);
+    let mut buffer = PieceBuffer::new(alloc)?;
     let mut at = 0usize;
     'messages: for _ in 0..u64::MAX {
         match framer.next() {
@@ -53,14 +69,17 @@ pub fn dump_stream<R: Read, W: Write>(
                 continue;
             }
             Ok(None) => {
-                let piece = read_piece(alloc, reader)?;
+                writer.flush()?;
+                let piece = buffer.fill(reader)?;
                 if piece.is_empty() {
                     return write_rest(framer.rest(), writer);
                 }
-                feed(&mut framer, &piece)?;
+                feed(&mut framer, piece)?;
             }
             Err(fault) => {
-                drain(alloc, reader)?;
+                if behind == BehindFault::Read {
+                    drain(&mut buffer, reader)?;
+                }
                 return write_fault(at, fault, writer);
             }
         }

@@ -2,7 +2,7 @@ use Rattle.std.proofs.Common.{◌≡◌, ◌+◌, ◌++◌, ap, sym, ◌∙◌, 
 use Rattle.std.proofs.lemmas.Bool.{eqb-true}
 use Rattle.std.proofs.lemmas.List.{append-nil}
 use Rattle.giop_msg.specs.Stream.{Unread, TakesMessage}
-use Rattle.giopctl.proofs.DumpLemmas.{nothing_left, of_none, of_message, of_piece, of_rest, of_fault}
+use Rattle.giopctl.proofs.DumpLemmas.{nothing_left, of_none, of_message, of_piece, of_rest, of_fault, of_kept}
 use Rattle.giopctl.proofs.commands.dump.dump_stream.Goals as goal
 
 pub messages-init : goal.messages-init
@@ -23,14 +23,14 @@ messages-preserved-in-Ok-Some g c =
 pub messages-preserved : goal.messages-preserved
 messages-preserved g c =
     let before = c.messages.invariant in
-    let piece = c.in_ok-piece-in-Ok-None.piece.items in
+    let piece = c.in_ok-piece-in-Ok-None.piece.now in
     let waits = rw c.in-Ok-None.field-0-is at c.in-Ok-None.ensures.waits in
     let fed = c.in_ok-feed-in-Ok-None.ensures.ok in
     let octets : c.feed.new.framer.octets ≡ c.messages.framer.octets ++ piece =
-    ap (λ (u : Unread). u.octets) fed ∙ ap (λ (u : Unread). u.octets ++ c.deref.result.now) waits.1
-    ∙ ap (λ u. c.messages.framer.octets ++ u) c.deref.ensures.value in
+    ap (λ (u : Unread). u.octets) fed ∙ ap (λ (u : Unread). u.octets ++ piece) waits.1
+    in
     record {
-      shown = rw octets (of_piece _ piece before.shown c.in_ok-piece-in-Ok-None.ensures.ok);
+      shown = rw octets (of_piece _ piece (of_kept _ before.shown c.flush.ensures.bytes) c.in_ok-piece-in-Ok-None.ensures.ok);
       limit = ap (λ (u : Unread). u.limit) fed ∙ ap (λ (u : Unread). u.limit) waits.1 ∙ before.limit;
     }
 
@@ -40,10 +40,10 @@ returns-then-is_empty-clause-text g c =
     let piece = c.in_ok-piece-in-Ok-None.piece in
     let waits = rw c.in-Ok-None.field-0-is at c.in-Ok-None.ensures.waits in
     let n : c.rest.result ≡ length c.messages.framer.octets = c.rest.ensures ∙ ap (λ (u : Unread). length u.octets) waits.1 in
-    let empty : length piece.items ≡ 0 = sym piece.ok.0 ∙ eqb-true _ _ (sym c.is_empty.ensures ∙ c.if-is_empty.true) in
-    let all : c.messages.framer.octets ++ piece.items ≡ c.messages.framer.octets =
-    ap (λ u. c.messages.framer.octets ++ u) (nothing_left piece.items empty) ∙ append-nil c.messages.framer.octets in
-    let shown = rw all at (of_piece _ piece.items before.shown c.in_ok-piece-in-Ok-None.ensures.ok) in
+    let empty : length piece.now ≡ 0 = eqb-true _ _ (sym c.is_empty.ensures ∙ c.if-is_empty.true) in
+    let all : c.messages.framer.octets ++ piece.now ≡ c.messages.framer.octets =
+    ap (λ u. c.messages.framer.octets ++ u) (nothing_left piece.now empty) ∙ append-nil c.messages.framer.octets in
+    let shown = rw all at (of_piece _ piece.now (of_kept _ before.shown c.flush.ensures.bytes) c.in_ok-piece-in-Ok-None.ensures.ok) in
     of_rest c.messages.framer _ _ shown before.limit (c.in_ok-piece-in-Ok-None.ensures.end empty) waits.0 (rw (← n) c.write_rest.ensures.text)
     (rw (← n) c.write_rest.ensures.ok)
 
