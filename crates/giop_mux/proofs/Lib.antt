@@ -1,4 +1,3 @@
-pub mod PutLemmas
 pub mod JudgedLemmas
 mod SlotLemmas
 pub mod RunLemmas

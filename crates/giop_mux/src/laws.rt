@@ -1,20 +1,53 @@
-//! Laws of every rule: what a run over the calls of many ids leaves of each.
-ghost use Rattle.std.specs.Prelude.{◌≡◌};
-ghost use Rattle.std.specs.FinMap as map;
-ghost use Rattle.giop_mux.specs.Runs.{own, alone, table_after};
+//! Laws of every rule: what a run over the calls of many ids leaves of each, and tells it.
+ghost use Rattle.std.specs.Prelude.{◌≡◌, ◌≢◌, ◌≤◌, ℕ, Err, length};
+ghost use Rattle.std.specs.List.{AllByRecursion};
+ghost use Rattle.std.specs.FinMap as finite;
+ghost use Rattle.giop_ids.specs.ById.{HasOnly, AddressesOnly};
+ghost use Rattle.giop_ids.specs.Runs.{own, alone, told_alone, Runs, addressed, MeetsNoLimit};
+ghost use Rattle.giop_mux.specs.Runs.{turn, call_rules, is_of_call, Refuses};
+ghost use Rattle.giop_mux.specs.declared.refusal.Refusal.TheVariants.{TooManyCalls};
 
 use crate::CallRule;
 
-/// After any list of steps and removals the entry under each id is what its own steps and removals
-/// make of the one that it had, alone.
+/// In any run of steps and takes, which goes on behind refusals, the entry under an id, and what
+/// its own steps and takes are told, are those of its own alone; unless one of them met the limit
+/// or want of memory.
 pub fn each_call_alone<R: CallRule>(rule: &R)
-    ensures { (m : _) (acts : _) (id : _) → map.get (table_after (R.next rule.now) m acts) id
-        ≡ alone (R.next rule.now) (map.get m id) (own id acts) }
+    ensures value { (limit : ℕ) (m n : _) (acts results : _) (id : ℕ)
+        → Runs (call_rules (R.next rule.now) (R.closed rule.now) limit) m acts results n
+        → MeetsNoLimit is_of_call id acts results
+        → finite.get n id
+        ≡ alone (turn (R.next rule.now) (R.closed rule.now)) (finite.get m id) (own id acts) }
+    ensures told { (limit : ℕ) (m n : _) (acts results : _) (id : ℕ)
+        → Runs (call_rules (R.next rule.now) (R.closed rule.now) limit) m acts results n
+        → MeetsNoLimit is_of_call id acts results
+        → own id (addressed acts results)
+        ≡ told_alone (turn (R.next rule.now) (R.closed rule.now)) (finite.get m id) (own id acts) }
 {}
 
-/// Two lists of steps and removals that are equal for each id, in any interleaving, leave equal
-/// tables.
+/// Two runs whose steps and takes are equal for each id, in any interleaving, leave equal tables
+/// and tell each id the same, where they meet no limit and no want of memory.
 pub fn any_interleaving<R: CallRule>(rule: &R)
-    ensures { (m : _) (one other : _) → ((id : _) → own id one ≡ own id other)
-        → table_after (R.next rule.now) m one ≡ table_after (R.next rule.now) m other }
+    ensures value { (limit : ℕ) (m n n' : _) (one other : _) (results results' : _)
+        → Runs (call_rules (R.next rule.now) (R.closed rule.now) limit) m one results n
+        → Runs (call_rules (R.next rule.now) (R.closed rule.now) limit) m other results' n'
+        → ((id : ℕ) → MeetsNoLimit is_of_call id one results)
+        → ((id : ℕ) → MeetsNoLimit is_of_call id other results')
+        → ((id : ℕ) → own id one ≡ own id other) → n ≡ n' }
+    ensures told { (limit : ℕ) (m n n' : _) (one other : _) (results results' : _)
+        → Runs (call_rules (R.next rule.now) (R.closed rule.now) limit) m one results n
+        → Runs (call_rules (R.next rule.now) (R.closed rule.now) limit) m other results' n'
+        → ((id : ℕ) → MeetsNoLimit is_of_call id one results)
+        → ((id : ℕ) → MeetsNoLimit is_of_call id other results')
+        → ((id : ℕ) → own id one ≡ own id other)
+        → (id : ℕ) → own id (addressed one results) ≡ own id (addressed other results') }
+{}
+
+/// Where the ids of a table and of all that befalls it are at most as many as its limit, no order
+/// of these steps and takes meets `TooManyCalls`.
+pub fn limits_in_any_order<R: CallRule>(rule: &R)
+    ensures { (limit : ℕ) (m n : _) (acts results : _) (ids : _)
+        → HasOnly m ids → AddressesOnly acts ids → length ids ≤ limit
+        → Runs (call_rules (R.next rule.now) (R.closed rule.now) limit) m acts results n
+        → AllByRecursion (λ result. result ≢ Err (Refuses TooManyCalls)) results }
 {}

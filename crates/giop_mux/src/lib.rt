@@ -7,14 +7,13 @@ pub mod laws;
 mod mux;
 mod refusal;
 mod rule;
-mod run;
 mod slots;
 mod step;
 
+pub use giop_ids::Addressed;
 pub use mux::Mux;
 pub use refusal::{Refusal, StillOpen};
 pub use rule::CallRule;
-pub use run::{Addressed, Stopped};
 pub use step::Step;
 
 #[cfg(test)]

@@ -1,10 +1,13 @@
-ghost use Rattle.std.specs.Prelude.{◌≡◌, ℕ, ◌==◌, ◌≤◌, ◌↔◌, false, Some, None, IsErr, IfOk, IfErr, OnOk, OnErr, IsErrOf, IsSome, option_copied};
+ghost use Rattle.std.specs.Prelude.{◌≡◌, ◌==◌, ◌≤◌, ◌↔◌, false, map, Some, None, IsErr, IfOk, IfErr, OnOk, OnErr, IsErrOf, IsSome, option_copied};
 ghost use Rattle.std.specs.Option.{option_map};
-ghost use Rattle.std.specs.FinMap as map;
-ghost use Rattle.giop_mux.specs.Calls.{put, judged, RefusedAs};
-ghost use Rattle.giop_mux.specs.Runs.{acts_of, own, alone, table_after, AreAccepted, StopsAt};
+ghost use Rattle.std.specs.FinMap as finite;
+ghost use Rattle.giop_ids.specs.ById.{put};
+ghost use Rattle.giop_ids.specs.Runs.{RefusedAs, refusal_of, Does, Runs};
+ghost use Rattle.giop_mux.specs.Calls.{judged};
+ghost use Rattle.giop_mux.specs.Runs.{Hears, IsTaken, event_reply, take_reply, acts_of, call_rules};
 
-use crate::{Addressed, CallRule, Refusal, StillOpen, Stopped, slots};
+use crate::{CallRule, Refusal, StillOpen, slots};
+use giop_ids::Addressed;
 use std::alloc::{AllocError, Global};
 use std::collections::BTreeMap;
 use std::marker::Model;
@@ -40,7 +43,7 @@ impl<R: CallRule> Model for Mux<R> {
 impl<R: CallRule> Mux<R> {
     /// An empty table under this rule, of at most `calls` entries. It takes no memory.
     pub fn new(alloc: Global, rule: R, calls: u32) -> Self
-        ensures { result ≡ record { rule = rule; limit = calls; entries = map.empty } }
+        ensures { result ≡ record { rule = rule; limit = calls; entries = finite.empty } }
     {
         Mux {
             rule,
@@ -57,52 +60,50 @@ impl<R: CallRule> Mux<R> {
     pub fn apply(&mut self, id: u32, event: R::Event) -> Result<R::Answer, Refusal<R::Fault>>
         ensures ok { OnOk result (self.new ≡ record self.old {
           entries = put self.old.entries id
-              (R.next self.old.rule (map.get self.old.entries id) event).entry;
+              (R.next self.old.rule (finite.get self.old.entries id) event).entry;
         }) }
         ensures value { IfOk result (λ answer. judged self.old.entries self.old.limit id
-            (R.next self.old.rule (map.get self.old.entries id) event) ≡ Ok answer) }
-        ensures err { IfErr result (λ refusal. RefusedAs refusal
-            (judged self.old.entries self.old.limit id
-            (R.next self.old.rule (map.get self.old.entries id) event))) }
-        ensures memory { IsErrOf result Refusal.NoMemory → (map.get self.old.entries id ≡ None)
+            (R.next self.old.rule (finite.get self.old.entries id) event) ≡ Ok answer) }
+        ensures err { IfErr result (λ refusal. RefusedAs Refusal.NoMemory refusal
+            (refusal_of (judged self.old.entries self.old.limit id
+            (R.next self.old.rule (finite.get self.old.entries id) event)))) }
+        ensures memory { IsErrOf result Refusal.NoMemory → (finite.get self.old.entries id ≡ None)
             × IsSome (R.next self.old.rule None event).entry }
         ensures kept { OnErr result (self.new ≡ self.old) }
-        ensures within { map.len self.new.entries ≤ self.new.limit }
+        ensures exact { Does (call_rules (R.next self.old.rule) (R.closed self.old.rule)
+            self.old.limit) self.old.entries (record { id = id; what = Hears event })
+            (event_reply result) self.new.entries }
+        ensures within { finite.len self.new.entries ≤ self.new.limit }
     {
         slots::step_call(&self.rule, self.limit, &mut self.table, id, event)
     }
 
-    /// Applies these events, each under its id, one after the other. It takes only the memory that
-    /// `apply` takes; the answers are dropped.
+    /// Applies these events, each under its id, one after the other, and gives what each is
+    /// answered, or why it is refused, in their order. It goes on behind a refusal.
     ///
-    /// Where one is refused it stops: those before it are done, this one has changed nothing, and
-    /// the later ones are dropped.
-    pub fn apply_all(&mut self, events: Vec<Addressed<R::Event>>) -> Result<(), Stopped<R::Fault>>
-        ensures ok { OnOk result (self.new ≡ record self.old {
-          entries =
-              table_after (R.next self.old.rule) self.old.entries (acts_of events.items);
-        }) }
-        ensures value { OnOk result ((id : ℕ) → map.get self.new.entries id
-            ≡ alone (R.next self.old.rule) (map.get self.old.entries id)
-            (own id (acts_of events.items))) }
-        ensures only { OnOk result (AreAccepted (R.next self.old.rule) (R.closed self.old.rule)
-            self.old.limit self.old.entries (acts_of events.items)) }
-        ensures err { IfErr result (λ stopped. StopsAt (R.next self.old.rule)
-            (R.closed self.old.rule) self.old events.items stopped self.new) }
+    /// `alloc` gives the memory of the list of outcomes. Where that is wanting, nothing is applied.
+    pub fn apply_all(
+        &mut self,
+        alloc: Global,
+        events: Vec<Addressed<R::Event>>,
+    ) -> Result<Vec<Result<R::Answer, Refusal<R::Fault>>>, AllocError>
+        ensures ok { OnOk result
+            (self.new ≡ record self.old { entries = self.new.entries }) }
+        ensures value { IfOk result (λ outcomes. Runs (call_rules (R.next self.old.rule)
+            (R.closed self.old.rule) self.old.limit) self.old.entries
+            (acts_of events.items) (map event_reply outcomes.items) self.new.entries) }
+        ensures kept { OnErr result (self.new ≡ self.old) }
     {
-        let mut at = 0;
+        let mut outcomes = Vec::with_capacity(alloc, events.len())?;
         for told in events {
-            if let Err(why) = self.apply(told.id, told.event) {
-                return Err(Stopped { at, why });
-            }
-            at += 1;
+            outcomes.push(self.apply(told.id, told.what)).unwrap();
         }
-        Ok(())
+        Ok(outcomes)
     }
 
     /// The entry under this id. It takes no memory.
     pub fn entry(&self, id: u32) -> Option<&R::Entry>
-        ensures { option_copied result ≡ map.get self.now.entries id }
+        ensures { option_copied result ≡ finite.get self.now.entries id }
     {
         slots::entry_in(&self.table, id)
     }
@@ -111,12 +112,15 @@ impl<R: CallRule> Mux<R> {
     /// no memory. An entry whose call is open stays, and is refused.
     pub fn take(&mut self, id: u32) -> Result<Option<R::Entry>, StillOpen>
         ensures ok { OnOk result
-            (self.new ≡ record self.old { entries = map.remove self.old.entries id }) }
-        ensures value { IfOk result (λ taken. taken ≡ map.get self.old.entries id) }
+            (self.new ≡ record self.old { entries = finite.remove self.old.entries id }) }
+        ensures value { IfOk result (λ taken. taken ≡ finite.get self.old.entries id) }
         ensures err { IsErr result
-            ↔ (option_map (R.closed self.old.rule) (map.get self.old.entries id) ≡ Some false) }
+            ↔ (option_map (R.closed self.old.rule) (finite.get self.old.entries id) ≡ Some false) }
         ensures kept { OnErr result (self.new ≡ self.old) }
-        ensures within { map.len self.new.entries ≤ self.new.limit }
+        ensures exact { Does (call_rules (R.next self.old.rule) (R.closed self.old.rule)
+            self.old.limit) self.old.entries (record { id = id; what = IsTaken })
+            (take_reply result) self.new.entries }
+        ensures within { finite.len self.new.entries ≤ self.new.limit }
     {
         if slots::is_open(&self.rule, &self.table, id) {
             return Err(StillOpen);
@@ -126,7 +130,7 @@ impl<R: CallRule> Mux<R> {
 
     /// The number of entries. It takes no memory.
     pub fn len(&self) -> usize
-        ensures value { result ≡ map.len self.now.entries }
+        ensures value { result ≡ finite.len self.now.entries }
         ensures within { result ≤ self.now.limit }
     {
         slots::count_of(&self.table)
@@ -134,7 +138,7 @@ impl<R: CallRule> Mux<R> {
 
     /// Whether there is no entry.
     pub fn is_empty(&self) -> bool
-        ensures { result ≡ (map.len self.now.entries == 0) }
+        ensures { result ≡ (finite.len self.now.entries == 0) }
     {
         self.len() == 0
     }
@@ -142,14 +146,14 @@ impl<R: CallRule> Mux<R> {
     /// Whether there are as many entries as may be, so that an id without one is refused another.
     /// It takes no memory.
     pub fn is_full(&self) -> bool
-        ensures { result ≡ (map.len self.now.entries == self.now.limit) }
+        ensures { result ≡ (finite.len self.now.entries == self.now.limit) }
     {
         self.len() == self.limit as usize
     }
 
     /// The ids that have an entry, ascending. `alloc` gives the memory of the list.
     pub fn ids(&self, alloc: Global) -> Result<Vec<u32>, AllocError>
-        ensures { IfOk result (λ ids. ids.items ≡ map.keys self.now.entries) }
+        ensures { IfOk result (λ ids. ids.items ≡ finite.keys self.now.entries) }
     {
         slots::ids_of(alloc, &self.table)
     }

@@ -5,8 +5,10 @@ ghost use Rattle.std.specs.FinMap as map;
 ghost use Rattle.std.specs.BTreeMap.{is_at, Updates, btree_map_len, keys, IsOrdered};
 ghost use Rattle.std.specs.Ordering.{nat_cmp};
 ghost use Rattle.std.specs.Map.{lookup};
-ghost use Rattle.giop_mux.specs.Calls.{put, judged, RefusedAs, refusal_of_new};
-ghost use Rattle.giop_mux.specs.Slots.{entries_of, AreFull, IsTable};
+ghost use Rattle.giop_ids.specs.ById.{put};
+ghost use Rattle.giop_ids.specs.Runs.{RefusedAs, refusal_of};
+ghost use Rattle.giop_mux.specs.Calls.{judged, is_one_too_many, room_refusal};
+ghost use Rattle.giop_mux.specs.Slots.{entries_of, NoneEmpty, IsTable};
 
 use crate::{CallRule, Refusal};
 use std::alloc::{AllocError, Global};
@@ -43,8 +45,8 @@ pub fn step_call<R: CallRule>(
         IfOk result (λ answer.
         judged m calls id (R.next rule.now (map.get m id) event) ≡ Ok answer) }
     ensures err { let m = entries_of table.old.entries in
-        IfErr result (λ refusal. RefusedAs refusal
-        (judged m calls id (R.next rule.now (map.get m id) event))) }
+        IfErr result (λ refusal. RefusedAs Refusal.NoMemory refusal
+        (refusal_of (judged m calls id (R.next rule.now (map.get m id) event)))) }
     ensures kept { OnErr result (entries_of table.new.entries ≡ entries_of table.old.entries) }
     ensures memory { IsErrOf result Refusal.NoMemory
         → (map.get (entries_of table.old.entries) id ≡ None)
@@ -83,7 +85,7 @@ pub fn is_open<R: CallRule>(rule: &R, table: &BTreeMap<u32, Option<R::Entry>>, i
 
 /// The ids of the slots, ascending.
 pub fn ids_of<E>(alloc: Global, table: &BTreeMap<u32, Option<E>>) -> Result<Vec<u32>, AllocError>
-    requires { AreFull table.now.entries }
+    requires { NoneEmpty table.now.entries }
     ensures { IfOk result (λ ids. ids.items ≡ map.keys (entries_of table.now.entries)) }
 {
     listed_keys(alloc, table)
@@ -99,7 +101,7 @@ fn listed_keys<E>(alloc: Global, table: &BTreeMap<u32, Option<E>>) -> Result<Vec
 
 /// The number of the slots.
 pub fn count_of<E>(table: &BTreeMap<u32, Option<E>>) -> usize
-    requires { AreFull table.now.entries }
+    requires { NoneEmpty table.now.entries }
     ensures value { result ≡ map.len (entries_of table.now.entries) }
     ensures slots { result ≡ length table.now.entries }
 {
@@ -108,10 +110,10 @@ pub fn count_of<E>(table: &BTreeMap<u32, Option<E>>) -> usize
 
 /// Takes the entry under an id out.
 pub fn take_slot<E: Drop>(table: &mut BTreeMap<u32, Option<E>>, id: u32) -> Option<E>
-    requires { AreFull table.old.entries }
+    requires { NoneEmpty table.old.entries }
     ensures value { result ≡ map.get (entries_of table.old.entries) id }
     ensures ok { entries_of table.new.entries ≡ map.remove (entries_of table.old.entries) id }
-    ensures full { AreFull table.new.entries }
+    ensures full { NoneEmpty table.new.entries }
     ensures within { length table.new.entries ≤ length table.old.entries }
 {
     table.remove(&id)?
@@ -140,8 +142,9 @@ fn start<R: CallRule>(
         ≡ put (entries_of table.old.entries) id (R.next rule.now None event).entry) }
     ensures value { IfOk result (λ answer.
         judged (entries_of table.old.entries) calls id (R.next rule.now None event) ≡ Ok answer) }
-    ensures err { IfErr result (λ refusal. RefusedAs refusal
-        (judged (entries_of table.old.entries) calls id (R.next rule.now None event))) }
+    ensures err { IfErr result (λ refusal. RefusedAs Refusal.NoMemory refusal
+        (refusal_of
+        (judged (entries_of table.old.entries) calls id (R.next rule.now None event)))) }
     ensures kept { OnErr result (entries_of table.new.entries ≡ entries_of table.old.entries) }
     ensures memory { IsErrOf result Refusal.NoMemory → IsSome (R.next rule.now None event).entry }
 {
@@ -165,9 +168,10 @@ fn add_slot<E: Drop, F>(
     ensures table { IsTable calls table.new.entries }
     ensures ok { OnOk result (entries_of table.new.entries
         ≡ put (entries_of table.old.entries) id (Some entry)) }
-    ensures room { OnOk result ((map.len (entries_of table.old.entries) == calls) ≡ false) }
-    ensures err { IfErr result (λ refusal.
-        refusal ≡ refusal_of_new (map.len (entries_of table.old.entries) == calls)) }
+    ensures room { OnOk result
+        (is_one_too_many (entries_of table.old.entries) calls id (Some entry) ≡ false) }
+    ensures err { IfErr result (λ refusal. RefusedAs Refusal.NoMemory refusal
+        (room_refusal (entries_of table.old.entries) calls id (Some entry))) }
     ensures kept { OnErr result (entries_of table.new.entries ≡ entries_of table.old.entries) }
 {
     if table.len() == calls as usize {

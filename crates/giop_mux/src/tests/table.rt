@@ -1,19 +1,19 @@
 use super::notes::{Answer, Event, NotOpen, Note, Notes, has_closed, has_open, text};
-use crate::{Addressed, Mux, Refusal, Stopped};
+use crate::{Addressed, Mux, Refusal};
 use std::alloc::{AllocError, Global};
 use std::test::Fail;
 
 fn write(alloc: Global, id: u32, word: &str) -> Result<Addressed<Event>, AllocError> {
     Ok(Addressed {
         id,
-        event: Event::Write(text(alloc, word)?),
+        what: Event::Write(text(alloc, word)?),
     })
 }
 
 fn close(id: u32) -> Addressed<Event> {
     Addressed {
         id,
-        event: Event::Close,
+        what: Event::Close,
     }
 }
 
@@ -77,7 +77,8 @@ fn interleaved_calls_end_alike(rt: HostRuntime) -> Result<(), Fail> {
     ]?;
     for events in [one, other] {
         let mut mux = Mux::new(alloc, Notes, 2);
-        assert_eq!(rt; mux.apply_all(events), Ok(()));
+        let outcomes = mux.apply_all(alloc, events)?;
+        assert_eq!(rt; outcomes.len(), 4);
         assert!(rt; has_closed(&mux, 1, "a"));
         assert!(rt; has_closed(&mux, 2, "b"));
         assert_eq!(rt; mux.len(), 2);
@@ -86,24 +87,31 @@ fn interleaved_calls_end_alike(rt: HostRuntime) -> Result<(), Fail> {
 }
 
 #[test]
-fn a_run_stops_at_the_refused_event(rt: HostRuntime) -> Result<(), Fail> {
+fn a_run_goes_on_behind_refusals(rt: HostRuntime) -> Result<(), Fail> {
     let alloc = rt.alloc();
     let mut mux = Mux::new(alloc, Notes, 2);
     let events = vec![in alloc;
+        close(2),
         write(alloc, 1, "a")?,
         close(1),
         close(1),
         write(alloc, 2, "b")?,
+        write(alloc, 3, "c")?,
+        close(2),
     ]?;
-    let why = Refusal::Rule(NotOpen);
-    assert_eq!(rt; mux.apply_all(events), Err(Stopped { at: 2, why }));
+    let outcomes = mux.apply_all(alloc, events)?;
+    let expected = [
+        Err(Refusal::Rule(NotOpen)),
+        Ok(Answer::Written),
+        Ok(Answer::Closed),
+        Err(Refusal::Rule(NotOpen)),
+        Ok(Answer::Written),
+        Err(Refusal::TooManyCalls),
+        Ok(Answer::Closed),
+    ];
+    assert_eq!(rt; outcomes.as_slice(), expected.as_slice());
     assert!(rt; has_closed(&mux, 1, "a"));
-    assert!(rt; mux.entry(2).is_none());
-
-    let events = vec![in alloc; write(alloc, 2, "b")?, write(alloc, 3, "c")?]?;
-    let why = Refusal::TooManyCalls;
-    assert_eq!(rt; mux.apply_all(events), Err(Stopped { at: 1, why }));
-    assert!(rt; has_open(&mux, 2, "b"));
+    assert!(rt; has_closed(&mux, 2, "b"));
     assert!(rt; mux.entry(3).is_none());
     Ok(())
 }

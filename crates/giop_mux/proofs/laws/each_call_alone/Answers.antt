@@ -1,5 +1,10 @@
-use Rattle.giop_mux.proofs.RunLemmas.{get-table_after}
+use Rattle.giop_mux.proofs.RunLemmas.{run_alone}
 use Rattle.giop_mux.proofs.laws.each_call_alone.Goals as goal
 
-pub returns : goal.returns
-returns g c = λ m acts id. get-table_after (g.R.CallRule.next c.args.rule.now) m acts id
+pub returns-clause-value : goal.returns-clause-value
+returns-clause-value g c = λ limit m n acts results id run free.
+    (run_alone (g.R.CallRule.next c.args.rule.now) (g.R.CallRule.closed c.args.rule.now) limit m n acts results id run free).0
+
+pub returns-clause-told : goal.returns-clause-told
+returns-clause-told g c = λ limit m n acts results id run free.
+    (run_alone (g.R.CallRule.next c.args.rule.now) (g.R.CallRule.closed c.args.rule.now) limit m n acts results id run free).1

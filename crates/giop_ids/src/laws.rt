@@ -1,0 +1,78 @@
+//! Laws of every table by id, whatever stands under an id and whatever an act does to it.
+ghost use Rattle.std.specs.Prelude.{◌≡◌, ◌≤◌, ◌==◌, ℕ, Bool, true, List, ◌++◌, length, Result, Option, is_some, if◌then◌else◌};
+ghost use Rattle.std.specs.FinMap as finite;
+ghost use Rattle.giop_ids.specs.declared.addressed.Addressed.{Addressed};
+ghost use Rattle.giop_ids.specs.ById.{ById, put, HasOnly};
+ghost use Rattle.giop_ids.specs.Runs.{own, alone, told_alone, Rules, all_after, all_told, Runs, addressed, accepted, IsApart, Distinguishes, MeetsNoLimit};
+
+/// A value that is put stands under its id, and what stood under each other id stays; two tables
+/// that tell the same of each id are equal.
+pub fn one_id_changes<V>()
+    ensures value { (m : ById V) (id : ℕ) (held : Option V) (q : ℕ) → finite.get (put m id held) q
+        ≡ (if q == id then held else finite.get m q) }
+    ensures equal { (m n : ById V)
+        → ((id : ℕ) → finite.get m id ≡ finite.get n id) → m ≡ n }
+{}
+
+/// A table has no more entries than a list has ids in which each of its own stands, and no more
+/// than another table that has all of its ids.
+pub fn entries_within_ids<V, W>()
+    ensures listed { (m : ById V) (ids : List ℕ) → HasOnly m ids → finite.len m ≤ length ids }
+    ensures shared { (m : ById V) (n : ById W)
+        → ((id : ℕ) → is_some (finite.get m id) ≡ true → is_some (finite.get n id) ≡ true)
+        → finite.len m ≤ finite.len n }
+{}
+
+/// After any list of acts what stands under each id is what its own acts make of what stood there,
+/// alone, and what they are told is what they are told alone.
+pub fn each_id_alone<S, V, Act, Answer, Why>()
+    ensures value { (rules : Rules S V Act Answer Why) → IsApart rules
+        → (s : S) (acts : List (Addressed Act)) (id : ℕ)
+        → rules.at (all_after rules s acts) id ≡ alone rules.turn (rules.at s id) (own id acts) }
+    ensures told { (rules : Rules S V Act Answer Why) → IsApart rules
+        → (s : S) (acts : List (Addressed Act)) (id : ℕ)
+        → own id (all_told rules s acts) ≡ told_alone rules.turn (rules.at s id) (own id acts) }
+{}
+
+/// Two lists of acts that are equal for each id, in any interleaving, leave the same under each id,
+/// and tell its acts the same.
+pub fn any_interleaving<S, V, Act, Answer, Why>()
+    ensures value { (rules : Rules S V Act Answer Why) → IsApart rules
+        → (s : S) (one other : List (Addressed Act)) → ((id : ℕ) → own id one ≡ own id other)
+        → (id : ℕ) → rules.at (all_after rules s one) id ≡ rules.at (all_after rules s other) id }
+    ensures told { (rules : Rules S V Act Answer Why) → IsApart rules
+        → (s : S) (one other : List (Addressed Act)) → ((id : ℕ) → own id one ≡ own id other)
+        → (id : ℕ) → own id (all_told rules s one) ≡ own id (all_told rules s other) }
+{}
+
+/// A run of calls, which goes on behind refusals, leaves what its accepted acts leave.
+pub fn refused_acts_leave_nothing<S, V, Act, Answer, Why>()
+    ensures { (rules : Rules S V Act Answer Why) (s t : S) (acts : List (Addressed Act))
+        (results : List (Result Answer Why)) → Runs rules s acts results t
+        → t ≡ all_after rules s (accepted acts results) }
+{}
+
+/// In a run of calls what stands under an id, and each answer and refusal that its own acts get,
+/// are those of its own acts alone, whatever befalls other ids; unless one of its own acts met a
+/// limit of the whole, or want of memory.
+pub fn each_id_of_a_run_alone<S, V, Act, Answer, Why>()
+    ensures value { (rules : Rules S V Act Answer Why) (of_id : Why → Bool)
+        → IsApart rules → Distinguishes rules of_id
+        → (s t : S) (acts : List (Addressed Act)) (results : List (Result Answer Why)) (id : ℕ)
+        → Runs rules s acts results t → MeetsNoLimit of_id id acts results
+        → rules.at t id ≡ alone rules.turn (rules.at s id) (own id acts) }
+    ensures told { (rules : Rules S V Act Answer Why) (of_id : Why → Bool)
+        → IsApart rules → Distinguishes rules of_id
+        → (s t : S) (acts : List (Addressed Act)) (results : List (Result Answer Why)) (id : ℕ)
+        → Runs rules s acts results t → MeetsNoLimit of_id id acts results
+        → own id (addressed acts results)
+        ≡ told_alone rules.turn (rules.at s id) (own id acts) }
+{}
+
+/// A run, and one that goes on where it ended, are one run.
+pub fn runs_go_on<S, V, Act, Answer, Why>()
+    ensures { (rules : Rules S V Act Answer Why) (s mid t : S) (one other : List (Addressed Act))
+        (results more : List (Result Answer Why))
+        → Runs rules s one results mid → Runs rules mid other more t
+        → Runs rules s (one ++ other) (results ++ more) t }
+{}
