@@ -1,5 +1,6 @@
 -- What is wrong with a header (CORBA 3.3 Part 2, 9.4.1), and how it is told.
-use Rattle.std.specs.Prelude.{ℕ, Bool, List, [], ◌∷◌, codes, Option, Some, None, if◌then◌else◌}
+use Rattle.std.specs.Prelude.{ℕ, Bool, List, [], ◌∷◌, ◌++◌, codes, Option, Some, None, if◌then◌else◌}
+use Rattle.std.specs.Fmt.{decimal}
 use Rattle.giop_msg.specs.declared.fault.WireFault.{WireFault}
 use Rattle.giop_msg.specs.declared.fault.WireKind.{WireKind}
 use Rattle.giop_msg.specs.declared.fault.WireKind.TheVariants.{BadMagic, BadVersion, ReservedFlags, BadKind, TooLarge, BadSize, FragmentSize, NotFragmentable, NoMemory}
@@ -27,6 +28,10 @@ wire_kind_name BadSize = codes "BadSize"
 wire_kind_name FragmentSize = codes "FragmentSize"
 wire_kind_name NotFragmentable = codes "NotFragmentable"
 wire_kind_name NoMemory = codes "NoMemory"
+
+-- a fault, as it is printed: the name of its kind, and its offset
+abbrev pub wire_fault_text : WireFault → List ℕ
+wire_fault_text e = wire_kind_name e.kind ++ (codes " at " ++ decimal e.at)
 
 -- a fault of this kind at this offset
 abbrev pub fault : ℕ → WireKind → WireFault

@@ -105,15 +105,15 @@ impl From<AllocError> for WireFault {
     }
 }
 
-/// The name of its kind, as `BadMagic`.
+/// The name of its kind and its place, as `BadMagic at 3`.
 impl fmt::Display for WireFault {
     ghost use Rattle.std.specs.Prelude.{Some};
-    ghost use Rattle.giop_msg.specs.Fault.{wire_kind_name};
+    ghost use Rattle.giop_msg.specs.Fault.{wire_fault_text};
 
-    ghost output = { λ e. Some (wire_kind_name e.kind) };
+    ghost output = { λ e. Some (wire_fault_text e) };
 
     fn fmt<W: fmt::Write>(&self, f: &mut fmt::Formatter<W>) -> fmt::Result {
-        write!(f, "{}", self.kind)
+        write!(f, "{} at {}", self.kind, self.at)
     }
 }
 

@@ -8,7 +8,7 @@ use Rattle.giop_msg.specs.declared.msg.Msg.{Msg}
 use Rattle.giop_msg.specs.declared.request_head.RequestHead.{RequestHead}
 use Rattle.giop_msg.specs.declared.target.Target.{Target}
 use Rattle.giop_msg.specs.declared.target.Target.TheVariants.{Key}
-use Rattle.giop_msg.specs.Fault.{wire_kind_number, wire_kind_name}
+use Rattle.giop_msg.specs.Fault.{wire_kind_number, wire_fault_text}
 use Rattle.giop_msg.specs.Kind.{kind_name}
 use Rattle.giop_msg.specs.Msg.{request_id_of}
 use Rattle.giopctl.specs.Octets.{hex_text, escaped_text}
@@ -53,7 +53,7 @@ head_line head body =
 abbrev pub fault_line : ℕ → WireFault → List ℕ
 fault_line at e =
     decimal at ++ (codes " fault " ++ (decimal (wire_kind_number e.kind) ++ (codes " " ++
-    (wire_kind_name e.kind ++ (codes " at " ++ decimal e.at)))))
+    wire_fault_text e)))
 
 -- the octets after the last whole message: rest N
 abbrev pub rest_line : ℕ → List ℕ

@@ -210,7 +210,8 @@ fn faults_have_their_numbers_and_names(rt: HostRuntime) -> Result<(), Fail> {
         let fault = WireFault { at: 6, kind };
         assert_eq!(rt; fault.number(), number);
         assert_eq!(rt; kind.number(), number);
-        assert_eq!(rt; printed(&rt, &fault)?.as_str(), name);
+        let placed = format!(in rt.alloc(); "{name} at 6")?;
+        assert_eq!(rt; printed(&rt, &fault)?.as_str(), placed.as_str());
         assert_eq!(rt; printed(&rt, &kind)?.as_str(), name);
         number = number.wrapping_add(1);
     }

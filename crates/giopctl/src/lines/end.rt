@@ -18,9 +18,7 @@ impl fmt::Display for FaultLine {
 
     fn fmt<W: fmt::Write>(&self, f: &mut fmt::Formatter<W>) -> fmt::Result {
         let FaultLine { at, fault } = *self;
-        let number = fault.number();
-        let place = fault.at;
-        write!(f, "{at} fault {number} {fault} at {place}")
+        write!(f, "{at} fault {} {fault}", fault.number())
     }
 }
 
