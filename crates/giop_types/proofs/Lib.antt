@@ -12,3 +12,4 @@ pub mod LabelLemmas
 pub mod CheckLemmas
 pub mod WrittenLemmas
 pub mod DoubledLemmas
+pub mod FitLemmas

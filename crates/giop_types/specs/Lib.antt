@@ -11,4 +11,3 @@ pub mod Checked
 pub mod CheckedShape
 pub mod Fits
 pub mod Written
-pub mod Ranges
