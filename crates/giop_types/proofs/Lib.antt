@@ -13,3 +13,7 @@ pub mod CheckLemmas
 pub mod WrittenLemmas
 pub mod DoubledLemmas
 pub mod FitLemmas
+pub mod PartLoops
+pub mod JsonTextLemmas
+pub mod ToJsonLemmas
+pub mod FromJsonLemmas

@@ -11,3 +11,7 @@ pub mod Checked
 pub mod CheckedShape
 pub mod Fits
 pub mod Written
+pub mod JsonText
+pub mod ToJson
+pub mod FormFault
+pub mod FromJson
