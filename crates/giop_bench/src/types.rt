@@ -70,7 +70,7 @@ pub fn run(alloc: Global) -> Option<u64> {
     let mut sum = 0;
     for _ in 0..TIMES {
         let mut input = CdrIn::new(&source, Order::Big, 0);
-        let value = decode(alloc, &desc, &mut input).ok()?;
+        let value = decode(alloc, &mut input, &desc).ok()?;
         sum = mixed(sum, checksum(&value));
     }
     Some(sum)

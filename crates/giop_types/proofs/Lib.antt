@@ -12,3 +12,8 @@ pub mod LabelLemmas
 pub mod CheckLemmas
 pub mod WrittenLemmas
 pub mod DoubledLemmas
+pub mod FitLemmas
+pub mod PartLoops
+pub mod JsonTextLemmas
+pub mod ToJsonLemmas
+pub mod FromJsonLemmas

@@ -39,7 +39,7 @@ past_fails (Err d) e h = cc
 
 -- ---- the members of a struct
 
-fields_left : (ms : List NamedDesc) (i : ℕ) (m : NamedDesc) → i < length ms → m ≡ get_or ms i m
+pub fields_left : (ms : List NamedDesc) (i : ℕ) (m : NamedDesc) → i < length ms → m ≡ get_or ms i m
     → fields_of (map named_view (drop i ms)) ≡ field m.name (desc_view m.desc) (fields_of (map named_view (drop (i + 1) ms)))
 fields_left ms i m lt is = rw (left_is ms i m lt is, view-Named m) refl
 
@@ -69,7 +69,7 @@ members_skipped ms i c total le so_far =
 
 -- ---- the cases of a union
 
-branches_left : (bs : List CaseDesc) (i : ℕ) (b : CaseDesc) → i < length bs → b ≡ get_or bs i b
+pub branches_left : (bs : List CaseDesc) (i : ℕ) (b : CaseDesc) → i < length bs → b ≡ get_or bs i b
     → branches_of (map case_view (drop i bs)) ≡ branch b.labels.items b.name (desc_view b.desc) (branches_of (map case_view (drop (i + 1) bs)))
 branches_left bs i b lt is = rw (left_is bs i b lt is, view-Case b) refl
 

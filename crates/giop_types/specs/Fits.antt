@@ -1,6 +1,6 @@
--- Which values are of a description: what the description asks beyond the ranges of the numbers
--- (CORBA 3.3 Part 2, 9.3.2).
-use Rattle.std.specs.Prelude.{ℕ, ℤ, ◌+◌, ◌^◌, ◌==◌, ◌&&◌, nat_lt, min, not, Bool, true, false, if◌then◌else◌}
+-- Which values are of a description, and so can be written (CORBA 3.3 Part 2, 9.3.2).
+use Rattle.std.specs.Prelude.{ℕ, ℤ, pos, neg_ℤ, ◌+◌, ◌-◌, ◌^◌, ◌==◌, ◌&&◌, nat_lt, min, not, Bool, true, false}
+use Rattle.std.specs.Prelude.{if◌then◌else◌}
 use Rattle.std.specs.Prelude.{List, [], ◌∷◌, length}
 use Rattle.std.specs.List.{list_all}
 use Rattle.giop_cdr.specs.Reading.{has_null, passes}
@@ -11,20 +11,36 @@ use Rattle.giop_types.specs.Tree.{Tree, boolean_of, octet_of, char_of, short_of,
 use Rattle.giop_types.specs.Tree.{longlong_of, ulonglong_of, text_of, octets_of, label_of, members_of}
 use Rattle.giop_types.specs.Tree.{choice_of, items_of, row_of, Trees, no_trees, tree}
 use Rattle.giop_types.specs.Decoding.{is_label}
-use Rattle.giop_types.specs.Checked.{is_label_of, is_ordinal}
+use Rattle.giop_types.specs.Checked.{is_between, is_label_of, is_ordinal}
 
 -- the values of a list
 abbrev pub list_of : Trees → List Tree
 list_of no_trees = []
 list_of (tree t ts) = t ∷ list_of ts
 
+-- a number of so many bits
+abbrev pub is_unsigned : ℕ → ℕ → Bool
+is_unsigned bits n = nat_lt n (2 ^ bits)
+
+-- a number of so many bits beside its sign
+abbrev pub is_signed : ℕ → ℤ → Bool
+is_signed bits z = is_between (neg_ℤ (pos (2 ^ bits))) (pos (2 ^ bits - 1)) z
+
+-- octets, and nothing else
+abbrev pub are_octets : List ℕ → Bool
+are_octets bs = list_all (is_unsigned 8) bs
+
 -- no longer than its bound, and short enough for its count
 abbrev pub is_counted : ℕ → ℕ → Bool
 is_counted bound n = nat_lt n (2 ^ 32) && not (passes bound n)
 
--- no null inside, no longer than its bound, and with its null short enough for its count
+-- octets that can be counted, within the bound
+abbrev pub is_octets_of : ℕ → List ℕ → Bool
+is_octets_of bound bs = are_octets bs && is_counted bound (length bs)
+
+-- octets without a null, within the bound, that can be counted with their null
 abbrev pub is_text_of : ℕ → List ℕ → Bool
-is_text_of bound t = not (has_null t) && (nat_lt (length t + 1) (2 ^ 32) && not (passes bound (length t)))
+is_text_of bound t = are_octets t && (not (has_null t) && (nat_lt (length t + 1) (2 ^ 32) && not (passes bound (length t))))
 
 -- a value of a discriminant; an ordinal is an unsigned long
 abbrev pub fits_label : Shape → ℤ → Bool
@@ -39,17 +55,17 @@ is_one test _ = false
 unfoldable mutual
   pub fits : Shape → Tree → Bool
   fits boolean (boolean_of b) = true
-  fits octet (octet_of n) = true
-  fits char (char_of n) = true
-  fits short (short_of z) = true
-  fits ushort (ushort_of n) = true
-  fits long (long_of z) = true
-  fits ulong (ulong_of n) = true
-  fits longlong (longlong_of z) = true
-  fits ulonglong (ulonglong_of n) = true
+  fits octet (octet_of n) = is_unsigned 8 n
+  fits char (char_of n) = is_unsigned 8 n
+  fits short (short_of z) = is_signed 15 z
+  fits ushort (ushort_of n) = is_unsigned 16 n
+  fits long (long_of z) = is_signed 31 z
+  fits ulong (ulong_of n) = is_unsigned 32 n
+  fits longlong (longlong_of z) = is_signed 63 z
+  fits ulonglong (ulonglong_of n) = is_unsigned 64 n
   fits (text bound) (text_of t) = is_text_of bound t
-  fits (octets bound) (octets_of t) = is_counted bound (length t)
-  fits (labels names) (label_of n) = nat_lt n (length names)
+  fits (octets bound) (octets_of t) = is_octets_of bound t
+  fits (labels names) (label_of n) = is_unsigned 32 n && nat_lt n (length names)
   fits (members fs) (members_of ts) = fields_fit fs (list_of ts)
   fits (choice disc bs other) (choice_of label ts) =
       fits_label disc label && branches_fit bs (fields_fit other) label (list_of ts)

@@ -11,4 +11,7 @@ pub mod Checked
 pub mod CheckedShape
 pub mod Fits
 pub mod Written
-pub mod Ranges
+pub mod JsonText
+pub mod ToJson
+pub mod FormFault
+pub mod FromJson

@@ -100,3 +100,8 @@ value_step (grown.Row vs) = row_of (trees_of vs.items)
 -- what a value is
 abbrev pub value_view : Value → Tree
 value_view = fold-Value Tree value_step
+
+-- the value of a union's member, where there is one
+abbrev pub member_view : Option (Box Value Global) → List Tree
+member_view None = []
+member_view (Some v) = value_view v.value ∷ []

@@ -1,5 +1,6 @@
 //! Descriptions that were checked.
-ghost use Rattle.std.specs.Prelude.{◌≡◌, true, IfOk, IfErr};
+ghost use Rattle.std.specs.Prelude.{◌≡◌, true, IfOk, IfErr, None};
+ghost use Rattle.giop_types.specs.Checked.{desc_fault};
 ghost use Rattle.giop_types.specs.Full.{is_full};
 ghost use Rattle.giop_types.specs.Views.{desc_view};
 
@@ -13,11 +14,10 @@ use crate::desc_fault::DescFault;
 #[derive(Debug, Drop)]
 pub struct CheckedDesc {
     desc: Desc,
-    pub ghost full: { is_full (desc_view desc) ≡ true },
+    pub ghost checked: { desc_fault 1 (desc_view desc) ≡ None },
 }
 
 impl CheckedDesc {
-    ghost use Rattle.giop_types.specs.Checked.{desc_fault};
     ghost use Rattle.giop_types.specs.CheckedShape.{checked_shape};
 
     /// Checks a description. Refused, and dropped, with the fault of the first node in reading order
@@ -39,6 +39,7 @@ impl CheckedDesc {
     /// The description.
     pub fn desc(&self) -> &Desc
         ensures same { desc_view result.now ≡ checked_shape self.now }
+        ensures checked { desc_fault 1 (desc_view result.now) ≡ None }
         ensures full { is_full (desc_view result.now) ≡ true }
     {
         &self.desc

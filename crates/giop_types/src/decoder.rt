@@ -24,8 +24,8 @@ use std::alloc::Global;
 /// is refused and memory is wanting. The reader then stays where it was.
 pub fn decode<S: Octets>(
     alloc: Global,
-    desc: &CheckedDesc,
     input: &mut CdrIn<S>,
+    desc: &CheckedDesc,
 ) -> Result<Value, CdrFault>
     // What is answered is what is spelled there, and what is spelled there is answered.
     ensures found { IfOk result (λ value.

@@ -16,8 +16,8 @@ fn is_between(first: &i128, last: &i128, label: &i128) -> bool
     first <= label && label <= last
 }
 
-// Whether a label is the ordinal of one of so many names.
-fn is_ordinal(names: usize, label: &i128) -> bool
+/// Whether a label is the ordinal of one of so many names.
+pub fn is_ordinal(names: usize, label: &i128) -> bool
     ensures { result ≡ is_ordinal names label.now }
 {
     0 <= *label && *label < names as i128

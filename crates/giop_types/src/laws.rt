@@ -11,7 +11,6 @@ ghost use Rattle.giop_types.specs.Full.{is_full};
 ghost use Rattle.giop_types.specs.Refusals.{RefusedShape};
 ghost use Rattle.giop_types.specs.Shape.{Shape};
 ghost use Rattle.giop_types.specs.Leaves.{leaves};
-ghost use Rattle.giop_types.specs.Ranges.{IsInRange};
 ghost use Rattle.giop_types.specs.Spells.{Spells};
 ghost use Rattle.giop_types.specs.Tree.{Tree};
 ghost use Rattle.giop_types.specs.Written.{value_out};
@@ -34,6 +33,6 @@ pub fn values_are_bounded()
 /// What is written of a fitting value spells it, and reading gives the value back and leaves what
 /// stands behind it: in both orders, at every offset.
 pub fn written_values_are_read_back()
-    ensures { (shape : Shape) → is_full shape ≡ true → (tree : Tree) → fits shape tree ≡ true → IsInRange tree
+    ensures { (shape : Shape) → is_full shape ≡ true → (tree : Tree) → fits shape tree ≡ true
         → (out : Output) → IsReadBack (Spells shape) (decode_at shape) tree out (value_out shape tree out) }
 {}

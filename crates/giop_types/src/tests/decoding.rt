@@ -16,7 +16,7 @@ pub fn read(
     let octets = &octets[..octets.len().min(1 << 20)];
     let source = SliceOctets::new(octets);
     let mut input = CdrIn::new(&source, order, start as usize);
-    let value = decode(alloc, desc, &mut input)?;
+    let value = decode(alloc, &mut input, desc)?;
     Ok((value, input.position()))
 }
 

@@ -19,7 +19,7 @@ fn a_value_without_memory_is_left_unread(rt: HostRuntime) -> Result<(), Fail> {
     ]?))?;
     let source = SliceOctets::new(&OCTETS);
     let mut input = CdrIn::new(&source, Order::Big, 8);
-    let first = decode(alloc, &desc, &mut input);
+    let first = decode(alloc, &mut input, &desc);
     let wanting = CdrFault {
         at: 8,
         kind: CdrKind::NoMemory,
@@ -29,7 +29,7 @@ fn a_value_without_memory_is_left_unread(rt: HostRuntime) -> Result<(), Fail> {
         Err(fault) => {
             assert_eq!(rt; fault, wanting);
             assert_eq!(rt; input.position(), 8);
-            let again = decode(alloc, &desc, &mut input);
+            let again = decode(alloc, &mut input, &desc);
             assert!(rt; again.is_ok());
         }
     }
@@ -51,7 +51,7 @@ fn want_of_memory_hides_no_fault(rt: HostRuntime) -> Result<(), Fail> {
         at: 16,
         kind: CdrKind::BadCount,
     };
-    assert_eq!(rt; decode(alloc, &desc, &mut input), Err(wanted));
+    assert_eq!(rt; decode(alloc, &mut input, &desc), Err(wanted));
     assert_eq!(rt; input.position(), 0);
     Ok(())
 }

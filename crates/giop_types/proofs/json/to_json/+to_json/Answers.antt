@@ -1,0 +1,63 @@
+use Rattle.std.proofs.Common.{◌≡◌, ◌<◌, ◌++◌, ◌∷◌, [], map, length, sym, ap, ◌∙◌, arith}
+use Rattle.std.proofs.lemmas.Grind.{common_steps}
+use Rattle.serde_json.specs.Data.{array, object}
+use Rattle.serde_json.specs.View.{view, items_of, members_view}
+use Rattle.serde_json.proofs.Views.{view-Array, view-Object}
+use Rattle.giop_types.specs.JsonText.{text_of}
+use Rattle.giop_types.specs.ToJson.{to_data}
+use Rattle.giop_types.specs.Views.{desc_view, value_view}
+use Rattle.giop_types.proofs.ToJsonLemmas.{members_data, items_data, row_data, union_written, fields_put, fields_end}
+use Rattle.giop_types.proofs.ToJsonLemmas.{list_goes_on, list_ends}
+use Rattle.giop_types.proofs.json.to_json.+to_json.Goals as goal
+
+pub to_json-returns-in-Members-Members : goal.to_json-returns-in-Members-Members
+to_json-returns-in-Members-Members t c =
+    let u = c.in-Members-Members in
+    let same = rw (c.deref-in-Members-Members.ensures.value, c.deref-in-Members-Members-2.ensures.value) at c.members_json.ensures in
+    rw (u.is-0, u.is-1, members_data u.members u.values) same
+
+pub to_json-returns-in-Items-Items : goal.to_json-returns-in-Items-Items
+to_json-returns-in-Items-Items t c =
+    let u = c.in-Items-Items in
+    let same = rw (c.deref-in-Items-Items.ensures.value, c.deref-in-Items-Items-2.ensures) at c.items_json.ensures in
+    rw (u.is-0, u.is-1, items_data u.item u.field-1-0 u.values) same
+
+pub to_json-returns-in-Row-Row : goal.to_json-returns-in-Row-Row
+to_json-returns-in-Row-Row t c =
+    let u = c.in-Row-Row in
+    let same = rw (c.deref-in-Row-Row.ensures.value, c.deref-in-Row-Row-2.ensures) at c.items_json-in-Row-Row.ensures in
+    rw (u.is-0, u.is-1, row_data u.item u.field-1-0 u.values) same
+
+pub to_json-returns-in_ok-member_json-in-Choice-Choice : goal.to_json-returns-in_ok-member_json-in-Choice-Choice
+to_json-returns-in_ok-member_json-in-Choice-Choice t c =
+    let u = c.in-Choice-Choice in
+    let label = rw c.deref-in-Choice-Choice.ensures at c.in_ok-label_json-in-Choice-Choice.ensures in
+    let which = rw c.deref-in-Choice-Choice-2.ensures.value at c.selected.ensures in
+    let member = rw which at c.in_ok-member_json-in-Choice-Choice.ensures in
+    rw (u.is-0, u.is-1, ← union_written u.disc u.cases u.fallback u.label u.member _ _ label member) c.choice_json.ensures
+
+pub members_json-loop-i-preserved : goal.members_json-loop-i-preserved
+members_json-loop-i-preserved t c =
+    let m = c.index-members-i.result in
+    let few : c.loop-i.i < length c.args.members.now = omega (arith, c.min-i-end.ensures) in
+    let many : c.loop-i.i < length c.args.values.now = omega (arith, c.min-i-end.ensures) in
+    let step = fields_put c.args.members.now c.args.values.now c.loop-i.i m c.index-values-i.result (members_view c.loop-i.object.entries) few many
+    c.index-members-i.is c.index-values-i.is in
+    let name : c.as_str.result.now ≡ text_of m.name = c.as_str.ensures.value ∙ c.in_ok-name.ensures ∙ ap text_of c.as_slice.ensures in
+    let form : view c.in_ok-value.value ≡ to_data (desc_view m.desc) (value_view c.index-values-i.result) = c.in_ok-value.ensures in
+    rw (c.in_ok-put.ensures.ok, name, form) (sym step ∙ c.loop-i.invariant)
+
+pub members_json-returns : goal.members_json-returns
+members_json-returns t c = view-Object c.loop-i.object ∙ ap (λ ms. object ms)
+    (sym (fields_end c.args.members.now c.args.values.now c.loop-i.i (members_view c.loop-i.object.entries) c.min-i-end.result c.min-i-end.ensures c.loop-i-test.false) ∙ c.loop-i.invariant)
+
+pub items_json-loop-value-preserved : goal.items_json-loop-value-preserved
+items_json-loop-value-preserved t c =
+    let pushed : c.push.new.self.items ≡ c.loop-value.list.items ++ c.in_ok-json.json ∷ [] = grind (arith, common_steps) in
+    rw pushed (list_goes_on (desc_view c.args.item.now) c.loop-value.list.items c.args.values.now c.loop-value.value-index c.value-item.result c.in_ok-json.json
+    (map (to_data (desc_view c.args.item.now)) (map value_view c.args.values.now)) c.loop-value-test.true c.value-item.is c.in_ok-json.ensures c.loop-value.invariant)
+
+pub items_json-returns : goal.items_json-returns
+items_json-returns t c = view-Array c.loop-value.list ∙ ap (λ ds. array (items_of ds))
+    (list_ends (desc_view c.args.item.now) c.loop-value.list.items c.args.values.now c.loop-value.value-index
+    (map (to_data (desc_view c.args.item.now)) (map value_view c.args.values.now)) c.loop-value-test.false c.loop-value.invariant)

@@ -1,0 +1,226 @@
+//! Values read from JSON.
+ghost use Rattle.std.specs.Prelude.{◌≡◌, map, option_and_then, IfOk, IfErr};
+ghost use Rattle.giop_types.specs.declared.form_fault.FormFault.TheVariants.{NoMemory};
+ghost use Rattle.giop_types.specs.CheckedShape.{checked_shape};
+ghost use Rattle.giop_types.specs.FromJson.{Shows, ShowsCase, Reads, shown, members_shown, fields_shown, branches_shown, fallback_shown, items_shown, is_object_of, union_parts, from_data};
+ghost use Rattle.giop_types.specs.JsonText.{text_of};
+ghost use Rattle.giop_types.specs.Outcome.{one_or_none};
+ghost use Rattle.giop_types.specs.Tree.{choice_of};
+ghost use Rattle.giop_types.specs.Views.{desc_view, named_view, case_view, fallback_view, value_view, trees_of, fields_of, branches_of};
+ghost use Rattle.serde_json.specs.Find.{get, as_array};
+ghost use Rattle.serde_json.specs.View.{view, items_view};
+
+use crate::checked_desc::CheckedDesc;
+use crate::desc::{CaseDesc, Desc, NamedDesc};
+use crate::fitting::fits;
+use crate::form_fault::FormFault;
+use crate::json::read_leaves::{
+    char_of, hex_of, label_of, number_of, octets_of, ordinal_of, ordinal_value,
+};
+use crate::json::texts::text_of;
+use crate::reading::has_label;
+use crate::value::Value;
+use serde_json::Value as Json;
+use std::alloc::Global;
+
+/// The value of this description that a JSON value is. Refused as BadShape where the JSON value, or
+/// a part of it, is of another form than the description's; else as Unfit where a range, a bound, a
+/// name or a length is broken; and as NoMemory where memory is wanting, in place of either.
+pub fn value_from_json(alloc: Global, desc: &CheckedDesc, json: &Json) -> Result<Value, FormFault>
+    ensures { Reads value_view result (from_data (checked_shape desc.now) (view json.now)) }
+{
+    let value = show(alloc, desc.desc(), json)?;
+    if fits(desc, &value) {
+        Ok(value)
+    } else {
+        Err(FormFault::Unfit)
+    }
+}
+
+/// The value that a JSON value shows, whether it fits or not.
+#[cycle(show)]
+#[tactic(auto, unfolding(crate::specs::FromJson::shown))]
+pub fn show(alloc: Global, desc: &Desc, json: &Json) -> Result<Value, FormFault>
+    ensures { Shows value_view result (shown (desc_view desc.now) (view json.now)) }
+{
+    match desc {
+        Desc::Boolean => match json.as_bool() {
+            Some(boolean) => Ok(Value::Boolean(boolean)),
+            None => Err(FormFault::BadShape),
+        },
+        Desc::Char => Ok(Value::Char(char_of(alloc, json)?)),
+        Desc::Text(_) => Ok(Value::Text(octets_of(alloc, json)?)),
+        Desc::Octets(_) => Ok(Value::Octets(hex_of(alloc, json)?)),
+        Desc::Labels(names) => Ok(ordinal_value(ordinal_of(alloc, names, json)?)),
+        Desc::Members(members) => Ok(Value::Members(show_members(alloc, members, json)?)),
+        Desc::Choice {
+            disc,
+            cases,
+            fallback,
+        } => {
+            let (label, member) = union_parts(json)?;
+            let label = label_of(alloc, disc, label)?;
+            match show_case(alloc, cases, &label, member)? {
+                Some(value) => chosen(alloc, &label, Some(value)),
+                None => chosen(alloc, &label, show_fallback(alloc, fallback, member)?),
+            }
+        }
+        Desc::Items(item, _) => Ok(Value::Items(show_items(alloc, item, json)?)),
+        Desc::Row(item, _) => Ok(Value::Row(show_items(alloc, item, json)?)),
+        Desc::Octet => number_of(desc, json),
+        Desc::Short => number_of(desc, json),
+        Desc::UShort => number_of(desc, json),
+        Desc::Long => number_of(desc, json),
+        Desc::ULong => number_of(desc, json),
+        Desc::LongLong => number_of(desc, json),
+        Desc::ULongLong => number_of(desc, json),
+    }
+}
+
+// Whether this is an object of so many members.
+fn is_object_of(count: usize, json: &Json) -> bool
+    ensures { result ≡ is_object_of count (view json.now) }
+{
+    match json.as_object() {
+        Some(object) => object.len() == count,
+        None => false,
+    }
+}
+
+// The values of the members of a struct.
+#[cycle(show)]
+fn show_members(alloc: Global, members: &[NamedDesc], json: &Json) -> Result<Vec<Value>, FormFault>
+    ensures { Shows (λ values. map value_view values.items) result
+        (members_shown (fields_of (map named_view members.now)) (view json.now)) }
+{
+    if is_object_of(members.len(), json) {
+        show_fields(alloc, members, json)
+    } else {
+        Err(FormFault::BadShape)
+    }
+}
+
+// The same, one after the other.
+#[cycle(show)]
+fn show_fields(alloc: Global, members: &[NamedDesc], json: &Json) -> Result<Vec<Value>, FormFault>
+    ensures { Shows (λ values. map value_view values.items) result
+        (fields_shown (fields_of (map named_view members.now)) (view json.now)) }
+{
+    let mut values = Vec::with_capacity(alloc, members.len())?;
+    for member in members {
+        let value = show_member(alloc, member, json)?;
+        values.push(value)?;
+    }
+    Ok(values)
+}
+
+// The value of a member, under its name.
+#[cycle(show)]
+fn show_member(alloc: Global, member: &NamedDesc, json: &Json) -> Result<Value, FormFault>
+    ensures { Shows value_view result
+        (option_and_then (shown (desc_view member.now.desc)) (get (text_of member.now.name) (view json.now))) }
+{
+    let name = text_of(alloc, member.name.as_slice())?;
+    match json.get(name.as_str()) {
+        Some(json) => show(alloc, &member.desc, json),
+        None => Err(FormFault::BadShape),
+    }
+}
+
+// The values of a list.
+#[cycle(show)]
+fn show_items(alloc: Global, item: &Desc, json: &Json) -> Result<Vec<Value>, FormFault>
+    ensures { Shows (λ values. map value_view values.items) result
+        (option_and_then (items_shown (shown (desc_view item.now))) (as_array (view json.now))) }
+{
+    match json.as_array() {
+        Some(list) => show_each(alloc, item, list.as_slice()),
+        None => Err(FormFault::BadShape),
+    }
+}
+
+// The values of a list, one after the other.
+#[cycle(show)]
+fn show_each(alloc: Global, item: &Desc, list: &[Json]) -> Result<Vec<Value>, FormFault>
+    ensures { Shows (λ values. map value_view values.items) result
+        (items_shown (shown (desc_view item.now)) (items_view list.now)) }
+{
+    let mut values = Vec::with_capacity(alloc, list.len())?;
+    for json in list {
+        let value = show(alloc, item, json)?;
+        values.push(value)?;
+    }
+    Ok(values)
+}
+
+// The discriminant and the member of a union.
+fn union_parts(json: &Json) -> Result<(&Json, &Json), FormFault>
+    ensures { Shows (λ parts. (view parts.0.now, view parts.1.now)) result (union_parts (view json.now)) }
+{
+    if !is_object_of(2, json) {
+        return Err(FormFault::BadShape);
+    }
+    match (json.get("disc"), json.get("value")) {
+        (Some(label), Some(member)) => Ok((label, member)),
+        _ => Err(FormFault::BadShape),
+    }
+}
+
+// A union's value: its discriminant, and its member where it has one.
+#[tactic(auto, using(crate::proofs::ViewLemmas::chosen_view, crate::proofs::ViewLemmas::bare_view))]
+fn chosen(alloc: Global, label: &i128, member: Option<Value>) -> Result<Value, FormFault>
+    ensures ok { IfOk result (λ value. value_view value ≡ choice_of label.now (trees_of (one_or_none member))) }
+    ensures err { IfErr result (λ e. e ≡ NoMemory) }
+{
+    let Some(member) = member else {
+        return Ok(Value::Choice {
+            disc: *label,
+            member: None,
+        });
+    };
+    match Box::new(alloc, member) {
+        Ok(member) => Ok(Value::Choice {
+            disc: *label,
+            member: Some(member),
+        }),
+        Err(_) => Err(FormFault::NoMemory),
+    }
+}
+
+// The value of the member that the label selects by a case, where one does.
+#[cycle(show)]
+fn show_case(
+    alloc: Global,
+    cases: &[CaseDesc],
+    label: &i128,
+    json: &Json,
+) -> Result<Option<Value>, FormFault>
+    ensures { (other : _) → ShowsCase result
+        (branches_shown (branches_of (map case_view cases.now)) other label.now (view json.now)) (other (view json.now)) }
+{
+    for case in cases {
+        if has_label(&case.labels, label) {
+            let value = show(alloc, &case.desc, json)?;
+            return Ok(Some(value));
+        }
+    }
+    Ok(None)
+}
+
+// The value of the member that is there by default, or null.
+#[cycle(show)]
+fn show_fallback(
+    alloc: Global,
+    fallback: &Option<Box<NamedDesc>>,
+    json: &Json,
+) -> Result<Option<Value>, FormFault>
+    ensures { Shows one_or_none result (fallback_shown (fallback_view fallback.now) (view json.now)) }
+{
+    match fallback {
+        Some(member) => Ok(Some(show(alloc, &member.desc, json)?)),
+        None => match json.as_null() {
+            Some(_) => Ok(None),
+            None => Err(FormFault::BadShape),
+        },
+    }
+}

@@ -1,0 +1,57 @@
+//! The leaves of values as JSON: names, numbers and discriminants.
+ghost use Rattle.std.specs.Prelude.{◌≡◌, IfOk};
+ghost use Rattle.serde_json.specs.View.{view};
+ghost use Rattle.giop_types.specs.ToJson.{text_data, name_data, whole_data, label_data};
+ghost use Rattle.giop_types.specs.Views.{desc_view};
+
+use crate::desc::Desc;
+use crate::json::texts::text_of;
+use giop_cdr::OctetList;
+use serde_json::{Number, Value as Json};
+use std::alloc::{AllocError, Global};
+
+/// The text of octets.
+pub fn text_json(alloc: Global, octets: &[u8]) -> Result<Json, AllocError>
+    ensures { IfOk result (λ json. view json ≡ text_data octets.now) }
+{
+    Ok(Json::String(text_of(alloc, octets)?))
+}
+
+/// The name of an ordinal, or null where it has none.
+pub fn name_json(alloc: Global, names: &[OctetList], ordinal: usize) -> Result<Json, AllocError>
+    ensures { IfOk result (λ json. view json ≡ name_data names.now ordinal) }
+{
+    if ordinal < names.len() {
+        text_json(alloc, names[ordinal].as_slice())
+    } else {
+        Ok(Json::Null)
+    }
+}
+
+/// A number of 64 bits, or null where it has more.
+pub fn whole_json(number: &i128) -> Json
+    ensures { view result ≡ whole_data number.now }
+{
+    match Number::from_i128(*number) {
+        Some(number) => Json::Number(number),
+        None => Json::Null,
+    }
+}
+
+/// A discriminant by its number, or null where it is none of its values.
+pub fn label_json(alloc: Global, disc: &Desc, label: &i128) -> Result<Json, AllocError>
+    ensures { IfOk result (λ json. view json ≡ label_data (desc_view disc.now) label.now) }
+{
+    match disc {
+        Desc::Boolean => Ok(Json::Bool(*label != 0)),
+        Desc::Char => match u8::try_from(*label) {
+            Ok(octet) => text_json(alloc, &[octet]),
+            Err(_) => Ok(Json::Null),
+        },
+        Desc::Labels(names) => match u32::try_from(*label) {
+            Ok(ordinal) => name_json(alloc, names, ordinal as usize),
+            Err(_) => Ok(Json::Null),
+        },
+        _ => Ok(whole_json(label)),
+    }
+}

@@ -1,0 +1,31 @@
+//! Texts of JSON that stand for octets: the characters U+0000 to U+00FF are the octets 0 to 255.
+ghost use Rattle.std.specs.Prelude.{◌≡◌, IfOk, option_map, string_bytes};
+ghost use Rattle.giop_types.specs.JsonText.{text_of, octets_in};
+
+use giop_cdr::OctetList;
+use std::alloc::{AllocError, Global};
+
+/// The text of octets.
+pub fn text_of(alloc: Global, octets: &[u8]) -> Result<String, AllocError>
+    ensures { IfOk result (λ text. string_bytes text ≡ text_of octets.now) }
+{
+    let mut text = String::with_capacity(alloc, octets.len())?;
+    for octet in octets {
+        text.push(char::from(*octet))?;
+    }
+    Ok(text)
+}
+
+/// The octets that a text stands for, unless a character is above U+00FF.
+pub fn octets_in(alloc: Global, text: &str) -> Result<Option<OctetList>, AllocError>
+    ensures { IfOk result (λ octets. octets ≡ octets_in text.now) }
+{
+    let mut octets = Vec::with_capacity(alloc, text.len())?;
+    for c in text.chars() {
+        let Ok(octet) = u8::try_from(u32::from(c)) else {
+            return Ok(None);
+        };
+        octets.push(octet)?;
+    }
+    Ok(Some(OctetList::from(octets)))
+}

@@ -1,0 +1,152 @@
+//! Values written as JSON.
+ghost use Rattle.std.specs.Prelude.{◌≡◌, ◌⊎◌, map, option_map, false, IfOk, IfErr};
+ghost use Rattle.serde_json.specs.Data.{array, object, no_members};
+ghost use Rattle.serde_json.specs.View.{view, items_of};
+ghost use Rattle.giop_types.specs.declared.form_fault.FormFault.TheVariants.{Unfit, NoMemory};
+ghost use Rattle.giop_types.specs.CheckedShape.{checked_shape};
+ghost use Rattle.giop_types.specs.Fits.{fits};
+ghost use Rattle.giop_types.specs.ToJson.{to_data, fields_data, choice_data, selected, selected_data};
+ghost use Rattle.giop_types.specs.Views.{desc_view, named_view, case_view, fallback_view, value_view, member_view, fields_of, branches_of};
+
+use crate::checked_desc::CheckedDesc;
+use crate::desc::{CaseDesc, Desc, NamedDesc};
+use crate::fitting::fits;
+use crate::form_fault::FormFault;
+use crate::json::leaves::{label_json, name_json, text_json};
+use crate::json::texts::text_of;
+use crate::reading::has_label;
+use crate::value::Value;
+use serde_json::{Map, Value as Json};
+use std::alloc::{AllocError, Global};
+
+/// A value of this description as JSON. Refused as Unfit where the value isn't of the description,
+/// and as NoMemory where memory is wanting.
+pub fn value_to_json(alloc: Global, desc: &CheckedDesc, value: &Value) -> Result<Json, FormFault>
+    ensures value { IfOk result (λ json.
+        view json ≡ to_data (checked_shape desc.now) (value_view value.now)) }
+    ensures err { IfErr result (λ e. ((e ≡ Unfit) × (fits (checked_shape desc.now) (value_view value.now) ≡ false)) ⊎ (e ≡ NoMemory)) }
+{
+    if !fits(desc, value) {
+        return Err(FormFault::Unfit);
+    }
+    Ok(to_json(alloc, value, desc.desc())?)
+}
+
+/// A value as JSON; null where it is of another kind than its description.
+#[cycle(to_json)]
+#[tactic(auto, unfolding(crate::specs::ToJson::to_data))]
+pub fn to_json(alloc: Global, value: &Value, desc: &Desc) -> Result<Json, AllocError>
+    ensures { IfOk result (λ json. view json ≡ to_data (desc_view desc.now) (value_view value.now)) }
+{
+    match (desc, value) {
+        (Desc::Boolean, Value::Boolean(boolean)) => Ok(Json::from(*boolean)),
+        (Desc::Octet, Value::Octet(number)) => Ok(Json::from(*number)),
+        (Desc::Char, Value::Char(octet)) => text_json(alloc, &[*octet]),
+        (Desc::Short, Value::Short(number)) => Ok(Json::from(*number)),
+        (Desc::UShort, Value::UShort(number)) => Ok(Json::from(*number)),
+        (Desc::Long, Value::Long(number)) => Ok(Json::from(*number)),
+        (Desc::ULong, Value::ULong(number)) => Ok(Json::from(*number)),
+        (Desc::LongLong, Value::LongLong(number)) => Ok(Json::from(*number)),
+        (Desc::ULongLong, Value::ULongLong(number)) => Ok(Json::from(*number)),
+        (Desc::Text(_), Value::Text(text)) => text_json(alloc, text.as_slice()),
+        (Desc::Octets(_), Value::Octets(octets)) => {
+            Ok(Json::String(hex::encode(alloc, octets.as_slice())?))
+        }
+        (Desc::Labels(names), Value::Label(ordinal)) => name_json(alloc, names, *ordinal as usize),
+        (Desc::Members(members), Value::Members(values)) => members_json(alloc, values, members),
+        (
+            Desc::Choice {
+                disc,
+                cases,
+                fallback,
+            },
+            Value::Choice {
+                disc: label,
+                member,
+            },
+        ) => choice_json(
+            alloc,
+            label_json(alloc, disc, label)?,
+            member_json(alloc, member, selected(cases, fallback, label))?,
+        ),
+        (Desc::Items(item, _), Value::Items(values)) => items_json(alloc, values, item),
+        (Desc::Row(item, _), Value::Row(values)) => items_json(alloc, values, item),
+        _ => Ok(Json::Null),
+    }
+}
+
+// The members of a struct as an object, by their names.
+#[cycle(to_json)]
+fn members_json(alloc: Global, values: &[Value], members: &[NamedDesc]) -> Result<Json, AllocError>
+    ensures { IfOk result (λ json. view json
+        ≡ object (fields_data (fields_of (map named_view members.now)) (map value_view values.now) no_members)) }
+{
+    let mut object = Map::new(alloc);
+    for i in 0..members.len().min(values.len()) {
+        let member = &members[i];
+        let name = text_of(alloc, member.name.as_slice())?;
+        let value = to_json(alloc, &values[i], &member.desc)?;
+        serde_json::put(&mut object, alloc, name.as_str(), value)?;
+    }
+    Ok(Json::Object(object))
+}
+
+// Values as a list.
+#[cycle(to_json)]
+fn items_json(alloc: Global, values: &[Value], item: &Desc) -> Result<Json, AllocError>
+    ensures { IfOk result (λ json. view json
+        ≡ array (items_of (map (to_data (desc_view item.now)) (map value_view values.now)))) }
+{
+    let mut list = Vec::with_capacity(alloc, values.len())?;
+    for value in values {
+        let json = to_json(alloc, value, item)?;
+        list.push(json)?;
+    }
+    Ok(Json::Array(list))
+}
+
+// The description of the member of a union that a label selects, where it selects one.
+fn selected<'a>(
+    cases: &'a [CaseDesc],
+    fallback: &'a Option<Box<NamedDesc>>,
+    label: &i128,
+) -> Option<&'a Desc>
+    ensures { option_map (λ desc. desc_view desc.now) result
+        ≡ selected (branches_of (map case_view cases.now)) (fallback_view fallback.now) label.now }
+{
+    for case in cases {
+        if has_label(&case.labels, label) {
+            return Some(&case.desc);
+        }
+    }
+    match fallback {
+        Some(named) => Some(&named.desc),
+        None => None,
+    }
+}
+
+// A union: its discriminant and its member.
+fn choice_json(alloc: Global, label: Json, member: Json) -> Result<Json, AllocError>
+    ensures { IfOk result (λ json. view json ≡ choice_data (view label) (view member)) }
+{
+    let mut object = Map::new(alloc);
+    serde_json::put(&mut object, alloc, "disc", label)?;
+    serde_json::put(&mut object, alloc, "value", member)?;
+    Ok(Json::Object(object))
+}
+
+// The member of a union, where it has one and its description is there; else null.
+#[cycle(to_json)]
+fn member_json(
+    alloc: Global,
+    member: &Option<Box<Value>>,
+    desc: Option<&Desc>,
+) -> Result<Json, AllocError>
+    ensures { IfOk result (λ json. view json
+        ≡ selected_data (option_map (λ d. desc_view d.now) desc.entry) (member_view member.now)) }
+{
+    match (member, desc) {
+        (Some(value), Some(desc)) => to_json(alloc, value, desc),
+        _ => Ok(Json::Null),
+    }
+}
