@@ -7,3 +7,5 @@ pub mod Output
 pub mod Writing
 pub mod RoundTrip
 pub mod Encapsulation
+pub mod Layout
+pub mod View
