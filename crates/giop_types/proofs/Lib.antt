@@ -17,3 +17,6 @@ pub mod PartLoops
 pub mod JsonTextLemmas
 pub mod ToJsonLemmas
 pub mod FromJsonLemmas
+pub mod JsonLeavesBack
+pub mod JsonObjects
+pub mod JsonBack

@@ -15,3 +15,4 @@ pub mod JsonText
 pub mod ToJson
 pub mod FormFault
 pub mod FromJson
+pub mod Defaults

@@ -25,6 +25,6 @@ pub use desc::{CaseDesc, Desc, NamedDesc};
 pub use desc_fault::DescFault;
 pub use fitting::fits;
 pub use form_fault::FormFault;
-pub use json::{value_from_json, value_to_json};
+pub use json::{json_gives_values_back, value_from_json, value_to_json};
 pub use laws::{values_are_bounded, values_are_spelled, written_values_are_read_back};
 pub use value::Value;
