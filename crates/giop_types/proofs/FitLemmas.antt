@@ -19,13 +19,13 @@ use Rattle.giop_types.specs.declared.desc.CaseDesc.{CaseDesc}
 use Rattle.giop_types.specs.declared.value.Value.{Value, the_lemmas as value_lemmas}
 use Rattle.giop_types.specs.declared.value.Value.TheVariants as value
 use Rattle.giop_types.specs.Shape.{Shape, members, choice, items, row}
-use Rattle.giop_types.specs.Tree.{Tree, Trees, no_trees, tree, members_of, items_of, row_of, choice_of}
+use Rattle.giop_types.specs.Tree.{Tree, members_of, items_of, row_of, choice_of}
 use Rattle.giop_types.specs.Decoding.{is_label}
 use Rattle.giop_types.specs.Fits.{list_of, is_unsigned, are_octets, fits_label, is_counted, is_octets_of, is_text_of}
 use Rattle.giop_types.specs.Fits.{is_one, fits, fields_fit, branches_fit}
 use Rattle.giop_types.specs.Views.{desc_view, named_view, case_view, fallback_view, fields_of, branches_of}
 use Rattle.giop_types.specs.Views.{trees_of, value_view, member_view}
-use Rattle.giop_types.proofs.ViewLemmas.{view-Members, view-Choice, view-Items, view-Row, view-Named, view-Case}
+use Rattle.giop_types.proofs.ViewLemmas.{view-Members, view-Choice, view-Items, view-Row, view-Named}
 use Rattle.giop_types.proofs.ViewLemmas.{chosen_view, bare_view}
 use Rattle.giop_types.proofs.ListLoops.{IsEach}
 use Rattle.giop_types.proofs.MemberLoops.{left_is, fields_left, branches_left}
@@ -83,7 +83,7 @@ row_fitting d n vs =
     ∙ ap (fits (row (desc_view d.value) n)) (row_view vs)
     ∙ ap (λ ts. (length ts == n) && list_all (fits (desc_view d.value)) ts) (list_back (map value_view vs.items))
 
-choice_fitting : (d : _) (cs : _) (f : _) (label : ℤ) (m : _) → fits (desc_view (desc.Choice d cs f)) (value_view (value.Choice label m))
+pub choice_fitting : (d : _) (cs : _) (f : _) (label : ℤ) (m : _) → fits (desc_view (desc.Choice d cs f)) (value_view (value.Choice label m))
     ≡ (fits_label (desc_view d.value) label && branches_fit (branches_of (map case_view cs.items)) (fields_fit (fallback_view f)) label (member_view m))
 unfolding fits
 choice_fitting d cs f label m =

@@ -13,3 +13,4 @@ pub mod CheckLemmas
 pub mod WrittenLemmas
 pub mod DoubledLemmas
 pub mod FitLemmas
+pub mod EncodeLemmas

@@ -11,3 +11,4 @@ pub mod Checked
 pub mod CheckedShape
 pub mod Fits
 pub mod Written
+pub mod Encoding

@@ -1,12 +1,14 @@
 //! Descriptions of CDR types and the values that they describe.
 #![tactic(auto)]
 
+mod append;
 mod build;
 mod check;
 mod checked_desc;
 mod decoder;
 mod desc;
 mod desc_fault;
+mod encoder;
 mod fitting;
 mod label_check;
 mod laws;
@@ -21,6 +23,7 @@ pub use checked_desc::CheckedDesc;
 pub use decoder::decode;
 pub use desc::{CaseDesc, Desc, NamedDesc};
 pub use desc_fault::DescFault;
+pub use encoder::encode;
 pub use fitting::fits;
 pub use laws::{values_are_bounded, values_are_spelled, written_values_are_read_back};
 pub use value::Value;

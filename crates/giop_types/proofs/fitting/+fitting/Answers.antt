@@ -1,8 +1,6 @@
-use Rattle.std.proofs.Common.{◌≡◌, ◌==◌, map, length, true, false, sym, ap, ◌∙◌, ◌&&◌, arith, refl, nat_lt, [], ◌∷◌}
-use Rattle.std.proofs.lemmas.Bool.{not-true}
-use Rattle.std.specs.List.{list_all}
-use Rattle.giop_types.specs.Fits.{fits, fields_fit, branches_fit, is_one, is_counted}
-use Rattle.giop_types.specs.Views.{desc_view, named_view, case_view, fallback_view, value_view, member_view, fields_of, branches_of}
+use Rattle.std.proofs.Common.{◌≡◌, map, sym, ap, ◌∙◌, arith}
+use Rattle.giop_types.specs.Fits.{fits, fields_fit, is_one}
+use Rattle.giop_types.specs.Views.{desc_view, named_view, fallback_view, value_view, member_view, fields_of}
 use Rattle.giop_types.proofs.FitLemmas.{members_fitting, items_judged, items_uncounted, row_judged, row_unequal}
 use Rattle.giop_types.proofs.FitLemmas.{fields_failed, fields_passed, fields_end, fields_differ, case_fits, case_differs, cases_end}
 use Rattle.giop_types.proofs.FitLemmas.{default_fitting, default_bare, default_absent, choice_judged}
