@@ -20,3 +20,4 @@ pub mod FromJsonLemmas
 pub mod JsonLeavesBack
 pub mod JsonObjects
 pub mod JsonBack
+pub mod EncodeLemmas

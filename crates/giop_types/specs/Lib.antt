@@ -16,3 +16,4 @@ pub mod ToJson
 pub mod FormFault
 pub mod FromJson
 pub mod Defaults
+pub mod Encoding
