@@ -83,7 +83,7 @@ row_fitting d n vs =
     ∙ ap (fits (row (desc_view d.value) n)) (row_view vs)
     ∙ ap (λ ts. (length ts == n) && list_all (fits (desc_view d.value)) ts) (list_back (map value_view vs.items))
 
-choice_fitting : (d : _) (cs : _) (f : _) (label : ℤ) (m : _) → fits (desc_view (desc.Choice d cs f)) (value_view (value.Choice label m))
+pub choice_fitting : (d : _) (cs : _) (f : _) (label : ℤ) (m : _) → fits (desc_view (desc.Choice d cs f)) (value_view (value.Choice label m))
     ≡ (fits_label (desc_view d.value) label && branches_fit (branches_of (map case_view cs.items)) (fields_fit (fallback_view f)) label (member_view m))
 unfolding fits
 choice_fitting d cs f label m =

@@ -154,7 +154,7 @@ pub case_absent : (o : Option Value) (form other : Option (List Tree)) → o ≡
 case_absent None form other is h = h
 case_absent (Some v) form other is h = absurd cc
 
-choice_is : (disc : Shape) (bs : Branches) (f : Fields) (j l m : json.Data) (label : ℤ) (ts : List Tree) → union_parts j ≡ Some (l, m)
+pub choice_is : (disc : Shape) (bs : Branches) (f : Fields) (j l m : json.Data) (label : ℤ) (ts : List Tree) → union_parts j ≡ Some (l, m)
     → label_shown disc l ≡ Some label → branches_shown bs (fallback_shown f) label m ≡ Some ts → shown (choice disc bs f) j ≡ Some (choice_of label (trees_of ts))
 unfolding shown
 choice_is disc bs f j l m label ts parts named made = rw (parts, named, made) refl

@@ -17,3 +17,7 @@ pub mod PartLoops
 pub mod JsonTextLemmas
 pub mod ToJsonLemmas
 pub mod FromJsonLemmas
+pub mod JsonLeavesBack
+pub mod JsonObjects
+pub mod JsonBack
+pub mod EncodeLemmas

@@ -15,3 +15,5 @@ pub mod JsonText
 pub mod ToJson
 pub mod FormFault
 pub mod FromJson
+pub mod Defaults
+pub mod Encoding

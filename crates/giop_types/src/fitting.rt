@@ -24,22 +24,22 @@ pub fn fits(desc: &CheckedDesc, value: &Value) -> bool
     value_fits(desc.desc(), value)
 }
 
-// Whether so many values can be counted, and are within the bound, where 0 is none.
-fn is_counted(bound: u32, count: usize) -> bool
+/// Whether so many values can be counted, and are within the bound, where 0 is none.
+pub fn is_counted(bound: u32, count: usize) -> bool
     ensures { result ≡ is_counted bound count }
 {
     count < 1 << 32 && (bound == 0 || count <= bound as usize)
 }
 
-// Whether octets are a sequence within the bound.
-fn is_octets_of(bound: u32, octets: &[u8]) -> bool
+/// Whether octets are a sequence within the bound.
+pub fn is_octets_of(bound: u32, octets: &[u8]) -> bool
     ensures { result ≡ is_octets_of bound octets.now }
 {
     is_counted(bound, octets.len())
 }
 
-// Whether octets are a text within the bound, whose null can be counted too.
-fn is_text_of(bound: u32, text: &[u8]) -> bool
+/// Whether octets are a text within the bound, whose null can be counted too.
+pub fn is_text_of(bound: u32, text: &[u8]) -> bool
     ensures { result ≡ is_text_of bound text.now }
 {
     if text.contains(&0) {
@@ -48,8 +48,8 @@ fn is_text_of(bound: u32, text: &[u8]) -> bool
     text.len() < (1 << 32) - 1 && is_counted(bound, text.len())
 }
 
-// Whether a number is a value of a discriminant.
-fn fits_label(disc: &Desc, label: &i128) -> bool
+/// Whether a number is a value of a discriminant.
+pub fn fits_label(disc: &Desc, label: &i128) -> bool
     ensures { result ≡ fits_label (desc_view disc.now) label.now }
 {
     match disc {

@@ -1,12 +1,14 @@
 //! Descriptions of CDR types and the values that they describe.
 #![tactic(auto)]
 
+mod append;
 mod build;
 mod check;
 mod checked_desc;
 mod decoder;
 mod desc;
 mod desc_fault;
+mod encoder;
 mod fitting;
 mod form_fault;
 mod json;
@@ -23,8 +25,9 @@ pub use checked_desc::CheckedDesc;
 pub use decoder::decode;
 pub use desc::{CaseDesc, Desc, NamedDesc};
 pub use desc_fault::DescFault;
+pub use encoder::encode;
 pub use fitting::fits;
 pub use form_fault::FormFault;
-pub use json::{value_from_json, value_to_json};
+pub use json::{json_gives_values_back, value_from_json, value_to_json};
 pub use laws::{values_are_bounded, values_are_spelled, written_values_are_read_back};
 pub use value::Value;
