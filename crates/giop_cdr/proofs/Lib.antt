@@ -18,3 +18,4 @@ pub mod EncapsulationLemmas
 pub mod WriterLemmas
 pub mod SpelledLemmas
 pub mod PaddingLemmas
+pub mod LayoutLemmas

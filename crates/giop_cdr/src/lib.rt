@@ -9,6 +9,7 @@ mod encapsulation;
 mod encode_fault;
 mod fault;
 mod laws;
+mod layout_laws;
 mod numbers;
 mod octet_list;
 mod octets;
@@ -29,6 +30,7 @@ pub use laws::{
     booleans_are_spelled, encapsulations_are_opened_again, numbers_are_spelled, octets_are_spelled,
     padding_is_least, strings_are_spelled, written_values_are_read_back,
 };
+pub use layout_laws::primitives_are_lawful;
 pub use octet_list::OctetList;
 pub use octets::{Octets, SliceOctets};
 pub use order::Order;
