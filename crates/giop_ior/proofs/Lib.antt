@@ -1,0 +1,9 @@
+pub mod KeyLemmas
+pub mod KeyFaultLemmas
+pub mod CutLemmas
+pub mod ListLemmas
+pub mod NumberLemmas
+pub mod StepLemmas
+pub mod PartLemmas
+pub mod AddressLemmas
+pub mod GrammarLemmas

@@ -1,0 +1,4 @@
+pub mod CorbalocFault
+pub mod Corbaloc
+pub mod CorbalocReading
+pub mod AddressAt
