@@ -9,7 +9,7 @@ use Rattle.giop_cdr.specs.declared.fault.CdrFault.{CdrFault}
 use Rattle.giop_cdr.specs.declared.fault.CdrKind.TheVariants.{Short, BadOrder}
 use Rattle.giop_cdr.specs.Cursor.{Cursor, pad, place}
 use Rattle.giop_cdr.specs.Reading.{fault, octets_at}
-use Rattle.giop_cdr.specs.Spelling.{SpellsOctets}
+use Rattle.giop_cdr.specs.Spelling.{Spelling, SpellsOctets, Then}
 use Rattle.giop_cdr.specs.Readers.{Took, Follow, FirstRefused, RefusedOctets, IsExact, IsExactHere}
 use Rattle.giop_cdr.specs.Output.{Output, octets_of, number_out, octets_out}
 use Rattle.giop_cdr.specs.Encapsulation.{order_octet, content_of, opened_of, encapsulation_at, Opens, SpellsEncapsulation, RefusedEncapsulation, opened, place_opened, closed}
@@ -98,8 +98,10 @@ opening_exact c d (suc (suc k) ∷ octets) = record {
   refuses = λ e why. elim why [ inl r ↦ absurd cc | inr r ↦ ap Err (sym r.1) ];
 }
 
-encapsulation_to : (c v e : Cursor) → Follow (Took SpellsOctets) opens_as c v e → Took SpellsEncapsulation c v e
-encapsulation_to c v e f = then_from_follow SpellsOctets (λ octets o at v b. Opens octets v × (b ≡ [])) c v e (record {
+-- a value of which the octets are known, and nothing behind them
+pub ended_to : {A B : Type 0} (P : Spelling B) (M : B → A → Type 0) (c : Cursor) (v : A) (e : Cursor)
+    → Follow (Took P) (λ x d w f. M x w × (f ≡ d)) c v e → Took (Then P (λ x o at w b. M x w × (b ≡ []))) c v e
+ended_to P M c v e f = then_from_follow P (λ x o at w b. M x w × (b ≡ [])) c v e (record {
   first = f.first;
   middle = f.middle;
   front = f.front;
@@ -112,9 +114,10 @@ encapsulation_to c v e f = then_from_follow SpellsOctets (λ octets o at v b. Op
   };
 })
 
-encapsulation_from : (c v e : Cursor) → Took SpellsEncapsulation c v e → Follow (Took SpellsOctets) opens_as c v e
-encapsulation_from c v e t =
-    let f = follow_from_then SpellsOctets (λ octets o at v b. Opens octets v × (b ≡ [])) c v e t in
+pub ended_from : {A B : Type 0} (P : Spelling B) (M : B → A → Type 0) (c : Cursor) (v : A) (e : Cursor)
+    → Took (Then P (λ x o at w b. M x w × (b ≡ []))) c v e → Follow (Took P) (λ x d w f. M x w × (f ≡ d)) c v e
+ended_from P M c v e t =
+    let f = follow_from_then P (λ x o at w b. M x w × (b ≡ [])) c v e t in
     let none : f.back.octets ≡ [] = f.back.spells.1 in
     record {
       first = f.first;
@@ -130,7 +133,7 @@ pub encapsulation_exact : IsExact (Took SpellsEncapsulation) RefusedEncapsulatio
 unfolding encapsulation_at
 encapsulation_exact c = exact_by (Follow (Took SpellsOctets) opens_as c) (Took SpellsEncapsulation c)
     (FirstRefused (Took SpellsOctets) (RefusedOctets 0) (opens_not c) c) (RefusedEncapsulation c) (encapsulation_at c)
-    (encapsulation_to c) (encapsulation_from c) (λ e why. why) (λ e why. why)
+    (λ v e f. ended_to SpellsOctets Opens c v e f) (λ v e t. ended_from SpellsOctets Opens c v e t) (λ e why. why) (λ e why. why)
     (follow_exact (Took SpellsOctets) (RefusedOctets 0) opens_as (opens_not c) c (octets_at 0 c) (λ octets d. opened_of (place 4 c + 4) octets d)
     (any_octets c) (λ octets d t. opening_exact c d octets))
 

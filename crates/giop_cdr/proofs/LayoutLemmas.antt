@@ -28,11 +28,11 @@ use Rattle.giop_cdr.proofs.Stretches.{stands_alone}
 use Rattle.giop_cdr.proofs.RoundTripLemmas.{number_back, signed_back, boolean_back, octets_back, string_back}
 use Rattle.giop_cdr.proofs.SpelledLemmas.{read_back, spelled_of, then_spelled, known_spelled, sequence_spelled}
 
-both : (a b : Bool) → (a && b) ≡ true → (a ≡ true) × (b ≡ true)
+pub both : (a b : Bool) → (a && b) ≡ true → (a ≡ true) × (b ≡ true)
 both true b e = (refl, e)
 both false b e = absurd cc
 
-and_true : (a b : Bool) → a ≡ true → b ≡ true → (a && b) ≡ true
+pub and_true : (a b : Bool) → a ≡ true → b ≡ true → (a && b) ≡ true
 and_true a b p q = rw (p, q) refl
 
 -- octets in two parts
@@ -45,7 +45,7 @@ octets_back_of : (a b : List ℕ) → AreOctets (a ++ b) → AreOctets b
 octets_back_of [] b all = all
 octets_back_of (x ∷ a) b all = octets_back_of a b (All-tail (λ octet. octet < 256) x (a ++ b) all)
 
-octets_of_whole : (whole a b : List ℕ) → whole ≡ a ++ b → AreOctets whole → AreOctets a × AreOctets b
+pub octets_of_whole : (whole a b : List ℕ) → whole ≡ a ++ b → AreOctets whole → AreOctets a × AreOctets b
 octets_of_whole whole a b e all =
     let parts : AreOctets (a ++ b) = subst AreOctets e all in
     (octets_front a b parts, octets_back_of a b parts)
@@ -106,7 +106,7 @@ any_octets = unbounded_exact SpellsOctets (RefusedOctets 0) (octets_at 0) (octet
 pub any_string : IsExact (Took SpellsString) (RefusedString 0) (string_at 0)
 any_string = unbounded_exact SpellsString (RefusedString 0) (string_at 0) (string_exact 0)
 
-octets_count : (o : Order) (at : ℕ) (v b : List ℕ) → AreOctets b → SpellsOctets o at v b → is_countable v ≡ true
+pub octets_count : (o : Order) (at : ℕ) (v b : List ℕ) → AreOctets b → SpellsOctets o at v b → is_countable v ≡ true
 octets_count o at v b all s =
     let parts = octets_of_whole b s.front s.back s.whole all in
     let small = number_range w32 o at s.first s.front refl parts.0 s.spells_front in

@@ -20,3 +20,4 @@ pub mod SpelledLemmas
 pub mod PaddingLemmas
 pub mod LayoutLemmas
 pub mod ViewLemmas
+pub mod EncapsulatedLemmas

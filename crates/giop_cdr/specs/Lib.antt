@@ -8,4 +8,5 @@ pub mod Writing
 pub mod RoundTrip
 pub mod Encapsulation
 pub mod Layout
+pub mod Encapsulated
 pub mod View

@@ -1,7 +1,9 @@
 // Laws of layouts. Each function's contract is one of them; the bodies are empty, and no program calls
 // these.
 ghost use Rattle.std.specs.Prelude.{◌≡◌, ℕ, true};
-ghost use Rattle.std.specs.Int.{Width};
+ghost use Rattle.std.specs.Int.{Width, w32};
+ghost use Rattle.giop_cdr.specs.declared.order.Order.{Order};
+ghost use Rattle.giop_cdr.specs.Encapsulated.{encapsulation};
 ghost use Rattle.giop_cdr.specs.Layout.{IsLawful, number, signed, boolean, octets, text, bounded_octets, bounded_text};
 ghost use Rattle.giop_cdr.specs.RoundTrip.{is_primitive};
 
@@ -13,5 +15,6 @@ pub fn primitives_are_lawful()
     ensures signed { (w : Width) → is_primitive w ≡ true → IsLawful (signed w) }
     ensures booleans { IsLawful boolean }
     ensures octets { (bound : ℕ) → IsLawful (bounded_octets bound) × IsLawful octets }
+    ensures encapsulated { (order : Order) → IsLawful (encapsulation order (λ n. true) (number w32)) }
     ensures texts { (bound : ℕ) → IsLawful (bounded_text bound) × IsLawful text }
 {}

@@ -2,4 +2,5 @@ mod encapsulations;
 mod memory;
 mod reading;
 mod two_parts;
+mod views;
 mod writing;

@@ -17,8 +17,6 @@ use Rattle.giop_msg.specs.declared.request_head.RequestHead.{RequestHead}
 abbrev pub Head : Type 0
 Head = RequestHead (List ℕ) (List ServiceContext)
 
--- ---- the fields
-
 -- a service context: an unsigned long id and a sequence of octets
 unfoldable pub service_context : Layout ServiceContext
 service_context = tagged (λ context. context.id) (λ context. context.octets) (λ id contents. record { id = id; octets = contents })
@@ -61,8 +59,6 @@ target_address =
     field (λ _. pos 0) key_addr λ _.
     field key_of octets λ key.
     gives (Key key)
-
--- ---- the head
 
 -- the fields in their order
 unfoldable pub request_head : Layout Head

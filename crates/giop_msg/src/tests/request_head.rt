@@ -56,6 +56,29 @@ fn pads_and_reserved_octets_may_be_any(rt: HostRuntime) -> Result<(), Fail> {
     Ok(())
 }
 
+#[test]
+fn a_view_of_a_head_lies_in_the_joined_octets(rt: HostRuntime) -> Result<(), Fail> {
+    let octets = SliceOctets::new(&WITH_CONTEXT);
+    let (head, body) = RequestHead::view(&octets, Order::Little)
+        .ok()
+        .ok_or("no head")?;
+    assert_eq!(rt; (head.id, head.flags, body), (2, 1, 56));
+    let Target::Key(key) = &head.target;
+    assert_eq!(rt; key.as_slice().len(), 0);
+    assert_eq!(rt; head.operation.as_slice(), b"a".as_slice());
+    assert_eq!(rt; head.contexts.len(), 1);
+    for context in head.contexts.iter() {
+        assert_eq!(rt; context.tag, 9);
+        assert_eq!(rt; context.octets.as_slice(), [0xAA].as_slice());
+    }
+    let again = match head.to_owned(rt.alloc()) {
+        Err(_) => head.to_owned(rt.alloc())?,
+        Ok(again) => again,
+    };
+    assert_eq!(rt; again.contexts.as_slice()[0].id, 9);
+    Ok(())
+}
+
 // What each proper prefix of the ping Request lacks first, by its number of octets, the header counted.
 fn lacks(octets: usize) -> CdrFault {
     let (at, kind) = match octets {
@@ -77,6 +100,8 @@ fn a_head_cut_short_is_refused_at_the_field_that_lacks_octets(rt: HostRuntime) {
         let cut = SliceOctets::new(&PING[12..octets]);
         let refused = RequestHead::decode(rt.alloc(), &cut, Order::Big).err();
         assert_eq!(rt; refused, Some(lacks(octets)), "at {octets}");
+        let unseen = RequestHead::view(&cut, Order::Big).err();
+        assert_eq!(rt; unseen, Some(lacks(octets)), "at {octets}");
     }
 }
 
