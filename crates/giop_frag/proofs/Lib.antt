@@ -1,4 +1,3 @@
-pub mod PutLemmas
 pub mod TotalLemmas
 pub mod RunLemmas
 mod TableLemmas

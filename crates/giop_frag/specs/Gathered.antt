@@ -1,10 +1,11 @@
--- What a contract sees of a gatherer (9.4.9): a finite map from ids to joined octets, and a limit.
-use Rattle.std.specs.Prelude.{◌≡◌, ℕ, ◌+◌, ◌++◌, Bool, true, false, if◌then◌else◌, nat_lt, List, length, sum_by, Option, Some, None, ◌⊎◌, refl}
-use Rattle.std.specs.Ordering.{nat_cmp}
+-- What a contract sees of a gatherer (9.4.9): a finite map from ids to joined octets, a limit, and
+-- the number of blocks of octets.
+use Rattle.std.specs.Prelude.{◌≡◌, ℕ, ◌+◌, ◌/◌, ◌≤◌, ◌++◌, Bool, true, false, if◌then◌else◌, nat_lt, max, List, length, Option, Some, None, refl}
 use Rattle.std.specs.FinMap as map
 use Rattle.std.specs.Coded.{Coded, code_by, coded×, coded_ℕ, coded_bool, coded_list}
 use Rattle.giop_cdr.specs.declared.order.Order.{Order}
 use Rattle.giop_cdr.specs.declared.order.Order.TheVariants.{Big, Little}
+use Rattle.giop_ids.specs.ById.{ById, by_id_code, weight_in, sum_of}
 use Rattle.giop_frag.specs.declared.fault.GatherFault.{GatherFault}
 use Rattle.giop_frag.specs.declared.fault.GatherFault.TheVariants.{Stray, OrderDiffers, GatherFull, NoMemory}
 
@@ -15,11 +16,12 @@ pub record Pieces : Type 0 where
 
 -- what is gathered, by id
 abbrev pub Lists : Type 0
-Lists = map.FinMap nat_cmp Pieces
+Lists = ById Pieces
 
--- a gatherer: how many octets it may hold, and what it holds
+-- a gatherer: how many octets it may hold, how many blocks it has, and what it holds
 pub record Gathered : Type 0 where
   pub limit : ℕ
+  pub blocks : ℕ
   pub lists : Lists
 
 -- whether an order is little-endian, and back
@@ -46,33 +48,47 @@ pieces_code =
 -- and a gatherer likewise
 abbrev pub gathered_code : Coded Gathered
 gathered_code =
-    code_by (ℕ × Lists) (coded× coded_ℕ (map.code coded_ℕ pieces_code))
-    (λ g. (g.limit, g.lists))
-    (λ p. record { limit = p.0; lists = p.1 })
+    code_by (ℕ × (ℕ × Lists)) (coded× coded_ℕ (coded× coded_ℕ (by_id_code pieces_code)))
+    (λ g. (g.limit, (g.blocks, g.lists)))
+    (λ p. record { limit = p.0; blocks = p.1.0; lists = p.1.1 })
     (λ _. refl)
-
--- the lists with this one, or with none, under the id
-abbrev pub put : Lists → ℕ → Option Pieces → Lists
-put m id None = map.remove m id
-put m id (Some pieces) = map.insert m id pieces
 
 -- these pieces, if there are any, and more octets after them
 abbrev pub grown : Option Pieces → List ℕ → Option Pieces
 grown None more = None
 grown (Some pieces) more = Some (record pieces { octets = pieces.octets ++ more })
 
+-- the number of all gathered octets
+abbrev pub total_of : Lists → ℕ
+total_of m = sum_of (λ p. length p.octets) m
+
 -- how many octets these are
 abbrev pub octets_in : Option Pieces → ℕ
-octets_in None = 0
-octets_in (Some pieces) = length pieces.octets
+octets_in held = weight_in (λ p. length p.octets) held
 
--- the number of all gathered octets
-unfoldable pub total_of : Lists → ℕ
-total_of m = sum_by (λ p. length p.octets) (map.values m)
+-- how many blocks of 512 octets n octets need
+abbrev pub blocks_for : ℕ → ℕ
+blocks_for n = (n + 511) / 512
+
+-- how many blocks all lists need, each for itself
+abbrev pub blocks_of : Lists → ℕ
+blocks_of m = sum_of (λ p. blocks_for (length p.octets)) m
+
+-- the blocks there are then: none is given back
+abbrev pub blocks_after : ℕ → Lists → ℕ
+blocks_after blocks m = max blocks (blocks_of m)
+
+-- how many blocks there may be after a refusal on the way to these lists: as many as before, or,
+-- where memory was wanting, some of those that they need
+abbrev pub IsBlocksAfter : GatherFault → ℕ → Lists → ℕ → Type 0
+IsBlocksAfter Stray old m new = new ≡ old
+IsBlocksAfter OrderDiffers old m new = new ≡ old
+IsBlocksAfter GatherFull old m new = new ≡ old
+IsBlocksAfter NoMemory old m new = (old ≤ new) × (new ≤ blocks_after old m)
 
 -- whether n octets more would be more than the limit
-abbrev pub is_over : Gathered → ℕ → Bool
-is_over g n = nat_lt g.limit (total_of g.lists + n)
+abbrev pub is_over : ℕ → Lists → ℕ → Bool
+is_over limit m n = nat_lt limit (total_of m + n)
 
 -- whether two orders are one
 abbrev pub same_order : Order → Order → Bool
@@ -85,20 +101,30 @@ same_order Little Big = false
 abbrev pub room_fault : Bool → Option GatherFault
 room_fault over = if over then Some GatherFull else None
 
+-- why octets of this order are not joined to these, whatever room there is
+abbrev pub order_fault : Option Pieces → Order → Option GatherFault
+order_fault None order = Some Stray
+order_fault (Some pieces) order =
+    if same_order order pieces.order then None else Some OrderDiffers
+
+-- the first of two faults
+abbrev pub first_fault : Option GatherFault → Option GatherFault → Option GatherFault
+first_fault None second = second
+first_fault (Some fault) second = Some fault
+
 -- why n octets are not begun with, want of memory aside
 abbrev pub begin_fault : Gathered → ℕ → Option GatherFault
-begin_fault g n = room_fault (is_over g n)
+begin_fault g n = room_fault (is_over g.limit g.lists n)
 
--- why octets of this order are not joined to these, want of memory aside: the order comes first
+-- why octets are not joined to these, want of memory aside: the order comes before the room
 abbrev pub add_fault_by : Bool → Option Pieces → Order → Option GatherFault
-add_fault_by over None order = Some Stray
-add_fault_by over (Some pieces) order =
-    if same_order order pieces.order then room_fault over else Some OrderDiffers
+add_fault_by over held order = first_fault (order_fault held order) (room_fault over)
 
 -- why n octets of this order are not joined to those of the id, want of memory aside
 abbrev pub add_fault : Gathered → ℕ → Order → ℕ → Option GatherFault
-add_fault g id order n = add_fault_by (is_over g n) (map.get g.lists id) order
+add_fault g id order n = add_fault_by (is_over g.limit g.lists n) (map.get g.lists id) order
 
--- the fault that there is, or want of memory where there is none
-abbrev pub RefusedAs : GatherFault → Option GatherFault → Type 0
-RefusedAs fault verdict = (verdict ≡ Some fault) ⊎ ((fault ≡ NoMemory) × (verdict ≡ None))
+-- why nothing is handed out, want of memory aside
+abbrev pub finish_fault : Option Pieces → Option GatherFault
+finish_fault None = Some Stray
+finish_fault (Some pieces) = None

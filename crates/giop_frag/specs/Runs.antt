@@ -1,8 +1,11 @@
--- What a run leaves: what is gathered after a list of calls, and one id's part of it alone.
-use Rattle.std.specs.Prelude.{◌≡◌, ℕ, ◌==◌, if◌then◌else◌, true, List, [], ◌∷◌, ◌++◌, length, map, Option, Some, None, is_some}
-use Rattle.std.specs.FinMap as finite
+-- Acts on a gatherer: what each does to the octets of its id.
+use Rattle.std.specs.Prelude.{◌≡◌, ℕ, ◌+◌, Bool, true, false, List, [], ◌∷◌, ◌++◌, length, map, Option, Some, None, Result, Ok, Err}
 use Rattle.giop_cdr.specs.declared.order.Order.{Order}
-use Rattle.giop_frag.specs.Gathered.{Gathered, Pieces, put, grown, begin_fault, add_fault}
+use Rattle.giop_ids.specs.declared.addressed.Addressed.{Addressed}
+use Rattle.giop_ids.specs.Runs.{Done, Rules, table_rules}
+use Rattle.giop_frag.specs.declared.fault.GatherFault.{GatherFault}
+use Rattle.giop_frag.specs.declared.fault.GatherFault.TheVariants.{Stray, OrderDiffers, GatherFull, NoMemory}
+use Rattle.giop_frag.specs.Gathered.{Pieces, Lists, grown, is_over, room_fault, order_fault}
 
 -- what may befall an id
 pub data Happening : Type 0 where
@@ -11,56 +14,65 @@ pub data Happening : Type 0 where
   IsFinished : Happening
   IsDiscarded : Happening
 
--- a happening, and the id that it befalls
-pub record Act : Type 0 where
-  pub id : ℕ
-  pub what : Happening
+-- what is answered: that it is done, or the octets that are handed out
+pub data Reply : Type 0 where
+  IsDone : Reply
+  Gives : Pieces → Reply
 
--- what befalls this id, in order
-abbrev pub own : ℕ → List Act → List Happening
-own id [] = []
-own id (act ∷ acts) = if act.id == id then act.what ∷ own id acts else own id acts
+-- what the caller of `begin` and `add` is told, and of `finish`
+abbrev pub call_reply : Result (Unit {0}) GatherFault → Result Reply GatherFault
+call_reply (Ok done) = Ok IsDone
+call_reply (Err fault) = Err fault
 
--- what is gathered under an id after one happening
-abbrev pub list_after : Option Pieces → Happening → Option Pieces
-list_after held (Begins order octets) = Some (record { order = order; octets = octets })
-list_after held (Adds order octets) = grown held octets
-list_after held IsFinished = None
-list_after held IsDiscarded = None
+abbrev pub finish_reply : Result (Order × List ℕ) GatherFault → Result Reply GatherFault
+finish_reply (Ok joined) = Ok (Gives (record { order = joined.0; octets = joined.1 }))
+finish_reply (Err fault) = Err fault
 
--- what is gathered under an id to which all this happens, and nothing else
-abbrev pub alone : Option Pieces → List Happening → Option Pieces
-alone held [] = held
-alone held (what ∷ rest) = alone (list_after held what) rest
+-- whether the id's own octets are why it is refused, and not the limit or want of memory
+abbrev pub is_of_id : GatherFault → Bool
+is_of_id Stray = true
+is_of_id OrderDiffers = true
+is_of_id GatherFull = false
+is_of_id NoMemory = false
 
--- a gatherer after one act
-abbrev pub after : Gathered → Act → Gathered
-after g act = record g {
-  lists = put g.lists act.id (list_after (finite.get g.lists act.id) act.what);
-}
+-- what is gathered under an id then and what is answered, or why not
+abbrev pub Turned : Type 0
+Turned = Result (Done (Option Pieces) Reply) GatherFault
 
--- and after these acts, whosever they are
-abbrev pub gathered_after : Gathered → List Act → Gathered
-gathered_after g [] = g
-gathered_after g (act ∷ acts) = gathered_after (after g act) acts
+-- this is gathered under the id then, unless there is a fault
+abbrev pub unless : Option GatherFault → Option Pieces → Turned
+unless None held = Ok (record { now = held; answer = IsDone })
+unless (Some fault) held = Err fault
 
--- the gatherer accepts this for the id
-abbrev pub Accepts : Gathered → ℕ → Happening → Type 0
-Accepts g id (Begins order octets) =
-    (finite.get g.lists id ≡ None) × (begin_fault g (length octets) ≡ None)
-Accepts g id (Adds order octets) = add_fault g id order (length octets) ≡ None
-Accepts g id IsFinished = is_some (finite.get g.lists id) ≡ true
-Accepts g id IsDiscarded = Unit {0}
+-- the octets are handed out and gone, if there are any
+abbrev pub handed_out : Option Pieces → Turned
+handed_out None = Err Stray
+handed_out (Some pieces) = Ok (record { now = None; answer = Gives pieces })
 
--- it accepts each of these acts in turn
-abbrev pub AreAccepted : Gathered → List Act → Type 0
-AreAccepted g [] = Unit {0}
-AreAccepted g (act ∷ acts) = Accepts g act.id act.what × AreAccepted (after g act) acts
+-- what befalls an id, whatever is gathered under others
+abbrev pub turn : Option Pieces → Happening → Turned
+turn held (Begins order octets) = unless None (Some (record { order = order; octets = octets }))
+turn held (Adds order octets) = unless (order_fault held order) (grown held octets)
+turn held IsFinished = handed_out held
+turn held IsDiscarded = unless None None
 
--- a call that does this to an id, and leaves h
-pub record Does (g : Gathered) (id : ℕ) (what : Happening) (h : Gathered) : Type 0 where
-  pub accepted : Accepts g id what
-  pub leaves : h ≡ after g (record { id = id; what = what })
+-- how many octets come with it
+abbrev pub octets_with : Happening → ℕ
+octets_with (Begins order octets) = length octets
+octets_with (Adds order octets) = length octets
+octets_with IsFinished = 0
+octets_with IsDiscarded = 0
+
+-- why there is no room for them, if there is none
+abbrev pub room : ℕ → Lists → Happening → Option GatherFault
+room limit m (Begins order octets) = room_fault (is_over limit m (length octets))
+room limit m (Adds order octets) = room_fault (is_over limit m (length octets))
+room limit m IsFinished = None
+room limit m IsDiscarded = None
+
+-- how lists are gathered by id, of at most so many octets together
+abbrev pub gather_rules : ℕ → Rules Lists (Option Pieces) Happening Reply GatherFault
+gather_rules limit = table_rules turn (λ m act. room limit m act.what) NoMemory
 
 -- lists one behind the other
 abbrev pub joined : List (List ℕ) → List ℕ
@@ -78,3 +90,8 @@ pub record IsJoined (pieces : Pieces) (heard : List Happening) : Type 0 where
   pub rest : List (List ℕ)
   pub parts : heard ≡ before ++ Begins pieces.order first ∷ added pieces.order rest
   pub octets : pieces.octets ≡ joined (first ∷ rest)
+
+-- how many octets come with all of these
+abbrev pub all_octets : List (Addressed Happening) → ℕ
+all_octets [] = 0
+all_octets (act ∷ acts) = octets_with act.what + all_octets acts

@@ -1,23 +1,18 @@
--- How a gatherer keeps what it holds: a slot for each id, and the number of all octets.
-use Rattle.std.specs.Prelude.{◌≡◌, ℕ, ◌≤◌, ◌^◌, cond, List, [], ◌∷◌, Option, Some}
-use Rattle.std.specs.Ordering.{nat_cmp}
-use Rattle.std.specs.Map.{lookup}
-use Rattle.std.specs.BTreeMap.{is_at}
-use Rattle.std.specs.FinMap as map
-use Rattle.giop_frag.specs.Gathered.{Pieces, Lists, put, total_of}
+-- How a gatherer keeps what it holds: a slot for each id, and its counts.
+use Rattle.std.specs.Prelude.{◌≡◌, ℕ, ◌≤◌, ◌^◌, List, Some}
+use Rattle.giop_ids.specs.Slots.{entries_by}
+use Rattle.giop_frag.specs.Gathered.{Pieces, Lists, total_of, blocks_of}
 
 -- the lists of the slots
 abbrev pub entries_of : List (ℕ × Pieces) → Lists
-entries_of [] = map.empty
-entries_of (slot ∷ slots) = put (entries_of slots) slot.0 (Some slot.1)
+entries_of slots = entries_by (λ pieces. Some pieces) slots
 
--- between two calls the number is right, and within the limit
-pub record IsTable (limit total : ℕ) (slots : List (ℕ × Pieces)) : Type 0 where
+-- between two calls the counts are right: of all octets, of the blocks that they need now, and of
+-- the most that they have needed
+pub record IsTable (limit total needed blocks : ℕ) (slots : List (ℕ × Pieces)) : Type 0 where
   pub counted : total ≡ total_of (entries_of slots)
+  pub needs : needed ≡ blocks_of (entries_of slots)
   pub within : total ≤ limit
+  pub enough : needed ≤ blocks
+  pub few : blocks ≤ limit
   pub small : limit ≤ 2 ^ 62
-
--- the slot of this id has this list now, or there is none, and each other slot is as it was
-abbrev pub Becomes : (old new : List (ℕ × Pieces)) → ℕ → Option Pieces → Type 0
-Becomes old new id held = (q : ℕ) → lookup (is_at (nat_cmp q)) new
-    ≡ cond (is_at (nat_cmp id) q) held (lookup (is_at (nat_cmp q)) old)

@@ -1,8 +1,10 @@
-ghost use Rattle.std.specs.Prelude.{◌≡◌, ◌≤◌, ◌^◌, ◌==◌, length, is_some, Some, None, OnOk, OnErr, IfOk, IfErr};
+ghost use Rattle.std.specs.Prelude.{◌≡◌, ◌≤◌, ◌^◌, ◌==◌, ◌/◌, ◌+◌, length, is_some, Some, None, IfSome, OnOk, OnErr, IfOk, IfErr};
 ghost use Rattle.std.specs.Option.{option_map};
 ghost use Rattle.std.specs.FinMap as map;
-ghost use Rattle.giop_frag.specs.Gathered.{put, grown, total_of, is_over, begin_fault, add_fault, RefusedAs};
-ghost use Rattle.giop_frag.specs.Runs.{Does, Begins, Adds, IsFinished, IsDiscarded};
+ghost use Rattle.giop_ids.specs.ById.{put};
+ghost use Rattle.giop_ids.specs.Runs.{Does, RefusedAs};
+ghost use Rattle.giop_frag.specs.Gathered.{grown, total_of, is_over, begin_fault, add_fault, finish_fault, blocks_after, IsBlocksAfter};
+ghost use Rattle.giop_frag.specs.Runs.{gather_rules, call_reply, finish_reply, Begins, Adds, IsFinished, IsDiscarded, IsDone};
 
 use crate::pieces::Joined;
 use crate::{Chain, GatherFault, lists};
@@ -13,13 +15,17 @@ use std::marker::Model;
 
 /// Octets of many messages, each joined under its id, and no more of them together than a limit.
 ///
-/// Contracts see the limit and the finite map from ids to byte order and octets.
+/// Contracts see the limit, the finite map from ids to byte order and octets, and the number of
+/// blocks.
 #[derive(Drop)]
 pub struct Gather {
     alloc: Global,
     limit: usize,
     // The number of all gathered octets.
     total: usize,
+    // How many blocks their lists need now, and the most that they have needed.
+    needed: usize,
+    blocks: usize,
     table: BTreeMap<u32, Joined>,
 }
 
@@ -32,22 +38,28 @@ impl Model for Gather {
 
     ghost use Rattle.giop_frag.specs.Table.{entries_of, IsTable};
 
-    ghost view = { λ g. record { limit = g.limit; lists = entries_of g.table.entries } };
+    ghost view = { λ g. record {
+      limit = g.limit;
+      blocks = g.blocks;
+      lists = entries_of g.table.entries;
+    } };
 
-    ghost invariant = { λ g. IsTable g.limit g.total g.table.entries };
+    ghost invariant = { λ g. IsTable g.limit g.total g.needed g.blocks g.table.entries };
 }
 
 impl Gather {
     /// Nothing gathered, and at most `limit` octets to come. It takes no memory.
     pub fn new(alloc: Global, limit: usize) -> Gather
         requires { limit ≤ 2 ^ 62 }
-        ensures value { result ≡ record { limit = limit; lists = map.empty } }
+        ensures value { result ≡ record { limit = limit; blocks = 0; lists = map.empty } }
         ensures within { total_of result.lists ≤ result.limit }
     {
         Gather {
             alloc,
             limit,
             total: 0,
+            needed: 0,
+            blocks: 0,
             table: BTreeMap::new(alloc),
         }
     }
@@ -56,17 +68,27 @@ impl Gather {
     /// `contains` is the test.
     ///
     /// Refusals, in this order: `GatherFull`, exactly where `total` and the number of `octets`
-    /// together are more than the limit; `NoMemory`. A refusal changes nothing.
+    /// together are more than the limit; `NoMemory`. A refusal leaves the limit and what is
+    /// gathered as they were; only want of memory may leave more blocks, and no more than these
+    /// octets need.
     pub fn begin(&mut self, id: u32, order: Order, octets: &[u8]) -> Result<(), GatherFault>
         requires { map.get self.old.lists id ≡ None }
-        ensures ok { OnOk result (self.new ≡ record self.old {
-          lists = put self.old.lists id (Some (record { order = order; octets = octets.now }));
-        }) }
+        ensures ok { let lists = put self.old.lists id
+            (Some (record { order = order; octets = octets.now })) in
+            OnOk result (self.new ≡ record self.old {
+              lists = lists;
+              blocks = blocks_after self.old.blocks lists;
+            }) }
         ensures only { OnOk result (begin_fault self.old (length octets.now) ≡ None) }
-        ensures err { IfErr result (λ fault.
-            RefusedAs fault (begin_fault self.old (length octets.now))) }
-        ensures kept { OnErr result (self.new ≡ self.old) }
-        ensures exact { OnOk result (Does self.old id (Begins order octets.now) self.new) }
+        ensures err { IfErr result (λ fault. RefusedAs GatherFault.NoMemory fault
+            (begin_fault self.old (length octets.now))) }
+        ensures kept { OnErr result (self.new ≡ record self.old { blocks = self.new.blocks }) }
+        ensures blocks { IfErr result (λ fault. IsBlocksAfter fault self.old.blocks
+            (put self.old.lists id (Some (record { order = order; octets = octets.now })))
+            self.new.blocks) }
+        ensures exact { Does (gather_rules self.old.limit) self.old.lists
+            (record { id = id; what = Begins order octets.now }) (call_reply result)
+            self.new.lists }
         ensures within { total_of self.new.lists ≤ self.new.limit }
     {
         if self.is_over(octets.len()) {
@@ -74,6 +96,8 @@ impl Gather {
         }
         lists::begin_list(self.alloc, &mut self.table, id, order, octets)?;
         self.total += octets.len();
+        self.needed += blocks_for(octets.len());
+        self.blocks = self.blocks.max(self.needed);
         Ok(())
     }
 
@@ -81,47 +105,64 @@ impl Gather {
     ///
     /// Refusals, in this order: `Stray`, exactly where the id has none; `OrderDiffers`, where it
     /// began in the other byte order; `GatherFull`, where `total` and the number of `octets`
-    /// together are more than the limit; `NoMemory`. A refusal changes nothing.
+    /// together are more than the limit; `NoMemory`. A refusal leaves the limit and what is
+    /// gathered as they were; only want of memory may leave more blocks, and no more than these
+    /// octets need.
     pub fn add(&mut self, id: u32, order: Order, octets: &[u8]) -> Result<(), GatherFault>
-        ensures ok { OnOk result (self.new ≡ record self.old {
-          lists = put self.old.lists id (grown (map.get self.old.lists id) octets.now);
-        }) }
+        ensures ok { let lists = put self.old.lists id
+            (grown (map.get self.old.lists id) octets.now) in
+            OnOk result (self.new ≡ record self.old {
+              lists = lists;
+              blocks = blocks_after self.old.blocks lists;
+            }) }
         ensures only { OnOk result (add_fault self.old id order (length octets.now) ≡ None) }
-        ensures err { IfErr result (λ fault.
-            RefusedAs fault (add_fault self.old id order (length octets.now))) }
-        ensures kept { OnErr result (self.new ≡ self.old) }
-        ensures exact { OnOk result (Does self.old id (Adds order octets.now) self.new) }
+        ensures err { IfErr result (λ fault. RefusedAs GatherFault.NoMemory fault
+            (add_fault self.old id order (length octets.now))) }
+        ensures kept { OnErr result (self.new ≡ record self.old { blocks = self.new.blocks }) }
+        ensures blocks { IfErr result (λ fault. IsBlocksAfter fault self.old.blocks
+            (put self.old.lists id (grown (map.get self.old.lists id) octets.now))
+            self.new.blocks) }
+        ensures exact { Does (gather_rules self.old.limit) self.old.lists
+            (record { id = id; what = Adds order octets.now }) (call_reply result)
+            self.new.lists }
         ensures within { total_of self.new.lists ≤ self.new.limit }
     {
         let over = self.is_over(octets.len());
-        lists::add_to_list(&mut self.table, over, id, order, octets)?;
+        let before = lists::add_to_list(&mut self.table, over, id, order, octets)?;
         self.total += octets.len();
+        self.needed += blocks_for(before + octets.len()) - blocks_for(before);
+        self.blocks = self.blocks.max(self.needed);
         Ok(())
     }
 
-    /// Takes the id out, and gives its byte order and all its octets, as they were joined. It takes
-    /// no memory.
+    /// Takes the id out, and gives its byte order and all its octets, as they were joined, in one
+    /// list.
     ///
-    /// It refuses `Stray`, exactly where the id has none, and then nothing changes.
+    /// Refusals, in this order: `Stray`, exactly where the id has none; `NoMemory`, where there is
+    /// none for that list. A refusal changes nothing.
     pub fn finish(&mut self, id: u32) -> Result<(Order, OctetList), GatherFault>
         ensures ok { OnOk result
             (self.new ≡ record self.old { lists = map.remove self.old.lists id }) }
         ensures value { IfOk result (λ joined. map.get self.old.lists id
             ≡ Some (record { order = joined.0; octets = joined.1 })) }
-        ensures err { IfErr result (λ fault.
-            (fault ≡ GatherFault.Stray) × (map.get self.old.lists id ≡ None)) }
+        ensures err { IfErr result (λ fault. RefusedAs GatherFault.NoMemory fault
+            (finish_fault (map.get self.old.lists id))) }
         ensures kept { OnErr result (self.new ≡ self.old) }
-        ensures exact { OnOk result (Does self.old id IsFinished self.new) }
+        ensures exact { Does (gather_rules self.old.limit) self.old.lists
+            (record { id = id; what = IsFinished }) (finish_reply result) self.new.lists }
         ensures within { total_of self.new.lists ≤ self.new.limit }
     {
-        let joined = self.take(id).ok_or(GatherFault::Stray)?;
-        Ok(joined.into_parts())
+        match self.take(id) {
+            Some(joined) => Ok(joined.into_parts()),
+            None => Err(GatherFault::Stray),
+        }
     }
 
     /// Takes the id out, and drops its octets; does nothing where it has none. It takes no memory.
     pub fn discard(&mut self, id: u32)
         ensures ok { self.new ≡ record self.old { lists = map.remove self.old.lists id } }
-        ensures exact { Does self.old id IsDiscarded self.new }
+        ensures exact { Does (gather_rules self.old.limit) self.old.lists
+            (record { id = id; what = IsDiscarded }) (Ok IsDone) self.new.lists }
         ensures within { total_of self.new.lists ≤ self.new.limit }
     {
         self.take(id);
@@ -129,7 +170,10 @@ impl Gather {
 
     /// The byte order and the octets of the id, where they lie. It takes no memory.
     pub fn chain(&self, id: u32) -> Option<(Order, Chain<'_>)>
-        ensures { result ≡ option_map (λ p. (p.order, p.octets)) (map.get self.now.lists id) }
+        ensures value { result
+            ≡ option_map (λ p. (p.order, p.octets)) (map.get self.now.lists id) }
+        ensures within { IfSome result (λ found. length found.1 ≤ self.now.limit) }
+        ensures most { IfSome result (λ found. length found.1 ≤ 2 ^ 62) }
     {
         let joined = lists::list_in(&self.table, id)?;
         Some((joined.order(), Chain::new(joined.octets())))
@@ -148,6 +192,19 @@ impl Gather {
         ensures within { result ≤ self.now.limit }
     {
         self.total
+    }
+
+    /// The number of blocks of 512 octets: the most that the lists have needed at a time, each
+    /// list its octets over 512, rounded up. None is given back: a block that a list leaves serves
+    /// the lists to come.
+    ///
+    /// It is a count, and takes no memory. What the allocator holds follows it only as the code
+    /// shows, and no contract says.
+    pub fn blocks(&self) -> usize
+        ensures value { result ≡ self.now.blocks }
+        ensures within { result ≤ self.now.limit }
+    {
+        self.blocks
     }
 
     /// The most octets that may be gathered at a time.
@@ -179,14 +236,25 @@ impl Gather {
         ensures within { total_of self.new.lists ≤ self.new.limit }
     {
         let taken = lists::take_list(&mut self.table, id);
-        self.total -= lists::octets_of(&taken);
+        let octets = lists::octets_of(&taken);
+        self.total -= octets;
+        self.needed -= blocks_for(octets);
         taken
     }
 
     // Whether `more` octets would be too many.
     fn is_over(&self, more: usize) -> bool
-        ensures { result ≡ is_over self.now more }
+        ensures { result ≡ is_over self.now.limit self.now.lists more }
     {
         more > self.limit - self.total
     }
+}
+
+// How many blocks of 512 octets these need.
+fn blocks_for(octets: usize) -> usize
+    requires { octets ≤ 2 ^ 62 }
+    ensures value { result ≡ (octets + 511) / 512 }
+    ensures few { result ≤ octets }
+{
+    (octets + 511) / 512
 }

@@ -1,32 +1,77 @@
-//! What any list of accepted calls leaves. `Does`, in the contracts of `Gather`, says that a call
-//! is such an act.
-ghost use Rattle.std.specs.Prelude.{◌≡◌, ◌≤◌, ◌↔◌, ℕ, List, Some, None};
+//! Laws of any run of calls, whatever is refused in it. `Does`, in the contracts of `Gather`, says
+//! that a call is such an act.
+ghost use Rattle.std.specs.Prelude.{◌≡◌, ◌≢◌, ◌≤◌, ◌+◌, ◌/◌, ◌↔◌, ℕ, List, Option, Some, None, Result, Err};
+ghost use Rattle.std.specs.List.{AllByRecursion};
 ghost use Rattle.std.specs.FinMap as map;
-ghost use Rattle.giop_frag.specs.Gathered.{Gathered, Pieces, total_of};
-ghost use Rattle.giop_frag.specs.Runs.{Act, own, alone, gathered_after, AreAccepted, IsJoined};
+ghost use Rattle.giop_ids.specs.declared.addressed.Addressed.{Addressed};
+ghost use Rattle.giop_ids.specs.Runs.{own, alone, told_alone, Runs, addressed, accepted, MeetsNoLimit};
+ghost use Rattle.giop_frag.specs.declared.fault.GatherFault.{GatherFault};
+ghost use Rattle.giop_frag.specs.declared.fault.GatherFault.TheVariants.{GatherFull};
+ghost use Rattle.giop_frag.specs.Gathered.{Lists, Pieces, total_of, blocks_of, blocks_after};
+ghost use Rattle.giop_frag.specs.Runs.{Happening, Reply, turn, is_of_id, gather_rules, octets_with, all_octets, IsJoined};
 
-/// After any list of accepted calls the octets under an id that had none are those of the id's own
+/// After any run of calls the octets under an id that had none are those of the id's own accepted
 /// calls: of the latest that began it and of all that were added since, joined in their order.
 pub fn own_pieces_are_joined()
-    ensures { (g : Gathered) (acts : List Act) (id : ℕ) (pieces : Pieces)
-        → AreAccepted g acts → map.get g.lists id ≡ None
-        → (map.get (gathered_after g acts).lists id ≡ Some pieces) ↔ IsJoined pieces (own id acts) }
+    ensures value { (limit : ℕ) (m n : Lists) (acts : List (Addressed Happening))
+        (results : List (Result Reply GatherFault)) (id : ℕ) (pieces : Pieces)
+        → Runs (gather_rules limit) m acts results n → map.get m id ≡ None
+        → (map.get n id ≡ Some pieces) ↔ IsJoined pieces (own id (accepted acts results)) }
+    ensures alone { (held : Option Pieces) (pieces : Pieces) (heard : List Happening)
+        → IsJoined pieces heard → alone turn held heard ≡ Some pieces }
 {}
 
-/// After any list of calls each id has what its own calls make of what it had, alone.
+/// In any run of calls what is gathered under an id, and what its own calls are told, are those of
+/// its own calls alone; unless one of them met the limit or want of memory.
 pub fn each_id_alone()
-    ensures { (g : Gathered) (acts : List Act) (id : ℕ) → map.get (gathered_after g acts).lists id
-        ≡ alone (map.get g.lists id) (own id acts) }
+    ensures value { (limit : ℕ) (m n : Lists) (acts : List (Addressed Happening))
+        (results : List (Result Reply GatherFault)) (id : ℕ)
+        → Runs (gather_rules limit) m acts results n → MeetsNoLimit is_of_id id acts results
+        → map.get n id ≡ alone turn (map.get m id) (own id acts) }
+    ensures told { (limit : ℕ) (m n : Lists) (acts : List (Addressed Happening))
+        (results : List (Result Reply GatherFault)) (id : ℕ)
+        → Runs (gather_rules limit) m acts results n → MeetsNoLimit is_of_id id acts results
+        → own id (addressed acts results) ≡ told_alone turn (map.get m id) (own id acts) }
 {}
 
-/// Two lists of calls that are equal for each id, in any interleaving, leave the same.
+/// Two runs whose calls are equal for each id, in any interleaving, leave the same and tell each id
+/// the same, where they meet no limit and no want of memory.
 pub fn any_interleaving()
-    ensures { (g : Gathered) (one other : List Act) → ((id : ℕ) → own id one ≡ own id other)
-        → gathered_after g one ≡ gathered_after g other }
+    ensures value { (limit : ℕ) (m n n' : Lists) (one other : List (Addressed Happening))
+        (results results' : List (Result Reply GatherFault))
+        → Runs (gather_rules limit) m one results n → Runs (gather_rules limit) m other results' n'
+        → ((id : ℕ) → MeetsNoLimit is_of_id id one results)
+        → ((id : ℕ) → MeetsNoLimit is_of_id id other results')
+        → ((id : ℕ) → own id one ≡ own id other) → n ≡ n' }
+    ensures told { (limit : ℕ) (m n n' : Lists) (one other : List (Addressed Happening))
+        (results results' : List (Result Reply GatherFault))
+        → Runs (gather_rules limit) m one results n → Runs (gather_rules limit) m other results' n'
+        → ((id : ℕ) → MeetsNoLimit is_of_id id one results)
+        → ((id : ℕ) → MeetsNoLimit is_of_id id other results')
+        → ((id : ℕ) → own id one ≡ own id other)
+        → (id : ℕ) → own id (addressed one results) ≡ own id (addressed other results') }
 {}
 
-/// Over any list of accepted calls the total never passes the limit.
+/// Over any run of calls the total never passes the limit.
 pub fn total_stays_within()
-    ensures { (g : Gathered) (acts : List Act) → AreAccepted g acts
-        → total_of g.lists ≤ g.limit → total_of (gathered_after g acts).lists ≤ g.limit }
+    ensures { (limit : ℕ) (m n : Lists) (acts : List (Addressed Happening))
+        (results : List (Result Reply GatherFault)) → Runs (gather_rules limit) m acts results n
+        → total_of m ≤ limit → total_of n ≤ limit }
+{}
+
+/// Where what is gathered and the octets of all pieces to come add up to at most the limit, no
+/// order of these calls meets `GatherFull`.
+pub fn limits_in_any_order()
+    ensures { (limit : ℕ) (m n : Lists) (acts : List (Addressed Happening))
+        (results : List (Result Reply GatherFault)) → Runs (gather_rules limit) m acts results n
+        → total_of m + all_octets acts ≤ limit
+        → AllByRecursion (λ result. result ≢ Err GatherFull) results }
+{}
+
+/// Lists need at most as many blocks as fit their octets, and one more for each id. So where the
+/// number of ids never passes some number, that of blocks never passes the limit over 512 and it.
+pub fn blocks_stay_within()
+    ensures need { (m : Lists) → blocks_of m ≤ total_of m / 512 + map.len m }
+    ensures kept { (limit ids blocks : ℕ) (m : Lists) → total_of m ≤ limit → map.len m ≤ ids
+        → blocks ≤ limit / 512 + ids → blocks_after blocks m ≤ limit / 512 + ids }
 {}

@@ -1,7 +1,9 @@
 //! The steps over the plain map: what each leaves of the lists.
-ghost use Rattle.std.specs.Prelude.{◌≡◌, ◌+◌, length, OnOk, OnErr, IfOk, IfErr, Some, None, is_some, option_copied};
+ghost use Rattle.std.specs.Prelude.{◌≡◌, OnOk, OnErr, IfOk, IfErr, Some, None, is_some, option_copied};
 ghost use Rattle.std.specs.FinMap as map;
-ghost use Rattle.giop_frag.specs.Gathered.{put, grown, octets_in, total_of, add_fault_by, RefusedAs};
+ghost use Rattle.giop_ids.specs.ById.{put};
+ghost use Rattle.giop_ids.specs.Runs.{RefusedAs};
+ghost use Rattle.giop_frag.specs.Gathered.{grown, octets_in, add_fault_by};
 ghost use Rattle.giop_frag.specs.Table.{entries_of};
 
 use crate::GatherFault;
@@ -20,9 +22,6 @@ pub fn begin_list(
 ) -> Result<(), GatherFault>
     ensures ok { OnOk result (entries_of table.new.entries ≡ put (entries_of table.old.entries) id
         (Some (record { order = order; octets = octets.now }))) }
-    ensures counted { map.get (entries_of table.old.entries) id ≡ None → OnOk result
-        (total_of (entries_of table.new.entries)
-        ≡ total_of (entries_of table.old.entries) + length octets.now) }
     ensures err { IfErr result (λ fault. fault ≡ GatherFault.NoMemory) }
     ensures kept { OnErr result (entries_of table.new.entries ≡ entries_of table.old.entries) }
 {
@@ -32,22 +31,23 @@ pub fn begin_list(
 }
 
 /// Appends octets to those under an id, where they come in one order and `over` says that there is
-/// room.
+/// room; gives how many there were.
 pub fn add_to_list(
     table: &mut BTreeMap<u32, Joined>,
     over: bool,
     id: u32,
     order: Order,
     octets: &[u8],
-) -> Result<(), GatherFault>
+) -> Result<usize, GatherFault>
+    ensures value { let m = entries_of table.old.entries in
+        IfOk result (λ before. before ≡ octets_in (map.get m id)) }
     ensures ok { let m = entries_of table.old.entries in OnOk result
         (entries_of table.new.entries ≡ put m id (grown (map.get m id) octets.now)) }
-    ensures counted { OnOk result (total_of (entries_of table.new.entries)
-        ≡ total_of (entries_of table.old.entries) + length octets.now) }
     ensures only { let m = entries_of table.old.entries in
         OnOk result (add_fault_by over (map.get m id) order ≡ None) }
     ensures err { let m = entries_of table.old.entries in
-        IfErr result (λ fault. RefusedAs fault (add_fault_by over (map.get m id) order)) }
+        IfErr result (λ fault. RefusedAs GatherFault.NoMemory fault
+        (add_fault_by over (map.get m id) order)) }
     ensures kept { OnErr result (entries_of table.new.entries ≡ entries_of table.old.entries) }
 {
     match table.get_mut(&id) {
@@ -60,8 +60,6 @@ pub fn add_to_list(
 pub fn take_list(table: &mut BTreeMap<u32, Joined>, id: u32) -> Option<Joined>
     ensures value { result ≡ map.get (entries_of table.old.entries) id }
     ensures ok { entries_of table.new.entries ≡ map.remove (entries_of table.old.entries) id }
-    ensures counted { total_of (entries_of table.new.entries) + octets_in result
-        ≡ total_of (entries_of table.old.entries) }
 {
     table.remove(&id)
 }

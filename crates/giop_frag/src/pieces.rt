@@ -1,5 +1,6 @@
 ghost use Rattle.std.specs.Prelude.{◌≡◌, ◌++◌, Some, None, length, IfOk, IfErr, OnOk, OnErr};
-ghost use Rattle.giop_frag.specs.Gathered.{add_fault_by, RefusedAs};
+ghost use Rattle.giop_ids.specs.Runs.{RefusedAs};
+ghost use Rattle.giop_frag.specs.Gathered.{add_fault_by};
 
 use crate::GatherFault;
 use giop_cdr::{OctetList, Order};
@@ -34,13 +35,15 @@ impl Joined {
         })
     }
 
-    /// Appends octets, where they come in the same order and `over` says that there is room.
-    pub fn append(&mut self, over: bool, order: Order, octets: &[u8]) -> Result<(), GatherFault>
+    /// Appends octets, where they come in the same order and `over` says that there is room; gives
+    /// how many there were.
+    pub fn append(&mut self, over: bool, order: Order, octets: &[u8]) -> Result<usize, GatherFault>
+        ensures value { IfOk result (λ before. before ≡ length self.old.octets) }
         ensures ok { OnOk result
             (self.new ≡ record self.old { octets = self.old.octets ++ octets.now }) }
         ensures only { OnOk result (add_fault_by over (Some self.old) order ≡ None) }
-        ensures err { IfErr result (λ fault.
-            RefusedAs fault (add_fault_by over (Some self.old) order)) }
+        ensures err { IfErr result (λ fault. RefusedAs GatherFault.NoMemory fault
+            (add_fault_by over (Some self.old) order)) }
         ensures kept { OnErr result (self.new ≡ self.old) }
     {
         if order != self.order {
@@ -49,8 +52,9 @@ impl Joined {
         if over {
             return Err(GatherFault::GatherFull);
         }
+        let before = self.octets.len();
         self.octets.extend_from_slice(octets)?;
-        Ok(())
+        Ok(before)
     }
 
     /// Their byte order.

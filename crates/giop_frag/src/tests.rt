@@ -1,2 +1,3 @@
 mod gathering;
+mod limits;
 mod memory;

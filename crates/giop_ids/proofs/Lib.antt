@@ -2,3 +2,4 @@ pub mod Puts
 pub mod Lengths
 pub mod SlotLemmas
 pub mod RunLemmas
+pub mod Sums

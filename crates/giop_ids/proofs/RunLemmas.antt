@@ -80,7 +80,7 @@ module _ {S V Act Answer Why : Type 0} (rules : Rules S V Act Answer Why) where
 
   module _ (apart : IsApart rules) where
     -- an act changes what stands under its id
-    at_own : (s : S) (act : Addressed Act) (id : ℕ) → (act.id == id) ≡ true
+    pub at_own : (s : S) (act : Addressed Act) (id : ℕ) → (act.id == id) ≡ true
         → rules.at (after rules s act) id ≡ left (rules.at s id) (rules.turn (rules.at s id) act.what)
     at_own s act id e =
         let same : act.id ≡ id = grind (arith, nat_tests) in
@@ -90,7 +90,7 @@ module _ {S V Act Answer Why : Type 0} (rules : Rules S V Act Answer Why) where
         ∙ ap (λ k. left (rules.at s k) (rules.turn (rules.at s k) act.what)) same
 
     -- and what stands under each other id stays
-    at_other : (s : S) (act : Addressed Act) (id : ℕ) → (act.id == id) ≡ false → rules.at (after rules s act) id ≡ rules.at s id
+    pub at_other : (s : S) (act : Addressed Act) (id : ℕ) → (act.id == id) ≡ false → rules.at (after rules s act) id ≡ rules.at s id
     at_other s act id e =
         let elsewhere : (id == act.id) ≡ false = grind (arith, nat_tests) in
         apart s act.id _ id ∙ ap (λ b. cond b (left (rules.at s act.id) (turn_of rules s act)) (rules.at s id)) elsewhere
@@ -130,7 +130,7 @@ module _ {S V Act Answer Why : Type 0} (rules : Rules S V Act Answer Why) where
         ] refl
 
     -- a call under another id leaves what stands under this one
-    other_call : (s t : S) (act : Addressed Act) (result : Result Answer Why) (id : ℕ) → (act.id == id) ≡ false
+    pub other_call : (s t : S) (act : Addressed Act) (result : Result Answer Why) (id : ℕ) → (act.id == id) ≡ false
         → Does rules s act result t → rules.at t id ≡ rules.at s id
     other_call s t act (Ok answer) id e does = ap (λ k. rules.at k id) does.leaves ∙ at_other s act id e
     other_call s t act (Err why) id e does = ap (λ k. rules.at k id) does.leaves

@@ -1,5 +1,5 @@
 -- What stands under ids: a finite map.
-use Rattle.std.specs.Prelude.{◌≡◌, ℕ, ◌==◌, true, Bool, List, map, Option, Some, None, is_some}
+use Rattle.std.specs.Prelude.{◌≡◌, ℕ, ◌==◌, true, Bool, List, map, sum_by, Option, Some, None, is_some}
 use Rattle.std.specs.List.{list_any}
 use Rattle.std.specs.Ordering.{nat_cmp}
 use Rattle.std.specs.FinMap as finite
@@ -34,3 +34,12 @@ HasOnly m ids = (id : ℕ) → is_some (finite.get m id) ≡ true → is_listed 
 -- each id that is addressed stands in the list
 abbrev pub AddressesOnly : {X : Type 0} → List (Addressed X) → List ℕ → Type 0
 AddressesOnly all ids = (id : ℕ) → is_listed (ids_of all) id ≡ true → is_listed ids id ≡ true
+
+-- what a value weighs, if there is one
+abbrev pub weight_in : {V : Type 0} → (V → ℕ) → Option V → ℕ
+weight_in weight None = 0
+weight_in weight (Some v) = weight v
+
+-- what all values of the map weigh together
+unfoldable pub sum_of : {V : Type 0} → (V → ℕ) → ById V → ℕ
+sum_of weight m = sum_by weight (finite.values m)

@@ -1,8 +1,8 @@
 //! Laws of every table by id, whatever stands under an id and whatever an act does to it.
-ghost use Rattle.std.specs.Prelude.{◌≡◌, ◌≤◌, ◌==◌, ℕ, Bool, true, List, ◌++◌, length, Result, Option, is_some, if◌then◌else◌};
+ghost use Rattle.std.specs.Prelude.{◌≡◌, ◌≤◌, ◌==◌, ℕ, Bool, true, List, ◌++◌, ◌+◌, length, Result, Option, is_some, if◌then◌else◌};
 ghost use Rattle.std.specs.FinMap as finite;
 ghost use Rattle.giop_ids.specs.declared.addressed.Addressed.{Addressed};
-ghost use Rattle.giop_ids.specs.ById.{ById, put, HasOnly};
+ghost use Rattle.giop_ids.specs.ById.{ById, put, HasOnly, sum_of, weight_in};
 ghost use Rattle.giop_ids.specs.Runs.{own, alone, told_alone, Rules, all_after, all_told, Runs, addressed, accepted, IsApart, Distinguishes, MeetsNoLimit};
 
 /// A value that is put stands under its id, and what stood under each other id stays; two tables
@@ -21,6 +21,15 @@ pub fn entries_within_ids<V, W>()
     ensures shared { (m : ById V) (n : ById W)
         → ((id : ℕ) → is_some (finite.get m id) ≡ true → is_some (finite.get n id) ≡ true)
         → finite.len m ≤ finite.len n }
+{}
+
+/// What all values weigh together changes by what is put, and by what that replaces; no values
+/// weigh nothing.
+pub fn sums_change_by_one<V>()
+    ensures value { (weight : V → ℕ) (m : ById V) (id : ℕ) (held : Option V)
+        → sum_of weight (put m id held) + weight_in weight (finite.get m id)
+        ≡ sum_of weight m + weight_in weight held }
+    ensures none { (weight : V → ℕ) → sum_of weight finite.empty ≡ 0 }
 {}
 
 /// After any list of acts what stands under each id is what its own acts make of what stood there,

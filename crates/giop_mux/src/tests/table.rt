@@ -60,6 +60,58 @@ fn a_thousand_calls_stand_side_by_side(rt: HostRuntime) -> Result<(), Fail> {
     Ok(())
 }
 
+// With ample memory no call tells want of it, up to the default limit of entries.
+#[test]
+fn all_calls_of_the_limit_stand_side_by_side(rt: HostRuntime) -> Result<(), Fail> {
+    let alloc = rt.alloc();
+    let mut mux = Mux::new(alloc, Notes, 1024);
+    for id in 0..1024u32 {
+        let word = text(alloc, "note")?;
+        assert_eq!(rt;
+            mux.apply(id * 4099, Event::Write(word)),
+            Ok(Answer::Written)
+        );
+    }
+    assert!(rt; mux.is_full());
+    assert_eq!(rt;
+        mux.apply(1, Event::Write(text(alloc, "more")?)),
+        Err(Refusal::TooManyCalls)
+    );
+    let ids = mux.ids(alloc)?;
+    assert_eq!(rt; ids.len(), 1024);
+    for id in 0..1024u32 {
+        assert!(rt; has_open(&mux, id * 4099, "note"));
+        assert_eq!(rt; mux.apply(id * 4099, Event::Close), Ok(Answer::Closed));
+        assert_eq!(rt;
+            mux.take(id * 4099),
+            Ok(Some(Note::Closed(text(alloc, "note")?)))
+        );
+    }
+    assert!(rt; mux.is_empty());
+    Ok(())
+}
+
+// And none in a run of as many events, each of a call of its own.
+#[test]
+fn a_run_answers_each_of_its_events(rt: HostRuntime) -> Result<(), Fail> {
+    let alloc = rt.alloc();
+    let mut events = Vec::new(alloc);
+    let mut expected: Vec<Result<Answer, Refusal<NotOpen>>> = Vec::new(alloc);
+    for id in 0..1024u32 {
+        events.push(write(alloc, id, "note")?)?;
+        expected.push(Ok(Answer::Written))?;
+    }
+    for id in 0..1024u32 {
+        events.push(close(id))?;
+        expected.push(Ok(Answer::Closed))?;
+    }
+    let mut mux = Mux::new(alloc, Notes, 1024);
+    let outcomes = mux.apply_all(alloc, events)?;
+    assert_eq!(rt; outcomes.as_slice(), expected.as_slice());
+    assert!(rt; mux.is_full());
+    Ok(())
+}
+
 #[test]
 fn interleaved_calls_end_alike(rt: HostRuntime) -> Result<(), Fail> {
     let alloc = rt.alloc();

@@ -14,13 +14,13 @@ left c =
     let written = (c.get_mut.follows.holds c.append.new.self).3 there in
     let found = found_at _ c.args.id (Some c.in-Some.joined.now) (sym c.get_mut.ensures.value ∙ ap option_copied_mut c.in-Some.is) in
     by_append _ _ _ _ _ _ _ _ _ found (one_put _ _ c.args.id (Some c.append.new.self) written.0)
-    c.append.ensures.ok c.append.ensures.only c.append.ensures.err c.append.ensures.kept
+    c.append.ensures.value c.append.ensures.ok c.append.ensures.only c.append.ensures.err c.append.ensures.kept
 
 pub returns-in-Some-clause-ok : goal.returns-in-Some-clause-ok
 returns-in-Some-clause-ok c = (left c).ok
 
-pub returns-in-Some-clause-counted : goal.returns-in-Some-clause-counted
-returns-in-Some-clause-counted c = (left c).counted
+pub returns-in-Some-clause-value : goal.returns-in-Some-clause-value
+returns-in-Some-clause-value c = (left c).value
 
 pub returns-in-Some-clause-only : goal.returns-in-Some-clause-only
 returns-in-Some-clause-only c = (left c).only

@@ -1,11 +1,24 @@
-use Rattle.std.proofs.Common.{sym, ap, ◌∙◌}
+use Rattle.std.proofs.Common.{◌≡◌, None, sym, ap, ◌∙◌, inl}
+use Rattle.giop_ids.specs.Runs.{refusal_of, within}
+use Rattle.giop_ids.proofs.Puts.{put_absent}
 use Rattle.giop_frag.specs.Gathered.{Lists}
-use Rattle.giop_frag.proofs.PutLemmas.{put_absent}
-use Rattle.giop_frag.proofs.TableLemmas.{OnErr_of}
+use Rattle.giop_frag.specs.Runs.{handed_out}
 use Rattle.giop_frag.proofs.gather.Gather.finish.Goals as goal
 
-pub returns-in_err-joined-clause-kept : goal.returns-in_err-joined-clause-kept
-returns-in_err-joined-clause-kept c =
-    let none = sym c.take.ensures.value ∙ c.in_err-joined.ensures.ok_part in
-    OnErr_of c.from_residual.result
-    (c.take.ensures.ok ∙ ap (λ (m : Lists). record c.args.self.now { lists = m }) (put_absent _ c.args.id none))
+-- taking out an id that isn't there changes nothing
+unchanged : (c : goal.In-None) → c.take.new.self ≡ c.args.self.now
+unchanged c =
+    let none = sym c.take.ensures.value ∙ c.in-None.is in
+    c.take.ensures.ok ∙ ap (λ (m : Lists). record c.args.self.now { lists = m }) (put_absent _ c.args.id none)
+
+pub returns-in-None-clause-kept : goal.returns-in-None-clause-kept
+returns-in-None-clause-kept c = unchanged c
+
+pub returns-in-None-clause-exact : goal.returns-in-None-clause-exact
+returns-in-None-clause-exact c =
+    let none = sym c.take.ensures.value ∙ c.in-None.is in
+    record {
+      answer = tt;
+      refusal = inl (ap (λ held. refusal_of (within None (handed_out held))) none);
+      leaves = ap (λ g. g.lists) (unchanged c);
+    }

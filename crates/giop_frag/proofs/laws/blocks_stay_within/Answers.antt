@@ -1,0 +1,8 @@
+use Rattle.giop_frag.proofs.TotalLemmas.{blocks_need, blocks_kept}
+use Rattle.giop_frag.proofs.laws.blocks_stay_within.Goals as goal
+
+pub returns-clause-need : goal.returns-clause-need
+returns-clause-need c = blocks_need
+
+pub returns-clause-kept : goal.returns-clause-kept
+returns-clause-kept c = blocks_kept
