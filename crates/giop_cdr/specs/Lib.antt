@@ -7,3 +7,4 @@ pub mod Output
 pub mod Writing
 pub mod RoundTrip
 pub mod Encapsulation
+pub mod Faults

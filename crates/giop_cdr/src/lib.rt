@@ -33,4 +33,5 @@ pub use octet_list::OctetList;
 pub use octets::{Octets, SliceOctets};
 pub use order::Order;
 pub use reader::CdrIn;
+pub use sequences::passes;
 pub use writer::CdrOut;

@@ -14,3 +14,5 @@ pub mod WrittenLemmas
 pub mod DoubledLemmas
 pub mod FitLemmas
 pub mod EncodeLemmas
+pub mod SpelledFits
+pub mod NodeLemmas

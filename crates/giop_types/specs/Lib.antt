@@ -12,3 +12,5 @@ pub mod CheckedShape
 pub mod Fits
 pub mod Written
 pub mod Encoding
+pub mod Nodes
+pub mod DescFaults

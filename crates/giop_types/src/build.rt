@@ -7,7 +7,7 @@ ghost use Rattle.giop_types.specs.Outcome.{FollowsCase, MakesChoice, one_or_none
 ghost use Rattle.giop_types.specs.Views.{desc_view, named_view, case_view, fallback_view, value_view, fields_of, branches_of};
 
 use crate::desc::{CaseDesc, Desc, NamedDesc};
-use crate::reading::{has_label, read_bounded_count, read_label, read_ordinal, row_length};
+use crate::reading::{has_label, read_label, read_ordinal, row_length};
 use crate::value::Value;
 use giop_cdr::{CdrFault, CdrIn, CdrKind, OctetList, Octets};
 use std::alloc::Global;
@@ -155,7 +155,7 @@ fn build_items<S: Octets>(
     ensures { Follows (λ values. map value_view values.items) result input.new
         (bounded_at (decode_at (desc_view item.now)) bound input.old) }
 {
-    let count = read_bounded_count(bound, input)?;
+    let count = input.read_bounded_count(bound)?;
     build_counted(alloc, item, count, input)
 }
 

@@ -25,5 +25,8 @@ pub use desc::{CaseDesc, Desc, NamedDesc};
 pub use desc_fault::DescFault;
 pub use encoder::encode;
 pub use fitting::fits;
-pub use laws::{values_are_bounded, values_are_spelled, written_values_are_read_back};
+pub use laws::{
+    descriptions_are_checked_node_by_node, leaves_count_every_part, spelled_values_fit,
+    values_are_bounded, values_are_spelled, written_values_are_read_back,
+};
 pub use value::Value;
