@@ -20,6 +20,16 @@ both_true : (a b : Bool) → (a && b) ≡ true → (a ≡ true) × (b ≡ true)
 both_true true b e = (refl, e)
 both_true false b e = absurd cc
 
+-- no null stands before the last octet of a text
+pub text_inside : (n : ℕ) (octets : List ℕ) → n ≤ length octets → is_text (take n octets) ≡ true → has_null (take (n - 1) octets) ≡ false
+text_inside zero octets le is = refl
+text_inside (suc n) octets le is =
+    let long : length (take (suc n) octets) ≡ suc n = length-take-le (suc n) octets le in
+    let parts = both_true (get_or (take (suc n) octets) n 0 == 0) (not (has_null (take n (take (suc n) octets))))
+    (sym (is_text-last (take (suc n) octets) n (omega (arith, long))) ∙ is) in
+    let less : suc n - 1 ≡ n = omega arith in
+    rw (less, ← take-take n (suc n) octets (omega arith)) (not-true (has_null (take n (take (suc n) octets))) parts.1)
+
 -- what a length counts is a text exactly where it is one by the test
 text_from_test : (n : ℕ) (o : Order) (at : ℕ) (t : List ℕ) → length t ≡ n → is_text t ≡ true → CountedText n o at (take (n - 1) t) t
 text_from_test zero o at [] long is = (refl, refl)

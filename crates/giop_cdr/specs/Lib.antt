@@ -10,3 +10,4 @@ pub mod Encapsulation
 pub mod Layout
 pub mod Encapsulated
 pub mod View
+pub mod Faults

@@ -13,7 +13,7 @@ impl<'a> CdrIn<'a, SliceOctets<'a>> {
         ensures { ReadsAs (λ octets. octets.now) self.old result self.new (octets_at bound self.old) }
     {
         let mut ahead = self.fork();
-        let count = ahead.octet_count(bound)?;
+        let count = ahead.read_bounded_count(bound)?;
         let octets = ahead.lent(count);
         ahead.advance(count);
         *self = ahead;

@@ -1,3 +1,8 @@
+ghost use Rattle.std.specs.Prelude.{◌≡◌};
+
+use std::error::Error;
+use std::fmt;
+
 /// What is wrong with the octets at a place.
 #[derive(Clone, Copy, Debug, PartialEq, Eq)]
 pub enum CdrKind {
@@ -17,8 +22,54 @@ pub enum CdrKind {
     BoundPassed,
     /// Octets are left after the last value.
     Trailing,
-    /// Memory ran out, of octets that spell a value.
+    /// Memory ran out, of octets that spell a value. It is told at the offset of the value that the
+    /// call reads: of a string or a sequence of octets that is the offset of its length, behind the
+    /// padding; of a value of several parts, whose padding is its first part's, it is where the
+    /// reader stood.
     NoMemory,
+}
+
+impl CdrKind {
+    ghost use Rattle.giop_cdr.specs.Faults.{cdr_kind_number};
+
+    /// The number of the kind, 1 to 9.
+    pub fn number(self) -> u8
+        ensures { result ≡ cdr_kind_number self }
+    {
+        match self {
+            CdrKind::Short => 1,
+            CdrKind::BadBoolean => 2,
+            CdrKind::BadString => 3,
+            CdrKind::BadCount => 4,
+            CdrKind::BadLabel => 5,
+            CdrKind::BadOrder => 6,
+            CdrKind::BoundPassed => 7,
+            CdrKind::Trailing => 8,
+            CdrKind::NoMemory => 9,
+        }
+    }
+}
+
+/// The name of the kind, as `BadCount`.
+impl fmt::Display for CdrKind {
+    ghost use Rattle.std.specs.Prelude.{Some};
+    ghost use Rattle.giop_cdr.specs.Faults.{cdr_kind_name};
+
+    ghost output = { λ k. Some (cdr_kind_name k) };
+
+    fn fmt<W: fmt::Write>(&self, f: &mut fmt::Formatter<W>) -> fmt::Result {
+        f.write_str(match self {
+            CdrKind::Short => "Short",
+            CdrKind::BadBoolean => "BadBoolean",
+            CdrKind::BadString => "BadString",
+            CdrKind::BadCount => "BadCount",
+            CdrKind::BadLabel => "BadLabel",
+            CdrKind::BadOrder => "BadOrder",
+            CdrKind::BoundPassed => "BoundPassed",
+            CdrKind::Trailing => "Trailing",
+            CdrKind::NoMemory => "NoMemory",
+        })
+    }
 }
 
 /// Why octets were refused, and where.
@@ -31,3 +82,28 @@ pub struct CdrFault {
     /// What is wrong there.
     pub kind: CdrKind,
 }
+
+impl CdrFault {
+    ghost use Rattle.giop_cdr.specs.Faults.{cdr_kind_number};
+
+    /// The number of its kind, 1 to 9.
+    pub fn number(self) -> u8
+        ensures { result ≡ cdr_kind_number self.kind }
+    {
+        self.kind.number()
+    }
+}
+
+/// The name of its kind, as `BadCount`.
+impl fmt::Display for CdrFault {
+    ghost use Rattle.std.specs.Prelude.{Some};
+    ghost use Rattle.giop_cdr.specs.Faults.{cdr_kind_name};
+
+    ghost output = { λ e. Some (cdr_kind_name e.kind) };
+
+    fn fmt<W: fmt::Write>(&self, f: &mut fmt::Formatter<W>) -> fmt::Result {
+        write!(f, "{}", self.kind)
+    }
+}
+
+impl Error for CdrFault {}

@@ -39,6 +39,7 @@ pub use octets::{Octets, SliceOctets};
 pub use octets_at::OctetsAt;
 pub use order::Order;
 pub use reader::CdrIn;
+pub use sequences::passes;
 pub use tagged::Tagged;
 pub use tagged_list_at::{TaggedAt, TaggedIter, TaggedListAt};
 pub use writer::CdrOut;

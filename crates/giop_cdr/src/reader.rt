@@ -189,7 +189,7 @@ impl<'a, S: Octets> CdrIn<'a, S> {
     {
         let at = self.place::<4>() + 4;
         let mut ahead = self.fork();
-        let count = ahead.octet_count(0)?;
+        let count = ahead.read_bounded_count(0)?;
         let content = ahead.content(count, at)?;
         ahead.advance(count);
         *self = ahead;

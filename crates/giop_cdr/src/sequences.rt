@@ -1,6 +1,6 @@
-ghost use Rattle.std.specs.Prelude.{◌≡◌, ◌≤◌, length, IfOk, IfErr};
+ghost use Rattle.std.specs.Prelude.{◌≡◌, ◌+◌, ◌<◌, ◌≤◌, ◌^◌, length, take, true, false, IfOk, IfErr};
 ghost use Rattle.giop_cdr.specs.Cursor.{place};
-ghost use Rattle.giop_cdr.specs.Reading.{count_at, octet_count_at, octets_at, text_count_at, string_at, passes};
+ghost use Rattle.giop_cdr.specs.Reading.{count_at, octet_count_at, octets_at, text_count_at, string_at, passes, is_text, has_null};
 ghost use Rattle.giop_cdr.specs.Outcome.{Reads, Allocates, Passes};
 
 use crate::fault::{CdrFault, CdrKind};
@@ -8,8 +8,8 @@ use crate::octets::Octets;
 use crate::reader::CdrIn;
 use std::alloc::Global;
 
-// Whether a length is above a bound, where 0 is no bound.
-fn passes(bound: u32, length: usize) -> bool
+/// Whether a length is above a bound, where 0 is no bound.
+pub fn passes(bound: u32, length: usize) -> bool
     ensures { result ≡ passes bound length }
 {
     bound != 0 && (bound as usize) < length
@@ -26,6 +26,7 @@ impl<'a, S: Octets> CdrIn<'a, S> {
     pub fn read_count(&mut self) -> Result<usize, CdrFault>
         ensures value { Reads self.old result self.new (count_at self.old) }
         ensures within { IfOk result (λ count. count ≤ length self.new.rest) }
+        ensures countable { IfOk result (λ count. count < 2 ^ 32) }
         ensures place { IfErr result (λ e. e.at ≡ place 4 self.old) }
     {
         let mut ahead = self.fork();
@@ -40,11 +41,15 @@ impl<'a, S: Octets> CdrIn<'a, S> {
         Ok(count)
     }
 
-    // The length of a sequence of octets that is within the bound.
+    /// The count of a sequence within its bound, where 0 is none.
+    ///
+    /// Refused at the offset of the count: as `read_count` refuses it, and as BoundPassed where it is
+    /// above the bound. The reader then stays where it was.
     #[tactic(auto, unfolding(crate::specs::Reading::octet_count_at))]
-    pub(crate) fn octet_count(&mut self, bound: u32) -> Result<usize, CdrFault>
+    pub fn read_bounded_count(&mut self, bound: u32) -> Result<usize, CdrFault>
         ensures value { Reads self.old result self.new (octet_count_at bound self.old) }
         ensures within { IfOk result (λ count. count ≤ length self.new.rest) }
+        ensures countable { IfOk result (λ count. count < 2 ^ 32) }
         ensures place { IfErr result (λ e. e.at ≡ place 4 self.old) }
     {
         let mut ahead = self.fork();
@@ -64,6 +69,8 @@ impl<'a, S: Octets> CdrIn<'a, S> {
     pub(crate) fn text_count(&mut self, bound: u32) -> Result<usize, CdrFault>
         ensures value { Reads self.old result self.new (text_count_at bound self.old) }
         ensures within { IfOk result (λ count. count ≤ length self.new.rest) }
+        ensures countable { IfOk result (λ count. count < 2 ^ 32) }
+        ensures text { IfOk result (λ count. is_text (take count self.new.rest) ≡ true) }
         ensures place { IfErr result (λ e. e.at ≡ place 4 self.old) }
     {
         let mut ahead = self.fork();
@@ -94,10 +101,11 @@ impl<'a, S: Octets> CdrIn<'a, S> {
     #[tactic(auto, using(crate::proofs::CountSteps::octets_counted, crate::proofs::CountSteps::octets_there, crate::proofs::CountSteps::octets_uncounted))]
     pub fn read_octets(&mut self, alloc: Global, bound: u32) -> Result<Vec<u8>, CdrFault>
         ensures value { Allocates (λ v. v.items) self.old result self.new (octets_at bound self.old) }
+        ensures countable { IfOk result (λ v. length v.items < 2 ^ 32) }
         ensures place { IfErr result (λ e. e.at ≡ place 4 self.old) }
     {
         let mut ahead = self.fork();
-        let count = ahead.octet_count(bound)?;
+        let count = ahead.read_bounded_count(bound)?;
         let Ok(octets) = ahead.copy(alloc, count) else {
             return Err(CdrFault {
                 at: self.place::<4>(),
@@ -116,7 +124,7 @@ impl<'a, S: Octets> CdrIn<'a, S> {
         ensures { Passes self.old result self.new (octets_at bound self.old) }
     {
         let mut ahead = self.fork();
-        let length = ahead.octet_count(bound)?;
+        let length = ahead.read_bounded_count(bound)?;
         ahead.advance(length);
         *self = ahead;
         Ok(())
@@ -134,6 +142,8 @@ impl<'a, S: Octets> CdrIn<'a, S> {
     #[tactic(auto, using(crate::proofs::CountSteps::text_counted, crate::proofs::CountSteps::text_there, crate::proofs::CountSteps::text_uncounted))]
     pub fn read_string(&mut self, alloc: Global, bound: u32) -> Result<Vec<u8>, CdrFault>
         ensures value { Allocates (λ v. v.items) self.old result self.new (string_at bound self.old) }
+        ensures countable { IfOk result (λ v. length v.items + 1 < 2 ^ 32) }
+        ensures text { IfOk result (λ v. has_null v.items ≡ false) }
         ensures place { IfErr result (λ e. e.at ≡ place 4 self.old) }
     {
         let mut ahead = self.fork();

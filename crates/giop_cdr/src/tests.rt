@@ -1,4 +1,5 @@
 mod encapsulations;
+mod faults;
 mod memory;
 mod reading;
 mod two_parts;

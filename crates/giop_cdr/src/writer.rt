@@ -143,8 +143,9 @@ impl CdrOut {
         Ok(mark)
     }
 
-    /// Whether an encapsulation that began at `mark` can be ended here: it began in these octets,
-    /// and its content is below 2^32 octets, as its length has to be.
+    /// Whether an encapsulation that began at `mark` can be ended here: the output is as long as it
+    /// was there, or longer, and by fewer than 2^32 octets, as a length has to be. It can't tell
+    /// that `mark` is of this output and the latest one that isn't ended: that is the caller's.
     pub fn can_end(&self, mark: &Mark) -> bool
         ensures { IsTrue result ↔ ((mark.now.len ≤ length self.now.octets) × (length self.now.octets - mark.now.len < 2 ^ 32)) }
     {

@@ -69,11 +69,11 @@ tells_same (Err e) o p same h = same ∙ h
 
 -- ---- a description without a fault is full
 
-none_parts : (o p : Option DescFault) → option_or o p ≡ None → (o ≡ None) × (p ≡ None)
+pub none_parts : (o p : Option DescFault) → option_or o p ≡ None → (o ≡ None) × (p ≡ None)
 none_parts None p h = (refl, h)
 none_parts (Some e) p h = absurd cc
 
-fault_absent : (b : Bool) (e : DescFault) → fault_if b e ≡ None → b ≡ false
+pub fault_absent : (b : Bool) (e : DescFault) → fault_if b e ≡ None → b ≡ false
 fault_absent true e h = absurd cc
 fault_absent false e h = refl
 

@@ -21,3 +21,5 @@ pub mod JsonLeavesBack
 pub mod JsonObjects
 pub mod JsonBack
 pub mod EncodeLemmas
+pub mod SpelledFits
+pub mod NodeLemmas

@@ -17,3 +17,5 @@ pub mod FormFault
 pub mod FromJson
 pub mod Defaults
 pub mod Encoding
+pub mod Nodes
+pub mod DescFaults

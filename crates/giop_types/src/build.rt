@@ -1,5 +1,6 @@
 //! Reading a value in one pass, as long as memory is there.
-ghost use Rattle.std.specs.Prelude.{◌≡◌, map};
+ghost use Rattle.std.specs.Prelude.{◌≡◌, ◌≤◌, ◌/◌, min, length, map, [], IfOk};
+ghost use Rattle.std.specs.Vec.{vec_capacity};
 ghost use Rattle.giop_cdr.specs.Reading.{items_at};
 ghost use Rattle.giop_cdr.specs.Outcome.{Follows};
 ghost use Rattle.giop_types.specs.Decoding.{decode_at, fields_at, branches_at, bounded_at, row_at};
@@ -7,10 +8,10 @@ ghost use Rattle.giop_types.specs.Outcome.{FollowsCase, MakesChoice, one_or_none
 ghost use Rattle.giop_types.specs.Views.{desc_view, named_view, case_view, fallback_view, value_view, fields_of, branches_of};
 
 use crate::desc::{CaseDesc, Desc, NamedDesc};
-use crate::reading::{has_label, read_bounded_count, read_label, read_ordinal, row_length};
+use crate::reading::{has_label, read_label, read_ordinal, row_length};
 use crate::value::Value;
 use giop_cdr::{CdrFault, CdrIn, CdrKind, OctetList, Octets};
-use std::alloc::Global;
+use std::alloc::{AllocError, Global};
 
 /// A value.
 #[cycle(build)]
@@ -155,7 +156,7 @@ fn build_items<S: Octets>(
     ensures { Follows (λ values. map value_view values.items) result input.new
         (bounded_at (decode_at (desc_view item.now)) bound input.old) }
 {
-    let count = read_bounded_count(bound, input)?;
+    let count = input.read_bounded_count(bound)?;
     build_counted(alloc, item, count, input)
 }
 
@@ -174,7 +175,17 @@ fn build_row<S: Octets>(
     build_counted(alloc, item, count, input)
 }
 
-// As many values. Room is made as they come: a value may take much more memory than octets.
+// Room for values of which so many are claimed: for one in eight octets that are left at most, since a
+// value takes many more octets in memory than on the wire. The rest is made as the values come.
+fn room<S: Octets>(alloc: Global, count: usize, input: &CdrIn<S>) -> Result<Vec<Value>, AllocError>
+    requires { count ≤ length input.now.rest }
+    ensures none { IfOk result (λ values. values.items ≡ []) }
+    ensures room { IfOk result (λ values. vec_capacity values ≡ min count (length input.now.rest / 8)) }
+{
+    Vec::with_capacity(alloc, count.min(input.remaining() / 8))
+}
+
+// As many values.
 #[cycle(build)]
 fn build_counted<S: Octets>(
     alloc: Global,
@@ -182,11 +193,14 @@ fn build_counted<S: Octets>(
     count: usize,
     input: &mut CdrIn<S>,
 ) -> Result<Vec<Value>, CdrFault>
+    requires { count ≤ length input.old.rest }
     ensures { Follows (λ values. map value_view values.items) result input.new
         (items_at (decode_at (desc_view item.now)) count input.old) }
 {
     let wanting = wanting(input);
-    let mut values = Vec::new(alloc);
+    let Ok(mut values) = room(alloc, count, input) else {
+        return Err(wanting);
+    };
     for _ in 0..count {
         let value = build(alloc, item, input)?;
         if values.push(value).is_err() {

@@ -10,6 +10,7 @@ use crate::desc::{CaseDesc, Desc, NamedDesc};
 use crate::label_check::{is_label_of, is_ordinal};
 use crate::reading::has_label;
 use crate::value::Value;
+use giop_cdr::passes;
 
 /// Whether a value is of this description (9.3.2), and so can be written: its variants are those of
 /// the description; its numbers, ordinals and discriminants are in range; texts and sequences are
@@ -28,7 +29,7 @@ pub fn fits(desc: &CheckedDesc, value: &Value) -> bool
 pub fn is_counted(bound: u32, count: usize) -> bool
     ensures { result ≡ is_counted bound count }
 {
-    count < 1 << 32 && (bound == 0 || count <= bound as usize)
+    count < 1 << 32 && !passes(bound, count)
 }
 
 /// Whether octets are a sequence within the bound.

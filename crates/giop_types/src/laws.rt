@@ -1,18 +1,21 @@
 // Laws of the definitions. Each function's contract is one of them; the bodies are empty, and no
 // program calls these.
-ghost use Rattle.std.specs.Prelude.{◌≡◌, ◌≤◌, ℕ, List, length, true};
+ghost use Rattle.std.specs.Prelude.{◌≡◌, ◌+◌, ◌<◌, ◌≤◌, ◌↔◌, ℕ, ℤ, List, length, true, None};
+ghost use Rattle.std.specs.List.{AllByRecursion};
 ghost use Rattle.giop_cdr.specs.declared.order.Order.{Order};
 ghost use Rattle.giop_cdr.specs.Output.{Output};
 ghost use Rattle.giop_cdr.specs.Readers.{IsExact, Took, StandsAlone};
 ghost use Rattle.giop_cdr.specs.RoundTrip.{IsReadBack};
+ghost use Rattle.giop_types.specs.Checked.{desc_fault};
 ghost use Rattle.giop_types.specs.Decoding.{decode_at};
-ghost use Rattle.giop_types.specs.Fits.{fits};
+ghost use Rattle.giop_types.specs.Fits.{are_octets, fits};
 ghost use Rattle.giop_types.specs.Full.{is_full};
 ghost use Rattle.giop_types.specs.Refusals.{RefusedShape};
 ghost use Rattle.giop_types.specs.Shape.{Shape};
-ghost use Rattle.giop_types.specs.Leaves.{leaves};
+ghost use Rattle.giop_types.specs.Leaves.{leaves, leaves_of};
+ghost use Rattle.giop_types.specs.Nodes.{nodes, first_fault, IsSound};
 ghost use Rattle.giop_types.specs.Spells.{Spells};
-ghost use Rattle.giop_types.specs.Tree.{Tree};
+ghost use Rattle.giop_types.specs.Tree.{Tree, Trees, tree, text_of, octets_of, choice_of, items_of, members_of, row_of};
 ghost use Rattle.giop_types.specs.Written.{value_out};
 
 /// Values of every description that can be checked (9.3.2): what is read is what is spelled, and
@@ -35,4 +38,30 @@ pub fn values_are_bounded()
 pub fn written_values_are_read_back()
     ensures { (shape : Shape) → is_full shape ≡ true → (tree : Tree) → fits shape tree ≡ true
         → (out : Output) → IsReadBack (Spells shape) (decode_at shape) tree out (value_out shape tree out) }
+{}
+
+/// What octets spell is a value that fits, and so can be written again: for octets, which are
+/// numbers below 256.
+pub fn spelled_values_fit()
+    ensures { (shape : Shape) (order : Order) (at : ℕ) (tree : Tree) (octets : List ℕ)
+        → are_octets octets ≡ true → Spells shape order at tree octets → fits shape tree ≡ true }
+{}
+
+/// Descriptions: the fault that `CheckedDesc::check` tells is that of the first node in reading order
+/// that has one, and a description is checked exactly where every node of it is sound at its depth.
+pub fn descriptions_are_checked_node_by_node()
+    ensures first { (depth : ℕ) (shape : Shape) → desc_fault depth shape ≡ first_fault (nodes depth shape) }
+    ensures sound { (shape : Shape) → (desc_fault 1 shape ≡ None) ↔ AllByRecursion IsSound (nodes 1 shape) }
+{}
+
+/// No part of a value is left out of its leaves: each number, label and discriminant is one, each octet
+/// of a text is one, and those of the parts add up.
+pub fn leaves_count_every_part()
+    ensures texts { (text : List ℕ) → (length text ≤ leaves (text_of text)) × (0 < leaves (text_of text)) }
+    ensures octets { (octets : List ℕ) → (length octets ≤ leaves (octets_of octets)) × (0 < leaves (octets_of octets)) }
+    ensures discriminants { (label : ℤ) (member : Trees) → leaves_of member < leaves (choice_of label member) }
+    ensures lists { (values : Trees) → (leaves_of values ≤ leaves (items_of values)) × (0 < leaves (items_of values)) }
+    ensures parts { (values : Trees) → (leaves_of values ≤ leaves (members_of values)) × (leaves_of values ≤ leaves (row_of values)) }
+    ensures sums { (first : Tree) (others : Trees) → leaves first + leaves_of others ≤ leaves_of (tree first others) }
+    ensures some { (shape : Shape) (value : Tree) → is_full shape ≡ true → fits shape value ≡ true → 0 < leaves value }
 {}

@@ -29,5 +29,8 @@ pub use encoder::encode;
 pub use fitting::fits;
 pub use form_fault::FormFault;
 pub use json::{json_gives_values_back, value_from_json, value_to_json};
-pub use laws::{values_are_bounded, values_are_spelled, written_values_are_read_back};
+pub use laws::{
+    descriptions_are_checked_node_by_node, leaves_count_every_part, spelled_values_fit,
+    values_are_bounded, values_are_spelled, written_values_are_read_back,
+};
 pub use value::Value;

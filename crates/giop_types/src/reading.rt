@@ -1,7 +1,7 @@
 //! The parts of values: ordinals, counts and discriminants.
 ghost use Rattle.std.specs.Prelude.{◌≡◌, ◌<◌, ◌≤◌, length, IfOk, IfErr};
 ghost use Rattle.giop_cdr.specs.declared.fault.CdrKind.TheVariants.{BadCount};
-ghost use Rattle.giop_cdr.specs.Reading.{fault, octet_count_at};
+ghost use Rattle.giop_cdr.specs.Reading.{fault};
 ghost use Rattle.giop_cdr.specs.Outcome.{Exactly};
 ghost use Rattle.giop_types.specs.Decoding.{ordinal_at, label_at, is_label};
 ghost use Rattle.giop_types.specs.Views.{desc_view};
@@ -24,24 +24,6 @@ pub fn read_ordinal<S: Octets>(names: usize, input: &mut CdrIn<S>) -> Result<u32
         });
     }
     Ok(ordinal)
-}
-
-/// The count of a sequence within its bound, where 0 is none. Refused at its place: as `read_count`
-/// refuses it, and as BoundPassed where it is above the bound.
-#[tactic(auto, unfolding(giop_cdr::specs::Reading::octet_count_at))]
-pub fn read_bounded_count<S: Octets>(bound: u32, input: &mut CdrIn<S>) -> Result<usize, CdrFault>
-    ensures value { Exactly result input.new (octet_count_at bound input.old) }
-    ensures within { IfOk result (λ count. count ≤ length input.new.rest) }
-{
-    let at = input.place::<4>();
-    let count = input.read_count()?;
-    if bound != 0 && count > bound as usize {
-        return Err(CdrFault {
-            at,
-            kind: CdrKind::BoundPassed,
-        });
-    }
-    Ok(count)
 }
 
 /// A discriminant, as a number: of a boolean 0 or 1, of a char its octet, of an enum its ordinal.

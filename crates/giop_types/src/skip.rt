@@ -8,7 +8,7 @@ ghost use Rattle.giop_types.specs.Outcome.{SkipsCase};
 ghost use Rattle.giop_types.specs.Views.{desc_view, named_view, case_view, fallback_view, fields_of, branches_of};
 
 use crate::desc::{CaseDesc, Desc, NamedDesc};
-use crate::reading::{has_label, read_bounded_count, read_label, read_ordinal, row_length};
+use crate::reading::{has_label, read_label, read_ordinal, row_length};
 use giop_cdr::{CdrFault, CdrIn, Octets};
 
 /// Passes over a value.
@@ -95,7 +95,7 @@ fn skip_fallback<S: Octets>(
 fn skip_items<S: Octets>(item: &Desc, bound: u32, input: &mut CdrIn<S>) -> Result<(), CdrFault>
     ensures { Skips result input.new (decode_at (items (desc_view item.now) bound) input.old) }
 {
-    let count = read_bounded_count(bound, input)?;
+    let count = input.read_bounded_count(bound)?;
     skip_counted(item, count, input)
 }
 

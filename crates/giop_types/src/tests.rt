@@ -2,6 +2,7 @@
 
 mod check;
 mod decoding;
+mod encoding;
 mod memory;
 mod recorded;
 mod samples;

@@ -291,10 +291,16 @@ fn a_checked_description_is_handed_out(rt: HostRuntime) -> Result<(), Fail> {
 }
 
 #[test]
-fn faults_are_numbered_from_1_to_4(rt: HostRuntime) -> Result<(), Fail> {
-    assert_eq!(rt; DescFault::Empty as u8, 1);
-    assert_eq!(rt; DescFault::Doubled as u8, 2);
-    assert_eq!(rt; DescFault::BadDiscriminant as u8, 3);
-    assert_eq!(rt; DescFault::TooDeep as u8, 4);
+fn each_fault_has_its_number_and_its_name(rt: HostRuntime) -> Result<(), Fail> {
+    let rows = [
+        (DescFault::Empty, 1, "Empty"),
+        (DescFault::Doubled, 2, "Doubled"),
+        (DescFault::BadDiscriminant, 3, "BadDiscriminant"),
+        (DescFault::TooDeep, 4, "TooDeep"),
+    ];
+    for (fault, number, name) in rows {
+        assert_eq!(rt; fault.number(), number);
+        assert_eq!(rt; format!(in rt.alloc(); "{fault}")?.as_str(), name);
+    }
     Ok(())
 }

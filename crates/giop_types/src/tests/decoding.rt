@@ -294,3 +294,24 @@ fn a_nil_reference_is_a_struct(rt: HostRuntime) -> Result<(), Fail> {
     );
     Ok(())
 }
+
+// Counts that a peer claims: 2^31, one above what is left, and all that is left.
+#[test]
+fn a_claimed_count_is_judged_by_what_is_left(rt: HostRuntime) -> Result<(), Fail> {
+    let alloc = rt.alloc();
+    let octets = checked(items(alloc, Desc::Octet, 0)?)?;
+    let longs = checked(items(alloc, Desc::Long, 0)?)?;
+    let refused: [(&CheckedDesc, &[u8], usize, CdrKind); 4] = [
+        (&octets, &[0x80, 0, 0, 0, 1, 2, 3], 0, CdrKind::BadCount),
+        (&longs, &[0x80, 0, 0, 0, 1, 2, 3, 4], 0, CdrKind::BadCount),
+        (&octets, &[0, 0, 0, 4, 1, 2, 3], 0, CdrKind::BadCount),
+        (&longs, &[0, 0, 0, 4, 1, 2, 3, 4], 8, CdrKind::Short),
+    ];
+    for (desc, octets, at, kind) in refused {
+        refuse(&rt, alloc, desc, octets, at, kind);
+    }
+    let three = vec![in alloc; Value::Octet(1), Value::Octet(2), Value::Octet(3)]?;
+    let all = [0, 0, 0, 3, 1, 2, 3];
+    expect(&rt, alloc, &octets, &all, Value::Items(three));
+    Ok(())
+}
