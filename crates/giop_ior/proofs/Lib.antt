@@ -7,3 +7,5 @@ pub mod StepLemmas
 pub mod PartLemmas
 pub mod AddressLemmas
 pub mod GrammarLemmas
+pub mod WritingLemmas
+pub mod WrittenLemmas

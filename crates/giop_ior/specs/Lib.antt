@@ -2,3 +2,4 @@ pub mod CorbalocFault
 pub mod Corbaloc
 pub mod CorbalocReading
 pub mod AddressAt
+pub mod CorbalocWriting
