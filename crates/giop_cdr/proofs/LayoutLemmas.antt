@@ -1,10 +1,9 @@
 -- Each layout is lawful whose parts are: one line a field of a message's table.
-use Rattle.std.proofs.Common.{◌≡◌, ℕ, ℤ, zero, suc, ◌+◌, ◌<◌, ◌≤◌, ◌^◌, ◌&&◌, ◌⊎◌, inl, inr, Bool, true, false, not, if◌then◌else◌, ltb, List, [], ◌∷◌, ◌++◌, length, get_or, Ok, Err, refl, sym, ap, subst, ◌∙◌, length-append, arith, All}
+use Rattle.std.proofs.Common.{◌≡◌, ℕ, zero, suc, ◌+◌, ◌<◌, ◌^◌, ◌&&◌, Bool, true, false, List, [], ◌∷◌, ◌++◌, length, get_or, Ok, refl, sym, ap, subst, ◌∙◌, length-append, arith}
 use Rattle.std.proofs.lemmas.Bool.{lt-ltb, ltb-true, not-true}
-use Rattle.std.proofs.lemmas.List.Elements.{All-head, All-tail, All-cons, All-nil, All-get_or}
+use Rattle.std.proofs.lemmas.List.Elements.{All-head, All-tail, All-cons, All-nil}
 use Rattle.std.specs.List.{list_all, AllByRecursion}
-use Rattle.std.specs.Int.{Width, w8, w16, w32, w64, w128, byte_len, cast_signed}
-use Rattle.std.specs.Prelude.{FitsSigned}
+use Rattle.std.specs.Int.{Width, w8, w16, w32, w64, w128, byte_len}
 use borrow.Author.Gap.{read_sfits}
 use mir.Val.{bits}
 use Rattle.giop_cdr.specs.declared.order.Order.{Order}
@@ -12,12 +11,12 @@ use Rattle.giop_cdr.specs.declared.order.Order.TheVariants.{Big, Little}
 use Rattle.giop_cdr.specs.declared.fault.CdrFault.{CdrFault}
 use Rattle.giop_cdr.specs.declared.fault.CdrKind.{CdrKind}
 use Rattle.giop_cdr.specs.Cursor.{Cursor, num}
-use Rattle.giop_cdr.specs.Reading.{Reading, ◌>>=◌, octets_at, string_at, has_null, passes, number_at}
-use Rattle.giop_cdr.specs.Spelling.{Spelling, SpellsField, SpellsNumber, SpellsOctets, SpellsString, SpellsEach, SpellsSequence, Bounded, Then, CountedText}
-use Rattle.giop_cdr.specs.Readers.{Refusal, Took, IsExact, IsExactHere, StandsAlone, TakesOctets, RefusedOctets, RefusedString}
+use Rattle.giop_cdr.specs.Reading.{Reading, ◌>>=◌, octets_at, string_at, passes, number_at}
+use Rattle.giop_cdr.specs.Spelling.{Spelling, SpellsNumber, SpellsOctets, SpellsString, SpellsEach, Bounded, CountedText}
+use Rattle.giop_cdr.specs.Readers.{Took, IsExact, IsExactHere, StandsAlone, TakesOctets, RefusedOctets, RefusedString}
 use Rattle.giop_cdr.specs.Output.{Output, octets_out, string_out}
 use Rattle.giop_cdr.specs.RoundTrip.{IsSpelled, IsReadBack, is_primitive}
-use Rattle.giop_cdr.specs.Layout.{Layout, IsLawful, AreOctets, number, signed, boolean, octets, text, bounded_octets, bounded_text, such, field, gives, reserved, chosen, sequence, is_countable, is_spellable}
+use Rattle.giop_cdr.specs.Layout.{Layout, IsLawful, AreOctets, number, signed, boolean, octets, text, bounded_octets, bounded_text, such, field, gives, reserved, chosen, sequence, tagged, is_countable, is_spellable}
 use Rattle.giop_cdr.proofs.Answers.{exact_by, bind_elim, bind_fails, ok_same}
 use Rattle.giop_cdr.proofs.FieldSpelling.{number_exact, signed_exact}
 use Rattle.giop_cdr.proofs.BooleanSpelling.{boolean_exact}
@@ -188,7 +187,7 @@ such_is test n kind {f} one = record {
 }
 
 pub field_is : {A B : Type 0} (part : A → B) {f : Layout B} {g : B → Layout A}
-    → ((x : B) (v : A) → (g x).holds v → part v ≡ x) → IsLawful f → ((x : B) → IsLawful (g x)) → IsLawful (field part f g)
+    → ((x : B) (v : A) → f.fits x ≡ true → f.holds x → (g x).holds v → part v ≡ x) → IsLawful f → ((x : B) → IsLawful (g x)) → IsLawful (field part f g)
 unfolding field
 field_is {A} {B} part {f} {g} told one two = record {
   exact = then_exact f.spells (λ x. (g x).spells) f.refused (λ x. (g x).refused) f.read (λ x d. (g x).read d) one.exact (λ x. (two x).exact);
@@ -201,7 +200,7 @@ field_is {A} {B} part {f} {g} told one two = record {
       let parts = octets_of_whole octets s.front s.back s.whole all in
       let first = one.fitting o at s.first s.front parts.0 s.spells_front in
       let behind = (two s.first).fitting o (at + length s.front) v s.back parts.1 s.spells_back in
-      subst (λ (x : B). ((f.fits x && (g x).fits v) ≡ true) × (f.holds x × (g x).holds v)) (sym (told s.first v behind.1))
+      subst (λ (x : B). ((f.fits x && (g x).fits v) ≡ true) × (f.holds x × (g x).holds v)) (sym (told s.first v first.0 first.1 behind.1))
       (and_true _ _ first.0 behind.0, (first.1, behind.1));
 }
 
@@ -220,30 +219,31 @@ chosen_is false f g = g
 
 -- ---- values that mean nothing
 
-meaningless_exact : {A : Type 0} (M : A → Cursor → Type 0) (R : CdrFault → Type 0) (r : Reading A)
-    → IsExactHere M R r → IsExactHere (λ (v : Unit {0}) d. (y : A) × M y d) R (r >>= λ y. Ok (tt, y.1))
-meaningless_exact M R r exact = record {
-  found = λ v d h. bind_elim ((y : _) × M y d) r (λ y. Ok (tt, y.1)) (v, d)
-      (λ x is f.
-      let same : (tt {0}, x.1) ≡ (v, d) = ok_same (tt {0}, x.1) (v, d) f in
-      (x.0, subst (λ (e : Cursor). M x.0 e) (ap (λ (p : Unit {0} × Cursor). p.1) same) (exact.found x.0 x.1 is))) h;
-  only = λ v d m. rw (exact.only m.0 d m.1) refl;
-  refused = λ e h. bind_fails (R e) r (λ y. Ok (tt {0}, y.1)) e (λ is. exact.refused e is) (λ x is f. absurd cc) h;
+meaningless_exact : {A : Type 0} (x : A) (M : A → Cursor → Type 0) (R : CdrFault → Type 0) (r : Reading A)
+    → IsExactHere M R r → IsExactHere (λ v d. (v ≡ x) × ((y : A) × M y d)) R (r >>= λ y. Ok (x, y.1))
+meaningless_exact {A} x M R r exact = record {
+  found = λ v d h. bind_elim ((v ≡ x) × ((y : A) × M y d)) r (λ y. Ok (x, y.1)) (v, d)
+      (λ y is f.
+      let same : (x, y.1) ≡ (v, d) = ok_same (x, y.1) (v, d) f in
+      let value : v ≡ x = ap (λ (p : A × Cursor). p.0) (sym same) in
+      (value, (y.0, subst (λ (e : Cursor). M y.0 e) (ap (λ (p : A × Cursor). p.1) same) (exact.found y.0 y.1 is)))) h;
+  only = λ v d m. rw (exact.only m.1.0 d m.1.1, m.0) refl;
+  refused = λ e h. bind_fails (R e) r (λ y. Ok (x, y.1)) e (λ is. exact.refused e is) (λ y is f. absurd cc) h;
   refuses = λ e why. rw (exact.refuses e why) refl;
 }
 
 pub reserved_is : {A : Type 0} {f : Layout A} (x : A) → f.fits x ≡ true → f.holds x → IsLawful f → IsLawful (reserved f x)
 unfolding reserved
 reserved_is {A} {f} x fits holds one = record {
-  exact = λ c. exact_by (λ (v : Unit {0}) d. (y : A) × Took f.spells c y d) _ (f.refused c) (f.refused c) _
-      (λ v d t. record { octets = t.1.octets; front = t.1.front; at = t.1.at; order = t.1.order; spells = (t.0, t.1.spells) })
-      (λ v d t. (t.spells.0, record { octets = t.octets; front = t.front; at = t.at; order = t.order; spells = t.spells.1 }))
+  exact = λ c. exact_by (λ v d. (v ≡ x) × ((y : A) × Took f.spells c y d)) _ (f.refused c) (f.refused c) _
+      (λ v d m. let t = m.1.1 in record { octets = t.octets; front = t.front; at = t.at; order = t.order; spells = (m.0, (m.1.0, t.spells)) })
+      (λ v d t. (t.spells.0, (t.spells.1.0, record { octets = t.octets; front = t.front; at = t.at; order = t.order; spells = t.spells.1.1 })))
       (λ e why. why) (λ e why. why)
-      (meaningless_exact (Took f.spells c) (f.refused c) (f.read c) (one.exact c));
-  written = λ v out f_fits f_holds.
+      (meaningless_exact x (Took f.spells c) (f.refused c) (f.read c) (one.exact c));
+  written = λ v out f_fits same.
       let s = one.written x out fits holds in
-      record { part = s.part; octets = s.octets; order = s.order; at = s.at; spells = (x, s.spells) };
-  fitting = λ o at v octets all s. (refl, tt);
+      record { part = s.part; octets = s.octets; order = s.order; at = s.at; spells = (same, (x, s.spells)) };
+  fitting = λ o at v octets all s. (refl, s.0);
 }
 
 -- ---- sequences
@@ -280,6 +280,14 @@ sequence_is {A} {f} takes one = record {
       (and_true _ _ (lt-ltb _ _ (omega (arith, small, long))) each.0, each.1);
 }
 
+pub tagged_is : {A : Type 0} (tag_of : A → ℕ) (octets_of : A → List ℕ) (make : ℕ → List ℕ → A)
+    → ((tag : ℕ) (contents : List ℕ) → tag_of (make tag contents) ≡ tag) → ((tag : ℕ) (contents : List ℕ) → octets_of (make tag contents) ≡ contents)
+    → IsLawful (tagged tag_of octets_of make)
+unfolding tagged field number octets gives
+tagged_is tag_of octets_of make tag_is octets_are =
+    field_is tag_of (λ tag v _ _ held. ap tag_of held.1 ∙ tag_is tag (octets_of v)) (number_is w32 refl)
+    (λ tag. field_is octets_of (λ contents v _ _ held. ap octets_of held ∙ octets_are tag contents) octets_is (λ contents. gives_is (make tag contents)))
+
 -- ---- which layouts take octets, as those of a sequence do
 
 pub number_takes : (w : Width) → is_primitive w ≡ true → TakesOctets (number w).spells
@@ -302,6 +310,10 @@ field_takes part f g takes o at v b s =
     let whole : length b ≡ length s.front + length s.back = ap length s.whole ∙ length-append s.front s.back in
     omega arith
 
+pub tagged_takes : {A : Type 0} (tag_of : A → ℕ) (octets_of : A → List ℕ) (make : ℕ → List ℕ → A) → TakesOctets (tagged tag_of octets_of make).spells
+unfolding tagged
+tagged_takes tag_of octets_of make = field_takes tag_of (number w32) _ (number_takes w32 refl)
+
 -- ---- what follows, once and for all
 
 -- no spelling begins another
@@ -311,3 +323,9 @@ alone_of {A} {f} one = stands_alone f.spells f.refused f.read one.exact
 -- what is written of a value that fits is read back, with what stands behind it left
 pub back_of : {A : Type 0} {f : Layout A} → IsLawful f → (v : A) (out : Output) → f.fits v ≡ true → f.holds v → IsReadBack f.spells f.read v out (f.written v out)
 back_of {A} {f} one v out fits holds = read_back f.spells f.refused f.read one.exact v out (f.written v out) (one.written v out fits holds)
+
+-- whatever octets spell fits: where a value doesn't fit, none do
+pub unspelled : {A : Type 0} {f : Layout A} → IsLawful f → (v : A) → f.fits v ≡ false → (o : Order) (at : ℕ) (octets : List ℕ) → AreOctets octets → f.spells o at v octets → ⊥
+unspelled one v unfit o at octets all s =
+    let fits = (one.fitting o at v octets all s).0 in
+    absurd cc

@@ -19,3 +19,4 @@ pub mod WriterLemmas
 pub mod SpelledLemmas
 pub mod PaddingLemmas
 pub mod LayoutLemmas
+pub mod ViewLemmas

@@ -1,6 +1,6 @@
 -- Layouts: a value on the wire, defined once (CORBA 3.3 Part 2, 9.3). A message is a table of fields,
 -- each by its layout, in their order; all that is said of it follows from that table.
-use Rattle.std.specs.Prelude.{◌≡◌, ℕ, ℤ, ◌+◌, ◌<◌, ◌^◌, ◌&&◌, ◌++◌, Bool, true, false, not, nat_lt, if◌then◌else◌, List, length, All, Ok, FitsSigned, ⊤}
+use Rattle.std.specs.Prelude.{◌≡◌, ℕ, ℤ, ◌+◌, ◌<◌, ◌^◌, ◌&&◌, Bool, true, false, not, nat_lt, if◌then◌else◌, List, length, All, Ok, FitsSigned, ⊤}
 use Rattle.std.specs.List.{list_all, AllByRecursion}
 use Rattle.std.specs.Int.{Width, w8, w32, byte_len}
 use mir.Val.{bits}
@@ -157,15 +157,15 @@ gives x = record {
   holds = λ v. v ≡ x;
 }
 
--- a value that means nothing: any is read, and x is written
-unfoldable pub reserved : {A : Type 0} → Layout A → A → Layout Unit
+-- a value that means nothing: whatever is there is read as x, and x is written
+unfoldable pub reserved : {A : Type 0} → Layout A → A → Layout A
 reserved {A} f x = record {
-  spells = λ o at v octets. (y : A) × f.spells o at y octets;
+  spells = λ o at v octets. (v ≡ x) × ((y : A) × f.spells o at y octets);
   refused = f.refused;
-  read = λ c. f.read c >>= λ y. Ok (tt, y.1);
+  read = λ c. f.read c >>= λ y. Ok (x, y.1);
   written = λ v out. f.written x out;
   fits = λ v. true;
-  holds = λ v. ⊤;
+  holds = λ v. v ≡ x;
 }
 
 -- one of two layouts, by a test of what stands before
@@ -183,3 +183,10 @@ sequence f = record {
   fits = λ vs. nat_lt (length vs) (2 ^ 32) && list_all f.fits vs;
   holds = λ vs. AllByRecursion f.holds vs;
 }
+
+-- an unsigned long and a sequence of octets: a service context, a tagged profile, a tagged component
+unfoldable pub tagged : {A : Type 0} → (A → ℕ) → (A → List ℕ) → (ℕ → List ℕ → A) → Layout A
+tagged tag_of octets_of make =
+    field tag_of (number w32) λ tag.
+    field octets_of octets λ contents.
+    gives (make tag contents)

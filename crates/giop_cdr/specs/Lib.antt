@@ -8,3 +8,4 @@ pub mod Writing
 pub mod RoundTrip
 pub mod Encapsulation
 pub mod Layout
+pub mod View

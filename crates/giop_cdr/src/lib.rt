@@ -13,10 +13,13 @@ mod layout_laws;
 mod numbers;
 mod octet_list;
 mod octets;
+mod octets_at;
 mod order;
 mod reader;
 mod runs;
 mod sequences;
+mod tagged;
+mod tagged_list_at;
 #[cfg(test)]
 mod tests;
 mod writer;
@@ -33,6 +36,9 @@ pub use laws::{
 pub use layout_laws::primitives_are_lawful;
 pub use octet_list::OctetList;
 pub use octets::{Octets, SliceOctets};
+pub use octets_at::OctetsAt;
 pub use order::Order;
 pub use reader::CdrIn;
+pub use tagged::Tagged;
+pub use tagged_list_at::{TaggedAt, TaggedIter, TaggedListAt};
 pub use writer::CdrOut;

@@ -6,6 +6,7 @@ ghost use Rattle.giop_cdr.specs.Outcome.{Reads, Exactly};
 
 use crate::fault::{CdrFault, CdrKind};
 use crate::octets::{Octets, SliceOctets};
+use crate::octets_at::OctetsAt;
 use crate::order::Order;
 use crate::runs::{copy_of, field_of, text_lies_at};
 use std::alloc::{AllocError, Global};
@@ -157,6 +158,15 @@ impl<'a, S: Octets> CdrIn<'a, S> {
         ensures { IfOk result (λ v. v.items ≡ take count self.now.rest) }
     {
         copy_of(alloc, self.source, self.index, count)
+    }
+
+    // The next octets, which are there, where they lie.
+    #[inline(always)]
+    pub(crate) fn here(&self, count: usize) -> OctetsAt<'a, S>
+        requires { count ≤ length self.now.rest }
+        ensures { result ≡ take count self.now.rest }
+    {
+        OctetsAt::new(self.source, self.index, count)
     }
 
     // Whether the next octets, which are there, are those that a string's length counts.

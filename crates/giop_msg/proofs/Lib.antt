@@ -4,7 +4,4 @@ pub mod StreamLemmas
 pub mod FramerLemmas
 pub mod ReadPiecesLemmas
 pub mod RequestHeadLemmas
-pub mod RequestHeadSpelling
 mod StandardFacts
-pub mod WritableLemmas
-pub mod RequestHeadRoundTrip

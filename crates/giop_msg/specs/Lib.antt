@@ -5,4 +5,3 @@ pub mod Msg
 pub mod Stream
 pub mod Laws
 pub mod RequestHead
-pub mod RequestHeadWriting

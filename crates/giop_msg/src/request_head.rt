@@ -1,37 +1,60 @@
 ghost use Rattle.std.specs.Prelude.{◌≡◌, ◌≤◌, ◌^◌, ◌⊎◌, length, Ok, Err, IfOk, IfErr, IsOk};
-ghost use Rattle.giop_cdr.specs.Outcome.{Reads, Follows, Skips};
-ghost use Rattle.giop_cdr.specs.Reading.{items_at, sequence_at};
-ghost use Rattle.giop_msg.specs.RequestHead.{context_at, flags_at, reserved_at, disposition_at, target_at, request_head_at, request_head_of, IsRequestHead, IsAnswered, no_memory};
+ghost use Rattle.giop_cdr.specs.Outcome.{Reads, Exactly, Skips};
+ghost use Rattle.giop_msg.specs.RequestHead.{response_flags, reserved_octets, key_addr, target_address, request_head, request_head_of, IsRequestHead, IsAnswered, no_memory};
 
-use crate::service_context::{ServiceContext, ServiceContexts};
+use crate::service_context::{ServiceContexts, ServiceContextsAt};
 use crate::target::Target;
-use giop_cdr::{CdrFault, CdrIn, CdrKind, OctetList, Octets, Order};
-use std::alloc::Global;
+use giop_cdr::{CdrFault, CdrIn, CdrKind, OctetList, Octets, OctetsAt, Order};
+use std::alloc::{AllocError, Global};
 
-/// What a Request says before its body (9.4.2.1).
+/// What a Request says before its body (9.4.2.1): with its octets and contexts on their own, or, as a
+/// `RequestHeadAt`, where they lie. Contracts see both as one value.
 #[derive(Debug, Drop)]
-pub struct RequestHead {
+pub struct RequestHead<O = OctetList, C = ServiceContexts> {
     /// The id by which the reply, a cancel and the fragments name this request.
     pub id: u32,
     /// The response flags: 0 for no reply, 1 for a reply whose body is empty unless it is an
     /// exception, 3 for a reply.
     pub flags: u8,
     /// The object that is called.
-    pub target: Target,
+    pub target: Target<O>,
     /// The name of the operation, without its null.
-    pub operation: OctetList,
+    pub operation: O,
     /// The service contexts, in their order.
-    pub contexts: ServiceContexts,
+    pub contexts: C,
 }
 
+/// A head whose octets and contexts lie where they were read. It takes no memory.
+pub type RequestHeadAt<'a, S> = RequestHead<OctetsAt<'a, S>, ServiceContextsAt<'a, S>>;
+
 impl RequestHead {
-    /// The head that joined octets begin with, and the offset of the body behind it: the first
-    /// multiple of 8 at or past the end of the fields, whether octets are there or not.
+    /// The head that joined octets begin with, where it lies, and the offset of the body behind it:
+    /// the first multiple of 8 at or past the end of the fields, whether octets are there or not. It
+    /// takes no memory.
     ///
     /// The joined octets are those of the message from offset 12 on, of all its fragments together;
     /// the first has offset 12. Refused as the first field that is refused, in reading order: each as
     /// its own reader says, flags other than 0, 1 and 3 as BadLabel, and so a target that isn't a key.
-    /// Where memory is wanting for octets that no field refuses, it is NoMemory at 12.
+    pub fn view<'a, S: Octets>(
+        octets: &'a S,
+        order: Order,
+    ) -> Result<(RequestHeadAt<'a, S>, usize), CdrFault>
+        requires { length (S.octets octets.now) ≤ 2 ^ 62 }
+        // What is answered is what the octets begin with, and what they begin with is answered.
+        ensures found { IfOk result (λ x. IsRequestHead order (S.octets octets.now) x.0 x.1) }
+        ensures only { (head : _) (body : _) → IsRequestHead order (S.octets octets.now) head body
+            → result ≡ Ok (head, body) }
+
+        // Which refusal it is.
+        ensures exact { result ≡ request_head_of order (S.octets octets.now) }
+    {
+        let mut input = CdrIn::new(octets, order, 12);
+        let head = view_head(&mut input)?;
+        Ok((head, input.place::<8>()))
+    }
+
+    /// The same head on its own. Where memory is wanting for octets that no field refuses, it is
+    /// NoMemory at 12.
     pub fn decode<S: Octets>(
         alloc: Global,
         octets: &S,
@@ -48,40 +71,47 @@ impl RequestHead {
         ensures err { IfErr result (λ e. (request_head_of order (S.octets octets.now) ≡ Err e)
             ⊎ ((e ≡ no_memory) × IsOk (request_head_of order (S.octets octets.now)))) }
     {
-        head_of(alloc, octets, order)
+        let (head, body) = RequestHead::view(octets, order)?;
+        let Ok(head) = head.to_owned(alloc) else {
+            return Err(CdrFault {
+                at: 12,
+                kind: CdrKind::NoMemory,
+            });
+        };
+        Ok((head, body))
     }
 }
 
-// The head, in one pass where all goes well. Memory comes last: where it is wanting, a second pass
-// without memory looks for a fault.
-fn head_of<S: Octets>(
-    alloc: Global,
-    octets: &S,
-    order: Order,
-) -> Result<(RequestHead, usize), CdrFault>
-    requires { length (S.octets octets.now) ≤ 2 ^ 62 }
-    ensures value { IfOk result (λ x. request_head_of order (S.octets octets.now) ≡ Ok (x.0, x.1)) }
-    ensures err { IfErr result (λ e. (request_head_of order (S.octets octets.now) ≡ Err e)
-        ⊎ ((e ≡ no_memory) × IsOk (request_head_of order (S.octets octets.now)))) }
-{
-    let mut input = CdrIn::new(octets, order, 12);
-    let fault = match read_head(alloc, &mut input) {
-        Ok(head) => return Ok((head, input.place::<8>())),
-        Err(fault) => fault,
-    };
-    match fault.kind {
-        CdrKind::NoMemory => {
-            skip_head(&mut CdrIn::new(octets, order, 12))?;
-            Err(CdrFault { at: 12, ..fault })
+impl<'a, S: Octets> RequestHeadAt<'a, S> {
+    /// A copy of the head on its own. It takes memory for its octets and contexts.
+    pub fn to_owned(&self, alloc: Global) -> Result<RequestHead, AllocError>
+        ensures { IfOk result (λ head. head ≡ self.now) }
+    {
+        Ok(RequestHead {
+            id: self.id,
+            flags: self.flags,
+            target: self.target.to_owned(alloc)?,
+            operation: self.operation.to_list(alloc)?,
+            contexts: ServiceContexts::from(self.contexts.to_vec(alloc)?),
+        })
+    }
+}
+
+impl<'a, S: Octets> Target<OctetsAt<'a, S>> {
+    /// A copy of the target on its own. It takes memory for its octets.
+    pub fn to_owned(&self, alloc: Global) -> Result<Target, AllocError>
+        ensures { IfOk result (λ target. target ≡ self.now) }
+    {
+        match self {
+            Target::Key(key) => Ok(Target::Key(key.to_list(alloc)?)),
         }
-        _ => Err(fault),
     }
 }
 
 // The response flags.
-#[tactic(auto, unfolding(crate::specs::RequestHead::flags_at, giop_cdr::specs::Reading::such_at))]
+#[tactic(auto, unfolding(crate::specs::RequestHead::response_flags, giop_cdr::specs::Layout::such, giop_cdr::specs::Layout::number, giop_cdr::specs::Reading::such_at))]
 fn read_flags<S: Octets>(input: &mut CdrIn<S>) -> Result<u8, CdrFault>
-    ensures { Reads input.old result input.new (flags_at input.old) }
+    ensures { Reads input.old result input.new (response_flags.read input.old) }
 {
     let mut ahead = input.fork();
     let flags = ahead.read_octet()?;
@@ -96,9 +126,9 @@ fn read_flags<S: Octets>(input: &mut CdrIn<S>) -> Result<u8, CdrFault>
 }
 
 // The three reserved octets, whatever they are.
-#[tactic(auto, unfolding(crate::specs::RequestHead::reserved_at))]
-fn skip_reserved<S: Octets>(input: &mut CdrIn<S>) -> Result<(), CdrFault>
-    ensures { Skips result input.new (reserved_at input.old) }
+#[tactic(auto, unfolding(crate::specs::RequestHead::reserved_octets, crate::specs::RequestHead::reserved_octet, giop_cdr::specs::Layout::field, giop_cdr::specs::Layout::reserved, giop_cdr::specs::Layout::number, giop_cdr::specs::Layout::gives))]
+fn read_reserved<S: Octets>(input: &mut CdrIn<S>) -> Result<(), CdrFault>
+    ensures { Skips result input.new (reserved_octets.read input.old) }
 {
     input.read_octet()?;
     input.read_octet()?;
@@ -107,9 +137,9 @@ fn skip_reserved<S: Octets>(input: &mut CdrIn<S>) -> Result<(), CdrFault>
 }
 
 // The disposition of a target, which is a key.
-#[tactic(auto, unfolding(crate::specs::RequestHead::disposition_at, giop_cdr::specs::Reading::such_at))]
+#[tactic(auto, unfolding(crate::specs::RequestHead::key_addr, giop_cdr::specs::Layout::such, giop_cdr::specs::Layout::signed, giop_cdr::specs::Reading::such_at))]
 fn read_key_addr<S: Octets>(input: &mut CdrIn<S>) -> Result<(), CdrFault>
-    ensures { Skips result input.new (disposition_at input.old) }
+    ensures { Skips result input.new (key_addr.read input.old) }
 {
     let at = input.place::<2>();
     if input.read_short()? != 0 {
@@ -121,133 +151,31 @@ fn read_key_addr<S: Octets>(input: &mut CdrIn<S>) -> Result<(), CdrFault>
     Ok(())
 }
 
-#[tactic(auto, unfolding(crate::specs::RequestHead::target_at))]
-fn read_target<S: Octets>(alloc: Global, input: &mut CdrIn<S>) -> Result<Target, CdrFault>
-    ensures { Follows (λ target. target) result input.new (target_at input.old) }
+#[tactic(auto, unfolding(crate::specs::RequestHead::target_address, giop_cdr::specs::Layout::field, giop_cdr::specs::Layout::octets, giop_cdr::specs::Layout::gives))]
+fn view_target<'a, S: Octets>(input: &mut CdrIn<'a, S>) -> Result<Target<OctetsAt<'a, S>>, CdrFault>
+    ensures { Exactly result input.new (target_address.read input.old) }
 {
     read_key_addr(input)?;
-    let key = input.read_octets(alloc, 0)?;
-    Ok(Target::Key(OctetList::from(key)))
-}
-
-#[tactic(auto, unfolding(crate::specs::RequestHead::target_at))]
-fn skip_target<S: Octets>(input: &mut CdrIn<S>) -> Result<(), CdrFault>
-    ensures { Skips result input.new (target_at input.old) }
-{
-    read_key_addr(input)?;
-    input.skip_octets(0)?;
-    Ok(())
-}
-
-#[tactic(auto, unfolding(crate::specs::RequestHead::context_at))]
-fn read_context<S: Octets>(alloc: Global, input: &mut CdrIn<S>) -> Result<ServiceContext, CdrFault>
-    ensures { Follows (λ context. context) result input.new (context_at input.old) }
-{
-    let id = input.read_ulong()?;
-    let octets = input.read_octets(alloc, 0)?;
-    Ok(ServiceContext {
-        id,
-        octets: OctetList::from(octets),
-    })
-}
-
-#[tactic(auto, unfolding(crate::specs::RequestHead::context_at))]
-fn skip_context<S: Octets>(input: &mut CdrIn<S>) -> Result<(), CdrFault>
-    ensures { Skips result input.new (context_at input.old) }
-{
-    input.read_ulong()?;
-    input.skip_octets(0)?;
-    Ok(())
-}
-
-// The least number of octets that a service context has.
-const LEAST_CONTEXT: usize = 8;
-
-// As many contexts as were counted.
-fn read_counted<S: Octets>(
-    alloc: Global,
-    count: usize,
-    input: &mut CdrIn<S>,
-) -> Result<Vec<ServiceContext>, CdrFault>
-    ensures { Follows (λ contexts. contexts.items) result input.new (items_at context_at count input.old) }
-{
-    let wanting = CdrFault {
-        at: input.position(),
-        kind: CdrKind::NoMemory,
-    };
-    let room = count.min(input.remaining() / LEAST_CONTEXT);
-    let Ok(mut contexts) = Vec::with_capacity(alloc, room) else {
-        return Err(wanting);
-    };
-    for _ in 0..count {
-        let context = read_context(alloc, input)?;
-        if contexts.push(context).is_err() {
-            return Err(wanting);
-        }
-    }
-    Ok(contexts)
-}
-
-fn skip_counted<S: Octets>(count: usize, input: &mut CdrIn<S>) -> Result<(), CdrFault>
-    ensures { Skips result input.new (items_at context_at count input.old) }
-{
-    for _ in 0..count {
-        skip_context(input)?;
-    }
-    Ok(())
-}
-
-#[tactic(auto, unfolding(giop_cdr::specs::Reading::sequence_at))]
-fn read_contexts<S: Octets>(
-    alloc: Global,
-    input: &mut CdrIn<S>,
-) -> Result<ServiceContexts, CdrFault>
-    ensures { Follows (λ contexts. contexts) result input.new (sequence_at context_at input.old) }
-{
-    let count = input.read_count()?;
-    let contexts = read_counted(alloc, count, input)?;
-    Ok(ServiceContexts::from(contexts))
-}
-
-#[tactic(auto, unfolding(giop_cdr::specs::Reading::sequence_at))]
-fn skip_contexts<S: Octets>(input: &mut CdrIn<S>) -> Result<(), CdrFault>
-    ensures { Skips result input.new (sequence_at context_at input.old) }
-{
-    let count = input.read_count()?;
-    skip_counted(count, input)?;
-    Ok(())
+    let key = input.view_octets(0)?;
+    Ok(Target::Key(key))
 }
 
 // The fields of a head in their order.
-#[tactic(auto, unfolding(crate::specs::RequestHead::request_head_at))]
-fn read_head<S: Octets>(alloc: Global, input: &mut CdrIn<S>) -> Result<RequestHead, CdrFault>
-    ensures { Follows (λ head. head) result input.new (request_head_at input.old) }
+#[tactic(auto, unfolding(crate::specs::RequestHead::request_head, crate::specs::RequestHead::service_context, giop_cdr::specs::Layout::field, giop_cdr::specs::Layout::number, giop_cdr::specs::Layout::octets, giop_cdr::specs::Layout::text, giop_cdr::specs::Layout::sequence, giop_cdr::specs::Layout::tagged, giop_cdr::specs::Layout::gives, giop_cdr::specs::View::tagged_at))]
+fn view_head<'a, S: Octets>(input: &mut CdrIn<'a, S>) -> Result<RequestHeadAt<'a, S>, CdrFault>
+    ensures { Exactly result input.new (request_head.read input.old) }
 {
     let id = input.read_ulong()?;
     let flags = read_flags(input)?;
-    skip_reserved(input)?;
-    let target = read_target(alloc, input)?;
-    let operation = input.read_string(alloc, 0)?;
-    let contexts = read_contexts(alloc, input)?;
+    read_reserved(input)?;
+    let target = view_target(input)?;
+    let operation = input.view_string(0)?;
+    let contexts = input.view_tagged_list()?;
     Ok(RequestHead {
         id,
         flags,
         target,
-        operation: OctetList::from(operation),
+        operation,
         contexts,
     })
-}
-
-// The same fields without their values: it finds each fault, and takes no memory.
-#[tactic(auto, unfolding(crate::specs::RequestHead::request_head_at))]
-fn skip_head<S: Octets>(input: &mut CdrIn<S>) -> Result<(), CdrFault>
-    ensures { Skips result input.new (request_head_at input.old) }
-{
-    input.read_ulong()?;
-    read_flags(input)?;
-    skip_reserved(input)?;
-    skip_target(input)?;
-    input.skip_string(0)?;
-    skip_contexts(input)?;
-    Ok(())
 }

@@ -1,10 +1,10 @@
-ghost use Rattle.std.specs.Prelude.{◌≡◌, ◌+◌, ◌^◌, ◌<◌, ◌↔◌, ◌&&◌, length, nat_lt, not, false, true, IsErrOf};
+ghost use Rattle.std.specs.Prelude.{◌≡◌, ◌+◌, ◌^◌, ◌<◌, ◌↔◌, ◌&&◌, length, nat_lt, not, false, true, ℕ, List, IsErrOf};
 ghost use Rattle.std.specs.List.{list_all};
-ghost use Rattle.giop_cdr.specs.Output.{octets_out, number_out, sequence_out, items_out};
-ghost use Rattle.giop_cdr.specs.Reading.{has_null};
+ghost use Rattle.giop_cdr.specs.declared.order.Order.{Order};
+ghost use Rattle.giop_cdr.specs.Output.{items_out};
 ghost use Rattle.giop_cdr.specs.Writing.{Writes, Appends};
-ghost use Rattle.giop_msg.specs.RequestHead.{is_response_flags};
-ghost use Rattle.giop_msg.specs.RequestHeadWriting.{context_out, reserved_out, target_out, request_head_out, is_countable, is_countable_target, is_writable};
+ghost use Rattle.giop_cdr.specs.Layout.{sequence, is_countable, is_spellable, AreOctets};
+ghost use Rattle.giop_msg.specs.RequestHead.{service_context, reserved_octets, target_address, request_head};
 
 use crate::request_head::RequestHead;
 use crate::service_context::ServiceContext;
@@ -15,24 +15,27 @@ use std::alloc::AllocError;
 impl RequestHead {
     /// Whether octets spell the head: its flags are 0, 1 or 3, no null is in the operation, and each
     /// text and list is short enough for its count. It takes no memory.
-    #[tactic(auto, unfolding(crate::specs::RequestHeadWriting::is_writable))]
+    #[tactic(auto, unfolding(crate::specs::RequestHead::request_head, crate::specs::RequestHead::response_flags, crate::specs::RequestHead::reserved_octets, crate::specs::RequestHead::reserved_octet, giop_cdr::specs::Layout::field, giop_cdr::specs::Layout::such, giop_cdr::specs::Layout::number, giop_cdr::specs::Layout::text, giop_cdr::specs::Layout::reserved, giop_cdr::specs::Layout::gives))]
     pub fn is_writable(&self) -> bool
-        ensures { result ≡ is_writable self.now }
+        ensures { result ≡ request_head.fits self.now }
     {
         matches!(self.flags, 0 | 1 | 3)
-            && is_countable_target(&self.target)
+            && is_writable_target(&self.target)
             && is_operation(self.operation.as_slice())
-            && are_countable(self.contexts.as_slice())
+            && are_writable(self.contexts.as_slice())
     }
 
     /// Writes the head: the fields in their order, the three reserved octets as zeros. The body is
     /// aligned to 8 behind it, unless it is empty.
     ///
-    /// Refused as Unfit where `is_writable` is false, and else as NoMemory where memory is wanting. The
-    /// output is then as it was.
+    /// Refused as Unfit where `is_writable` is false, and then no octets spell the head; else as
+    /// NoMemory where memory is wanting. The output is then as it was.
+    #[tactic(auto, using(crate::proofs::RequestHeadLemmas::head_unspelled))]
     pub fn write(&self, out: &mut CdrOut) -> Result<(), EncodeFault>
-        ensures value { Writes out.old result out.new (request_head_out self.now out.old) }
-        ensures err { IsErrOf result EncodeFault.Unfit ↔ (is_writable self.now ≡ false) }
+        ensures value { Writes out.old result out.new (request_head.written self.now out.old) }
+        ensures err { IsErrOf result EncodeFault.Unfit ↔ (request_head.fits self.now ≡ false) }
+        ensures unfit { IsErrOf result EncodeFault.Unfit → (order : Order) (at : ℕ) (octets : List ℕ)
+            → AreOctets octets → request_head.spells order at self.now octets → ⊥ }
     {
         if !self.is_writable() {
             return Err(EncodeFault::Unfit);
@@ -52,8 +55,9 @@ fn is_countable(octets: &[u8]) -> bool
     octets.len() <= u32::MAX as usize
 }
 
-fn is_countable_target(target: &Target) -> bool
-    ensures { result ≡ is_countable_target target.now }
+#[tactic(auto, unfolding(crate::specs::RequestHead::target_address, crate::specs::RequestHead::key_addr, giop_cdr::specs::Layout::field, giop_cdr::specs::Layout::such, giop_cdr::specs::Layout::signed, giop_cdr::specs::Layout::octets, giop_cdr::specs::Layout::gives))]
+fn is_writable_target(target: &Target) -> bool
+    ensures { result ≡ target_address.fits target.now }
 {
     match target {
         Target::Key(key) => is_countable(key.as_slice()),
@@ -62,42 +66,49 @@ fn is_countable_target(target: &Target) -> bool
 
 // Whether an operation's name is a text, and short enough for its count.
 fn is_operation(name: &[u8]) -> bool
-    ensures { result ≡ (nat_lt (length name.now + 1) (2 ^ 32) && not (has_null name.now)) }
+    ensures { result ≡ is_spellable name.now }
 {
     name.len() < u32::MAX as usize && !name.contains(&0)
 }
 
-fn are_countable(contexts: &[ServiceContext]) -> bool
-    ensures { result ≡ (nat_lt (length contexts.now) (2 ^ 32)
-        && list_all (λ context. is_countable context.octets) contexts.now) }
+#[tactic(auto, unfolding(giop_cdr::specs::Layout::sequence))]
+fn are_writable(contexts: &[ServiceContext]) -> bool
+    ensures { result ≡ (sequence service_context).fits contexts.now }
 {
-    contexts.len() <= u32::MAX as usize && each_is_countable(contexts)
+    contexts.len() <= u32::MAX as usize && each_is_writable(contexts)
 }
 
-fn each_is_countable(contexts: &[ServiceContext]) -> bool
-    ensures { result ≡ list_all (λ context. is_countable context.octets) contexts.now }
+fn each_is_writable(contexts: &[ServiceContext]) -> bool
+    ensures { result ≡ list_all service_context.fits contexts.now }
 {
     for context in contexts {
-        if !is_countable(context.octets.as_slice()) {
+        if !is_writable_context(context) {
             return false;
         }
     }
     true
 }
 
-#[tactic(auto, unfolding(crate::specs::RequestHeadWriting::context_out), using(giop_cdr::proofs::WriterLemmas::grows_then, giop_cdr::proofs::WriterLemmas::grows_not))]
+#[tactic(auto, unfolding(crate::specs::RequestHead::service_context, giop_cdr::specs::Layout::tagged, giop_cdr::specs::Layout::field, giop_cdr::specs::Layout::number, giop_cdr::specs::Layout::octets, giop_cdr::specs::Layout::gives))]
+fn is_writable_context(context: &ServiceContext) -> bool
+    ensures { result ≡ service_context.fits context.now }
+{
+    is_countable(context.octets.as_slice())
+}
+
+#[tactic(auto, unfolding(crate::specs::RequestHead::service_context, giop_cdr::specs::Layout::tagged, giop_cdr::specs::Layout::field, giop_cdr::specs::Layout::number, giop_cdr::specs::Layout::octets, giop_cdr::specs::Layout::gives), using(giop_cdr::proofs::WriterLemmas::grows_then, giop_cdr::proofs::WriterLemmas::grows_not))]
 fn append_context(context: &ServiceContext, out: &mut CdrOut) -> Result<(), AllocError>
-    requires { is_countable context.now.octets ≡ true }
-    ensures { Appends out.old result out.new (context_out context.now out.old) }
+    requires { service_context.fits context.now ≡ true }
+    ensures { Appends out.old result out.new (service_context.written context.now out.old) }
 {
     out.write_ulong(context.id)?;
     out.write_octets(context.octets.as_slice())?;
     Ok(())
 }
 
-#[tactic(auto, unfolding(crate::specs::RequestHeadWriting::reserved_out), using(giop_cdr::proofs::WriterLemmas::grows_then, giop_cdr::proofs::WriterLemmas::grows_not))]
+#[tactic(auto, unfolding(crate::specs::RequestHead::reserved_octets, crate::specs::RequestHead::reserved_octet, giop_cdr::specs::Layout::field, giop_cdr::specs::Layout::reserved, giop_cdr::specs::Layout::number, giop_cdr::specs::Layout::gives), using(giop_cdr::proofs::WriterLemmas::grows_then, giop_cdr::proofs::WriterLemmas::grows_not))]
 fn append_reserved(out: &mut CdrOut) -> Result<(), AllocError>
-    ensures { Appends out.old result out.new (reserved_out out.old) }
+    ensures { Appends out.old result out.new (reserved_octets.written 0 out.old) }
 {
     out.write_octet(0)?;
     out.write_octet(0)?;
@@ -105,25 +116,24 @@ fn append_reserved(out: &mut CdrOut) -> Result<(), AllocError>
     Ok(())
 }
 
-#[tactic(auto, unfolding(crate::specs::RequestHeadWriting::target_out), using(giop_cdr::proofs::WriterLemmas::grows_then, giop_cdr::proofs::WriterLemmas::grows_not))]
+#[tactic(auto, unfolding(crate::specs::RequestHead::target_address, crate::specs::RequestHead::key_addr, giop_cdr::specs::Layout::field, giop_cdr::specs::Layout::such, giop_cdr::specs::Layout::signed, giop_cdr::specs::Layout::octets, giop_cdr::specs::Layout::gives), using(giop_cdr::proofs::WriterLemmas::grows_then, giop_cdr::proofs::WriterLemmas::grows_not))]
 fn append_target(target: &Target, out: &mut CdrOut) -> Result<(), AllocError>
-    requires { is_countable_target target.now ≡ true }
-    ensures { Appends out.old result out.new (target_out target.now out.old) }
+    requires { target_address.fits target.now ≡ true }
+    ensures { Appends out.old result out.new (target_address.written target.now out.old) }
 {
     match target {
         Target::Key(key) => {
-            out.write_ushort(0)?;
+            out.write_short(0)?;
             out.write_octets(key.as_slice())?;
             Ok(())
         }
     }
 }
 
-#[tactic(auto, unfolding(giop_cdr::specs::Output::sequence_out), using(giop_cdr::proofs::WriterLemmas::grows_then, giop_cdr::proofs::WriterLemmas::grows_not))]
+#[tactic(auto, unfolding(giop_cdr::specs::Layout::sequence, giop_cdr::specs::Output::sequence_out), using(giop_cdr::proofs::WriterLemmas::grows_then, giop_cdr::proofs::WriterLemmas::grows_not))]
 fn append_contexts(contexts: &[ServiceContext], out: &mut CdrOut) -> Result<(), AllocError>
-    requires few { length contexts.now < 2 ^ 32 }
-    requires each { list_all (λ context. is_countable context.octets) contexts.now ≡ true }
-    ensures { Appends out.old result out.new (sequence_out context_out contexts.now out.old) }
+    requires { (sequence service_context).fits contexts.now ≡ true }
+    ensures { Appends out.old result out.new ((sequence service_context).written contexts.now out.old) }
 {
     out.write_ulong(contexts.len() as u32)?;
     append_each(contexts, out)?;
@@ -131,8 +141,8 @@ fn append_contexts(contexts: &[ServiceContext], out: &mut CdrOut) -> Result<(), 
 }
 
 fn append_each(contexts: &[ServiceContext], out: &mut CdrOut) -> Result<(), AllocError>
-    requires { list_all (λ context. is_countable context.octets) contexts.now ≡ true }
-    ensures { Appends out.old result out.new (items_out context_out contexts.now out.old) }
+    requires { list_all service_context.fits contexts.now ≡ true }
+    ensures { Appends out.old result out.new (items_out service_context.written contexts.now out.old) }
 {
     for context in contexts {
         append_context(context, out)?;
@@ -141,10 +151,10 @@ fn append_each(contexts: &[ServiceContext], out: &mut CdrOut) -> Result<(), Allo
 }
 
 // The fields in their order. Where memory is wanting a part of them is left.
-#[tactic(auto, unfolding(crate::specs::RequestHeadWriting::request_head_out), using(giop_cdr::proofs::WriterLemmas::grows_then, giop_cdr::proofs::WriterLemmas::grows_not))]
+#[tactic(auto, unfolding(crate::specs::RequestHead::request_head, crate::specs::RequestHead::response_flags, giop_cdr::specs::Layout::field, giop_cdr::specs::Layout::such, giop_cdr::specs::Layout::number, giop_cdr::specs::Layout::text, giop_cdr::specs::Layout::gives), using(giop_cdr::proofs::WriterLemmas::grows_then, giop_cdr::proofs::WriterLemmas::grows_not))]
 fn append_head(head: &RequestHead, out: &mut CdrOut) -> Result<(), AllocError>
-    requires { is_writable head.now ≡ true }
-    ensures { Appends out.old result out.new (request_head_out head.now out.old) }
+    requires { request_head.fits head.now ≡ true }
+    ensures { Appends out.old result out.new (request_head.written head.now out.old) }
 {
     out.write_ulong(head.id)?;
     out.write_octet(head.flags)?;

@@ -1,6 +1,6 @@
 ghost use Rattle.std.specs.Prelude.{◌≡◌, ◌==◌, length};
 
-use giop_cdr::OctetList;
+use giop_cdr::{OctetList, Tagged, TaggedListAt};
 use std::alloc::Global;
 use std::marker::Model;
 
@@ -13,6 +13,17 @@ pub struct ServiceContext {
     /// Its octets, as they came.
     pub octets: OctetList,
 }
+
+impl Tagged for ServiceContext {
+    ghost made = { λ id contents. record { id = id; octets = contents } };
+
+    fn from_parts(id: u32, octets: OctetList) -> ServiceContext {
+        ServiceContext { id, octets }
+    }
+}
+
+/// The service contexts of a message where they lie.
+pub type ServiceContextsAt<'a, S> = TaggedListAt<'a, S, ServiceContext>;
 
 /// The service contexts of a message, in their order: a list that contracts see as a plain one.
 #[derive(Debug, Drop)]

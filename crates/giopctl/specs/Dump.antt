@@ -7,8 +7,7 @@ use Rattle.giop_msg.specs.declared.fault.WireFault.{WireFault}
 use Rattle.giop_msg.specs.declared.kind.Kind.{Kind}
 use Rattle.giop_msg.specs.declared.kind.Kind.TheVariants.{Request}
 use Rattle.giop_msg.specs.declared.msg.Msg.{Msg}
-use Rattle.giop_msg.specs.declared.request_head.RequestHead.{RequestHead}
-use Rattle.giop_msg.specs.RequestHead.{request_head_of}
+use Rattle.giop_msg.specs.RequestHead.{Head, request_head_of}
 use Rattle.giop_msg.specs.Header.{header_fault}
 use Rattle.giop_msg.specs.Msg.{message_octets}
 use Rattle.giop_msg.specs.Stream.{Msgs}
@@ -26,7 +25,7 @@ is_whole_request Request more = not more
 is_whole_request _ more = false
 
 -- the line of a Request's head and of the body behind it, where the octets spell a head
-abbrev pub head_text : Msg → Result (RequestHead × ℕ) CdrFault → List ℕ
+abbrev pub head_text : Msg → Result (Head × ℕ) CdrFault → List ℕ
 head_text m (Ok head) = ended (head_line head.0 (12 + length m.payload - head.1))
 head_text m (Err e) = []
 

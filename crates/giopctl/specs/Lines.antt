@@ -5,12 +5,12 @@ use Rattle.giop_cdr.specs.declared.order.Order.{Order}
 use Rattle.giop_cdr.specs.declared.order.Order.TheVariants.{Big, Little}
 use Rattle.giop_msg.specs.declared.fault.WireFault.{WireFault}
 use Rattle.giop_msg.specs.declared.msg.Msg.{Msg}
-use Rattle.giop_msg.specs.declared.request_head.RequestHead.{RequestHead}
 use Rattle.giop_msg.specs.declared.target.Target.{Target}
 use Rattle.giop_msg.specs.declared.target.Target.TheVariants.{Key}
 use Rattle.giop_msg.specs.Fault.{wire_kind_number, wire_kind_name}
 use Rattle.giop_msg.specs.Kind.{kind_name}
 use Rattle.giop_msg.specs.Msg.{request_id_of}
+use Rattle.giop_msg.specs.RequestHead.{Head}
 use Rattle.giopctl.specs.Octets.{hex_text, escaped_text}
 
 -- a byte order, in two letters
@@ -37,12 +37,12 @@ message_line at m =
     id_text (request_id_of m))))))))
 
 -- the target of a Request
-abbrev pub target_text : Target → List ℕ
+abbrev pub target_text : Target (List ℕ) → List ℕ
 target_text (Key key) = codes "key " ++ hex_text key
 
 -- the head of a Request and how many octets its body has, behind two spaces:
 --   flags FLAGS TARGET operation OPERATION contexts CONTEXTS body BODY
-abbrev pub head_line : RequestHead → ℕ → List ℕ
+abbrev pub head_line : Head → ℕ → List ℕ
 head_line head body =
     codes "  flags " ++ (decimal head.flags ++ (codes " " ++ (target_text head.target ++
     (codes " operation " ++ (escaped_text head.operation ++ (codes " contexts " ++

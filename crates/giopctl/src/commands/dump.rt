@@ -61,7 +61,7 @@ pub fn dump_stream<R: Read, W: Write>(
     'messages: for _ in 0..u64::MAX {
         match framer.next() {
             Ok(Some(message)) => {
-                write_message(alloc, at, &message, writer)?;
+                write_message(at, &message, writer)?;
                 let Some(next) = at.checked_add(12 + message.payload.len()) else {
                     break;
                 };

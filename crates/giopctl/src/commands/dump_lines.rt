@@ -9,25 +9,19 @@ ghost use Rattle.giopctl.specs.Lines.{fault_line, rest_line};
 use crate::failure::Failure;
 use crate::lines::{FaultLine, HeadLine, MessageLine, RestLine};
 use crate::status::Status;
-use giop_cdr::{CdrKind, SliceOctets};
+use giop_cdr::SliceOctets;
 use giop_msg::{Kind, Msg, RequestHead, WireFault, WireKind};
-use std::alloc::Global;
 use std::io::Write;
 
 /// The lines of the message that begins at this offset of the file.
-pub fn write_message<W: Write>(
-    alloc: Global,
-    at: usize,
-    message: &Msg,
-    writer: &mut W,
-) -> Result<(), Failure>
+pub fn write_message<W: Write>(at: usize, message: &Msg, writer: &mut W) -> Result<(), Failure>
     requires { length message.now.payload < 2 ^ 32 }
     ensures { OnOk result
         (Appends (W.contents writer.old) (W.contents writer.new) (message_text at message.now)) }
 {
     writeln!(writer, "{}", MessageLine { at, message })?;
     if is_whole_request(message) {
-        write_head(alloc, message, writer)?;
+        write_head(message, writer)?;
     }
     Ok(())
 }
@@ -39,16 +33,15 @@ fn is_whole_request(message: &Msg) -> bool
 }
 
 // The line of a Request's head, or none where the octets spell no head.
-fn write_head<W: Write>(alloc: Global, message: &Msg, writer: &mut W) -> Result<(), Failure>
+fn write_head<W: Write>(message: &Msg, writer: &mut W) -> Result<(), Failure>
     requires { length message.now.payload < 2 ^ 32 }
     ensures { OnOk result (Appends (W.contents writer.old) (W.contents writer.new)
         (head_text message.now (request_head_of message.now.order message.now.payload))) }
 {
     let octets = message.payload.as_slice();
-    let (head, place) = match RequestHead::decode(alloc, &SliceOctets::new(octets), message.order) {
-        Ok(decoded) => decoded,
-        Err(fault) if fault.kind == CdrKind::NoMemory => return Err(Failure::Memory),
-        Err(_) => return Ok(()),
+    let joined = SliceOctets::new(octets);
+    let Ok((head, place)) = RequestHead::view(&joined, message.order) else {
+        return Ok(());
     };
     let body = (12 + octets.len()).saturating_sub(place);
     writeln!(writer, "{}", HeadLine { head: &head, body })?;

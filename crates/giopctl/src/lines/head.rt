@@ -1,18 +1,19 @@
 use crate::lines::{EscapedText, HexText};
-use giop_msg::{RequestHead, Target};
+use giop_cdr::{OctetsAt, SliceOctets};
+use giop_msg::{RequestHeadAt, Target};
 use std::fmt;
 
 /// The head of a Request, in one line:
 /// `  flags FLAGS key KEY operation OPERATION contexts CONTEXTS body BODY`.
 #[derive(Clone, Copy)]
-pub struct HeadLine<'a> {
-    /// The head.
-    pub head: &'a RequestHead,
+pub struct HeadLine<'head, 'joined, 'octets> {
+    /// The head, which lies in the joined octets.
+    pub head: &'head RequestHeadAt<'joined, SliceOctets<'octets>>,
     /// The number of octets from the place of the body on.
     pub body: usize,
 }
 
-impl fmt::Display for HeadLine<'_> {
+impl fmt::Display for HeadLine<'_, '_, '_> {
     ghost use Rattle.std.specs.Prelude.{Some};
     ghost use Rattle.giopctl.specs.Lines.{head_line};
 
@@ -33,9 +34,9 @@ impl fmt::Display for HeadLine<'_> {
 
 // The target of a Request: `key KEY`.
 #[derive(Clone, Copy)]
-struct TargetText<'a>(&'a Target);
+struct TargetText<'head, 'joined, 'octets>(&'head Target<OctetsAt<'joined, SliceOctets<'octets>>>);
 
-impl fmt::Display for TargetText<'_> {
+impl fmt::Display for TargetText<'_, '_, '_> {
     ghost use Rattle.std.specs.Prelude.{Some};
     ghost use Rattle.giopctl.specs.Lines.{target_text};
 

@@ -1,9 +1,11 @@
-use Rattle.giop_msg.proofs.RequestHeadLemmas.{answered, found_in}
+use Rattle.giop_msg.proofs.RequestHeadLemmas.{copy_is}
 use Rattle.giop_msg.proofs.request_head.RequestHead.decode.Goals as goal
 
-pub returns-clause-found : goal.returns-clause-found
-returns-clause-found g c = found_in c.args.order (g.S.Octets.octets c.args.octets.now) c.head_of.result c.head_of.ensures.value
+pub returns-in_err-head-clause-only : goal.returns-in_err-head-clause-only
+returns-in_err-head-clause-only g c = λ head body is.
+    let read = c.in_err-head.ensures.only head body is in
+    absurd cc
 
 pub returns-clause-only : goal.returns-clause-only
-returns-clause-only g c = λ head body. answered c.args.order (g.S.Octets.octets c.args.octets.now) c.head_of.result head body
-    c.head_of.ensures.value c.head_of.ensures.err
+returns-clause-only g c = λ head body is.
+    copy_is c.in-Ok.head c.in_ok-head.head head c.in_ok-head.body body c.in-Ok.ensures (c.in_ok-head.ensures.only head body is)

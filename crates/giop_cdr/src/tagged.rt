@@ -1,0 +1,14 @@
+use crate::octet_list::OctetList;
+
+/// A value that is an unsigned long and a sequence of octets on the wire, as a service context, a
+/// tagged profile and a tagged component are (7.6.2, 9.4.2).
+pub trait Tagged: Drop {
+    ghost use Rattle.std.specs.Prelude.{◌≡◌, ℕ, List};
+
+    // What is made of the two.
+    ghost made: { ℕ → List ℕ → Self };
+
+    /// The value of this number and these octets.
+    fn from_parts(tag: u32, octets: OctetList) -> Self
+        ensures { result ≡ made tag octets };
+}
