@@ -9,3 +9,4 @@ pub mod AddressLemmas
 pub mod GrammarLemmas
 pub mod WritingLemmas
 pub mod WrittenLemmas
+pub mod IorLemmas

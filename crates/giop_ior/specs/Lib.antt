@@ -3,3 +3,4 @@ pub mod Corbaloc
 pub mod CorbalocReading
 pub mod AddressAt
 pub mod CorbalocWriting
+pub mod Ior

@@ -9,13 +9,25 @@ mod corbaloc_laws;
 mod corbaloc_reading;
 mod corbaloc_writing;
 mod cuts;
+mod ior;
+mod ior_laws;
+mod ior_reading;
+mod ior_writing;
 mod key_text;
+mod sequence;
+mod tagged_profile;
 #[cfg(test)]
 mod tests;
 
-pub use address::{Address, AddressList};
+pub use address::Address;
 pub use corbaloc::Corbaloc;
 pub use corbaloc_fault::{CorbalocFault, CorbalocKind};
 pub use corbaloc_laws::{corbalocs_are_read, written_corbalocs_are_read_back};
 pub use corbaloc_reading::corbaloc_from_text;
 pub use corbaloc_writing::corbaloc_to_text;
+pub use ior::{Ior, IorAt};
+pub use ior_laws::{references_are_spelled, written_references_are_read_back};
+pub use ior_reading::{read_ior, view_ior};
+pub use ior_writing::write_ior;
+pub use sequence::Sequence;
+pub use tagged_profile::{TaggedComponent, TaggedProfile};

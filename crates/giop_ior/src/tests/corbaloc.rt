@@ -1,6 +1,5 @@
 use crate::{
-    Address, AddressList, Corbaloc, CorbalocFault, CorbalocKind, corbaloc_from_text,
-    corbaloc_to_text,
+    Address, Corbaloc, CorbalocFault, CorbalocKind, Sequence, corbaloc_from_text, corbaloc_to_text,
 };
 use giop_cdr::OctetList;
 use std::fmt;
@@ -41,7 +40,7 @@ fn with_key(rt: &impl AllocGlobal, key: &[u8]) -> Result<Corbaloc, Fail> {
         port: 2809,
     })?;
     Ok(Corbaloc {
-        addresses: AddressList::from(addresses),
+        addresses: Sequence::from(addresses),
         key: OctetList::from_slice(rt.alloc(), key)?,
     })
 }
@@ -56,8 +55,18 @@ fn texts_say_addresses_and_a_key(rt: HostRuntime) -> Result<(), Fail> {
     );
     // A text; the minor version, host and port of each address; the key; the text that is written.
     let rows: [Row; 15] = [
-        (b"corbaloc::h", &[(0, b"h", 2809)], b"", b"corbaloc:iiop:1.0@h:2809"),
-        (b"corbaloc:iiop:h", &[(0, b"h", 2809)], b"", b"corbaloc:iiop:1.0@h:2809"),
+        (
+            b"corbaloc::h",
+            &[(0, b"h", 2809)],
+            b"",
+            b"corbaloc:iiop:1.0@h:2809",
+        ),
+        (
+            b"corbaloc:iiop:h",
+            &[(0, b"h", 2809)],
+            b"",
+            b"corbaloc:iiop:1.0@h:2809",
+        ),
         (
             b"corbaloc:iiop:1.2@h:65535,:g/a%20b",
             &[(2, b"h", 65535), (0, b"g", 2809)],
@@ -65,13 +74,43 @@ fn texts_say_addresses_and_a_key(rt: HostRuntime) -> Result<(), Fail> {
             b"corbaloc:iiop:1.2@h:65535,iiop:1.0@g:2809/a%20b",
         ),
         // A version of one digit, of three, with zeros before it.
-        (b"corbaloc::1.0@h", &[(0, b"h", 2809)], b"", b"corbaloc:iiop:1.0@h:2809"),
-        (b"corbaloc::001.255@h", &[(255, b"h", 2809)], b"", b"corbaloc:iiop:1.255@h:2809"),
-        (b"corbaloc::01.007@h", &[(7, b"h", 2809)], b"", b"corbaloc:iiop:1.7@h:2809"),
+        (
+            b"corbaloc::1.0@h",
+            &[(0, b"h", 2809)],
+            b"",
+            b"corbaloc:iiop:1.0@h:2809",
+        ),
+        (
+            b"corbaloc::001.255@h",
+            &[(255, b"h", 2809)],
+            b"",
+            b"corbaloc:iiop:1.255@h:2809",
+        ),
+        (
+            b"corbaloc::01.007@h",
+            &[(7, b"h", 2809)],
+            b"",
+            b"corbaloc:iiop:1.7@h:2809",
+        ),
         // The least and the greatest port.
-        (b"corbaloc::h:0", &[(0, b"h", 0)], b"", b"corbaloc:iiop:1.0@h:0"),
-        (b"corbaloc::h:00080", &[(0, b"h", 80)], b"", b"corbaloc:iiop:1.0@h:80"),
-        (b"corbaloc::h:65535", &[(0, b"h", 65535)], b"", b"corbaloc:iiop:1.0@h:65535"),
+        (
+            b"corbaloc::h:0",
+            &[(0, b"h", 0)],
+            b"",
+            b"corbaloc:iiop:1.0@h:0",
+        ),
+        (
+            b"corbaloc::h:00080",
+            &[(0, b"h", 80)],
+            b"",
+            b"corbaloc:iiop:1.0@h:80",
+        ),
+        (
+            b"corbaloc::h:65535",
+            &[(0, b"h", 65535)],
+            b"",
+            b"corbaloc:iiop:1.0@h:65535",
+        ),
         // Whatever a host may have: a name may begin with a digit, or look like a version.
         (
             b"corbaloc::A-z_0.9,:1.2,:iiop",
@@ -80,7 +119,12 @@ fn texts_say_addresses_and_a_key(rt: HostRuntime) -> Result<(), Fail> {
             b"corbaloc:iiop:1.0@A-z_0.9:2809,iiop:1.0@1.2:2809,iiop:1.0@iiop:2809",
         ),
         // An empty key is no key.
-        (b"corbaloc::h/", &[(0, b"h", 2809)], b"", b"corbaloc:iiop:1.0@h:2809"),
+        (
+            b"corbaloc::h/",
+            &[(0, b"h", 2809)],
+            b"",
+            b"corbaloc:iiop:1.0@h:2809",
+        ),
         // The first slash ends the addresses: in the key stands what stands in addresses too.
         (
             b"corbaloc::h/a/b,:g@1.2:3",
@@ -95,8 +139,18 @@ fn texts_say_addresses_and_a_key(rt: HostRuntime) -> Result<(), Fail> {
             b"a//\xFF\xFE\x00",
             b"corbaloc:iiop:1.0@h:2809/a//%FF%FE%00",
         ),
-        (b"corbaloc::h/%2525", &[(0, b"h", 2809)], b"%25", b"corbaloc:iiop:1.0@h:2809/%2525"),
-        (b"corbaloc::h/k", &[(0, b"h", 2809)], b"k", b"corbaloc:iiop:1.0@h:2809/k"),
+        (
+            b"corbaloc::h/%2525",
+            &[(0, b"h", 2809)],
+            b"%25",
+            b"corbaloc:iiop:1.0@h:2809/%2525",
+        ),
+        (
+            b"corbaloc::h/k",
+            &[(0, b"h", 2809)],
+            b"k",
+            b"corbaloc:iiop:1.0@h:2809/k",
+        ),
     ];
     for (text, addresses, key, again) in rows {
         let corbaloc = match read(&rt, text)? {
@@ -106,7 +160,10 @@ fn texts_say_addresses_and_a_key(rt: HostRuntime) -> Result<(), Fail> {
         assert_eq!(rt; corbaloc.addresses.len(), addresses.len());
         assert!(rt; !corbaloc.addresses.is_empty());
         for (address, (minor, host, port)) in corbaloc.addresses.as_slice().iter().zip(addresses) {
-            assert_eq!(rt; (address.major, address.minor, address.port), (1, *minor, *port));
+            assert_eq!(rt;
+                (address.major, address.minor, address.port),
+                (1, *minor, *port)
+            );
             assert_eq!(rt; address.host.as_slice(), *host);
         }
         assert_eq!(rt; corbaloc.key.as_slice(), key);
@@ -267,13 +324,13 @@ fn what_no_text_says_is_not_writable(rt: HostRuntime) -> Result<(), Fail> {
             port: 65535,
         })?;
         corbaloc = Corbaloc {
-            addresses: AddressList::from(addresses),
+            addresses: Sequence::from(addresses),
             key: corbaloc.key,
         };
         assert_eq!(rt; corbaloc.is_writable(), writable);
     }
     let none = Corbaloc {
-        addresses: AddressList::new(rt.alloc()),
+        addresses: Sequence::new(rt.alloc()),
         key: OctetList::new(rt.alloc()),
     };
     assert!(rt; !none.is_writable());
