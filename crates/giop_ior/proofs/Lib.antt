@@ -7,3 +7,6 @@ pub mod StepLemmas
 pub mod PartLemmas
 pub mod AddressLemmas
 pub mod GrammarLemmas
+pub mod WritingLemmas
+pub mod WrittenLemmas
+pub mod IorLemmas

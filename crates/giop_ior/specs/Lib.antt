@@ -2,3 +2,5 @@ pub mod CorbalocFault
 pub mod Corbaloc
 pub mod CorbalocReading
 pub mod AddressAt
+pub mod CorbalocWriting
+pub mod Ior

@@ -1,4 +1,5 @@
-use crate::address::AddressList;
+use crate::address::Address;
+use crate::sequence::Sequence;
 use giop_cdr::OctetList;
 
 /// Where an object is, as a person would write it: the addresses at which it may be reached, and
@@ -6,7 +7,7 @@ use giop_cdr::OctetList;
 #[derive(Debug, Drop)]
 pub struct Corbaloc {
     /// The addresses, in their order: one at least in a text.
-    pub addresses: AddressList,
+    pub addresses: Sequence<Address>,
     /// The object key, in octets. None where the text has none.
     pub key: OctetList,
 }

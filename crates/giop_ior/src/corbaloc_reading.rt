@@ -5,12 +5,13 @@ ghost use Rattle.giop_ior.specs.Corbaloc.{CorbalocText};
 ghost use Rattle.giop_ior.specs.CorbalocFault.{AnswersOrWants, Tells, IsAnswered, no_memory};
 ghost use Rattle.giop_ior.specs.CorbalocReading.{address_at, addresses_at, corbaloc_of};
 
-use crate::address::{Address, AddressList};
+use crate::address::Address;
 use crate::address_reading::{AddressAt, address_at};
 use crate::corbaloc::Corbaloc;
 use crate::corbaloc_fault::{CorbalocFault, CorbalocKind};
 use crate::cuts::cut;
 use crate::key_text::{judge_key, key_at};
+use crate::sequence::Sequence;
 use giop_cdr::OctetList;
 use std::alloc::{AllocError, Global};
 
@@ -46,7 +47,11 @@ fn push(addresses: &mut Vec<Address>, address: Address) -> Result<(), CorbalocFa
 }
 
 // The addresses of a list that begins at this place.
-fn read_addresses(alloc: Global, start: usize, text: &[u8]) -> Result<AddressList, CorbalocFault>
+fn read_addresses(
+    alloc: Global,
+    start: usize,
+    text: &[u8],
+) -> Result<Sequence<Address>, CorbalocFault>
     requires { start + length text.now < 2 ^ 64 }
     ensures { AnswersOrWants (λ list. list) result (addresses_at start text.now) }
 {
@@ -59,7 +64,7 @@ fn read_addresses(alloc: Global, start: usize, text: &[u8]) -> Result<AddressLis
         rest = more;
     }
     push(&mut addresses, read_address(alloc, at, rest)?)?;
-    Ok(AddressList::from(addresses))
+    Ok(Sequence::from(addresses))
 }
 
 // The same without memory: whether each is an address.
