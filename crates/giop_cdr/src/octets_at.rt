@@ -87,7 +87,7 @@ impl<'a, S: Octets> CdrIn<'a, S> {
         ensures { Reads self.old result self.new (octets_at bound self.old) }
     {
         let mut ahead = self.fork();
-        let count = ahead.octet_count(bound)?;
+        let count = ahead.read_bounded_count(bound)?;
         let octets = ahead.here(count);
         ahead.advance(count);
         *self = ahead;
