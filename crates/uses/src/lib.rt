@@ -1,0 +1,6 @@
+//! How the crates are called: small callers, each with its contract, that the pages CALLING.md show.
+#![tactic(auto)]
+
+mod point;
+
+pub use point::{Point, points_are_spelled, read_point, write_point};
