@@ -8,6 +8,10 @@ use Rattle.giop_msg.specs.declared.fault.WireKind.TheVariants.{BadMagic, BadVers
 use Rattle.giop_msg.specs.declared.kind.Kind.{Kind}
 use Rattle.giop_msg.specs.declared.kind.Kind.TheVariants.{Request, CancelRequest, CloseConnection}
 use Rattle.giop_msg.specs.declared.msg.Msg.{Msg}
+use Rattle.giop_cdr.specs.Output.{Output, number_out, signed_out, octets_out, string_out, sequence_out, items_out}
+use Rattle.giop_cdr.specs.Layout.{number, signed, octets, text, such, field, gives, reserved, sequence, tagged}
+use Rattle.giop_msg.specs.declared.target.Target.TheVariants.{Key}
+use Rattle.giop_msg.specs.RequestHead.{Head, request_head, response_flags, reserved_octets, reserved_octet, key_addr, target_address, service_context}
 use Rattle.giop_msg.specs.Fault.{fault}
 use Rattle.giop_msg.specs.Header.{header_octets, header_of, field_fault, header_fault}
 use Rattle.giop_msg.specs.Msg.{message_octets, request_id_of, IsMessage}
@@ -128,3 +132,36 @@ split = record {
       (each_one 1024 ping (record { sized = omega arith; sound = refl })) (each_one 1024 close (record { sized = omega arith; sound = refl }));
   partial = (waits_for_header 1024 eleven (omega arith)).no_message;
 }
+
+-- ---- the head of a Request, worked by the table of 9.4.2.1
+
+-- a request of id 1 for `ping` of the object `k`, which asks for a reply
+abbrev ping_head : Head
+ping_head = record { id = 1; flags = 3; target = Key (0x6B ∷ []); operation = 0x70 ∷ 0x69 ∷ 0x6E ∷ 0x67 ∷ []; contexts = [] }
+
+-- a request of id 2 for `a` of the object without a key, with the context 9 of one octet
+abbrev context_head : Head
+context_head = record {
+  id = 2;
+  flags = 1;
+  target = Key [];
+  operation = 0x61 ∷ [];
+  contexts = record { id = 9; octets = 0xAA ∷ [] } ∷ [];
+}
+
+abbrev context_octets : List ℕ
+context_octets =
+    octets4 2 0 0 0 ++ octets4 1 0 0 0 ++ octets4 0 0 0 0 ++ octets4 0 0 0 0 ++ octets4 2 0 0 0 ++ octets4 0x61 0 0 0
+    ++ octets4 1 0 0 0 ++ octets4 9 0 0 0 ++ octets4 1 0 0 0 ++ 0xAA ∷ []
+
+abbrev behind_header : Order → Output
+behind_header order = record { order = order; at = 12; octets = [] }
+
+record AreHeads : Type 0 where
+  pub ping_octets : (request_head.written ping_head (behind_header Big)).octets ≡ ping_payload
+  pub context_octets_are : (request_head.written context_head (behind_header Little)).octets ≡ context_octets
+
+heads : AreHeads
+unfolding request_head response_flags reserved_octets reserved_octet key_addr target_address service_context number signed octets text such field gives reserved sequence tagged
+    number_out signed_out octets_out string_out sequence_out items_out
+heads = record { ping_octets = refl; context_octets_are = refl }
