@@ -16,4 +16,6 @@ pub mod ToJson
 pub mod FormFault
 pub mod FromJson
 pub mod Defaults
+pub mod Parse
+pub mod Reference
 pub mod Encoding

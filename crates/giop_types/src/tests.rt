@@ -2,6 +2,8 @@
 
 mod check;
 mod decoding;
+mod interface;
+mod json;
 mod memory;
 mod recorded;
 mod samples;
