@@ -199,8 +199,11 @@ mutual
       let singles = and_parts (has_single_defaults s) (fields_have fs) single in
       let names = or_parts (list_any (λ y. same_name y n) (field_names fs)) (has_doubled same_name (field_names fs)) apart in
       let fit_parts = and_parts (fits s t) (fields_fit fs ts) fit in
-      rw (member_found n fs ts (to_data s t) ms names.0, json_back s t depth faults.0 singles.0 fit_parts.0,
-      fields_back fs ts (json.put (utf8.text_of n) (to_data s t) ms) depth faults.1 singles.1 names.1 fit_parts.1) refl
+      rw (
+        member_found n fs ts (to_data s t) ms names.0,
+        json_back s t depth faults.0 singles.0 fit_parts.0,
+        fields_back fs ts (json.put (utf8.text_of n) (to_data s t) ms) depth faults.1 singles.1 names.1 fit_parts.1,
+      ) refl
 
   branches_back : (bs : Branches) (other : Fields) (label : ℤ) (ts : List Tree) (depth : ℕ) → branches_fault depth bs ≡ None → branches_have bs ≡ true
       → ((us : List Tree) → fields_fit other us ≡ true → fallback_shown other (fallback_data other us) ≡ Some us)

@@ -16,6 +16,8 @@ pub mod ToJson
 pub mod FormFault
 pub mod FromJson
 pub mod Defaults
+pub mod Parse
+pub mod Reference
 pub mod Encoding
 pub mod Nodes
 pub mod DescFaults

@@ -11,10 +11,12 @@ mod desc_fault;
 mod encoder;
 mod fitting;
 mod form_fault;
+mod interface;
 mod json;
 mod label_check;
 mod laws;
 mod name_check;
+mod parameters;
 mod reading;
 mod skip;
 #[cfg(test)]
@@ -28,9 +30,13 @@ pub use desc_fault::DescFault;
 pub use encoder::encode;
 pub use fitting::fits;
 pub use form_fault::FormFault;
-pub use json::{json_gives_values_back, value_from_json, value_to_json};
+pub use interface::{Interface, Operation};
+pub use json::{
+    desc_from_json, json_gives_values_back, reference_desc, value_from_json, value_to_json,
+};
 pub use laws::{
     descriptions_are_checked_node_by_node, leaves_count_every_part, spelled_values_fit,
     values_are_bounded, values_are_spelled, written_values_are_read_back,
 };
+pub use parameters::{Parameter, Parameters};
 pub use value::Value;

@@ -3,6 +3,8 @@
 mod check;
 mod decoding;
 mod encoding;
+mod interface;
+mod json;
 mod memory;
 mod recorded;
 mod samples;

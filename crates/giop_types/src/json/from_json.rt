@@ -77,8 +77,8 @@ pub fn show(alloc: Global, desc: &Desc, json: &Json) -> Result<Value, FormFault>
     }
 }
 
-// Whether this is an object of so many members.
-fn is_object_of(count: usize, json: &Json) -> bool
+/// Whether this is an object of so many members.
+pub fn is_object_of(count: usize, json: &Json) -> bool
     ensures { result ≡ is_object_of count (view json.now) }
 {
     match json.as_object() {
