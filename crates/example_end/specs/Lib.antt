@@ -1,0 +1,3 @@
+pub mod Meter
+pub mod Faults
+pub mod End
