@@ -1,3 +1,5 @@
+#![tactic(auto, unfolding(crate::specs::RequestHead::request_head, crate::specs::RequestHead::response_flags, crate::specs::RequestHead::reserved_octets, crate::specs::RequestHead::reserved_octet, crate::specs::RequestHead::key_addr, crate::specs::RequestHead::target_address, crate::specs::RequestHead::service_context, giop_cdr::specs::Layout::field, giop_cdr::specs::Layout::such, giop_cdr::specs::Layout::number, giop_cdr::specs::Layout::signed, giop_cdr::specs::Layout::octets, giop_cdr::specs::Layout::text, giop_cdr::specs::Layout::reserved, giop_cdr::specs::Layout::gives, giop_cdr::specs::Layout::sequence, giop_cdr::specs::Layout::tagged, giop_cdr::specs::Reading::such_at, giop_cdr::specs::View::tagged_at))]
+
 ghost use Rattle.std.specs.Prelude.{◌≡◌, ◌≤◌, ◌^◌, ◌⊎◌, length, Ok, Err, IfOk, IfErr, IsOk};
 ghost use Rattle.giop_cdr.specs.Outcome.{Reads, Exactly, Skips};
 ghost use Rattle.giop_msg.specs.RequestHead.{response_flags, reserved_octets, key_addr, target_address, request_head, request_head_of, IsRequestHead, IsAnswered, no_memory};
@@ -109,7 +111,6 @@ impl<'a, S: Octets> Target<OctetsAt<'a, S>> {
 }
 
 // The response flags.
-#[tactic(auto, unfolding(crate::specs::RequestHead::response_flags, giop_cdr::specs::Layout::such, giop_cdr::specs::Layout::number, giop_cdr::specs::Reading::such_at))]
 fn read_flags<S: Octets>(input: &mut CdrIn<S>) -> Result<u8, CdrFault>
     ensures { Reads input.old result input.new (response_flags.read input.old) }
 {
@@ -126,7 +127,6 @@ fn read_flags<S: Octets>(input: &mut CdrIn<S>) -> Result<u8, CdrFault>
 }
 
 // The three reserved octets, whatever they are.
-#[tactic(auto, unfolding(crate::specs::RequestHead::reserved_octets, crate::specs::RequestHead::reserved_octet, giop_cdr::specs::Layout::field, giop_cdr::specs::Layout::reserved, giop_cdr::specs::Layout::number, giop_cdr::specs::Layout::gives))]
 fn read_reserved<S: Octets>(input: &mut CdrIn<S>) -> Result<(), CdrFault>
     ensures { Skips result input.new (reserved_octets.read input.old) }
 {
@@ -137,7 +137,6 @@ fn read_reserved<S: Octets>(input: &mut CdrIn<S>) -> Result<(), CdrFault>
 }
 
 // The disposition of a target, which is a key.
-#[tactic(auto, unfolding(crate::specs::RequestHead::key_addr, giop_cdr::specs::Layout::such, giop_cdr::specs::Layout::signed, giop_cdr::specs::Reading::such_at))]
 fn read_key_addr<S: Octets>(input: &mut CdrIn<S>) -> Result<(), CdrFault>
     ensures { Skips result input.new (key_addr.read input.old) }
 {
@@ -151,7 +150,6 @@ fn read_key_addr<S: Octets>(input: &mut CdrIn<S>) -> Result<(), CdrFault>
     Ok(())
 }
 
-#[tactic(auto, unfolding(crate::specs::RequestHead::target_address, giop_cdr::specs::Layout::field, giop_cdr::specs::Layout::octets, giop_cdr::specs::Layout::gives))]
 fn view_target<'a, S: Octets>(input: &mut CdrIn<'a, S>) -> Result<Target<OctetsAt<'a, S>>, CdrFault>
     ensures { Exactly result input.new (target_address.read input.old) }
 {
@@ -161,7 +159,6 @@ fn view_target<'a, S: Octets>(input: &mut CdrIn<'a, S>) -> Result<Target<OctetsA
 }
 
 // The fields of a head in their order.
-#[tactic(auto, unfolding(crate::specs::RequestHead::request_head, crate::specs::RequestHead::service_context, giop_cdr::specs::Layout::field, giop_cdr::specs::Layout::number, giop_cdr::specs::Layout::octets, giop_cdr::specs::Layout::text, giop_cdr::specs::Layout::sequence, giop_cdr::specs::Layout::tagged, giop_cdr::specs::Layout::gives, giop_cdr::specs::View::tagged_at))]
 fn view_head<'a, S: Octets>(input: &mut CdrIn<'a, S>) -> Result<RequestHeadAt<'a, S>, CdrFault>
     ensures { Exactly result input.new (request_head.read input.old) }
 {

@@ -1,3 +1,5 @@
+#![tactic(auto, unfolding(crate::specs::RequestHead::request_head, crate::specs::RequestHead::response_flags, crate::specs::RequestHead::reserved_octets, crate::specs::RequestHead::reserved_octet, crate::specs::RequestHead::key_addr, crate::specs::RequestHead::target_address, crate::specs::RequestHead::service_context, giop_cdr::specs::Layout::field, giop_cdr::specs::Layout::such, giop_cdr::specs::Layout::number, giop_cdr::specs::Layout::signed, giop_cdr::specs::Layout::octets, giop_cdr::specs::Layout::text, giop_cdr::specs::Layout::reserved, giop_cdr::specs::Layout::gives, giop_cdr::specs::Layout::sequence, giop_cdr::specs::Layout::tagged, giop_cdr::specs::Output::sequence_out), using(giop_cdr::proofs::WriterLemmas::grows_then, giop_cdr::proofs::WriterLemmas::grows_not))]
+
 ghost use Rattle.std.specs.Prelude.{◌≡◌, ◌+◌, ◌^◌, ◌<◌, ◌↔◌, ◌&&◌, length, nat_lt, not, false, true, ℕ, List, IsErrOf};
 ghost use Rattle.std.specs.List.{list_all};
 ghost use Rattle.giop_cdr.specs.declared.order.Order.{Order};
@@ -15,7 +17,6 @@ use std::alloc::AllocError;
 impl RequestHead {
     /// Whether octets spell the head: its flags are 0, 1 or 3, no null is in the operation, and each
     /// text and list is short enough for its count. It takes no memory.
-    #[tactic(auto, unfolding(crate::specs::RequestHead::request_head, crate::specs::RequestHead::response_flags, crate::specs::RequestHead::reserved_octets, crate::specs::RequestHead::reserved_octet, giop_cdr::specs::Layout::field, giop_cdr::specs::Layout::such, giop_cdr::specs::Layout::number, giop_cdr::specs::Layout::text, giop_cdr::specs::Layout::reserved, giop_cdr::specs::Layout::gives))]
     pub fn is_writable(&self) -> bool
         ensures { result ≡ request_head.fits self.now }
     {
@@ -55,7 +56,6 @@ fn is_countable(octets: &[u8]) -> bool
     octets.len() <= u32::MAX as usize
 }
 
-#[tactic(auto, unfolding(crate::specs::RequestHead::target_address, crate::specs::RequestHead::key_addr, giop_cdr::specs::Layout::field, giop_cdr::specs::Layout::such, giop_cdr::specs::Layout::signed, giop_cdr::specs::Layout::octets, giop_cdr::specs::Layout::gives))]
 fn is_writable_target(target: &Target) -> bool
     ensures { result ≡ target_address.fits target.now }
 {
@@ -71,7 +71,6 @@ fn is_operation(name: &[u8]) -> bool
     name.len() < u32::MAX as usize && !name.contains(&0)
 }
 
-#[tactic(auto, unfolding(giop_cdr::specs::Layout::sequence))]
 fn are_writable(contexts: &[ServiceContext]) -> bool
     ensures { result ≡ (sequence service_context).fits contexts.now }
 {
@@ -89,14 +88,12 @@ fn each_is_writable(contexts: &[ServiceContext]) -> bool
     true
 }
 
-#[tactic(auto, unfolding(crate::specs::RequestHead::service_context, giop_cdr::specs::Layout::tagged, giop_cdr::specs::Layout::field, giop_cdr::specs::Layout::number, giop_cdr::specs::Layout::octets, giop_cdr::specs::Layout::gives))]
 fn is_writable_context(context: &ServiceContext) -> bool
     ensures { result ≡ service_context.fits context.now }
 {
     is_countable(context.octets.as_slice())
 }
 
-#[tactic(auto, unfolding(crate::specs::RequestHead::service_context, giop_cdr::specs::Layout::tagged, giop_cdr::specs::Layout::field, giop_cdr::specs::Layout::number, giop_cdr::specs::Layout::octets, giop_cdr::specs::Layout::gives), using(giop_cdr::proofs::WriterLemmas::grows_then, giop_cdr::proofs::WriterLemmas::grows_not))]
 fn append_context(context: &ServiceContext, out: &mut CdrOut) -> Result<(), AllocError>
     requires { service_context.fits context.now ≡ true }
     ensures { Appends out.old result out.new (service_context.written context.now out.old) }
@@ -106,7 +103,6 @@ fn append_context(context: &ServiceContext, out: &mut CdrOut) -> Result<(), Allo
     Ok(())
 }
 
-#[tactic(auto, unfolding(crate::specs::RequestHead::reserved_octets, crate::specs::RequestHead::reserved_octet, giop_cdr::specs::Layout::field, giop_cdr::specs::Layout::reserved, giop_cdr::specs::Layout::number, giop_cdr::specs::Layout::gives), using(giop_cdr::proofs::WriterLemmas::grows_then, giop_cdr::proofs::WriterLemmas::grows_not))]
 fn append_reserved(out: &mut CdrOut) -> Result<(), AllocError>
     ensures { Appends out.old result out.new (reserved_octets.written 0 out.old) }
 {
@@ -116,7 +112,6 @@ fn append_reserved(out: &mut CdrOut) -> Result<(), AllocError>
     Ok(())
 }
 
-#[tactic(auto, unfolding(crate::specs::RequestHead::target_address, crate::specs::RequestHead::key_addr, giop_cdr::specs::Layout::field, giop_cdr::specs::Layout::such, giop_cdr::specs::Layout::signed, giop_cdr::specs::Layout::octets, giop_cdr::specs::Layout::gives), using(giop_cdr::proofs::WriterLemmas::grows_then, giop_cdr::proofs::WriterLemmas::grows_not))]
 fn append_target(target: &Target, out: &mut CdrOut) -> Result<(), AllocError>
     requires { target_address.fits target.now ≡ true }
     ensures { Appends out.old result out.new (target_address.written target.now out.old) }
@@ -130,7 +125,6 @@ fn append_target(target: &Target, out: &mut CdrOut) -> Result<(), AllocError>
     }
 }
 
-#[tactic(auto, unfolding(giop_cdr::specs::Layout::sequence, giop_cdr::specs::Output::sequence_out), using(giop_cdr::proofs::WriterLemmas::grows_then, giop_cdr::proofs::WriterLemmas::grows_not))]
 fn append_contexts(contexts: &[ServiceContext], out: &mut CdrOut) -> Result<(), AllocError>
     requires { (sequence service_context).fits contexts.now ≡ true }
     ensures { Appends out.old result out.new ((sequence service_context).written contexts.now out.old) }
@@ -151,7 +145,6 @@ fn append_each(contexts: &[ServiceContext], out: &mut CdrOut) -> Result<(), Allo
 }
 
 // The fields in their order. Where memory is wanting a part of them is left.
-#[tactic(auto, unfolding(crate::specs::RequestHead::request_head, crate::specs::RequestHead::response_flags, giop_cdr::specs::Layout::field, giop_cdr::specs::Layout::such, giop_cdr::specs::Layout::number, giop_cdr::specs::Layout::text, giop_cdr::specs::Layout::gives), using(giop_cdr::proofs::WriterLemmas::grows_then, giop_cdr::proofs::WriterLemmas::grows_not))]
 fn append_head(head: &RequestHead, out: &mut CdrOut) -> Result<(), AllocError>
     requires { request_head.fits head.now ≡ true }
     ensures { Appends out.old result out.new (request_head.written head.now out.old) }
