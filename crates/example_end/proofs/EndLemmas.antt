@@ -214,7 +214,8 @@ told_apart = record {
     by_room true why is = let same : fault_of GatherFull ≡ why = cc in ap is_of_message (sym same)
     by_room false why is = absurd cc
 
-    by_tests : (many over : Bool) (why : EndFault) → cond many (Some TooManyCalls) (option_map fault_of (room_fault over)) ≡ Some why → is_of_message why ≡ false
+    by_tests : (many over : Bool) (why : EndFault)
+        → cond many (Some TooManyCalls) (option_map fault_of (room_fault over)) ≡ Some why → is_of_message why ≡ false
     by_tests true over why is = let same : TooManyCalls ≡ why = cc in ap is_of_message (sym same)
     by_tests false over why is = by_room over why is
 

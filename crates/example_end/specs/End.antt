@@ -101,7 +101,10 @@ turn call IsCancelled = if is_arriving call.entry
     else becomes call.entry call.pieces
 turn call IsTaken = if is_arriving call.entry
     then Err StillOpen
-    else Ok (record { now = record { entry = None; pieces = call.pieces }; answer = Gives call.entry })
+    else Ok (record {
+      now = record { entry = None; pieces = call.pieces };
+      answer = Gives call.entry;
+    })
 
 -- why there is no room for n octets, if there is none
 abbrev pub room_of : Held → ℕ → Option EndFault
@@ -171,7 +174,9 @@ from_stored-stored (Whole n) = refl
 from_stored-stored Cancelled = refl
 
 abbrev pub entry_code : Coded Entry
-entry_code = code_by (Option (Option ℕ)) (coded_option (coded_option coded_ℕ)) stored from_stored from_stored-stored
+entry_code =
+    code_by (Option (Option ℕ)) (coded_option (coded_option coded_ℕ))
+    stored from_stored from_stored-stored
 
 -- an end is stored as the tuple of its fields
 abbrev pub held_code : Coded Held

@@ -42,8 +42,8 @@ impl Model for End {
 }
 
 impl End {
-    /// An end that holds nothing, of at most `calls` entries and `room` gathered octets. It takes no
-    /// memory.
+    /// An end that holds nothing, of at most `calls` entries and `room` gathered octets. It takes
+    /// no memory.
     pub fn new(alloc: Global, calls: u32, room: usize) -> End
         requires { room ≤ 2 ^ 62 }
         ensures { result ≡ record {
@@ -68,8 +68,8 @@ impl End {
 
     /// The first piece of a message, with more to come, under an id without one that comes.
     ///
-    /// Refusals, in this order: `InUse`, `TooManyCalls`, `GatherFull`, `NoMemory`. A refusal changes
-    /// nothing: what the gatherer began is undone where there is no memory for the entry.
+    /// Refusals, in this order: `InUse`, `TooManyCalls`, `GatherFull`, `NoMemory`. A refusal
+    /// changes nothing: what the gatherer began is undone where there is no memory for the entry.
     pub fn first(&mut self, id: u32, order: Order, octets: &[u8]) -> Result<(), EndFault>
         ensures { Does end_rules self.old (record { id = id; what = First order octets.now })
             (reply result) self.new }

@@ -224,8 +224,10 @@ module _ (limit : ℕ) where
 
       by_act : (what : Happening) → told (within (room limit m what) (turn (finite.get m act.id) what)) ≡ Ok answer → total_of m ≤ limit
           → total_of m + octets_with what ≤ limit
-      by_act (Begins order octets) accepts within_limit = fits m (length octets) (no_fault (is_over limit m (length octets)) (turn (finite.get m act.id) (Begins order octets)) accepts)
-      by_act (Adds order octets) accepts within_limit = fits m (length octets) (no_fault (is_over limit m (length octets)) (turn (finite.get m act.id) (Adds order octets)) accepts)
+      by_act (Begins order octets) accepts within_limit =
+          fits m (length octets) (no_fault (is_over limit m (length octets)) (turn (finite.get m act.id) (Begins order octets)) accepts)
+      by_act (Adds order octets) accepts within_limit =
+          fits m (length octets) (no_fault (is_over limit m (length octets)) (turn (finite.get m act.id) (Adds order octets)) accepts)
       by_act IsFinished accepts within_limit = omega arith
       by_act IsDiscarded accepts within_limit = omega arith
 
@@ -250,7 +252,8 @@ module _ (limit : ℕ) where
       by_act act.what fitting
       (subst (λ (w : GatherFault). RefusedAs NoMemory w (refusal_of (within (room limit m act.what) (turn (finite.get m act.id) act.what)))) same does.refusal)
     where
-      is_full : (over : Bool) (held : Option Pieces) (what : Happening) → RefusedAs NoMemory GatherFull (refusal_of (within (room_fault over) (turn held what))) → over ≡ true
+      is_full : (over : Bool) (held : Option Pieces) (what : Happening)
+          → RefusedAs NoMemory GatherFull (refusal_of (within (room_fault over) (turn held what))) → over ≡ true
       is_full true held what refused = refl
       is_full false held (Begins order octets) (inl found) = absurd cc
       is_full false None (Adds order octets) (inl found) = absurd cc

@@ -1,5 +1,5 @@
 -- The number of all gathered octets, and of the blocks that they need, after one list has changed.
-use Rattle.std.proofs.Common.{◌≡◌, ℕ, ◌+◌, ◌-◌, ◌*◌, ◌/◌, ◌%◌, max, ◌≤◌, ◌<◌, ◌++◌, Bool, true, false, List, length, Option, Some, None, is_some, refl, sym, ap, ◌∙◌, arith, length-append, lit<}
+use Rattle.std.proofs.Common.{◌≡◌, ◌≢◌, ℕ, ◌+◌, ◌-◌, ◌*◌, ◌/◌, ◌%◌, max, ◌≤◌, ◌<◌, ◌++◌, Bool, true, false, List, length, Option, Some, None, is_some, refl, sym, ap, ◌∙◌, arith, length-append, lit<}
 use Rattle.std.proofs.Common as common
 use Rattle.std.proofs.lemmas.Nat.{div-add-mod'}
 use Rattle.std.proofs.Math.Nat.{mod-lt}
@@ -7,8 +7,9 @@ use Rattle.std.specs.FinMap as map
 use Rattle.giop_cdr.specs.declared.order.Order.{Order}
 use Rattle.giop_ids.specs.ById.{put, weight_in}
 use Rattle.giop_ids.proofs.Sums.{sum_put, sum_scaled}
-use Rattle.giop_frag.specs.declared.fault.GatherFault.TheVariants.{OrderDiffers}
-use Rattle.giop_frag.specs.Gathered.{Pieces, Lists, grown, octets_in, total_of, blocks_for, blocks_of, blocks_after, same_order, room_fault, first_fault, add_fault_by}
+use Rattle.giop_frag.specs.declared.fault.GatherFault.{GatherFault}
+use Rattle.giop_frag.specs.declared.fault.GatherFault.TheVariants.{Stray, OrderDiffers, GatherFull, NoMemory}
+use Rattle.giop_frag.specs.Gathered.{Pieces, Lists, grown, octets_in, total_of, blocks_for, blocks_of, blocks_after, IsBlocksAfter, same_order, room_fault, first_fault, add_fault_by}
 
 -- a list that is there grows by what is added
 pub octets_in-grown : (held : Option Pieces) (more : List ℕ) → is_some held ≡ true
@@ -73,6 +74,14 @@ blocks_kept limit ids blocks m fits few had =
     let two = div-add-mod' limit 512 in
     let rest = mod-lt limit {m = 512} (lit< tt) in
     omega arith
+
+-- a refusal leaves the blocks between those before and those needed
+pub blocks_refused : (fault : GatherFault) (old new : ℕ) (m : Lists) → IsBlocksAfter fault old m new
+    → (old ≤ new) × (new ≤ blocks_after old m) × (fault ≢ NoMemory → new ≡ old)
+blocks_refused Stray old new m same = let is : new ≡ old = same in (omega arith, omega arith, λ other. same)
+blocks_refused OrderDiffers old new m same = let is : new ≡ old = same in (omega arith, omega arith, λ other. same)
+blocks_refused GatherFull old new m same = let is : new ≡ old = same in (omega arith, omega arith, λ other. same)
+blocks_refused NoMemory old new m between = (between.0, between.1, λ other. absurd (other refl))
 
 -- where there is no fault the id is there and there is room
 pub no_fault : (over : Bool) (held : Option Pieces) (order : Order) → add_fault_by over held order ≡ None

@@ -6,8 +6,8 @@ ghost use Rattle.std.specs.FinMap as map;
 ghost use Rattle.giop_ids.specs.declared.addressed.Addressed.{Addressed};
 ghost use Rattle.giop_ids.specs.Runs.{own, alone, told_alone, Runs, addressed, accepted, MeetsNoLimit};
 ghost use Rattle.giop_frag.specs.declared.fault.GatherFault.{GatherFault};
-ghost use Rattle.giop_frag.specs.declared.fault.GatherFault.TheVariants.{GatherFull};
-ghost use Rattle.giop_frag.specs.Gathered.{Lists, Pieces, total_of, blocks_of, blocks_after};
+ghost use Rattle.giop_frag.specs.declared.fault.GatherFault.TheVariants.{GatherFull, NoMemory};
+ghost use Rattle.giop_frag.specs.Gathered.{Lists, Pieces, total_of, blocks_of, blocks_after, IsBlocksAfter};
 ghost use Rattle.giop_frag.specs.Runs.{Happening, Reply, turn, is_of_id, gather_rules, octets_with, all_octets, IsJoined};
 
 /// After any run of calls the octets under an id that had none are those of the id's own accepted
@@ -70,8 +70,11 @@ pub fn limits_in_any_order()
 
 /// Lists need at most as many blocks as fit their octets, and one more for each id. So where the
 /// number of ids never passes some number, that of blocks never passes the limit over 512 and it.
+/// After a refusal there are as many as before, or, for want of memory alone, some more.
 pub fn blocks_stay_within()
     ensures need { (m : Lists) → blocks_of m ≤ total_of m / 512 + map.len m }
     ensures kept { (limit ids blocks : ℕ) (m : Lists) → total_of m ≤ limit → map.len m ≤ ids
         → blocks ≤ limit / 512 + ids → blocks_after blocks m ≤ limit / 512 + ids }
+    ensures refused { (fault : GatherFault) (old new : ℕ) (m : Lists) → IsBlocksAfter fault old m new
+        → (old ≤ new) × (new ≤ blocks_after old m) × (fault ≢ NoMemory → new ≡ old) }
 {}

@@ -1,5 +1,5 @@
 -- What stands under an id after a run is its own acts folded alone, and so is what they are told.
-use Rattle.std.proofs.Common.{◌≡◌, ℕ, ◌==◌, Bool, true, false, cond, List, [], ◌∷◌, ◌++◌, Option, Some, None, Result, Ok, Err, inl, inr, refl, sym, ap, subst, ◌∙◌, arith}
+use Rattle.std.proofs.Common.{◌≡◌, ℕ, ◌==◌, Bool, true, false, cond, List, [], ◌∷◌, ◌++◌, Option, Some, None, Result, Ok, Err, IsOk, inl, inr, refl, sym, ap, subst, ◌∙◌, arith}
 use Rattle.std.proofs.lemmas.Bool.Decides.{nat_tests}
 use Rattle.std.specs.List.{AllByRecursion}
 use Rattle.giop_ids.specs.declared.addressed.Addressed.{Addressed}
@@ -31,6 +31,19 @@ pub done_within : {V Answer Why : Type 0} (over : Option Why) (done : Result (Do
 done_within over (Err why) answer e = e
 done_within None (Ok done) answer e = e
 done_within (Some why) (Ok done) answer e = absurd cc
+
+-- accepted acts met no limit
+pub accepted_free : {Act Answer Why : Type 0} (of_id : Why → Bool) (id : ℕ) (acts : List (Addressed Act)) (results : List (Result Answer Why))
+    → AllByRecursion IsOk results → MeetsNoLimit of_id id acts results
+accepted_free of_id id [] results ok = tt
+accepted_free of_id id (act ∷ acts) [] ok = tt
+accepted_free of_id id (act ∷ acts) (Err why ∷ results) ok = absurd cc
+accepted_free of_id id (act ∷ acts) (Ok answer ∷ results) ok =
+    elim (act.id == id) as (λ b. AllByRecursion (λ r. is_own of_id r ≡ true)
+    (cond b (Ok answer ∷ own id (addressed acts results)) (own id (addressed acts results)))) [
+      | true ↦ (refl, accepted_free of_id id acts results ok.1)
+      | false ↦ accepted_free of_id id acts results ok.1
+    ]
 
 module _ {S V Act Answer Why : Type 0} (rules : Rules S V Act Answer Why) where
   pub all_after-append : (s : S) (one other : List (Addressed Act))

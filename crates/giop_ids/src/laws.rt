@@ -1,9 +1,11 @@
 //! Laws of every table by id, whatever stands under an id and whatever an act does to it.
-ghost use Rattle.std.specs.Prelude.{◌≡◌, ◌≤◌, ◌==◌, ℕ, Bool, true, List, ◌++◌, ◌+◌, length, Result, Option, is_some, if◌then◌else◌};
+ghost use Rattle.std.specs.Prelude.{◌≡◌, ◌≤◌, ◌==◌, ℕ, Bool, true, List, ◌++◌, ◌+◌, length, Result, IsOk, Option, Some, None, is_some, if◌then◌else◌};
+ghost use Rattle.std.specs.List.{AllByRecursion};
+ghost use Rattle.std.specs.Ordering.{nat_cmp};
 ghost use Rattle.std.specs.FinMap as finite;
 ghost use Rattle.giop_ids.specs.declared.addressed.Addressed.{Addressed};
-ghost use Rattle.giop_ids.specs.ById.{ById, put, HasOnly, sum_of, weight_in};
-ghost use Rattle.giop_ids.specs.Runs.{own, alone, told_alone, Rules, all_after, all_told, Runs, addressed, accepted, IsApart, Distinguishes, MeetsNoLimit};
+ghost use Rattle.giop_ids.specs.ById.{ById, put, HasOnly, AddressesOnly, ids_of, sum_of, weight_in};
+ghost use Rattle.giop_ids.specs.Runs.{own, alone, told_alone, Rules, all_after, all_told, Runs, addressed, accepted, IsApart, Distinguishes, MeetsNoLimit, RefusedAs};
 
 /// A value that is put stands under its id, and what stood under each other id stays; two tables
 /// that tell the same of each id are equal.
@@ -84,4 +86,19 @@ pub fn runs_go_on<S, V, Act, Answer, Why>()
         (results more : List (Result Answer Why))
         → Runs rules s one results mid → Runs rules mid other more t
         → Runs rules s (one ++ other) (results ++ more) t }
+{}
+
+/// What was found is told, and want of memory only where nothing was.
+pub fn memory_is_told_last<Why>()
+    ensures found { (memory why found : Why) → RefusedAs memory why (Some found) → why ≡ found }
+    ensures none { (memory why : Why) → RefusedAs memory why None → why ≡ memory }
+{}
+
+/// Accepted acts met no limit, and the ids that are addressed are those of a list of acts.
+pub fn premises_are_met<V, Act, Answer, Why>()
+    ensures accepted { (of_id : Why → Bool) (id : ℕ) (acts : List (Addressed Act))
+        (results : List (Result Answer Why)) → AllByRecursion IsOk results
+        → MeetsNoLimit of_id id acts results }
+    ensures empty { (ids : List ℕ) → HasOnly (finite.empty {X = V} {R = nat_cmp}) ids }
+    ensures listed { (acts : List (Addressed Act)) → AddressesOnly acts (ids_of acts) }
 {}

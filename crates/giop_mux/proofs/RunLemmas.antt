@@ -106,7 +106,8 @@ module _ {Entry Event Answer Fault : Type 0} (next : Option Entry → Event → 
   no_limit m ids act only listed most (Err why) n does is =
       let same : why ≡ Refuses TooManyCalls = cc in
       by_act act.what
-      (subst (λ (w : Denial Fault). TellsLimit w (room next closed limit m act.id act.what) (turn next closed (finite.get m act.id) act.what)) same does.refusal)
+      (subst (λ (w : Denial Fault). TellsLimit w (room next closed limit m act.id act.what)
+      (turn next closed (finite.get m act.id) act.what)) same does.refusal)
     where
       by_outcome : (many : Bool) (entry : Option Entry) (outcome : Result Answer Fault)
           → TellsLimit (Refuses TooManyCalls) (option_map Refuses (cond many (Some TooManyCalls) None)) (stepped next closed entry outcome)
@@ -127,7 +128,8 @@ module _ {Entry Event Answer Fault : Type 0} (next : Option Entry → Event → 
           → TellsLimit (Refuses TooManyCalls) (room next closed limit m act.id what) (turn next closed (finite.get m act.id) what) → ⊥
       by_act (Hears event) refused =
           let entry = (next (finite.get m act.id) event).entry in
-          is_within m ids act.id entry only listed most (by_outcome (is_one_too_many m limit act.id entry) entry (next (finite.get m act.id) event).outcome refused)
+          is_within m ids act.id entry only listed most
+          (by_outcome (is_one_too_many m limit act.id entry) entry (next (finite.get m act.id) event).outcome refused)
       by_act IsTaken refused = by_closed (option_map closed (finite.get m act.id)) (finite.get m act.id) refused
 
   -- what a call leaves has no other ids
@@ -138,7 +140,8 @@ module _ {Entry Event Answer Fault : Type 0} (next : Option Entry → Event → 
   still_only m n ids act (Err why) only listed does = subst (λ (k : ById Entry). HasOnly k ids) (sym does.leaves) only
 
   -- where the ids are few enough no run meets the limit
-  pub never_too_many : (m n : ById Entry) (acts : List (Addressed (Happening Event))) (results : List (Result (Reply Answer Entry) (Denial Fault))) (ids : List ℕ)
+  pub never_too_many : (m n : ById Entry) (acts : List (Addressed (Happening Event)))
+      (results : List (Result (Reply Answer Entry) (Denial Fault))) (ids : List ℕ)
       → HasOnly m ids → AddressesOnly acts ids → length ids ≤ limit → Runs (call_rules next closed limit) m acts results n
       → AllByRecursion (λ result. result ≢ Err (Refuses TooManyCalls)) results
   never_too_many m n acts results ids only listed most run =

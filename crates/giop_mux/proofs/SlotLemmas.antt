@@ -34,7 +34,8 @@ pub has_room : {E : Type 0} (held : List (ℕ × Option E)) (calls len id : ℕ)
     → NoneEmpty held → len ≡ length held → len ≢ calls → is_one_too_many (entries_of held) calls id (Some entry) ≡ false
 has_room held calls len id entry sorted full counted apart =
     ap (λ b. is_none (map.get (entries_of held) id) && true && b)
-    (ap (λ n. n == calls) (slots.len_of (λ slot. slot) held sorted full ∙ sym counted) ∙ eq_apart len calls apart) ∙ never (is_none (map.get (entries_of held) id))
+    (ap (λ n. n == calls) (slots.len_of (λ slot. slot) held sorted full ∙ sym counted) ∙ eq_apart len calls apart)
+    ∙ never (is_none (map.get (entries_of held) id))
   where
     never : (b : Bool) → (b && true && false) ≡ false
     never true = refl
@@ -48,7 +49,8 @@ has_no_room held calls len id entry sorted full counted same absent =
     let none : map.get (entries_of held) id ≡ None = slots.found_at (λ slot. slot) held id None absent in
     let many : (map.len (entries_of held) == calls) ≡ true =
     ap (λ n. n == calls) (slots.len_of (λ slot. slot) held sorted full ∙ sym counted ∙ same) ∙ eq_itself calls in
-    inl (ap (λ b. cond b (Some TooManyCalls) None) (ap (λ found. is_none found && true && (map.len (entries_of held) == calls)) none ∙ ap (λ b. true && true && b) many))
+    inl (ap (λ b. cond b (Some TooManyCalls) None)
+    (ap (λ found. is_none found && true && (map.len (entries_of held) == calls)) none ∙ ap (λ b. true && true && b) many))
 
 -- where there is room, memory alone may be wanting
 pub wants_memory : {E F : Type 0} (held : List (ℕ × Option E)) (calls id : ℕ) (entry : E)

@@ -31,7 +31,8 @@ abbrev pub event_reply : {A E F : Type 0} → Result A (Refusal F) → Result (R
 event_reply (Ok answer) = Ok (Answers answer)
 event_reply (Err refusal) = Err (Refuses refusal)
 
-abbrev pub take_reply : {A E F : Type 0} → Result (Option E) StillOpen → Result (Reply A E) (Denial F)
+abbrev pub take_reply : {A E F : Type 0}
+    → Result (Option E) StillOpen → Result (Reply A E) (Denial F)
 take_reply (Ok entry) = Ok (Gives entry)
 take_reply (Err open_call) = Err IsOpen
 
