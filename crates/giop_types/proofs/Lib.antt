@@ -20,4 +20,5 @@ pub mod FromJsonLemmas
 pub mod JsonLeavesBack
 pub mod JsonObjects
 pub mod JsonBack
+pub mod ReferenceLemmas
 pub mod EncodeLemmas
