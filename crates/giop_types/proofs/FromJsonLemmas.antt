@@ -17,17 +17,18 @@ use Rattle.giop_types.specs.declared.desc.NamedDesc.{NamedDesc}
 use Rattle.giop_types.specs.declared.desc.CaseDesc.{CaseDesc}
 use Rattle.giop_types.specs.Decoding.{is_label}
 use Rattle.giop_types.specs.declared.desc.Desc.TheVariants as desc
-use Rattle.giop_types.specs.Shape.{Shape, choice, Fields, no_fields, field, Branches}
-use Rattle.giop_types.specs.Tree.{Tree, items_of, row_of, choice_of}
+use Rattle.giop_types.specs.Shape.{Shape, members, choice, Fields, no_fields, field, Branches}
+use Rattle.giop_types.specs.Tree.{Tree, members_of, items_of, row_of, choice_of}
 use Rattle.giop_types.specs.Views.{desc_view, named_view, case_view, fallback_view, fields_of, branches_of, trees_of, value_view}
 use Rattle.giop_types.specs.FromJson.{ordinal_in, shown, fields_shown, branches_shown, items_shown, field_count, one_shown, is_object_of, fallback_shown}
-use Rattle.giop_types.specs.FromJson.{Shows, ShowsCase, union_parts, label_shown}
+use Rattle.giop_types.specs.FromJson.{Shows, ShowsCase, union_parts, label_shown, members_shown}
+use Rattle.giop_types.specs.Reference.{is_reference, reference_shown}
 use Rattle.std.specs.declared.vec.Vec.{Vec}
 use Rattle.std.specs.declared.alloc.Global.{Global}
 use Rattle.std.specs.declared.boxed.Box.{Box}
 use Rattle.giop_types.specs.declared.desc.Desc.{Desc}
 use Rattle.giop_types.specs.declared.value.Value.{Value}
-use Rattle.giop_types.proofs.ViewLemmas.{view-Named, view-Items, view-Row, view-Choice}
+use Rattle.giop_types.proofs.ViewLemmas.{view-Named, view-Items, view-Row, view-Choice, view-Members}
 use Rattle.giop_types.proofs.PartLoops.{IsEachPart}
 use Rattle.giop_types.proofs.MemberLoops.{left_is, branches_left}
 
@@ -172,3 +173,27 @@ pub choice_shows : (d : Box Desc Global) (cs : Vec CaseDesc Global) (f : Option 
 choice_shows d cs f j l m label ts result parts named made ok err =
     made_shows result (shown (desc_view (desc.Choice d cs f)) j) (choice_of label (trees_of ts))
     (choice_form d cs f j ∙ choice_is (desc_view d.value) (branches_of (map case_view cs.items)) (fallback_view f) j l m label ts parts named made) ok err
+
+-- ---- structs
+
+members_form : (ms : Vec NamedDesc Global) (j : json.Data) → shown (desc_view (desc.Members ms)) j ≡ shown (members (fields_of (map named_view ms.items))) j
+members_form ms j = ap (λ s. shown s j) (view-Members ms)
+
+plain_form : (fs : Fields) (j : json.Data) → is_reference fs ≡ false → shown (members fs) j ≡ option_map (λ ts. members_of (trees_of ts)) (members_shown fs j)
+unfolding shown
+plain_form fs j plain = rw plain refl
+
+reference_form : (fs : Fields) (j : json.Data) → is_reference fs ≡ true → shown (members fs) j ≡ reference_shown (members fs) j
+unfolding shown
+reference_form fs j is = rw is refl
+
+-- a struct that is no IOR
+pub plain_shown : (ms : Vec NamedDesc Global) (j : json.Data) → is_reference (fields_of (map named_view ms.items)) ≡ false
+    → shown (desc_view (desc.Members ms)) j ≡ option_map (λ ts. members_of (trees_of ts)) (members_shown (fields_of (map named_view ms.items)) j)
+plain_shown ms j plain = members_form ms j ∙ plain_form (fields_of (map named_view ms.items)) j plain
+
+-- an IOR
+pub reference_read : (ms : Vec NamedDesc Global) (j : json.Data) → is_reference (fields_of (map named_view ms.items)) ≡ true
+    → reference_shown (desc_view (desc.Members ms)) j ≡ shown (desc_view (desc.Members ms)) j
+reference_read ms j is =
+    ap (λ s. reference_shown s j) (view-Members ms) ∙ sym (members_form ms j ∙ reference_form (fields_of (map named_view ms.items)) j is)

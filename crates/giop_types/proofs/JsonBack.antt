@@ -2,7 +2,7 @@
 use Rattle.std.proofs.Common.{◌≡◌, ◌≤◌, ◌^◌, ◌+◌, ℕ, ℤ, pos, negsuc, nat_lt, ◌&&◌, ◌==◌, Bool}
 use Rattle.std.proofs.Common.{true, false, not, if◌then◌else◌, int_le}
 use Rattle.std.proofs.Common.{List, [], ◌∷◌, map, length, Option, Some, None, option_map, Ok, refl, ap, ◌∙◌, arith}
-use Rattle.std.proofs.lemmas.Bool.{lt-ltb, leb-true, and_parts, or_parts}
+use Rattle.std.proofs.lemmas.Bool.{lt-ltb, leb-true, and_parts, or_parts, not-true}
 use Rattle.std.proofs.lemmas.Bool.Decides.{nat_tests}
 use Rattle.std.specs.List.{list_all, list_any}
 use Rattle.std.specs.Option.{option_or}
@@ -23,10 +23,11 @@ use Rattle.giop_types.specs.Decoding.{is_label}
 use Rattle.giop_types.specs.Views.{trees_of}
 use Rattle.giop_types.specs.Checked.{fault_if, is_empty, has_bad_discriminant, has_doubles, own_fault, node_fault}
 use Rattle.giop_types.specs.Checked.{desc_fault, fields_fault, branches_fault, same_name, has_doubled, field_names}
-use Rattle.giop_types.specs.Defaults.{is_single, has_single_defaults, fields_have, branches_have}
+use Rattle.giop_types.specs.Plain.{is_single, is_plain, fields_plain, branches_plain}
 use Rattle.giop_types.specs.Fits.{list_of, is_unsigned, is_counted, are_octets}
 use Rattle.giop_types.specs.Fits.{is_one, fits, fits_label, fields_fit, branches_fit}
 use Rattle.giop_types.specs.JsonText as utf8
+use Rattle.giop_types.specs.Reference.{is_reference}
 use Rattle.giop_types.specs.ToJson.{to_data, fields_data, branches_data, fallback_data, only_data, label_data, choice_data}
 use Rattle.giop_types.specs.FromJson.{shown, fields_shown, branches_shown, fallback_shown, items_shown, one_shown}
 use Rattle.giop_types.specs.FromJson.{field_count, union_parts, is_object_of, from_data}
@@ -123,9 +124,9 @@ object_of fs ts fit apart =
     rw same (equal (field_count fs))
 
 mutual
-  unfolding fits to_data shown desc_fault has_single_defaults
+  unfolding fits to_data shown desc_fault is_plain
 
-  pub json_back : (s : Shape) (t : Tree) (depth : ℕ) → desc_fault depth s ≡ None → has_single_defaults s ≡ true → fits s t ≡ true → shown s (to_data s t) ≡ Some t
+  pub json_back : (s : Shape) (t : Tree) (depth : ℕ) → desc_fault depth s ≡ None → is_plain s ≡ true → fits s t ≡ true → shown s (to_data s t) ≡ Some t
   json_back boolean (boolean_of b) depth checked single fit = refl
   json_back boolean _ depth checked single fit = absurd cc
   json_back octet (octet_of n) depth checked single fit = rw fit refl
@@ -161,15 +162,17 @@ mutual
   json_back (members fs) (members_of ts) depth checked single fit =
       let node = no_fault (node_fault depth (members fs)) (fields_fault (depth + 1) fs) checked in
       let apart = no_doubles depth (members fs) node.0 in
-      rw (object_of fs (list_of ts) fit apart, fields_back fs (list_of ts) json.no_members (depth + 1) node.1 single apart fit) (ap (λ us. Some (members_of us)) (listed ts))
+      let plain = and_parts (not (is_reference fs)) (fields_plain fs) single in
+      let other : is_reference fs ≡ false = not-true (is_reference fs) plain.0 in
+      rw (other, object_of fs (list_of ts) fit apart, fields_back fs (list_of ts) json.no_members (depth + 1) node.1 plain.1 apart fit) (ap (λ us. Some (members_of us)) (listed ts))
   json_back (members fs) _ depth checked single fit = absurd cc
   json_back (choice disc bs other) (choice_of label ts) depth checked single fit =
       let node = no_fault (node_fault depth (choice disc bs other))
       (option_or (desc_fault (depth + 1) disc) (option_or (branches_fault (depth + 1) bs) (fields_fault (depth + 1) other))) checked in
       let parts = no_fault (desc_fault (depth + 1) disc) (option_or (branches_fault (depth + 1) bs) (fields_fault (depth + 1) other)) node.1 in
       let members = no_fault (branches_fault (depth + 1) bs) (fields_fault (depth + 1) other) parts.1 in
-      let singles = and_parts (branches_have bs) (is_single other && fields_have other) single in
-      let one = and_parts (is_single other) (fields_have other) singles.1 in
+      let singles = and_parts (branches_plain bs) (is_single other && fields_plain other) single in
+      let one = and_parts (is_single other) (fields_plain other) singles.1 in
       let fit_parts = and_parts (fits_label disc label) (branches_fit bs (fields_fit other) label (list_of ts)) fit in
       let l = label_back disc label (apart_at (depth + 1) disc parts.0) fit_parts.0 in
       let m = branches_back bs other label (list_of ts) (depth + 1) members.0 singles.0
@@ -189,14 +192,14 @@ mutual
       items_back s ts (shown s) (to_data s) (each_back (fits s) (shown s) (to_data s) (λ t h. json_back s t (depth + 1) node.1 single h) (list_of ts) all) row_of
   json_back (row s n) _ depth checked single fit = absurd cc
 
-  fields_back : (fs : Fields) (ts : List Tree) (ms : json.Members) (depth : ℕ) → fields_fault depth fs ≡ None → fields_have fs ≡ true
+  fields_back : (fs : Fields) (ts : List Tree) (ms : json.Members) (depth : ℕ) → fields_fault depth fs ≡ None → fields_plain fs ≡ true
       → has_doubled same_name (field_names fs) ≡ false → fields_fit fs ts ≡ true → fields_shown fs (json.object (fields_data fs ts ms)) ≡ Some ts
   fields_back no_fields [] ms depth checked single apart fit = refl
   fields_back no_fields (t ∷ ts) ms depth checked single apart fit = absurd cc
   fields_back (field n s fs) [] ms depth checked single apart fit = absurd cc
   fields_back (field n s fs) (t ∷ ts) ms depth checked single apart fit =
       let faults = no_fault (desc_fault depth s) (fields_fault depth fs) checked in
-      let singles = and_parts (has_single_defaults s) (fields_have fs) single in
+      let singles = and_parts (is_plain s) (fields_plain fs) single in
       let names = or_parts (list_any (λ y. same_name y n) (field_names fs)) (has_doubled same_name (field_names fs)) apart in
       let fit_parts = and_parts (fits s t) (fields_fit fs ts) fit in
       rw (
@@ -205,31 +208,31 @@ mutual
         fields_back fs ts (json.put (utf8.text_of n) (to_data s t) ms) depth faults.1 singles.1 names.1 fit_parts.1,
       ) refl
 
-  branches_back : (bs : Branches) (other : Fields) (label : ℤ) (ts : List Tree) (depth : ℕ) → branches_fault depth bs ≡ None → branches_have bs ≡ true
+  branches_back : (bs : Branches) (other : Fields) (label : ℤ) (ts : List Tree) (depth : ℕ) → branches_fault depth bs ≡ None → branches_plain bs ≡ true
       → ((us : List Tree) → fields_fit other us ≡ true → fallback_shown other (fallback_data other us) ≡ Some us)
       → branches_fit bs (fields_fit other) label ts ≡ true
       → branches_shown bs (fallback_shown other) label (branches_data bs (fallback_data other) label ts) ≡ Some ts
   branches_back no_branches other label ts depth checked single default fit = default ts fit
   branches_back (branch ls n s bs) other label ts depth checked single default fit =
       let faults = no_fault (desc_fault depth s) (branches_fault depth bs) checked in
-      let singles = and_parts (has_single_defaults s) (branches_have bs) single in
+      let singles = and_parts (is_plain s) (branches_plain bs) single in
       by_case (is_label label ls) (only_data (to_data s) ts) (branches_data bs (fallback_data other) label ts)
       (λ d. one_shown (shown s d)) (branches_shown bs (fallback_shown other) label) ts (is_one (fits s) ts) (branches_fit bs (fields_fit other) label ts) fit
       (one_back (fits s) (shown s) (to_data s) (λ t h. json_back s t depth faults.0 singles.0 h) ts)
       (branches_back bs other label ts depth faults.1 singles.1 default)
 
-  fallback_back : (other : Fields) (ts : List Tree) (depth : ℕ) → fields_fault depth other ≡ None → is_single other ≡ true → fields_have other ≡ true
+  fallback_back : (other : Fields) (ts : List Tree) (depth : ℕ) → fields_fault depth other ≡ None → is_single other ≡ true → fields_plain other ≡ true
       → fields_fit other ts ≡ true → fallback_shown other (fallback_data other ts) ≡ Some ts
   fallback_back no_fields [] depth checked one single fit = refl
   fallback_back no_fields (t ∷ ts) depth checked one single fit = absurd cc
   fallback_back (field n s no_fields) [] depth checked one single fit = absurd cc
   fallback_back (field n s no_fields) (t ∷ []) depth checked one single fit =
       let faults = no_fault (desc_fault depth s) None checked in
-      ap one_shown (json_back s t depth faults.0 (and_parts (has_single_defaults s) true single).0 (and_parts (fits s t) true fit).0)
+      ap one_shown (json_back s t depth faults.0 (and_parts (is_plain s) true single).0 (and_parts (fits s t) true fit).0)
   fallback_back (field n s no_fields) (t ∷ u ∷ us) depth checked one single fit =
       let none = (and_parts (fits s t) false fit).1 in
       absurd cc
   fallback_back (field n s (field m r fs)) ts depth checked one single fit = absurd cc
 
-pub back_from_json : (s : Shape) → desc_fault 1 s ≡ None → has_single_defaults s ≡ true → (t : Tree) → fits s t ≡ true → from_data s (to_data s t) ≡ Ok t
+pub back_from_json : (s : Shape) → desc_fault 1 s ≡ None → is_plain s ≡ true → (t : Tree) → fits s t ≡ true → from_data s (to_data s t) ≡ Ok t
 back_from_json s checked single t fit = rw (json_back s t 1 checked single fit, fit) refl

@@ -20,6 +20,7 @@ pub mod FromJsonLemmas
 pub mod JsonLeavesBack
 pub mod JsonObjects
 pub mod JsonBack
+pub mod ReferenceLemmas
 pub mod EncodeLemmas
 pub mod SpelledFits
 pub mod NodeLemmas

@@ -17,25 +17,46 @@ use Rattle.giop_types.specs.declared.desc.CaseDesc.{CaseDesc}
 use Rattle.giop_types.specs.declared.value.Value.{Value}
 use Rattle.giop_types.specs.declared.value.Value.TheVariants as value
 use Rattle.giop_types.specs.Shape.{Shape, members, choice, items, row, Fields, no_fields, field, Branches, no_branches, branch}
-use Rattle.giop_types.specs.Tree.{Tree}
+use Rattle.giop_types.specs.Tree.{Tree, members_of}
 use Rattle.giop_types.specs.Decoding.{is_label}
 use Rattle.giop_types.specs.JsonText.{text_of}
+use Rattle.giop_types.specs.Reference.{is_reference, reference_data}
 use Rattle.giop_types.specs.ToJson.{to_data, fields_data, branches_data, fallback_data, label_data, only_data, choice_data, selected, selected_data}
 use Rattle.giop_types.specs.Views.{desc_view, named_view, case_view, fallback_view, fields_of, branches_of}
-use Rattle.giop_types.specs.Views.{value_view, member_view}
+use Rattle.giop_types.specs.Views.{trees_of, value_view, member_view}
 use Rattle.giop_types.proofs.ViewLemmas.{view-Members, view-Choice, view-Items, view-Row, view-Named}
 use Rattle.giop_types.proofs.FitLemmas.{list_back, members_view, items_view, row_view, choice_view}
 use Rattle.giop_types.proofs.MemberLoops.{left_is, fields_left, branches_left}
 
 -- ---- variants with parts
 
-pub members_data : (ms : _) (vs : _) → to_data (desc_view (desc.Members ms)) (value_view (value.Members vs))
-    ≡ json.object (fields_data (fields_of (map named_view ms.items)) (map value_view vs.items) json.no_members)
-unfolding to_data
-members_data ms vs =
+members_read : (ms : Vec NamedDesc Global) (vs : Vec Value Global) → to_data (desc_view (desc.Members ms)) (value_view (value.Members vs))
+    ≡ to_data (members (fields_of (map named_view ms.items))) (members_of (trees_of (map value_view vs.items)))
+members_read ms vs =
     ap (λ s. to_data s (value_view (value.Members vs))) (view-Members ms)
     ∙ ap (to_data (members (fields_of (map named_view ms.items)))) (members_view vs)
-    ∙ ap (λ ts. json.object (fields_data (fields_of (map named_view ms.items)) ts json.no_members)) (list_back (map value_view vs.items))
+
+plain_members : (fs : Fields) (ts : List Tree) → is_reference fs ≡ false → to_data (members fs) (members_of (trees_of ts)) ≡ json.object (fields_data fs ts json.no_members)
+unfolding to_data
+plain_members fs ts plain = rw plain (ap (λ us. json.object (fields_data fs us json.no_members)) (list_back ts))
+
+reference_members : (fs : Fields) (ts : List Tree) → is_reference fs ≡ true → to_data (members fs) (members_of (trees_of ts)) ≡ reference_data (members fs) (members_of (trees_of ts))
+unfolding to_data
+reference_members fs ts is = rw is refl
+
+-- a struct that is no IOR
+pub members_data : (ms : Vec NamedDesc Global) (vs : Vec Value Global) → is_reference (fields_of (map named_view ms.items)) ≡ false
+    → to_data (desc_view (desc.Members ms)) (value_view (value.Members vs))
+    ≡ json.object (fields_data (fields_of (map named_view ms.items)) (map value_view vs.items) json.no_members)
+members_data ms vs plain = members_read ms vs ∙ plain_members (fields_of (map named_view ms.items)) (map value_view vs.items) plain
+
+-- an IOR
+pub reference_written : (ms : Vec NamedDesc Global) (vs : Vec Value Global) → is_reference (fields_of (map named_view ms.items)) ≡ true
+    → reference_data (desc_view (desc.Members ms)) (value_view (value.Members vs)) ≡ to_data (desc_view (desc.Members ms)) (value_view (value.Members vs))
+reference_written ms vs is =
+    ap (λ s. reference_data s (value_view (value.Members vs))) (view-Members ms)
+    ∙ ap (reference_data (members (fields_of (map named_view ms.items)))) (members_view vs)
+    ∙ sym (members_read ms vs ∙ reference_members (fields_of (map named_view ms.items)) (map value_view vs.items) is)
 
 pub items_data : (d : _) (bound : ℕ) (vs : _) → to_data (desc_view (desc.Items d bound)) (value_view (value.Items vs))
     ≡ json.array (items_of (map (to_data (desc_view d.value)) (map value_view vs.items)))

@@ -20,6 +20,7 @@ use Rattle.giop_types.specs.Views.{trees_of, value_view}
 use Rattle.giop_types.specs.Decoding.{is_label}
 use Rattle.giop_types.specs.Fits.{fits}
 use Rattle.giop_types.specs.JsonText as utf8
+use Rattle.giop_types.specs.Reference.{is_reference, reference_shown}
 
 -- ---- numbers: one that its type can't hold is shown as the longer one that it is, which doesn't fit
 
@@ -131,7 +132,9 @@ unfoldable mutual
   shown (text bound) d = option_map text_of (octets_shown d)
   shown (octets bound) d = option_map octets_of (hex_shown d)
   shown (labels names) d = option_map ordinal_tree (ordinal_shown names d)
-  shown (members fs) d = option_map (λ ts. members_of (trees_of ts)) (in_object (field_count fs) (fields_shown fs) d)
+  shown (members fs) d =
+      if is_reference fs then reference_shown (members fs) d
+      else option_map (λ ts. members_of (trees_of ts)) (in_object (field_count fs) (fields_shown fs) d)
   shown (choice disc bs other) d = option_and_then (λ parts. option_and_then (λ label.
       option_map (λ ts. choice_of label (trees_of ts)) (branches_shown bs (fallback_shown other) label parts.1)) (label_shown disc parts.0)) (union_parts d)
   shown (items s bound) d = option_map (λ ts. items_of (trees_of ts)) (option_and_then (items_shown (shown s)) (as_array d))

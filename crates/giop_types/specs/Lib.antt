@@ -15,7 +15,7 @@ pub mod JsonText
 pub mod ToJson
 pub mod FormFault
 pub mod FromJson
-pub mod Defaults
+pub mod Plain
 pub mod Parse
 pub mod Reference
 pub mod Encoding

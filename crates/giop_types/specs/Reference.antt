@@ -1,6 +1,21 @@
--- The description of an object reference (CORBA 3.3 Part 2, 7.6.2).
-use Rattle.std.specs.Prelude.{codes}
-use Rattle.giop_types.specs.Shape.{Shape, ulong, text, octets, members, items, no_fields, field}
+-- Object references: their description (CORBA 3.3 Part 2, 7.6.2) and their text (7.6.9).
+use Rattle.std.specs.Prelude.{ℕ, ◌==◌, ◌&&◌, codes, Bool, true, false, if◌then◌else◌, List, [], ◌∷◌, ◌++◌}
+use Rattle.std.specs.Prelude.{take, drop, map, bytes_eq, Option, Some, None, option_map, option_and_then}
+use Rattle.std.specs.Char.{to_ascii_lowercase}
+use Rattle.std.specs.Int.{w8}
+use Rattle.std.specs.Result.{result_ok}
+use Rattle.hex.specs.Hex.{decode_of, encode_lower}
+use Rattle.serde_json.specs.Data as json
+use Rattle.serde_json.specs.Find.{as_str}
+use Rattle.giop_cdr.specs.declared.order.Order.{Order}
+use Rattle.giop_cdr.specs.declared.order.Order.TheVariants.{Big, Little}
+use Rattle.giop_cdr.specs.Output.{Output, number_out}
+use Rattle.giop_types.specs.Shape.{Shape, ulong, text, octets, members, items, Fields, no_fields, field}
+use Rattle.giop_types.specs.Tree.{Tree}
+use Rattle.giop_types.specs.Checked.{same_name}
+use Rattle.giop_types.specs.Decoding.{decode_at}
+use Rattle.giop_types.specs.Fits.{fits}
+use Rattle.giop_types.specs.Written.{value_out}
 
 -- a profile: its tag and its octets
 abbrev pub profile_shape : Shape
@@ -9,3 +24,71 @@ profile_shape = members (field (codes "tag") ulong (field (codes "octets") (octe
 -- an IOR: a type id, and profiles
 abbrev pub reference_shape : Shape
 reference_shape = members (field (codes "type_id") (text 0) (field (codes "profiles") (items profile_shape 0) no_fields))
+
+-- ---- which members are those of an IOR
+
+-- two members of these names
+abbrev pub are_two : List ℕ → (Shape → Bool) → List ℕ → (Shape → Bool) → Fields → Bool
+are_two n p m q (field a s (field b t no_fields)) = (same_name a n && p s) && (same_name b m && q t)
+are_two n p m q _ = false
+
+abbrev pub is_any_text : Shape → Bool
+is_any_text (text bound) = bound == 0
+is_any_text _ = false
+
+abbrev pub are_any_octets : Shape → Bool
+are_any_octets (octets bound) = bound == 0
+are_any_octets _ = false
+
+abbrev pub is_ulong : Shape → Bool
+is_ulong ulong = true
+is_ulong _ = false
+
+abbrev pub is_profile : Shape → Bool
+is_profile (members fs) = are_two (codes "tag") is_ulong (codes "octets") are_any_octets fs
+is_profile _ = false
+
+abbrev pub are_profiles : Shape → Bool
+are_profiles (items s bound) = is_profile s && (bound == 0)
+are_profiles _ = false
+
+abbrev pub is_reference : Fields → Bool
+is_reference fs = are_two (codes "type_id") is_any_text (codes "profiles") are_profiles fs
+
+-- ---- the text of an IOR: `IOR:` and the digits of an encapsulation
+
+-- an encapsulation that is begun, big-endian
+abbrev pub opened : Output
+opened = number_out w8 0 (record { order = Big; at = 0; octets = [] })
+
+-- the written text
+abbrev pub reference_text : Shape → Tree → List ℕ
+reference_text s t = codes "IOR:" ++ encode_lower (value_out s t opened).octets
+
+-- the same as JSON; null where the value doesn't fit
+abbrev pub reference_data : Shape → Tree → json.Data
+reference_data s t = if fits s t then json.string (reference_text s t) else json.null
+
+-- the digits of a text, whose prefix may have any case
+abbrev pub digits_in : List ℕ → Option (List ℕ)
+digits_in s = if bytes_eq (map to_ascii_lowercase (take 4 s)) (codes "ior:") then Some (drop 4 s) else None
+
+-- the byte order that an octet tells
+abbrev pub order_in : ℕ → Option Order
+order_in n = if n == 0 then Some Big else (if n == 1 then Some Little else None)
+
+-- the value that an encapsulation's content spells, whatever stands behind it
+abbrev pub content_in : Shape → List ℕ → Order → Option Tree
+content_in s rest order = option_map (λ r. r.0) (result_ok (decode_at s (record { order = order; at = 1; rest = rest })))
+
+-- the value that is encapsulated
+abbrev pub encapsulated_in : Shape → List ℕ → Option Tree
+encapsulated_in s [] = None
+encapsulated_in s (o ∷ rest) = option_and_then (content_in s rest) (order_in o)
+
+-- the value that a text's digits encapsulate
+abbrev pub reference_in : Shape → List ℕ → Option Tree
+reference_in s t = option_and_then (encapsulated_in s) (option_and_then (λ digits. result_ok (decode_of digits)) (digits_in t))
+
+abbrev pub reference_shown : Shape → json.Data → Option Tree
+reference_shown s d = option_and_then (reference_in s) (as_str d)

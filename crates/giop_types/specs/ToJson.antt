@@ -17,6 +17,7 @@ use Rattle.giop_types.specs.Decoding.{is_label}
 use Rattle.giop_types.specs.Checked.{is_between}
 use Rattle.giop_types.specs.Fits.{list_of}
 use Rattle.giop_types.specs.JsonText as utf8
+use Rattle.giop_types.specs.Reference.{is_reference, reference_data}
 
 -- the text of octets
 abbrev pub text_data : List ℕ → json.Data
@@ -87,7 +88,8 @@ unfoldable mutual
   to_data (text bound) (text_of t) = text_data t
   to_data (octets bound) (octets_of t) = json.string (encode_lower t)
   to_data (labels names) (label_of n) = name_data names n
-  to_data (members fs) (members_of ts) = json.object (fields_data fs (list_of ts) json.no_members)
+  to_data (members fs) (members_of ts) =
+      if is_reference fs then reference_data (members fs) (members_of ts) else json.object (fields_data fs (list_of ts) json.no_members)
   to_data (choice disc bs other) (choice_of label ts) =
       choice_data (label_data disc label) (branches_data bs (fallback_data other) label (list_of ts))
   to_data (items s bound) (items_of ts) = json.array (json_items (map (to_data s) (list_of ts)))

@@ -45,7 +45,11 @@ pub fn decode<S: Octets>(
 
 // The value, in one pass where all goes well. Memory comes last: where it is wanting, a second pass
 // without memory looks for a fault.
-fn value_of<S: Octets>(alloc: Global, desc: &Desc, input: &mut CdrIn<S>) -> Result<Value, CdrFault>
+pub fn value_of<S: Octets>(
+    alloc: Global,
+    desc: &Desc,
+    input: &mut CdrIn<S>,
+) -> Result<Value, CdrFault>
     ensures { Decodes input.old result input.new (decode_at (desc_view desc.now) input.old) }
 {
     let mut ahead = input.fork();

@@ -17,6 +17,7 @@ use crate::form_fault::FormFault;
 use crate::json::read_leaves::{
     char_of, hex_of, label_of, number_of, octets_of, ordinal_of, ordinal_value,
 };
+use crate::json::reference::{is_reference, reference_of};
 use crate::json::texts::text_of;
 use crate::reading::has_label;
 use crate::value::Value;
@@ -52,7 +53,13 @@ pub fn show(alloc: Global, desc: &Desc, json: &Json) -> Result<Value, FormFault>
         Desc::Text(_) => Ok(Value::Text(octets_of(alloc, json)?)),
         Desc::Octets(_) => Ok(Value::Octets(hex_of(alloc, json)?)),
         Desc::Labels(names) => Ok(ordinal_value(ordinal_of(alloc, names, json)?)),
-        Desc::Members(members) => Ok(Value::Members(show_members(alloc, members, json)?)),
+        Desc::Members(members) => {
+            if is_reference(members) {
+                reference_of(alloc, desc, json)
+            } else {
+                Ok(Value::Members(show_members(alloc, members, json)?))
+            }
+        }
         Desc::Choice {
             disc,
             cases,

@@ -1,11 +1,20 @@
-//! The description of an object reference (CORBA 3.3 Part 2, 7.6.2).
-ghost use Rattle.std.specs.Prelude.{◌≡◌, IfOk};
-ghost use Rattle.giop_types.specs.Reference.{reference_shape};
+//! Object references: their description (CORBA 3.3 Part 2, 7.6.2) and their text (7.6.9).
+ghost use Rattle.std.specs.Prelude.{◌≡◌, map, IfOk};
+ghost use Rattle.giop_types.specs.FromJson.{Shows};
+ghost use Rattle.giop_types.specs.Reference.{reference_shape, is_profile, are_profiles, is_reference, reference_data, digits_in, order_in, content_in, encapsulated_in, reference_shown};
+ghost use Rattle.giop_types.specs.Checked.{same_name};
 ghost use Rattle.giop_types.specs.Shape.{members, field, no_fields};
-ghost use Rattle.giop_types.specs.Views.{desc_view};
+ghost use Rattle.giop_types.specs.Views.{desc_view, named_view, fields_of, value_view};
+ghost use Rattle.serde_json.specs.View.{view};
 
+use crate::append::append;
+use crate::decoder::value_of;
 use crate::desc::{Desc, NamedDesc};
-use giop_cdr::OctetList;
+use crate::form_fault::FormFault;
+use crate::value::Value;
+use giop_cdr::{CdrIn, CdrKind, CdrOut, EncodeFault, OctetList, Order, SliceOctets};
+use hex::FromHexError;
+use serde_json::Value as Json;
 use std::alloc::{AllocError, Global};
 
 /// The description of an IOR: a struct of `type_id`, a string, and `profiles`, a sequence of structs
@@ -41,4 +50,139 @@ fn struct_of(
         desc: two,
     })?;
     Ok(Desc::Members(members))
+}
+
+// Whether a member has this name.
+fn is_named(member: &NamedDesc, name: &[u8]) -> bool
+    ensures { result ≡ same_name member.now.name name.now }
+{
+    member.name.as_slice() == name
+}
+
+// Whether this is an unbounded sequence of profiles.
+fn are_profiles(desc: &Desc) -> bool
+    ensures { result ≡ are_profiles (desc_view desc.now) }
+{
+    match desc {
+        Desc::Items(item, bound) => is_profile(item) && *bound == 0,
+        _ => false,
+    }
+}
+
+// Whether this is a profile: a tag and octets.
+fn is_profile(desc: &Desc) -> bool
+    ensures { result ≡ is_profile (desc_view desc.now) }
+{
+    match desc {
+        Desc::Members(members) => match members.as_slice() {
+            [tag, octets] => {
+                is_named(tag, b"tag")
+                    && matches!(tag.desc, Desc::ULong)
+                    && (is_named(octets, b"octets") && matches!(octets.desc, Desc::Octets(0)))
+            }
+            _ => false,
+        },
+        _ => false,
+    }
+}
+
+/// Whether these are the members of a reference.
+pub fn is_reference(members: &[NamedDesc]) -> bool
+    ensures { result ≡ is_reference (fields_of (map named_view members.now)) }
+{
+    match members {
+        [type_id, profiles] => {
+            is_named(type_id, b"type_id")
+                && matches!(type_id.desc, Desc::Text(0))
+                && (is_named(profiles, b"profiles") && are_profiles(&profiles.desc))
+        }
+        _ => false,
+    }
+}
+
+/// The text of a reference, big-endian; null where the value doesn't fit.
+#[tactic(auto, unfolding(crate::specs::Written::value_out))]
+pub fn reference_json(alloc: Global, value: &Value, desc: &Desc) -> Result<Json, AllocError>
+    ensures { IfOk result (λ json. view json ≡ reference_data (desc_view desc.now) (value_view value.now)) }
+{
+    let mut out = CdrOut::new(alloc, Order::Big, 0);
+    out.write_octet(0)?;
+    match append(&mut out, desc, value) {
+        Ok(()) => (),
+        Err(EncodeFault::Unfit) => return Ok(Json::Null),
+        Err(EncodeFault::NoMemory) => return Err(AllocError),
+    }
+    let digits = hex::encode(alloc, out.as_slice())?;
+    let mut text = String::from_str(alloc, "IOR:")?;
+    text.push_str(digits.as_str())?;
+    Ok(Json::String(text))
+}
+
+/// The value of a reference's text.
+pub fn reference_of(alloc: Global, desc: &Desc, json: &Json) -> Result<Value, FormFault>
+    ensures { Shows value_view result (reference_shown (desc_view desc.now) (view json.now)) }
+{
+    let Some(text) = json.as_str() else {
+        return Err(FormFault::BadShape);
+    };
+    let digits = digits_in(text.as_bytes())?;
+    let octets = match hex::decode(alloc, digits) {
+        Ok(octets) => octets,
+        Err(FromHexError::OutOfMemory) => return Err(FormFault::NoMemory),
+        Err(_) => return Err(FormFault::BadShape),
+    };
+    encapsulated(alloc, desc, octets.as_slice())
+}
+
+// The digits of a reference's text, whose prefix may have any case.
+fn digits_in(text: &[u8]) -> Result<&[u8], FormFault>
+    ensures { Shows (λ digits. digits.now) result (digits_in text.now) }
+{
+    if text.len() >= 4 && text[..4].eq_ignore_ascii_case(b"ior:") {
+        Ok(&text[4..])
+    } else {
+        Err(FormFault::BadShape)
+    }
+}
+
+// The byte order that an octet tells.
+fn order_in(octet: u8) -> Option<Order>
+    ensures { result ≡ order_in octet }
+{
+    match octet {
+        0 => Some(Order::Big),
+        1 => Some(Order::Little),
+        _ => None,
+    }
+}
+
+// The value of an encapsulation, whatever stands behind it.
+#[tactic(auto, using(crate::proofs::ReferenceLemmas::encapsulated_parts, crate::proofs::ReferenceLemmas::none_encapsulated))]
+fn encapsulated(alloc: Global, desc: &Desc, octets: &[u8]) -> Result<Value, FormFault>
+    ensures { Shows value_view result (encapsulated_in (desc_view desc.now) octets.now) }
+{
+    if octets.is_empty() {
+        return Err(FormFault::BadShape);
+    }
+    match order_in(octets[0]) {
+        Some(order) => content(alloc, desc, &octets[1..], order),
+        None => Err(FormFault::BadShape),
+    }
+}
+
+// The value of an encapsulation's content.
+fn content(alloc: Global, desc: &Desc, octets: &[u8], order: Order) -> Result<Value, FormFault>
+    ensures { Shows value_view result (content_in (desc_view desc.now) octets.now order) }
+{
+    if octets.len() > 1 << 62 {
+        return Err(FormFault::NoMemory);
+    }
+    let source = SliceOctets::new(octets);
+    match value_of(alloc, desc, &mut CdrIn::new(&source, order, 1)) {
+        Ok(value) => Ok(value),
+        Err(fault) => match fault.kind {
+            CdrKind::NoMemory => Err(FormFault::NoMemory),
+            _ => Err(FormFault::BadShape),
+        },
+    }
 }

@@ -13,6 +13,7 @@ use crate::desc::{CaseDesc, Desc, NamedDesc};
 use crate::fitting::fits;
 use crate::form_fault::FormFault;
 use crate::json::leaves::{label_json, name_json, text_json};
+use crate::json::reference::{is_reference, reference_json};
 use crate::json::texts::text_of;
 use crate::reading::has_label;
 use crate::value::Value;
@@ -53,7 +54,13 @@ pub fn to_json(alloc: Global, value: &Value, desc: &Desc) -> Result<Json, AllocE
             Ok(Json::String(hex::encode(alloc, octets.as_slice())?))
         }
         (Desc::Labels(names), Value::Label(ordinal)) => name_json(alloc, names, *ordinal as usize),
-        (Desc::Members(members), Value::Members(values)) => members_json(alloc, values, members),
+        (Desc::Members(members), Value::Members(values)) => {
+            if is_reference(members) {
+                reference_json(alloc, value, desc)
+            } else {
+                members_json(alloc, values, members)
+            }
+        }
         (
             Desc::Choice {
                 disc,

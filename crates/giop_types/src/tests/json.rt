@@ -1,5 +1,9 @@
 // JSON forms: values of each form read and written again, and each refusal.
-use crate::{FormFault, Value, desc_from_json, value_from_json, value_to_json};
+use crate::{
+    FormFault, Value, decode, desc_from_json, encode, reference_desc, value_from_json,
+    value_to_json,
+};
+use giop_cdr::{CdrIn, CdrOut, Order, SliceOctets};
 use serde_json::Value as Json;
 use std::alloc::{AllocError, Global};
 use std::process::Abort;
@@ -330,5 +334,133 @@ fn nesting_is_bounded(rt: HostRuntime) -> Result<(), Fail> {
         let told = shown(alloc, desc.as_str(), "[]")?;
         assert_eq!(rt; told.as_str(), wanted, "{depth}");
     }
+    Ok(())
+}
+
+// The texts of a nil reference, and of one IIOP profile: host `h`, port 2809, key `k`.
+const NIL: &str = "\"IOR:00000000000000010000000000000000\"";
+
+const ONE: &str = "\"IOR:0000000000000001000000000000000100000000000000110001000000000002\
+                   68000af9000000016b\"";
+
+#[test]
+fn references_are_texts(rt: HostRuntime) -> Result<(), Fail> {
+    let rows: [(&str, &str, &str); 12] = [
+        ("\"reference\"", NIL, NIL),
+        (
+            "\"reference\"",
+            "\"ior:00000000000000010000000000000000\"",
+            NIL,
+        ),
+        (
+            "\"reference\"",
+            "\"iOr:00000000000000010000000000000000\"",
+            NIL,
+        ),
+        // Little-endian, and with octets behind it.
+        (
+            "\"reference\"",
+            "\"IOR:01000000010000000000000000000000\"",
+            NIL,
+        ),
+        (
+            "\"reference\"",
+            "\"IOR:00000000000000010000000000000000FF\"",
+            NIL,
+        ),
+        ("\"reference\"", ONE, ONE),
+        ("\"reference\"", "\"IOR:0\"", "2 BadShape"),
+        ("\"reference\"", "\"IOX:00\"", "2 BadShape"),
+        (
+            "\"reference\"",
+            "\"IOR:02000000000000010000000000000000\"",
+            "2 BadShape",
+        ),
+        (
+            "\"reference\"",
+            "\"IOR:000000000000000100000000000000\"",
+            "2 BadShape",
+        ),
+        (
+            "\"reference\"",
+            "{\"type_id\":\"\",\"profiles\":[]}",
+            "2 BadShape",
+        ),
+        // A struct of the same members is an object reference, too.
+        (
+            "{\"struct\":[[\"type_id\",\"string\"],[\"profiles\",{\"sequence\":{\"struct\":[[\"tag\",\"ulong\"],[\"octets\",\"octets\"]]}}]]}",
+            NIL,
+            NIL,
+        ),
+    ];
+    rows_are(&rt, rt.alloc(), &rows)
+}
+
+// A value of a description, as octets and back: big-endian and little-endian, from offset 0.
+#[test]
+fn values_in_json_are_encoded_and_decoded(rt: HostRuntime) -> Result<(), Fail> {
+    let alloc = rt.alloc();
+    let rows: [(&str, &str, Order, &str); 9] = [
+        (
+            "{\"struct\":[[\"a\",\"octet\"],[\"b\",\"longlong\"]]}",
+            "{\"a\":1,\"b\":2}",
+            Order::Big,
+            "01000000000000000000000000000002",
+        ),
+        (
+            "{\"struct\":[[\"a\",\"octet\"],[\"b\",\"longlong\"]]}",
+            "{\"a\":1,\"b\":2}",
+            Order::Little,
+            "01000000000000000200000000000000",
+        ),
+        (
+            "{\"enum\":[\"RED\",\"GREEN\"]}",
+            "\"GREEN\"",
+            Order::Big,
+            "00000001",
+        ),
+        ("\"reference\"", NIL, Order::Big, "000000010000000000000000"),
+        ("\"string\"", "\"\"", Order::Big, "0000000100"),
+        (
+            "{\"union\":\"long\",\"cases\":[[[1],\"a\",\"octet\"]]}",
+            "{\"disc\":2,\"value\":null}",
+            Order::Big,
+            "00000002",
+        ),
+        (
+            "{\"union\":\"long\",\"cases\":[[[1],\"a\",\"octet\"]]}",
+            "{\"disc\":1,\"value\":9}",
+            Order::Big,
+            "0000000109",
+        ),
+        (
+            "{\"sequence\":\"long\"}",
+            "[2,5]",
+            Order::Big,
+            "000000020000000200000005",
+        ),
+        ("\"octets\"", "\"aa\"", Order::Little, "01000000aa"),
+    ];
+    for (desc, text, order, octets) in rows {
+        let desc = desc_from_json(alloc, desc.as_bytes())?;
+        let json = Json::from_str(alloc, text)?;
+        let value = value_from_json(alloc, &desc, &json)?;
+        let mut out = CdrOut::new(alloc, order, 0);
+        encode(&mut out, &desc, &value)?;
+        let digits = hex::encode(alloc, out.as_slice())?;
+        assert_eq!(rt; digits.as_str(), octets, "{text}");
+        let source = SliceOctets::new(out.as_slice());
+        let read = decode(alloc, &mut CdrIn::new(&source, order, 0), &desc)?;
+        let written = value_to_json(alloc, &desc, &read)?.to_string(alloc)?;
+        assert_eq!(rt; written.as_str(), text);
+    }
+    Ok(())
+}
+
+#[test]
+fn the_description_of_a_reference_is_its_name(rt: HostRuntime) -> Result<(), Fail> {
+    let alloc = rt.alloc();
+    let named = desc_from_json(alloc, b"\"reference\"")?;
+    assert!(rt; *named.desc() == reference_desc(alloc)?);
     Ok(())
 }

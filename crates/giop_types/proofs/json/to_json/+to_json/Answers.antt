@@ -6,15 +6,23 @@ use Rattle.serde_json.proofs.Views.{view-Array, view-Object}
 use Rattle.giop_types.specs.JsonText.{text_of}
 use Rattle.giop_types.specs.ToJson.{to_data}
 use Rattle.giop_types.specs.Views.{desc_view, value_view}
-use Rattle.giop_types.proofs.ToJsonLemmas.{members_data, items_data, row_data, union_written, fields_put, fields_end}
+use Rattle.giop_types.proofs.ToJsonLemmas.{members_data, reference_written, items_data, row_data, union_written, fields_put, fields_end}
 use Rattle.giop_types.proofs.ToJsonLemmas.{list_goes_on, list_ends}
 use Rattle.giop_types.proofs.json.to_json.+to_json.Goals as goal
 
-pub to_json-returns-in-Members-Members : goal.to_json-returns-in-Members-Members
-to_json-returns-in-Members-Members t c =
+pub to_json-returns-then-is_reference : goal.to_json-returns-then-is_reference
+to_json-returns-then-is_reference t c =
     let u = c.in-Members-Members in
-    let same = rw (c.deref-in-Members-Members.ensures.value, c.deref-in-Members-Members-2.ensures.value) at c.members_json.ensures in
-    rw (u.is-0, u.is-1, members_data u.members u.values) same
+    let is = rw c.deref-in-Members-Members.ensures.value at (sym c.is_reference.ensures ∙ c.if-is_reference.true) in
+    let same = rw (u.is-0, u.is-1) at c.reference_json.ensures in
+    rw (u.is-0, u.is-1, ← reference_written u.members u.values is) same
+
+pub to_json-returns-else-is_reference : goal.to_json-returns-else-is_reference
+to_json-returns-else-is_reference t c =
+    let u = c.in-Members-Members in
+    let plain = rw c.deref-in-Members-Members.ensures.value at (sym c.is_reference.ensures ∙ c.if-is_reference.false) in
+    let same = rw (c.deref-else-is_reference.ensures.value, c.deref-else-is_reference-2.ensures.value) at c.members_json.ensures in
+    rw (u.is-0, u.is-1, members_data u.members u.values plain) same
 
 pub to_json-returns-in-Items-Items : goal.to_json-returns-in-Items-Items
 to_json-returns-in-Items-Items t c =
