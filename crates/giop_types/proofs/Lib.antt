@@ -16,3 +16,4 @@ pub mod FitLemmas
 pub mod EncodeLemmas
 pub mod SpelledFits
 pub mod NodeLemmas
+pub mod AgainLemmas

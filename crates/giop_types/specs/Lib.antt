@@ -14,3 +14,4 @@ pub mod Written
 pub mod Encoding
 pub mod Nodes
 pub mod DescFaults
+pub mod TreeCode

@@ -18,6 +18,7 @@ mod skip;
 #[cfg(test)]
 mod tests;
 mod value;
+mod value_list;
 
 pub use checked_desc::CheckedDesc;
 pub use decoder::decode;
@@ -26,7 +27,8 @@ pub use desc_fault::DescFault;
 pub use encoder::encode;
 pub use fitting::fits;
 pub use laws::{
-    descriptions_are_checked_node_by_node, leaves_count_every_part, spelled_values_fit,
-    values_are_bounded, values_are_spelled, written_values_are_read_back,
+    descriptions_are_checked_node_by_node, encoded_and_decoded, leaves_count_every_part,
+    spelled_values_fit, values_are_bounded, values_are_spelled, written_values_are_read_back,
 };
 pub use value::Value;
+pub use value_list::ValueList;

@@ -6,3 +6,4 @@ mod encoding;
 mod memory;
 mod recorded;
 mod samples;
+mod values;
