@@ -24,3 +24,4 @@ pub mod ReferenceLemmas
 pub mod EncodeLemmas
 pub mod SpelledFits
 pub mod NodeLemmas
+pub mod AgainLemmas

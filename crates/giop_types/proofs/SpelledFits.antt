@@ -1,5 +1,5 @@
 -- What octets spell is a value that fits.
-use Rattle.std.proofs.Common.{◌≡◌, ◌<◌, ◌≤◌, ◌^◌, ◌+◌, ◌-◌, ℕ, zero, suc, ℤ, pos, negsuc, nat_lt, ◌&&◌, ◌==◌, not, Bool, true, false}
+use Rattle.std.proofs.Common.{◌≡◌, ◌<◌, ◌^◌, ◌+◌, ℕ, zero, suc, ℤ, pos, negsuc, nat_lt, ◌&&◌, ◌==◌, not, Bool, true, false}
 use Rattle.std.proofs.Common.{if◌then◌else◌, List, [], ◌∷◌, ◌++◌, length, get_or, refl, sym, ap, ◌∙◌, arith, FitsSigned, min, int_le, int_lt}
 use Rattle.std.proofs.lemmas.Bool.{and_from, lt-ltb, ltb-true, le-leb, eqb-true}
 use Rattle.std.proofs.lemmas.Bool.Decides.{nat_tests}
@@ -14,7 +14,7 @@ use Rattle.giop_cdr.specs.Cursor.{num}
 use Rattle.giop_cdr.specs.Reading.{has_null, passes}
 use Rattle.giop_cdr.specs.RoundTrip.{is_primitive}
 use Rattle.giop_cdr.specs.Spelling.{Spelling, SpellsNumber, SpellsSigned, SpellsBoolean, SpellsString, SpellsOctets}
-use Rattle.giop_cdr.specs.Spelling.{CountedText, SpellsEach, CountedItems, Such, Bounded}
+use Rattle.giop_cdr.specs.Spelling.{CountedText, SpellsEach, CountedItems, Bounded}
 use Rattle.giop_types.specs.Shape.{Shape, boolean, octet, char, short, ushort, long, ulong, longlong}
 use Rattle.giop_types.specs.Shape.{ulonglong, text, octets, labels, members, choice, items, row, Fields}
 use Rattle.giop_types.specs.Shape.{no_fields, field, Branches, no_branches, branch}

@@ -21,3 +21,4 @@ pub mod Reference
 pub mod Encoding
 pub mod Nodes
 pub mod DescFaults
+pub mod TreeCode

@@ -40,3 +40,8 @@ Decodes old (Err e) new reading = ((reading ≡ Err e) ⊎ ((e ≡ fault old.at 
 abbrev pub IsDecoded : Result Value CdrFault → Cursor → Tree → Cursor → Type 0
 IsDecoded (Ok v) new t after = (value_view v ≡ t) × (new ≡ after)
 IsDecoded (Err e) new t after = e.kind ≡ NoMemory
+
+-- what was written of a value is read as that value, unless memory is wanting
+abbrev pub GivesBack : Tree → Result Value CdrFault → Type 0
+GivesBack t (Ok v) = value_view v ≡ t
+GivesBack t (Err e) = e.kind ≡ NoMemory

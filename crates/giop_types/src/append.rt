@@ -18,8 +18,8 @@ use giop_cdr::{CdrOut, EncodeFault};
 #[cycle(append)]
 #[tactic(auto, unfolding(crate::specs::Fits::fits, crate::specs::Written::value_out))]
 pub fn append(out: &mut CdrOut, desc: &Desc, value: &Value) -> Result<(), EncodeFault>
-    ensures { AppendsFitting (fits (desc_view desc.now) (value_view value.now)) out.old result out.new
-        (value_out (desc_view desc.now) (value_view value.now) out.old) }
+    ensures { AppendsFitting (fits (desc_view desc.now) (value_view value.now))
+        out.old result out.new (value_out (desc_view desc.now) (value_view value.now) out.old) }
 {
     match (desc, value) {
         (Desc::Boolean, Value::Boolean(boolean)) => Ok(out.write_boolean(*boolean)?),
@@ -62,7 +62,8 @@ pub fn append(out: &mut CdrOut, desc: &Desc, value: &Value) -> Result<(), Encode
 
 // A text within its bound.
 fn append_text(out: &mut CdrOut, bound: u32, text: &[u8]) -> Result<(), EncodeFault>
-    ensures { AppendsFitting (is_text_of bound text.now) out.old result out.new (string_out text.now out.old) }
+    ensures { AppendsFitting (is_text_of bound text.now)
+        out.old result out.new (string_out text.now out.old) }
 {
     if !is_text_of(bound, text) {
         return Err(EncodeFault::Unfit);
@@ -73,7 +74,8 @@ fn append_text(out: &mut CdrOut, bound: u32, text: &[u8]) -> Result<(), EncodeFa
 
 // A sequence of octets within its bound.
 fn append_octets(out: &mut CdrOut, bound: u32, octets: &[u8]) -> Result<(), EncodeFault>
-    ensures { AppendsFitting (is_octets_of bound octets.now) out.old result out.new (octets_out octets.now out.old) }
+    ensures { AppendsFitting (is_octets_of bound octets.now)
+        out.old result out.new (octets_out octets.now out.old) }
 {
     if !is_octets_of(bound, octets) {
         return Err(EncodeFault::Unfit);
@@ -84,7 +86,8 @@ fn append_octets(out: &mut CdrOut, bound: u32, octets: &[u8]) -> Result<(), Enco
 
 // The ordinal of one of so many names.
 fn append_ordinal(out: &mut CdrOut, names: usize, ordinal: u32) -> Result<(), EncodeFault>
-    ensures { AppendsFitting (is_unsigned 32 ordinal && nat_lt ordinal names) out.old result out.new (number_out w32 ordinal out.old) }
+    ensures { AppendsFitting (is_unsigned 32 ordinal && nat_lt ordinal names)
+        out.old result out.new (number_out w32 ordinal out.old) }
 {
     if ordinal as usize >= names {
         return Err(EncodeFault::Unfit);
@@ -95,7 +98,8 @@ fn append_ordinal(out: &mut CdrOut, names: usize, ordinal: u32) -> Result<(), En
 
 // The count of a sequence within its bound, where 0 is none.
 fn append_count(out: &mut CdrOut, bound: u32, count: usize) -> Result<(), EncodeFault>
-    ensures { AppendsFitting (is_counted bound count) out.old result out.new (number_out w32 count out.old) }
+    ensures { AppendsFitting (is_counted bound count)
+        out.old result out.new (number_out w32 count out.old) }
 {
     if !is_counted(bound, count) {
         return Err(EncodeFault::Unfit);
@@ -107,7 +111,8 @@ fn append_count(out: &mut CdrOut, bound: u32, count: usize) -> Result<(), Encode
 // A discriminant, by its number.
 #[tactic(auto, unfolding(crate::specs::Written::label_out))]
 fn append_label(out: &mut CdrOut, disc: &Desc, label: &i128) -> Result<(), EncodeFault>
-    ensures { AppendsFitting (fits_label (desc_view disc.now) label.now) out.old result out.new (label_out (desc_view disc.now) label.now out.old) }
+    ensures { AppendsFitting (fits_label (desc_view disc.now) label.now)
+        out.old result out.new (label_out (desc_view disc.now) label.now out.old) }
 {
     if !fits_label(disc, label) {
         return Err(EncodeFault::Unfit);
@@ -132,7 +137,9 @@ fn append_members(
     members: &[NamedDesc],
     values: &[Value],
 ) -> Result<(), EncodeFault>
-    ensures { AppendsFitting (fields_fit (fields_of (map named_view members.now)) (map value_view values.now)) out.old result out.new
+    ensures { AppendsFitting
+        (fields_fit (fields_of (map named_view members.now)) (map value_view values.now))
+        out.old result out.new
         (fields_out (fields_of (map named_view members.now)) (map value_view values.now) out.old) }
 {
     if members.len() != values.len() {
@@ -153,7 +160,9 @@ fn append_items(
     bound: u32,
     values: &[Value],
 ) -> Result<(), EncodeFault>
-    ensures { AppendsFitting (is_counted bound (length values.now) && list_all (fits (desc_view item.now)) (map value_view values.now)) out.old result out.new
+    ensures { AppendsFitting
+        (is_counted bound (length values.now) && list_all (fits (desc_view item.now)) (map value_view values.now))
+        out.old result out.new
         (sequence_out (value_out (desc_view item.now)) (map value_view values.now) out.old) }
 {
     append_count(out, bound, values.len())?;
@@ -163,7 +172,9 @@ fn append_items(
 // The values of an array of so many.
 #[cycle(append)]
 fn append_row(out: &mut CdrOut, item: &Desc, n: u32, values: &[Value]) -> Result<(), EncodeFault>
-    ensures { AppendsFitting ((length values.now == n) && list_all (fits (desc_view item.now)) (map value_view values.now)) out.old result out.new
+    ensures { AppendsFitting
+        ((length values.now == n) && list_all (fits (desc_view item.now)) (map value_view values.now))
+        out.old result out.new
         (items_out (value_out (desc_view item.now)) (map value_view values.now) out.old) }
 {
     if values.len() != n as usize {
@@ -175,7 +186,8 @@ fn append_row(out: &mut CdrOut, item: &Desc, n: u32, values: &[Value]) -> Result
 // Values one after the other, each of a description.
 #[cycle(append)]
 fn append_each(out: &mut CdrOut, item: &Desc, values: &[Value]) -> Result<(), EncodeFault>
-    ensures { AppendsFitting (list_all (fits (desc_view item.now)) (map value_view values.now)) out.old result out.new
+    ensures { AppendsFitting (list_all (fits (desc_view item.now)) (map value_view values.now))
+        out.old result out.new
         (items_out (value_out (desc_view item.now)) (map value_view values.now) out.old) }
 {
     for value in values {
@@ -193,9 +205,11 @@ fn append_case(
     member: &Option<Box<Value>>,
 ) -> Result<bool, EncodeFault>
     ensures { (other : _) (more : _) → AppendsCase
-        (branches_fit (branches_of (map case_view cases.now)) other label.now (member_view member.now)) (other (member_view member.now))
+        (branches_fit (branches_of (map case_view cases.now)) other label.now (member_view member.now))
+        (other (member_view member.now))
         out.old result out.new
-        (branches_out (branches_of (map case_view cases.now)) more label.now (member_view member.now) out.old) (more (member_view member.now) out.old) }
+        (branches_out (branches_of (map case_view cases.now)) more label.now (member_view member.now) out.old)
+        (more (member_view member.now) out.old) }
 {
     for case in cases {
         if has_label(&case.labels, label) {
@@ -218,7 +232,8 @@ fn append_default(
     fallback: &Option<Box<NamedDesc>>,
     member: &Option<Box<Value>>,
 ) -> Result<(), EncodeFault>
-    ensures { AppendsFitting (fields_fit (fallback_view fallback.now) (member_view member.now)) out.old result out.new
+    ensures { AppendsFitting (fields_fit (fallback_view fallback.now) (member_view member.now))
+        out.old result out.new
         (fields_out (fallback_view fallback.now) (member_view member.now) out.old) }
 {
     match fallback {

@@ -175,12 +175,13 @@ fn build_row<S: Octets>(
     build_counted(alloc, item, count, input)
 }
 
-// Room for values of which so many are claimed: for one in eight octets that are left at most, since a
-// value takes many more octets in memory than on the wire. The rest is made as the values come.
+// Room for values of which so many are claimed: for one in eight octets that are left at most,
+// since a value takes many more octets in memory than on the wire. The rest is made as they come.
 fn room<S: Octets>(alloc: Global, count: usize, input: &CdrIn<S>) -> Result<Vec<Value>, AllocError>
     requires { count ≤ length input.now.rest }
     ensures none { IfOk result (λ values. values.items ≡ []) }
-    ensures room { IfOk result (λ values. vec_capacity values ≡ min count (length input.now.rest / 8)) }
+    ensures room { IfOk result (λ values.
+        vec_capacity values ≡ min count (length input.now.rest / 8)) }
 {
     Vec::with_capacity(alloc, count.min(input.remaining() / 8))
 }

@@ -14,18 +14,20 @@ use crate::fitting::fits;
 use crate::value::Value;
 use giop_cdr::{CdrOut, EncodeFault};
 
-/// Writes a value of this description (9.3.2): each part aligned, behind as few zeros as that takes,
-/// in the output's order.
+/// Writes a value of this description (9.3.2): each part aligned, behind as few zeros as that
+/// takes, in the output's order.
 ///
 /// Refused as Unfit where `fits` is false, and else as NoMemory where memory is wanting. The output
 /// is then as it was.
 pub fn encode(out: &mut CdrOut, desc: &CheckedDesc, value: &Value) -> Result<(), EncodeFault>
-    ensures value { Writes out.old result out.new (value_out (checked_shape desc.now) (value_view value.now) out.old) }
-    ensures err { IsErrOf result EncodeFault.Unfit ↔ (fits (checked_shape desc.now) (value_view value.now) ≡ false) }
+    ensures value { Writes out.old result out.new
+        (value_out (checked_shape desc.now) (value_view value.now) out.old) }
+    ensures err { IsErrOf result EncodeFault.Unfit
+        ↔ (fits (checked_shape desc.now) (value_view value.now) ≡ false) }
 
     // What was appended spells the value, and `decode` reads it again, whatever stands behind it.
-    ensures back { OnOk result (IsReadBack (Spells (checked_shape desc.now)) (decode_at (checked_shape desc.now))
-        (value_view value.now) out.old out.new) }
+    ensures back { OnOk result (IsReadBack (Spells (checked_shape desc.now))
+        (decode_at (checked_shape desc.now)) (value_view value.now) out.old out.new) }
 {
     let point = out.checkpoint();
     let Err(fault) = append(out, desc.desc(), value) else {

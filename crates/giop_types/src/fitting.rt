@@ -112,7 +112,8 @@ pub fn value_fits(desc: &Desc, value: &Value) -> bool
 // Whether there are as many values as members, each of its member's description.
 #[cycle(fitting)]
 fn members_fit(members: &[NamedDesc], values: &[Value]) -> bool
-    ensures { result ≡ fields_fit (fields_of (map named_view members.now)) (map value_view values.now) }
+    ensures { result
+        ≡ fields_fit (fields_of (map named_view members.now)) (map value_view values.now) }
 {
     if members.len() != values.len() {
         return false;
@@ -141,7 +142,8 @@ fn each_fits(item: &Desc, values: &[Value]) -> bool
 // Whether a union's member is of the description of the case that has the label, where one has it.
 #[cycle(fitting)]
 fn case_fits(label: &i128, cases: &[CaseDesc], member: &Option<Box<Value>>) -> Option<bool>
-    ensures { (other : _) → branches_fit (branches_of (map case_view cases.now)) other label.now (member_view member.now)
+    ensures { (other : _)
+        → branches_fit (branches_of (map case_view cases.now)) other label.now (member_view member.now)
         ≡ unwrap_or result (other (member_view member.now)) }
 {
     for case in cases {

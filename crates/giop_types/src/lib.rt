@@ -22,6 +22,7 @@ mod skip;
 #[cfg(test)]
 mod tests;
 mod value;
+mod value_list;
 
 pub use checked_desc::CheckedDesc;
 pub use decoder::decode;
@@ -35,8 +36,9 @@ pub use json::{
     desc_from_json, json_gives_values_back, reference_desc, value_from_json, value_to_json,
 };
 pub use laws::{
-    descriptions_are_checked_node_by_node, leaves_count_every_part, spelled_values_fit,
-    values_are_bounded, values_are_spelled, written_values_are_read_back,
+    descriptions_are_checked_node_by_node, encoded_and_decoded, leaves_count_every_part,
+    spelled_values_fit, values_are_bounded, values_are_spelled, written_values_are_read_back,
 };
 pub use parameters::{Parameter, Parameters};
 pub use value::Value;
+pub use value_list::ValueList;

@@ -8,3 +8,4 @@ mod json;
 mod memory;
 mod recorded;
 mod samples;
+mod values;
