@@ -10,3 +10,5 @@ pub mod GrammarLemmas
 pub mod WritingLemmas
 pub mod WrittenLemmas
 pub mod IorLemmas
+pub mod IiopLemmas
+pub mod ToIorLemmas

@@ -47,6 +47,7 @@ is_writable c = not (length c.addresses == 0) && list_all is_writable_address c.
 
 -- the numbers are in the range of their types, and the key is of octets
 pub record IsInRange (c : Corbaloc) : Type 0 where
+  pub majors : AllByRecursion (λ a. a.major < 256) c.addresses
   pub minors : AllByRecursion (λ a. a.minor < 256) c.addresses
   pub ports : AllByRecursion (λ a. a.port < 2 ^ 16) c.addresses
   pub octets : AllByRecursion (λ octet. octet < 256) c.key

@@ -4,3 +4,5 @@ pub mod CorbalocReading
 pub mod AddressAt
 pub mod CorbalocWriting
 pub mod Ior
+pub mod Iiop
+pub mod ToIor

@@ -2,3 +2,4 @@
 //! succeeds with ample memory, and again after a refused allocation.
 
 mod corbaloc;
+mod ior;
