@@ -1,10 +1,13 @@
-//! The plain Rust twin of the loop `types` of giop_bench.
-const STRUCTS: u32 = 100_000;
+//! The plain Rust twin of the loops `types-..` of giop_bench.
+const VALUES: u32 = 100_000;
 const TIMES: u32 = 10;
 
 #[allow(dead_code)]
 enum Desc {
+    Boolean,
     Octet,
+    UShort,
+    Long,
     LongLong,
     Text(u32),
     Members(Vec<(Vec<u8>, Desc)>),
@@ -13,7 +16,10 @@ enum Desc {
 
 #[allow(dead_code)]
 enum Value {
+    Boolean(bool),
     Octet(u8),
+    UShort(u16),
+    Long(i32),
     LongLong(i64),
     Text(Vec<u8>),
     Choice(i128, Option<Box<Value>>),
@@ -25,6 +31,7 @@ enum Value {
 #[allow(dead_code)]
 enum Kind {
     Short,
+    BadBoolean,
     BadCount,
     BadString,
     BoundPassed,
@@ -96,7 +103,19 @@ impl<'a> Input<'a> {
 
 fn decode(desc: &Desc, input: &mut Input) -> Result<Value, Fault> {
     Ok(match desc {
+        Desc::Boolean => match input.field::<1>()? {
+            [0] => Value::Boolean(false),
+            [1] => Value::Boolean(true),
+            _ => {
+                return Err(Fault {
+                    at: input.at - 1,
+                    kind: Kind::BadBoolean,
+                })
+            }
+        },
         Desc::Octet => Value::Octet(u8::from_be_bytes(input.field()?)),
+        Desc::UShort => Value::UShort(u16::from_be_bytes(input.field()?)),
+        Desc::Long => Value::Long(i32::from_be_bytes(input.field()?)),
         Desc::LongLong => Value::LongLong(i64::from_be_bytes(input.field()?)),
         Desc::Text(bound) => Value::Text(input.text(*bound)?),
         Desc::Members(members) => {
@@ -117,17 +136,83 @@ fn decode(desc: &Desc, input: &mut Input) -> Result<Value, Fault> {
     })
 }
 
-fn message() -> Vec<u8> {
-    let mut out = Vec::new();
-    out.extend_from_slice(&STRUCTS.to_be_bytes());
-    for i in 0..STRUCTS {
-        out.push(7);
-        out.resize((out.len() + 7) / 8 * 8, 0);
-        out.extend_from_slice(&i64::from(i).to_be_bytes());
-        out.extend_from_slice(&17u32.to_be_bytes());
-        out.extend_from_slice(b"a text of length\0");
+// What is written: the octets, in big-endian order from offset 0.
+struct Output {
+    octets: Vec<u8>,
+}
+
+#[derive(Debug)]
+struct Unfit;
+
+impl Output {
+    #[inline]
+    fn field<const N: usize>(&mut self, field: [u8; N]) {
+        let end = (self.octets.len() + N - 1) & !(N - 1);
+        self.octets.resize(end, 0);
+        self.octets.extend_from_slice(&field);
     }
-    out
+}
+
+fn encode(desc: &Desc, value: &Value, out: &mut Output) -> Result<(), Unfit> {
+    match (desc, value) {
+        (Desc::Boolean, Value::Boolean(b)) => out.field([u8::from(*b)]),
+        (Desc::Octet, Value::Octet(n)) => out.field(n.to_be_bytes()),
+        (Desc::UShort, Value::UShort(n)) => out.field(n.to_be_bytes()),
+        (Desc::Long, Value::Long(n)) => out.field(n.to_be_bytes()),
+        (Desc::LongLong, Value::LongLong(n)) => out.field(n.to_be_bytes()),
+        (Desc::Text(bound), Value::Text(text)) => {
+            if (*bound != 0 && text.len() > *bound as usize) || text.contains(&0) {
+                return Err(Unfit);
+            }
+            let length = u32::try_from(text.len() + 1).map_err(|_| Unfit)?;
+            out.field(length.to_be_bytes());
+            out.octets.extend_from_slice(text);
+            out.octets.push(0);
+        }
+        (Desc::Members(members), Value::Members(values)) => {
+            if members.len() != values.len() {
+                return Err(Unfit);
+            }
+            for ((_, member), value) in members.iter().zip(values) {
+                encode(member, value, out)?;
+            }
+        }
+        (Desc::Items(item, bound), Value::Items(values)) => {
+            let count = u32::try_from(values.len()).map_err(|_| Unfit)?;
+            if *bound != 0 && count > *bound {
+                return Err(Unfit);
+            }
+            out.field(count.to_be_bytes());
+            for value in values {
+                encode(item, value, out)?;
+            }
+        }
+        _ => return Err(Unfit),
+    }
+    Ok(())
+}
+
+fn structs() -> Vec<u8> {
+    let mut out = Output { octets: Vec::new() };
+    out.field(VALUES.to_be_bytes());
+    for i in 0..VALUES {
+        out.field([7]);
+        out.field(i64::from(i).to_be_bytes());
+        out.field(17u32.to_be_bytes());
+        out.octets.extend_from_slice(b"a text of length\0");
+        out.field(9u16.to_be_bytes());
+        out.field([1]);
+    }
+    out.octets
+}
+
+fn longs() -> Vec<u8> {
+    let mut out = Output { octets: Vec::new() };
+    out.field(VALUES.to_be_bytes());
+    for i in 0..VALUES {
+        out.field(i.to_be_bytes());
+    }
+    out.octets
 }
 
 fn mixed(sum: u64, value: u64) -> u64 {
@@ -138,6 +223,8 @@ fn leaf(value: &Value) -> u64 {
     match value {
         Value::Octet(n) => u64::from(*n),
         Value::LongLong(n) => u64::from(n.to_le_bytes()[0]),
+        Value::Long(n) => u64::from(n.to_le_bytes()[0]),
+        Value::UShort(n) => u64::from(*n),
         Value::Text(text) => text.len() as u64,
         _ => 1,
     }
@@ -149,29 +236,49 @@ fn checksum(value: &Value) -> u64 {
     };
     let mut sum = 0;
     for item in items {
-        if let Value::Members(members) = item {
-            sum = members.iter().fold(sum, |sum, member| mixed(sum, leaf(member)));
-        }
+        sum = match item {
+            Value::Members(members) => members.iter().fold(sum, |sum, member| mixed(sum, leaf(member))),
+            other => mixed(sum, leaf(other)),
+        };
     }
     sum
 }
 
 fn main() {
-    let message = message();
-    let item = Desc::Members(vec![
-        (b"a".to_vec(), Desc::Octet),
-        (b"b".to_vec(), Desc::LongLong),
-        (b"c".to_vec(), Desc::Text(0)),
-    ]);
+    let name = std::env::args().nth(1).unwrap();
+    let (item, message) = if name.starts_with("structs") {
+        let members = vec![
+            (b"a".to_vec(), Desc::Octet),
+            (b"b".to_vec(), Desc::LongLong),
+            (b"c".to_vec(), Desc::Text(0)),
+            (b"d".to_vec(), Desc::UShort),
+            (b"e".to_vec(), Desc::Boolean),
+        ];
+        (Desc::Members(members), structs())
+    } else {
+        (Desc::Long, longs())
+    };
     let desc = Desc::Items(Box::new(item), 0);
-    let mut sum = 0;
-    for _ in 0..TIMES {
+    let read = || {
         let mut input = Input {
             octets: &message,
             at: 0,
         };
-        let value = decode(&desc, &mut input).unwrap();
-        sum = mixed(sum, checksum(&value));
+        decode(&desc, &mut input).unwrap()
+    };
+    let mut sum = 0;
+    if name.ends_with("read") {
+        for _ in 0..TIMES {
+            sum = mixed(sum, checksum(&read()));
+        }
+    } else {
+        let value = read();
+        for _ in 0..TIMES {
+            let mut out = Output { octets: Vec::new() };
+            encode(&desc, &value, &mut out).unwrap();
+            sum = mixed(sum, u64::from(*out.octets.last().unwrap()));
+            sum = mixed(sum, out.octets.len() as u64);
+        }
     }
     println!("{sum}");
 }

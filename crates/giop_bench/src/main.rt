@@ -13,7 +13,8 @@ use std::alloc::Global;
 use std::{env, io};
 use work::Work;
 
-const USAGE: &str = "usage: giop_bench LOOP, where LOOP is frag24, frag512, frag4096, mux or types,
+const USAGE: &str = "usage: giop_bench LOOP, where LOOP is frag24, frag512, frag4096 or mux,
+or giop_bench types-(structs|longs)-(read|write),
 or giop_bench (read|write)-VALUES-(big|little) TIMES, where VALUES is ulong, string, octets or widths";
 
 // The checksum of a loop over CDR, or none where it isn't one or fails.
@@ -27,6 +28,14 @@ fn cdr(alloc: Global, name: &str, times: &str) -> Option<u64> {
     }
 }
 
+// The checksum of a loop over values by description, or over CDR.
+fn named(alloc: Global, name: &str, times: &str) -> Option<u64> {
+    match name.strip_prefix("types-") {
+        Some(name) => types::run(alloc, name),
+        None => cdr(alloc, name, times),
+    }
+}
+
 fn main(rt: HostRuntime) -> io::Result<()> {
     let name = env::args(&rt)?.nth(1);
     let times = env::args(&rt)?.nth(2);
@@ -36,8 +45,7 @@ fn main(rt: HostRuntime) -> io::Result<()> {
         "frag512" => println!(rt; "{}", frag::run(rt.alloc(), 512)),
         "frag4096" => println!(rt; "{}", frag::run(rt.alloc(), 4096)),
         "mux" => println!(rt; "{}", mux::run(rt.alloc())),
-        "types" => println!(rt; "{}", types::run(rt.alloc()).unwrap_or(0)),
-        name => match cdr(rt.alloc(), name, times) {
+        name => match named(rt.alloc(), name, times) {
             Some(sum) => println!(rt; "{sum}"),
             None => println!(rt; "{USAGE}"),
         },

@@ -1,21 +1,33 @@
-//! A sequence of 100,000 structs of an octet, a long long and a string of 16 octets, read by its
-//! description. `bench/types/twin.rs` does the same in plain Rust.
+//! Values by their description: a sequence of 100,000 structs of an octet, a long long, a string of 16
+//! octets, an unsigned short and a boolean, and a sequence of 100,000 longs, read and written.
+//! `bench/types/twin.rs` does the same in plain Rust.
 use crate::work::mixed;
 use giop_cdr::{CdrIn, CdrOut, OctetList, Order, SliceOctets};
-use giop_types::{CheckedDesc, Desc, NamedDesc, Value, decode};
+use giop_types::{CheckedDesc, Desc, NamedDesc, Value, decode, encode};
 use std::alloc::{AllocError, Global};
 
-const STRUCTS: u32 = 100_000;
+const VALUES: u32 = 100_000;
 
 const TIMES: u32 = 10;
 
-fn message(alloc: Global) -> Result<Vec<u8>, AllocError> {
+fn structs(alloc: Global) -> Result<Vec<u8>, AllocError> {
     let mut out = CdrOut::new(alloc, Order::Big, 0);
-    out.write_ulong(STRUCTS)?;
-    for i in 0..STRUCTS {
+    out.write_ulong(VALUES)?;
+    for i in 0..VALUES {
         out.write_octet(7)?;
         out.write_longlong(i as i64)?;
         out.write_string(b"a text of length")?;
+        out.write_ushort(9)?;
+        out.write_boolean(true)?;
+    }
+    Ok(out.into_bytes())
+}
+
+fn longs(alloc: Global) -> Result<Vec<u8>, AllocError> {
+    let mut out = CdrOut::new(alloc, Order::Big, 0);
+    out.write_ulong(VALUES)?;
+    for i in 0..VALUES {
+        out.write_ulong(i)?;
     }
     Ok(out.into_bytes())
 }
@@ -25,12 +37,17 @@ fn named(alloc: Global, name: &[u8], desc: Desc) -> Result<NamedDesc, AllocError
     Ok(NamedDesc { name, desc })
 }
 
-fn description(alloc: Global) -> Result<Desc, AllocError> {
-    let item = Desc::Members(vec![in alloc;
+fn a_struct(alloc: Global) -> Result<Desc, AllocError> {
+    Ok(Desc::Members(vec![in alloc;
         named(alloc, b"a", Desc::Octet)?,
         named(alloc, b"b", Desc::LongLong)?,
         named(alloc, b"c", Desc::Text(0))?,
-    ]?);
+        named(alloc, b"d", Desc::UShort)?,
+        named(alloc, b"e", Desc::Boolean)?,
+    ]?))
+}
+
+fn items(alloc: Global, item: Desc) -> Result<Desc, AllocError> {
     Ok(Desc::Items(Box::new(alloc, item)?, 0))
 }
 
@@ -38,40 +55,73 @@ fn leaf(value: &Value) -> u64 {
     match value {
         Value::Octet(n) => *n as u64,
         Value::LongLong(n) => n.to_le_bytes()[0] as u64,
+        Value::Long(n) => n.to_le_bytes()[0] as u64,
+        Value::UShort(n) => *n as u64,
         Value::Text(text) => text.len() as u64,
         _ => 1,
     }
 }
 
-// A checksum of the members of all items.
+// A checksum of all items, or of their members.
 fn checksum(value: &Value) -> u64 {
     let Value::Items(items) = value else {
         return 0;
     };
     let mut sum = 0;
     for item in items {
-        if let Value::Members(members) = item {
-            sum = members
+        sum = match item {
+            Value::Members(members) => members
                 .iter()
-                .fold(sum, |sum, member| mixed(sum, leaf(member)));
-        }
+                .fold(sum, |sum, member| mixed(sum, leaf(member))),
+            other => mixed(sum, leaf(other)),
+        };
     }
     sum
 }
 
-/// Runs the loop, and gives its checksum; or none where memory is wanting.
-pub fn run(alloc: Global) -> Option<u64> {
-    let message = message(alloc).ok()?;
+// Reads the value of a message, TIMES times.
+fn read(alloc: Global, desc: &CheckedDesc, message: &[u8]) -> Option<u64> {
+    let source = SliceOctets::new(message);
     if message.len() > 1 << 62 {
         return None;
     }
-    let desc = CheckedDesc::check(description(alloc).ok()?).ok()?;
-    let source = SliceOctets::new(&message);
     let mut sum = 0;
     for _ in 0..TIMES {
         let mut input = CdrIn::new(&source, Order::Big, 0);
-        let value = decode(alloc, &mut input, &desc).ok()?;
+        let value = decode(alloc, &mut input, desc).ok()?;
         sum = mixed(sum, checksum(&value));
     }
     Some(sum)
+}
+
+// Writes the value of a message, TIMES times.
+fn write(alloc: Global, desc: &CheckedDesc, message: &[u8]) -> Option<u64> {
+    let source = SliceOctets::new(message);
+    if message.len() > 1 << 62 {
+        return None;
+    }
+    let value = decode(alloc, &mut CdrIn::new(&source, Order::Big, 0), desc).ok()?;
+    let mut sum = 0;
+    for _ in 0..TIMES {
+        let mut out = CdrOut::new(alloc, Order::Big, 0);
+        encode(&mut out, desc, &value).ok()?;
+        sum = mixed(sum, out.as_slice().last().map_or(0, |octet| *octet as u64));
+        sum = mixed(sum, out.as_slice().len() as u64);
+    }
+    Some(sum)
+}
+
+/// Runs a loop, and gives its checksum; or none where there is no such loop, or memory is wanting.
+pub fn run(alloc: Global, name: &str) -> Option<u64> {
+    let (item, message) = match name {
+        "structs-read" | "structs-write" => (a_struct(alloc).ok()?, structs(alloc).ok()?),
+        "longs-read" | "longs-write" => (Desc::Long, longs(alloc).ok()?),
+        _ => return None,
+    };
+    let desc = CheckedDesc::check(items(alloc, item).ok()?).ok()?;
+    if name.ends_with("read") {
+        read(alloc, &desc, &message)
+    } else {
+        write(alloc, &desc, &message)
+    }
 }
