@@ -1,5 +1,5 @@
--- The grammar of corbaloc texts (CORBA 3.3 Part 2, 7.6.10.1 and 7.6.10.3). Each relation is a line of
--- it, from the parts up to the whole text; texts are octets.
+-- The grammar of corbaloc texts (CORBA 3.3 Part 2, 7.6.10.1 and 7.6.10.3). Each relation is a line
+-- of it, from the parts up to the whole text; texts are octets.
 use Rattle.std.specs.Prelude.{◌≡◌, ℕ, ◌≤◌, ◌+◌, ◌*◌, ◌<◌, Bool, true, ◌==◌, ◌||◌, ◌⊎◌, List, [], ◌∷◌, ◌++◌, length, codes}
 use Rattle.std.specs.Char.{is_ascii_alphanumeric, is_digit, digit_value}
 use Rattle.std.specs.List.{list_any, list_all}
@@ -24,7 +24,8 @@ pub record VersionText (major minor : ℕ) (text : List ℕ) : Type 0 where
 -- version 1.0 where the text has none
 abbrev pub VersionPartText : ℕ → ℕ → List ℕ → Type 0
 VersionPartText major minor text =
-    ((text ≡ []) × (major ≡ 1) × (minor ≡ 0)) ⊎ ((version : List ℕ) × (text ≡ version ++ codes "@") × VersionText major minor version)
+    ((text ≡ []) × (major ≡ 1) × (minor ≡ 0))
+    ⊎ ((version : List ℕ) × (text ≡ version ++ codes "@") × VersionText major minor version)
 
 -- protocol = ":" / "iiop:"
 abbrev pub ProtocolText : List ℕ → Type 0
@@ -44,7 +45,9 @@ PortText port text = NumberText 5 port text × (port ≤ 65535)
 
 -- port 2809 where the text has none
 abbrev pub PortPartText : ℕ → List ℕ → Type 0
-PortPartText port text = ((text ≡ []) × (port ≡ 2809)) ⊎ ((digits : List ℕ) × (text ≡ codes ":" ++ digits) × PortText port digits)
+PortPartText port text =
+    ((text ≡ []) × (port ≡ 2809))
+    ⊎ ((digits : List ℕ) × (text ≡ codes ":" ++ digits) × PortText port digits)
 
 -- address = protocol [ version "@" ] host [ ":" port ]
 pub record AddressText (a : Address) (text : List ℕ) : Type 0 where
@@ -62,11 +65,13 @@ abbrev pub AddressesText : List Address → List ℕ → Type 0
 AddressesText [] text = ⊥
 AddressesText (a ∷ []) text = AddressText a text
 AddressesText (a ∷ b ∷ more) text =
-    (first : List ℕ) × (rest : List ℕ) × (text ≡ first ++ codes "," ++ rest) × AddressText a first × AddressesText (b ∷ more) rest
+    (first : List ℕ) × (rest : List ℕ) × (text ≡ first ++ codes "," ++ rest)
+    × AddressText a first × AddressesText (b ∷ more) rest
 
 -- a letter, a digit or one of ;/:?@&=+$,-_.!~*'()
 abbrev pub is_key_octet : ℕ → Bool
-is_key_octet octet = is_ascii_alphanumeric octet || list_any (λ mark. mark == octet) (codes ";/:?@&=+$,-_.!~*'()")
+is_key_octet octet =
+    is_ascii_alphanumeric octet || list_any (λ mark. mark == octet) (codes ";/:?@&=+$,-_.!~*'()")
 
 -- "%" and the two digits of the octet, the high one first
 pub record EscapeText (octet : ℕ) (text : List ℕ) : Type 0 where
@@ -79,16 +84,20 @@ pub record EscapeText (octet : ℕ) (text : List ℕ) : Type 0 where
 
 -- key-octet = ALPHA / DIGIT / ";" / "/" / .. / ")" / "%" HEXDIG HEXDIG
 abbrev pub KeyOctetText : ℕ → List ℕ → Type 0
-KeyOctetText octet text = ((text ≡ octet ∷ []) × (is_key_octet octet ≡ true)) ⊎ EscapeText octet text
+KeyOctetText octet text =
+    ((text ≡ octet ∷ []) × (is_key_octet octet ≡ true)) ⊎ EscapeText octet text
 
 -- key = *key-octet
 abbrev pub KeyText : List ℕ → List ℕ → Type 0
 KeyText [] text = text ≡ []
-KeyText (octet ∷ key) text = (first : List ℕ) × (rest : List ℕ) × (text ≡ first ++ rest) × KeyOctetText octet first × KeyText key rest
+KeyText (octet ∷ key) text =
+    (first : List ℕ) × (rest : List ℕ) × (text ≡ first ++ rest)
+    × KeyOctetText octet first × KeyText key rest
 
 -- the empty key where the text has none
 abbrev pub KeyPartText : List ℕ → List ℕ → Type 0
-KeyPartText key text = ((text ≡ []) × (key ≡ [])) ⊎ ((rest : List ℕ) × (text ≡ codes "/" ++ rest) × KeyText key rest)
+KeyPartText key text =
+    ((text ≡ []) × (key ≡ [])) ⊎ ((rest : List ℕ) × (text ≡ codes "/" ++ rest) × KeyText key rest)
 
 -- "corbaloc:" addresses [ "/" key ]
 pub record CorbalocText (c : Corbaloc) (text : List ℕ) : Type 0 where

@@ -1,6 +1,6 @@
 -- A corbaloc text read from the left, and the first fault in it with its place (CORBA 3.3 Part 2,
--- 7.6.10.1). The address list ends before the first "/"; commas part the addresses. Of an address the
--- version is what stands before its first "@", the port what stands behind the next ":".
+-- 7.6.10.1). The address list ends before the first "/"; commas part the addresses. Of an address
+-- the version is what stands before its first "@", the port what stands behind the next ":".
 use Rattle.std.specs.Prelude.{ℕ, ◌+◌, ◌-◌, Bool, true, ◌==◌, ◌&&◌, nat_lt, nat_le, nat_eq, if◌then◌else◌, List, [], ◌∷◌, length, take, drop, codes, Option, Some, None, option_map, Ok, Err, slice_index}
 use Rattle.std.specs.Char.{is_digit, is_ascii_digit}
 use Rattle.std.specs.Cmp.Lexicographic.{pointwise}
@@ -18,7 +18,8 @@ use Rattle.giop_ior.specs.CorbalocFault.{Read, fault, ◌>>=◌}
 
 -- what stands before and behind the first of these octets, where there is one
 abbrev pub cut : ℕ → List ℕ → Option (List ℕ × List ℕ)
-cut octet text = option_map (λ i. (take i text, drop (i + 1) text)) (position (λ x. x == octet) text)
+cut octet text =
+    option_map (λ i. (take i text, drop (i + 1) text)) (position (λ x. x == octet) text)
 
 -- whether the text begins with these octets
 abbrev pub begins : List ℕ → List ℕ → Bool
@@ -29,7 +30,9 @@ begins front text = pointwise nat_eq (take (length front) text) front
 -- the number that 1 to n decimal digits write
 abbrev pub number_of : ℕ → List ℕ → Option ℕ
 number_of n text =
-    if nat_lt 0 (length text) && nat_le (length text) n && list_all is_ascii_digit text then Some (digits_value 10 text) else None
+    if nat_lt 0 (length text) && nat_le (length text) n && list_all is_ascii_digit text
+    then Some (digits_value 10 text)
+    else None
 
 -- a number that is at most this
 abbrev pub up_to : ℕ → Option ℕ → Option ℕ
@@ -75,7 +78,8 @@ endpoint_at minor at text = endpoint_of_parts minor at text (cut 58 text)
 abbrev pub located_of_parts : ℕ → List ℕ → Option (List ℕ × List ℕ) → Read Address
 located_of_parts at text None = endpoint_at 0 at text
 located_of_parts at text (Some parts) =
-    ok_or (minor_of parts.0) (fault at BadVersion) >>= λ minor. endpoint_at minor (at + length parts.0 + 1) parts.1
+    ok_or (minor_of parts.0) (fault at BadVersion) >>= λ minor.
+    endpoint_at minor (at + length parts.0 + 1) parts.1
 
 -- an address from its version on
 abbrev pub located_at : ℕ → List ℕ → Read Address
@@ -90,13 +94,17 @@ protocol_len text =
 
 -- an address that begins at a place of the text
 unfoldable pub address_at : ℕ → List ℕ → Read Address
-address_at at text = ok_or (protocol_len text) (fault at BadProtocol) >>= λ n. located_at (at + n) (drop n text)
+address_at at text =
+    ok_or (protocol_len text) (fault at BadProtocol) >>= λ n.
+    located_at (at + n) (drop n text)
 
 -- addresses, one behind the other with a comma between
 abbrev pub each_at : ℕ → List (List ℕ) → Read (List Address)
 each_at at [] = Ok []
 each_at at (text ∷ more) =
-    address_at at text >>= λ address. each_at (at + length text + 1) more >>= λ addresses. Ok (address ∷ addresses)
+    address_at at text >>= λ address.
+    each_at (at + length text + 1) more >>= λ addresses.
+    Ok (address ∷ addresses)
 
 -- a list of addresses, parted by commas
 abbrev pub addresses_at : ℕ → List ℕ → Read (List Address)
@@ -116,7 +124,8 @@ is_escape mark high low = mark == 37 && is_digit high 16 && is_digit low 16
 abbrev pub key_fault : ℕ → List ℕ → Option CorbalocFault
 key_fault at [] = None
 key_fault at (x ∷ []) = if is_key_octet x then None else Some (fault at (wrong_key_octet x))
-key_fault at (x ∷ y ∷ []) = if is_key_octet x then key_fault (at + 1) (y ∷ []) else Some (fault at (wrong_key_octet x))
+key_fault at (x ∷ y ∷ []) =
+    if is_key_octet x then key_fault (at + 1) (y ∷ []) else Some (fault at (wrong_key_octet x))
 key_fault at (x ∷ y ∷ z ∷ text) =
     if is_key_octet x then key_fault (at + 1) (y ∷ z ∷ text)
     else if is_escape x y z then key_fault (at + 3) text
@@ -140,7 +149,9 @@ key_at at text = key_unless (key_fault at text) text
 -- ---- the whole text
 
 abbrev pub corbaloc_of_parts : List ℕ → Option (List ℕ × List ℕ) → Read Corbaloc
-corbaloc_of_parts text None = addresses_at 9 text >>= λ addresses. Ok (record { addresses = addresses; key = [] })
+corbaloc_of_parts text None =
+    addresses_at 9 text >>= λ addresses.
+    Ok (record { addresses = addresses; key = [] })
 corbaloc_of_parts text (Some parts) =
     addresses_at 9 parts.0 >>= λ addresses.
     key_at (9 + length parts.0 + 1) parts.1 >>= λ key.
@@ -149,4 +160,6 @@ corbaloc_of_parts text (Some parts) =
 -- the corbaloc that a text is, or its first fault from the left
 unfoldable pub corbaloc_of : List ℕ → Read Corbaloc
 corbaloc_of text =
-    if begins (codes "corbaloc:") text then corbaloc_of_parts (drop 9 text) (cut 47 (drop 9 text)) else Err (fault 0 BadPrefix)
+    if begins (codes "corbaloc:") text
+    then corbaloc_of_parts (drop 9 text) (cut 47 (drop 9 text))
+    else Err (fault 0 BadPrefix)

@@ -12,8 +12,8 @@ use Rattle.giop_ior.specs.CorbalocReading.{is_host}
 -- iiop:major.minor@host:port
 abbrev pub address_text : Address → List ℕ
 address_text a =
-    codes "iiop:" ++ decimal a.major ++ codes "." ++ decimal a.minor ++ codes "@" ++ a.host ++ codes ":"
-    ++ decimal a.port
+    codes "iiop:" ++ decimal a.major ++ codes "." ++ decimal a.minor ++ codes "@" ++ a.host
+    ++ codes ":" ++ decimal a.port
 
 -- an octet of the key: itself, or % and its two upper-case hexadecimal digits
 abbrev pub key_octet_text : ℕ → List ℕ

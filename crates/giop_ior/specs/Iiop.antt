@@ -1,5 +1,5 @@
--- The IIOP profile (CORBA 3.3 Part 2, 9.7.2): an encapsulation, of which the first octet is the byte
--- order and has offset 0; the fields begin at offset 1. Octets behind them are passed over.
+-- The IIOP profile (CORBA 3.3 Part 2, 9.7.2): an encapsulation, of which the first octet is the
+-- byte order and has offset 0; the fields begin at offset 1. Octets behind them are passed over.
 use Rattle.std.specs.Prelude.{◌≡◌, ℕ, ◌==◌, Bool, true, false, List, [], ◌∷◌, ◌++◌, length, drop, slice_index, if◌then◌else◌, Option, Some, None, Result, Ok, Err, ⊤}
 use Rattle.std.specs.Int.{w8, w16}
 use Rattle.giop_cdr.specs.declared.order.Order.{Order}
@@ -32,7 +32,8 @@ major_version = such is_one 1 BadLabel (number w8)
 -- a component: an unsigned long tag and a sequence of octets
 unfoldable pub tagged_component : Layout TaggedComponent
 tagged_component =
-    tagged (λ component. component.tag) (λ component. component.octets) (λ tag contents. record { tag = tag; octets = contents })
+    tagged (λ component. component.tag) (λ component. component.octets)
+    (λ tag contents. record { tag = tag; octets = contents })
 
 -- no octets, which stand for no components; others don't fit
 unfoldable pub no_components : Layout (List TaggedComponent)
@@ -58,7 +59,14 @@ iiop_layout =
     field (λ p. p.port) (number w16) λ port.
     field (λ p. p.key) octets λ key.
     field (λ p. p.components) (components_of minor) λ components.
-    gives (record { major = major; minor = minor; host = host; port = port; key = key; components = components })
+    gives (record {
+      major = major;
+      minor = minor;
+      host = host;
+      port = port;
+      key = key;
+      components = components;
+    })
 
 -- ---- the encapsulation
 
@@ -79,7 +87,8 @@ order_of_octet octet =
 
 -- the order that the first octet says
 abbrev pub order_in : List ℕ → Result Order CdrFault
-order_in contents = if length contents == 0 then Err (fault 0 Short) else order_of_octet (slice_index contents 0)
+order_in contents =
+    if length contents == 0 then Err (fault 0 Short) else order_of_octet (slice_index contents 0)
 
 -- the profile that octets are, or the first fault
 unfoldable pub iiop_of : List ℕ → Result Profile CdrFault
@@ -111,7 +120,14 @@ listed (Some components) = components
 -- what contracts see of a view
 abbrev pub profile_view : IiopProfile (List ℕ) (Option (List TaggedComponent)) → Profile
 profile_view p =
-    record { major = p.major; minor = p.minor; host = p.host; port = p.port; key = p.key; components = listed p.components }
+    record {
+      major = p.major;
+      minor = p.minor;
+      host = p.host;
+      port = p.port;
+      key = p.key;
+      components = listed p.components;
+    }
 
 -- a call answers what reading gives, and leaves the cursor behind the value; view is what contracts
 -- see of it

@@ -11,7 +11,8 @@ Reference = Ior (List ℕ) (List TaggedProfile)
 -- a profile: an unsigned long tag and a sequence of octets
 unfoldable pub tagged_profile : Layout TaggedProfile
 tagged_profile =
-    tagged (λ profile. profile.tag) (λ profile. profile.octets) (λ tag contents. record { tag = tag; octets = contents })
+    tagged (λ profile. profile.tag) (λ profile. profile.octets)
+    (λ tag contents. record { tag = tag; octets = contents })
 
 -- a reference: the string type_id and the sequence of profiles
 unfoldable pub ior_layout : Layout Reference

@@ -9,7 +9,15 @@ use Rattle.giop_ior.specs.Ior.{Reference}
 
 -- an address and the key as a profile: it has no components
 abbrev pub address_profile : List ℕ → Address → Profile
-address_profile key a = record { major = a.major; minor = a.minor; host = a.host; port = a.port; key = key; components = [] }
+address_profile key a =
+    record {
+      major = a.major;
+      minor = a.minor;
+      host = a.host;
+      port = a.port;
+      key = key;
+      components = [];
+    }
 
 -- the same as a tagged profile
 abbrev pub profile_of : List ℕ → Address → TaggedProfile
@@ -25,4 +33,7 @@ are_profiles c = list_all (λ a. iiop_layout.fits (address_profile c.key a)) c.a
 
 -- the profile of each address reads as that address
 abbrev pub ReadAsAddresses : Corbaloc → Type 0
-ReadAsAddresses c = AllByRecursion (λ a. iiop_of (profile_of c.key a).octets ≡ Ok (address_profile c.key a)) c.addresses
+ReadAsAddresses c =
+    AllByRecursion
+    (λ a. iiop_of (profile_of c.key a).octets ≡ Ok (address_profile c.key a))
+    c.addresses

@@ -71,8 +71,8 @@ impl fmt::Display for CorbalocKind {
 pub struct CorbalocFault {
     /// The offset of what is wrong, in octets from the first of the text: for `BadPrefix` 0, for
     /// `BadProtocol` the first octet of the address, for `BadVersion`, `BadHost` and `BadPort` the
-    /// first octet of that part, for `BadEscape` the `%`, for `BadChar` the octet itself. The offset
-    /// is the end of the text where the part would begin there. It is 0 for `NoMemory`.
+    /// first octet of that part, for `BadEscape` the `%`, for `BadChar` the octet itself. The
+    /// offset is the end of the text where the part would begin there. It is 0 for `NoMemory`.
     pub at: usize,
     /// What is wrong there.
     pub kind: CorbalocKind,

@@ -11,13 +11,16 @@ ghost use Rattle.giop_ior.specs.CorbalocWriting.{corbaloc_text, is_writable, IsI
 pub fn corbalocs_are_read()
     ensures found { (text : List ℕ) (c : Corbaloc) → corbaloc_of text ≡ Ok c → CorbalocText c text }
     ensures only { (text : List ℕ) (c : Corbaloc) → CorbalocText c text → corbaloc_of text ≡ Ok c }
-    ensures alone { (text : List ℕ) (c d : Corbaloc) → CorbalocText c text → CorbalocText d text → c ≡ d }
+    ensures alone { (text : List ℕ) (c d : Corbaloc) → CorbalocText c text → CorbalocText d text
+        → c ≡ d }
 {}
 
-/// Which values have a text: exactly those that `is_writable` tells; and the text that is written is
-/// one of them, so it is read back.
+/// Which values have a text: exactly those that `is_writable` tells; and the text that is written
+/// is one of them, so it is read back.
 pub fn written_corbalocs_are_read_back()
     ensures writable { (text : List ℕ) (c : Corbaloc) → CorbalocText c text → is_writable c ≡ true }
-    ensures written { (c : Corbaloc) → IsInRange c → is_writable c ≡ true → CorbalocText c (corbaloc_text c) }
-    ensures again { (c : Corbaloc) → IsInRange c → is_writable c ≡ true → corbaloc_of (corbaloc_text c) ≡ Ok c }
+    ensures written { (c : Corbaloc) → IsInRange c → is_writable c ≡ true
+        → CorbalocText c (corbaloc_text c) }
+    ensures again { (c : Corbaloc) → IsInRange c → is_writable c ≡ true
+        → corbaloc_of (corbaloc_text c) ≡ Ok c }
 {}

@@ -138,12 +138,12 @@ fn corbaloc_of(alloc: Global, text: &[u8]) -> Result<Corbaloc, CorbalocFault>
 
 /// The corbaloc that a text is, in octets: `corbaloc:`, addresses with commas between them, and
 /// where there is a key `/` and the key. An address is `:` or `iiop:`, then perhaps a version and
-/// `@`, the host, and perhaps `:` and the port; without them it is version 1.0 and port 2809.
-/// An octet of the key that is no letter, no digit and none of ``;/:?@&=+$,-_.!~*'()`` is `%` and its
+/// `@`, the host, and perhaps `:` and the port; without them it is version 1.0 and port 2809. An
+/// octet of the key that is no letter, no digit and none of ``;/:?@&=+$,-_.!~*'()`` is `%` and its
 /// two hexadecimal digits; any other may be escaped so too.
 ///
-/// A text that is none is refused with its first fault from the left, told by `CorbalocFault`. Where
-/// memory is wanting for one that is, it is NoMemory at 0.
+/// A text that is none is refused with its first fault from the left, told by `CorbalocFault`.
+/// Where memory is wanting for one that is, it is NoMemory at 0.
 pub fn corbaloc_from_text(alloc: Global, text: &[u8]) -> Result<Corbaloc, CorbalocFault>
     // What is answered is what the text says by the grammar, and what it says is answered.
     ensures found { IfOk result (λ c. CorbalocText c text.now) }

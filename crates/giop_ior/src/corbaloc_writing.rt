@@ -49,7 +49,8 @@ fn append_address(text: &mut Vec<u8>, address: &Address) -> Result<(), AllocErro
 
 // The address at an index, behind the comma that parts it from the one before.
 fn append_next(text: &mut Vec<u8>, i: usize, address: &Address) -> Result<(), AllocError>
-    ensures { OnOk result (text.new.items ≡ text.old.items ++ (comma_before i ++ address_text address.now)) }
+    ensures { OnOk result
+        (text.new.items ≡ text.old.items ++ (comma_before i ++ address_text address.now)) }
 {
     if i > 0 {
         append(text, b",")?;
@@ -88,8 +89,9 @@ fn append_key(alloc: Global, text: &mut Vec<u8>, key: &[u8]) -> Result<(), Alloc
 }
 
 /// The text of a corbaloc, in octets: each address as `iiop:major.minor@host:port`, with commas
-/// between them, and `/` and the key where the key isn't empty. An octet of the key that is no letter,
-/// no digit and none of ``;/:?@&=+$,-_.!~*'()`` is `%` and its two upper-case hexadecimal digits.
+/// between them, and `/` and the key where the key isn't empty. An octet of the key that is no
+/// letter, no digit and none of ``;/:?@&=+$,-_.!~*'()`` is `%` and its two upper-case hexadecimal
+/// digits.
 ///
 /// A corbaloc that `is_writable` is read back from its text; the text of another is no corbaloc.
 #[tactic(auto, unfolding(crate::specs::CorbalocWriting::corbaloc_text))]

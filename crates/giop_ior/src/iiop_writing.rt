@@ -11,9 +11,9 @@ use giop_cdr::{CdrOut, EncodeFault, OctetList, Order};
 use std::alloc::{AllocError, Global};
 
 impl IiopProfile {
-    /// Whether octets spell the profile: its major version is 1, in version 1.0 it has no components,
-    /// no null is in the host, and each text and list is short enough for its count. It takes no
-    /// memory.
+    /// Whether octets spell the profile: its major version is 1, in version 1.0 it has no
+    /// components, no null is in the host, and each text and list is short enough for its count. It
+    /// takes no memory.
     #[tactic(auto, unfolding(crate::specs::Iiop::iiop_layout, crate::specs::Iiop::major_version, giop_cdr::specs::Layout::field, giop_cdr::specs::Layout::such, giop_cdr::specs::Layout::number, giop_cdr::specs::Layout::octets, giop_cdr::specs::Layout::text, giop_cdr::specs::Layout::gives))]
     pub fn is_writable(&self) -> bool
         ensures { result ≡ iiop_layout.fits self.now }
@@ -25,11 +25,11 @@ impl IiopProfile {
     }
 }
 
-/// The profile of tag 0 whose octets these are (CORBA 3.3 Part 2, 9.7.2): written big-endian, without
-/// octets behind the last field.
+/// The profile of tag 0 whose octets these are (CORBA 3.3 Part 2, 9.7.2): written big-endian,
+/// without octets behind the last field.
 ///
-/// Refused as Unfit where `is_writable` is false, and then no octets spell the profile; else as NoMemory
-/// where memory is wanting.
+/// Refused as Unfit where `is_writable` is false, and then no octets spell the profile; else as
+/// NoMemory where memory is wanting.
 #[tactic(auto, unfolding(crate::specs::Iiop::iiop_octets), using(crate::proofs::IiopLemmas::begun, crate::proofs::IiopLemmas::iiop_unspelled))]
 pub fn iiop_profile(alloc: Global, profile: &IiopProfile) -> Result<TaggedProfile, EncodeFault>
     ensures tag { IfOk result (λ tagged. tagged.tag ≡ 0) }
@@ -71,7 +71,8 @@ pub fn are_components(minor: u8, components: &[TaggedComponent]) -> bool
 #[tactic(auto, unfolding(crate::specs::Iiop::tagged_component))]
 fn append_sequence(components: &[TaggedComponent], out: &mut CdrOut) -> Result<(), AllocError>
     requires { (sequence tagged_component).fits components.now ≡ true }
-    ensures { Appends out.old result out.new ((sequence tagged_component).written components.now out.old) }
+    ensures { Appends out.old result out.new
+        ((sequence tagged_component).written components.now out.old) }
 {
     append_tagged(components, out)
 }
@@ -83,7 +84,8 @@ fn append_components(
     out: &mut CdrOut,
 ) -> Result<(), AllocError>
     requires { (components_of minor).fits components.now ≡ true }
-    ensures { Appends out.old result out.new ((components_of minor).written components.now out.old) }
+    ensures { Appends out.old result out.new
+        ((components_of minor).written components.now out.old) }
 {
     if minor == 0 {
         return Ok(());

@@ -2,8 +2,8 @@ use crate::sequence::Sequence;
 use crate::tagged_profile::TaggedProfile;
 use giop_cdr::{OctetList, OctetsAt, TaggedListAt};
 
-/// An interoperable object reference (CORBA 3.3 Part 2, 7.6.2): with its octets and profiles on their
-/// own, or, as an `IorAt`, where they lie. Contracts see both as one value.
+/// An interoperable object reference (CORBA 3.3 Part 2, 7.6.2): with its octets and profiles on
+/// their own, or, as an `IorAt`, where they lie. Contracts see both as one value.
 ///
 /// The nil reference has an empty type id and no profiles.
 #[derive(Debug, Drop)]

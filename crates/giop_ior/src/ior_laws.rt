@@ -12,14 +12,15 @@ ghost use Rattle.giop_ior.specs.Iiop.{Profile, iiop_layout, IiopOctets, iiop_of,
 ghost use Rattle.giop_ior.specs.Ior.{Reference, ior_layout};
 ghost use Rattle.giop_ior.specs.ToIor.{are_profiles, ReadAsAddresses};
 
-/// A reference: what is read is what is spelled, field by field, and where nothing is spelled the first
-/// refused field is answered. No spelling of a reference begins another. Whatever octets spell fits:
-/// where a reference doesn't fit, no octets spell it.
+/// A reference: what is read is what is spelled, field by field, and where nothing is spelled the
+/// first refused field is answered. No spelling of a reference begins another. Whatever octets
+/// spell fits: where a reference doesn't fit, no octets spell it.
 pub fn references_are_spelled()
     ensures exact { IsExact (Took ior_layout.spells) ior_layout.refused ior_layout.read }
     ensures alone { StandsAlone ior_layout.spells }
     ensures fits { (order : Order) (at : ℕ) (ior : Reference) (octets : List ℕ) → AreOctets octets
-        → ior_layout.spells order at ior octets → (ior_layout.fits ior ≡ true) × ior_layout.holds ior }
+        → ior_layout.spells order at ior octets
+        → (ior_layout.fits ior ≡ true) × ior_layout.holds ior }
 {}
 
 /// What `write_ior` appends spells the reference, and reading gives it back and leaves what stands
@@ -29,14 +30,17 @@ pub fn written_references_are_read_back()
         → IsReadBack ior_layout.spells ior_layout.read ior out (ior_layout.written ior out) }
 {}
 
-/// The octets of an IIOP profile: what is read is what they are, whatever stands behind the fields; they
-/// are of one profile at most; and what `iiop_profile` writes is octets of the profile, and read back.
+/// The octets of an IIOP profile: what is read is what they are, whatever stands behind the fields;
+/// they are of one profile at most; and what `iiop_profile` writes is octets of the profile, and
+/// read back.
 pub fn profiles_are_read()
     ensures exact { IsExact (Took iiop_layout.spells) iiop_layout.refused iiop_layout.read }
     ensures found { (octets : List ℕ) (p : Profile) → iiop_of octets ≡ Ok p → IiopOctets p octets }
     ensures only { (octets : List ℕ) (p : Profile) → IiopOctets p octets → iiop_of octets ≡ Ok p }
-    ensures written { (p : Profile) → iiop_layout.fits p ≡ true → iiop_layout.holds p → IiopOctets p (iiop_octets p) }
-    ensures again { (p : Profile) → iiop_layout.fits p ≡ true → iiop_layout.holds p → iiop_of (iiop_octets p) ≡ Ok p }
+    ensures written { (p : Profile) → iiop_layout.fits p ≡ true → iiop_layout.holds p
+        → IiopOctets p (iiop_octets p) }
+    ensures again { (p : Profile) → iiop_layout.fits p ≡ true → iiop_layout.holds p
+        → iiop_of (iiop_octets p) ≡ Ok p }
 {}
 
 /// In the reference that `to_ior` makes of a corbaloc, the profile of each address is read as that

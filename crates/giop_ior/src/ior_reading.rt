@@ -23,8 +23,8 @@ pub fn view_ior<'a, S: Octets>(input: &mut CdrIn<'a, S>) -> Result<IorAt<'a, S>,
     Ok(Ior { type_id, profiles })
 }
 
-/// The same reference on its own. Where memory is wanting for one that is there, it is NoMemory at the
-/// reader's place. After a refusal the reader stays where it was.
+/// The same reference on its own. Where memory is wanting for one that is there, it is NoMemory at
+/// the reader's place. After a refusal the reader stays where it was.
 pub fn read_ior<S: Octets>(alloc: Global, input: &mut CdrIn<S>) -> Result<Ior, CdrFault>
     ensures { Allocates (λ ior. ior) input.old result input.new (ior_layout.read input.old) }
 {

@@ -12,8 +12,8 @@ use giop_cdr::{CdrOut, EncodeFault};
 use std::alloc::AllocError;
 
 impl Ior {
-    /// Whether octets spell the reference: no null is in the type id, and each text and list is short
-    /// enough for its count. It takes no memory.
+    /// Whether octets spell the reference: no null is in the type id, and each text and list is
+    /// short enough for its count. It takes no memory.
     #[tactic(auto, unfolding(crate::specs::Ior::ior_layout, crate::specs::Ior::tagged_profile, giop_cdr::specs::Layout::field, giop_cdr::specs::Layout::text, giop_cdr::specs::Layout::gives))]
     pub fn is_writable(&self) -> bool
         ensures { result ≡ ior_layout.fits self.now }
@@ -85,7 +85,8 @@ fn is_writable_item<I: TaggedParts>(item: &I) -> bool
 #[tactic(auto, unfolding(giop_cdr::specs::Layout::tagged, giop_cdr::specs::Layout::field, giop_cdr::specs::Layout::number, giop_cdr::specs::Layout::octets, giop_cdr::specs::Layout::gives), using(giop_cdr::proofs::WriterLemmas::grows_then, giop_cdr::proofs::WriterLemmas::grows_not))]
 fn append_item<I: TaggedParts>(item: &I, out: &mut CdrOut) -> Result<(), AllocError>
     requires { (tagged I.tag_of I.contents_of I.made).fits item.now ≡ true }
-    ensures { Appends out.old result out.new ((tagged I.tag_of I.contents_of I.made).written item.now out.old) }
+    ensures { Appends out.old result out.new
+        ((tagged I.tag_of I.contents_of I.made).written item.now out.old) }
 {
     out.write_ulong(item.tag())?;
     out.write_octets(item.contents())?;
@@ -94,7 +95,8 @@ fn append_item<I: TaggedParts>(item: &I, out: &mut CdrOut) -> Result<(), AllocEr
 
 fn append_each<I: TaggedParts>(items: &[I], out: &mut CdrOut) -> Result<(), AllocError>
     requires { list_all (tagged I.tag_of I.contents_of I.made).fits items.now ≡ true }
-    ensures { Appends out.old result out.new (items_out (tagged I.tag_of I.contents_of I.made).written items.now out.old) }
+    ensures { Appends out.old result out.new
+        (items_out (tagged I.tag_of I.contents_of I.made).written items.now out.old) }
 {
     for item in items {
         append_item(item, out)?;
@@ -105,7 +107,8 @@ fn append_each<I: TaggedParts>(items: &[I], out: &mut CdrOut) -> Result<(), Allo
 #[tactic(auto, unfolding(giop_cdr::specs::Layout::sequence, giop_cdr::specs::Output::sequence_out), using(giop_cdr::proofs::WriterLemmas::grows_then, giop_cdr::proofs::WriterLemmas::grows_not))]
 pub fn append_tagged<I: TaggedParts>(items: &[I], out: &mut CdrOut) -> Result<(), AllocError>
     requires { (sequence (tagged I.tag_of I.contents_of I.made)).fits items.now ≡ true }
-    ensures { Appends out.old result out.new ((sequence (tagged I.tag_of I.contents_of I.made)).written items.now out.old) }
+    ensures { Appends out.old result out.new
+        ((sequence (tagged I.tag_of I.contents_of I.made)).written items.now out.old) }
 {
     out.write_ulong(items.len() as u32)?;
     append_each(items, out)?;

@@ -16,12 +16,12 @@ use giop_cdr::{EncodeFault, OctetList};
 use std::alloc::{AllocError, Global};
 
 impl Corbaloc {
-    /// The reference of the corbaloc (CORBA 3.3 Part 2, 7.6.10.1): no type id, and for each address,
-    /// in their order, an IIOP profile of that version, host and port, with the corbaloc's key and no
-    /// components.
+    /// The reference of the corbaloc (CORBA 3.3 Part 2, 7.6.10.1): no type id, and for each
+    /// address, in their order, an IIOP profile of that version, host and port, with the corbaloc's
+    /// key and no components.
     ///
-    /// Refused as Unfit where a major version isn't 1, a null is in a host, or a host or the key is too
-    /// long for its count; else as NoMemory where memory is wanting.
+    /// Refused as Unfit where a major version isn't 1, a null is in a host, or a host or the key is
+    /// too long for its count; else as NoMemory where memory is wanting.
     pub fn to_ior(&self, alloc: Global) -> Result<Ior, EncodeFault>
         ensures value { IfOk result (λ ior. ior ≡ ior_of self.now) }
         ensures err { IsErrOf result EncodeFault.Unfit ↔ (are_profiles self.now ≡ false) }
@@ -90,7 +90,8 @@ fn profiles_of(
     key: &[u8],
 ) -> Result<Vec<TaggedProfile>, EncodeFault>
     requires { list_all (λ a. iiop_layout.fits (address_profile key.now a)) addresses.now ≡ true }
-    ensures value { IfOk result (λ profiles. profiles.items ≡ map (profile_of key.now) addresses.now) }
+    ensures value { IfOk result
+        (λ profiles. profiles.items ≡ map (profile_of key.now) addresses.now) }
     ensures memory { IfErr result (λ e. e ≡ EncodeFault.NoMemory) }
 {
     let mut profiles = Vec::new(alloc);

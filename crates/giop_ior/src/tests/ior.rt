@@ -8,7 +8,8 @@ use giop_cdr::{
 use std::process::Abort;
 use std::test::Fail;
 
-/// The octets of a reference. Where memory is refused, the output is as it was, and it is written again.
+/// The octets of a reference. Where memory is refused, the output is as it was, and it is written
+/// again.
 fn written(rt: &(impl Abort + AllocGlobal), ior: &Ior, order: Order) -> Result<Vec<u8>, Fail> {
     let mut out = CdrOut::new(rt.alloc(), order, 0);
     if let Err(fault) = write_ior(&mut out, ior) {
@@ -19,8 +20,8 @@ fn written(rt: &(impl Abort + AllocGlobal), ior: &Ior, order: Order) -> Result<V
     Ok(out.into_bytes())
 }
 
-/// The reference at which a reader stands. Where memory is refused, the reader stays, and it is read
-/// again.
+/// The reference at which a reader stands. Where memory is refused, the reader stays, and it is
+/// read again.
 fn read<S: Octets>(rt: &(impl Abort + AllocGlobal), input: &mut CdrIn<S>) -> Result<Ior, Fail> {
     let at = input.position();
     match read_ior(rt.alloc(), input) {
