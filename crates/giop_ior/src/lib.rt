@@ -20,8 +20,6 @@ mod key_text;
 mod profile;
 mod sequence;
 mod tagged_profile;
-#[cfg(test)]
-mod tests;
 mod to_ior;
 
 pub use address::Address;
