@@ -248,6 +248,7 @@ fn write(values: &str, order: Order, times: u32) -> u64 {
     sum
 }
 
+#[inline(never)]
 fn ulongs(input: &mut Input) -> Result<u64, Fault> {
     let mut sum = 0;
     for _ in 0..ULONGS {
@@ -256,6 +257,7 @@ fn ulongs(input: &mut Input) -> Result<u64, Fault> {
     Ok(sum)
 }
 
+#[inline(never)]
 fn strings(input: &mut Input) -> Result<u64, Fault> {
     let mut sum = 0;
     for _ in 0..STRINGS {
@@ -266,6 +268,7 @@ fn strings(input: &mut Input) -> Result<u64, Fault> {
     Ok(sum)
 }
 
+#[inline(never)]
 fn octets(input: &mut Input) -> Result<u64, Fault> {
     let mut sum = 0;
     for _ in 0..PIECES {
@@ -290,6 +293,7 @@ fn wide(input: &mut Input, sum: u64) -> Result<u64, Fault> {
     Ok(mixed(sum, input.ulonglong()?))
 }
 
+#[inline(never)]
 fn widths(input: &mut Input) -> Result<u64, Fault> {
     let mut sum = 0;
     for _ in 0..GROUPS {

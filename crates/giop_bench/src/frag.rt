@@ -52,6 +52,7 @@ fn checksum(sum: u64, octets: &[u8], size: usize) -> u64
 }
 
 /// Runs the loop with pieces of `size` octets, and gives its checksum.
+#[inline(never)]
 pub fn run(alloc: Global, size: usize) -> u64
     requires some { 0 < size }
     requires most { size ≤ 4096 }

@@ -109,6 +109,7 @@ fn held(entry: Option<&Entry>) -> u64 {
 }
 
 /// Runs the loop, and gives its checksum.
+#[inline(never)]
 pub fn run(alloc: Global) -> u64 {
     let mut mux = Mux::new(alloc, Sums, IDS);
     let mut sum = 0;

@@ -4,6 +4,7 @@ use crate::write::{self, GROUPS, PIECES, STRINGS, ULONGS};
 use giop_cdr::{CdrFault, CdrIn, Octets, SliceOctets};
 use std::alloc::Global;
 
+#[inline(never)]
 fn ulongs<S: Octets>(input: &mut CdrIn<S>) -> Result<u64, CdrFault> {
     let mut sum = 0;
     for _ in 0..ULONGS {
@@ -12,6 +13,7 @@ fn ulongs<S: Octets>(input: &mut CdrIn<S>) -> Result<u64, CdrFault> {
     Ok(sum)
 }
 
+#[inline(never)]
 fn strings<S: Octets>(alloc: Global, input: &mut CdrIn<S>) -> Result<u64, CdrFault> {
     let mut sum = 0;
     for _ in 0..STRINGS {
@@ -21,6 +23,7 @@ fn strings<S: Octets>(alloc: Global, input: &mut CdrIn<S>) -> Result<u64, CdrFau
     Ok(sum)
 }
 
+#[inline(never)]
 fn octets<S: Octets>(alloc: Global, input: &mut CdrIn<S>) -> Result<u64, CdrFault> {
     let mut sum = 0;
     for _ in 0..PIECES {
@@ -47,6 +50,7 @@ fn wide<S: Octets>(input: &mut CdrIn<S>, sum: u64) -> Result<u64, CdrFault> {
     Ok(mixed(sum, input.read_ulonglong()?))
 }
 
+#[inline(never)]
 fn widths<S: Octets>(input: &mut CdrIn<S>) -> Result<u64, CdrFault> {
     let mut sum = 0;
     for _ in 0..GROUPS {

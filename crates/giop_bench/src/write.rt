@@ -14,6 +14,7 @@ pub const PIECES: u32 = 256;
 
 pub const GROUPS: u32 = 100_000;
 
+#[inline(never)]
 fn ulongs(out: &mut CdrOut) -> Result<(), AllocError> {
     for i in 0..ULONGS {
         out.write_ulong(i.wrapping_mul(2_654_435_761))?;
@@ -21,6 +22,7 @@ fn ulongs(out: &mut CdrOut) -> Result<(), AllocError> {
     Ok(())
 }
 
+#[inline(never)]
 fn strings(out: &mut CdrOut) -> Result<(), AllocError> {
     for _ in 0..STRINGS {
         out.write_string(b"a text of length")?;
@@ -28,6 +30,7 @@ fn strings(out: &mut CdrOut) -> Result<(), AllocError> {
     Ok(())
 }
 
+#[inline(never)]
 fn octets(out: &mut CdrOut) -> Result<(), AllocError> {
     for _ in 0..PIECES {
         out.write_octets(&OCTETS)?;
@@ -52,6 +55,7 @@ fn wide(out: &mut CdrOut, i: u32) -> Result<(), AllocError> {
     out.write_ulonglong(i as u64)
 }
 
+#[inline(never)]
 fn widths(out: &mut CdrOut) -> Result<(), AllocError> {
     for i in 0..GROUPS {
         narrow(out, i)?;
