@@ -1,7 +1,9 @@
 -- How refusals are told: their numbers, and their names.
-use Rattle.std.specs.Prelude.{ℕ, List, codes}
+use Rattle.std.specs.Prelude.{ℕ, List, codes, ◌++◌}
+use Rattle.std.specs.Fmt.{decimal}
 use Rattle.giop_cdr.specs.declared.encode_fault.EncodeFault.{EncodeFault}
 use Rattle.giop_cdr.specs.declared.encode_fault.EncodeFault.TheVariants as writing
+use Rattle.giop_cdr.specs.declared.fault.CdrFault.{CdrFault}
 use Rattle.giop_cdr.specs.declared.fault.CdrKind.{CdrKind}
 use Rattle.giop_cdr.specs.declared.fault.CdrKind.TheVariants.{Short, BadBoolean, BadString, BadCount, BadLabel, BadOrder}
 use Rattle.giop_cdr.specs.declared.fault.CdrKind.TheVariants.{BoundPassed, Trailing, NoMemory}
@@ -29,6 +31,10 @@ cdr_kind_name BadOrder = codes "BadOrder"
 cdr_kind_name BoundPassed = codes "BoundPassed"
 cdr_kind_name Trailing = codes "Trailing"
 cdr_kind_name NoMemory = codes "NoMemory"
+
+-- a refusal as a person reads it: its name, and its place
+abbrev pub cdr_fault_text : CdrFault → List ℕ
+cdr_fault_text e = cdr_kind_name e.kind ++ (codes " at " ++ decimal e.at)
 
 -- the number of a refusal to write
 abbrev pub encode_fault_number : EncodeFault → ℕ

@@ -94,15 +94,15 @@ impl CdrFault {
     }
 }
 
-/// The name of its kind, as `BadCount`.
+/// The name of its kind and its place, as `BadCount at 24`.
 impl fmt::Display for CdrFault {
     ghost use Rattle.std.specs.Prelude.{Some};
-    ghost use Rattle.giop_cdr.specs.Faults.{cdr_kind_name};
+    ghost use Rattle.giop_cdr.specs.Faults.{cdr_fault_text};
 
-    ghost output = { λ e. Some (cdr_kind_name e.kind) };
+    ghost output = { λ e. Some (cdr_fault_text e) };
 
     fn fmt<W: fmt::Write>(&self, f: &mut fmt::Formatter<W>) -> fmt::Result {
-        write!(f, "{}", self.kind)
+        write!(f, "{} at {}", self.kind, self.at)
     }
 }
 

@@ -10,6 +10,7 @@ use crate::octets_at::OctetsAt;
 use crate::order::Order;
 use crate::runs::{copy_of, field_of, text_lies_at};
 use std::alloc::{AllocError, Global};
+use std::fmt;
 use std::marker::Model;
 
 /// Reads CDR values one after the other from a list of octets, in one byte order.
@@ -236,5 +237,16 @@ impl<'a> CdrIn<'a, SliceOctets<'a>> {
         ensures { result.now ≡ take count self.now.rest }
     {
         &self.source.as_slice()[self.index..self.index + count]
+    }
+}
+
+/// Where the reader stands, and how many octets are left; not the octets themselves.
+impl<'a, S: Octets> fmt::Debug for CdrIn<'a, S> {
+    fn fmt<W: fmt::Write>(&self, f: &mut fmt::Formatter<W>) -> fmt::Result {
+        f.debug_struct("CdrIn")
+            .field("order", &self.order)
+            .field("position", &self.position())
+            .field("remaining", &self.remaining())
+            .finish()
     }
 }

@@ -8,6 +8,7 @@ use crate::checkpoint::Checkpoint;
 use crate::encapsulation::Mark;
 use crate::order::Order;
 use std::alloc::{AllocError, Global};
+use std::fmt;
 use std::marker::Model;
 
 /// Writes CDR values one after the other, in one byte order, into octets that it holds.
@@ -198,5 +199,16 @@ impl CdrOut {
     {
         let at = self.position();
         push_counted(&mut self.octets, at, count, content, tail)
+    }
+}
+
+/// Where the next octet goes, and the octets so far.
+impl fmt::Debug for CdrOut {
+    fn fmt<W: fmt::Write>(&self, f: &mut fmt::Formatter<W>) -> fmt::Result {
+        f.debug_struct("CdrOut")
+            .field("order", &self.order)
+            .field("position", &self.position())
+            .field("octets", &self.octets)
+            .finish()
     }
 }

@@ -1,6 +1,14 @@
--- For the proof of a rule's law `fault_keeps`.
-use Rattle.std.specs.Prelude.{◌≡◌, true, false}
+-- Refusals: for the proof of a rule's law `fault_keeps`, and their numbers.
+use Rattle.std.specs.Prelude.{◌≡◌, true, false, ℕ}
+use Rattle.giop_mux.specs.declared.refusal.Refusal.{Refusal}
+use Rattle.giop_mux.specs.declared.refusal.Refusal.TheVariants.{Rule, TooManyCalls, NoMemory}
 
 -- an accepted step has no fault: `IsErr (Ok answer)` computes to this premise
 pub no_fault : {P : Type 0} → false ≡ true → P
 no_fault fault = absurd cc
+
+-- the number of a refusal, in the order in which refusals are judged
+abbrev pub refusal_number : {F : Type 0} → Refusal F → ℕ
+refusal_number (Rule _) = 1
+refusal_number TooManyCalls = 2
+refusal_number NoMemory = 3

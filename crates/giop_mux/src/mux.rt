@@ -10,6 +10,7 @@ use crate::{CallRule, Refusal, StillOpen, slots};
 use giop_ids::Addressed;
 use std::alloc::{AllocError, Global};
 use std::collections::BTreeMap;
+use std::fmt;
 use std::marker::Model;
 
 /// A table of calls: the entry of each, by id, and no more entries than its limit.
@@ -156,5 +157,15 @@ impl<R: CallRule> Mux<R> {
         ensures { IfOk result (λ ids. ids.items ≡ finite.keys self.now.entries) }
     {
         slots::ids_of(alloc, &self.table)
+    }
+}
+
+/// How many entries there are, and may be; neither the rule nor the entries need to be shown.
+impl<R: CallRule> fmt::Debug for Mux<R> {
+    fn fmt<W: fmt::Write>(&self, f: &mut fmt::Formatter<W>) -> fmt::Result {
+        f.debug_struct("Mux")
+            .field("len", &self.len())
+            .field("limit", &self.limit)
+            .finish_non_exhaustive()
     }
 }

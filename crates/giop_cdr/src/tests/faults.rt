@@ -18,9 +18,13 @@ fn each_refusal_has_its_number_and_its_name(rt: HostRuntime) -> Result<(), Fail>
     for (kind, number, name) in rows {
         let fault = CdrFault { at: 3, kind };
         assert_eq!(rt; fault.number(), number);
-        assert_eq!(rt; format!(in alloc; "{fault}")?.as_str(), name);
         assert_eq!(rt; format!(in alloc; "{kind}")?.as_str(), name);
     }
+    let fault = CdrFault {
+        at: 1024,
+        kind: CdrKind::BadCount,
+    };
+    assert_eq!(rt; format!(in alloc; "{fault}")?.as_str(), "BadCount at 1024");
     let rows = [
         (EncodeFault::Unfit, 1, "Unfit"),
         (EncodeFault::NoMemory, 2, "NoMemory"),

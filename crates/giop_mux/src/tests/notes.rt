@@ -3,6 +3,7 @@ ghost use Rattle.std.specs.Prelude.{◌≡◌};
 
 use crate::{CallRule, Mux, Step};
 use std::alloc::{AllocError, Global};
+use std::fmt;
 
 /// The rule of notes.
 #[derive(Clone, Copy)]
@@ -35,6 +36,12 @@ pub enum Answer {
 
 #[derive(Clone, Copy, Debug, PartialEq, Eq)]
 pub struct NotOpen;
+
+impl fmt::Display for NotOpen {
+    fn fmt<W: fmt::Write>(&self, f: &mut fmt::Formatter<W>) -> fmt::Result {
+        f.write_str("the note isn't open")
+    }
+}
 
 impl CallRule for Notes {
     ghost use Rattle.std.specs.Prelude.{Option, Some, None, Result, Ok, Err, Bool, true, false, ◌≡◌, IsErr, refl};

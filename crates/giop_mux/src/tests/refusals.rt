@@ -101,3 +101,36 @@ fn a_closed_entry_is_taken_once(rt: HostRuntime) -> Result<(), Fail> {
     assert!(rt; mux.is_empty());
     Ok(())
 }
+
+// What a person or a log reads of a refusal: the rule's own words, or the refusal's name.
+#[test]
+fn refusals_have_their_numbers_and_texts(rt: HostRuntime) -> Result<(), Fail> {
+    let alloc = rt.alloc();
+    let rule: Refusal<NotOpen> = Refusal::Rule(NotOpen);
+    let full: Refusal<NotOpen> = Refusal::TooManyCalls;
+    let memory: Refusal<NotOpen> = Refusal::NoMemory;
+    assert_eq!(rt; [rule.number(), full.number(), memory.number()], [1, 2, 3]);
+    assert_eq!(rt;
+        format!(in alloc; "{rule}")?.as_str(),
+        "the note isn't open"
+    );
+    assert_eq!(rt; format!(in alloc; "{full}")?.as_str(), "TooManyCalls");
+    assert_eq!(rt; format!(in alloc; "{memory}")?.as_str(), "NoMemory");
+    assert_eq!(rt; format!(in alloc; "{StillOpen}")?.as_str(), "StillOpen");
+    Ok(())
+}
+
+#[test]
+fn a_table_is_shown_by_its_size(rt: HostRuntime) -> Result<(), Fail> {
+    let alloc = rt.alloc();
+    let mut mux = Mux::new(alloc, Notes, 2);
+    assert_eq!(rt;
+        mux.apply(7, Event::Write(text(alloc, "seven")?)),
+        Ok(Answer::Written)
+    );
+    assert_eq!(rt;
+        format!(in alloc; "{mux:?}")?.as_str(),
+        "Mux { len: 1, limit: 2, .. }"
+    );
+    Ok(())
+}
