@@ -1,4 +1,13 @@
 -- What a call of a reader says by its result: by cases, so that a contract is one word.
+--
+-- word      | its value            | memory      | a refusal leaves the reader
+-- Reads     | as reading gives it  | takes none  | where it was
+-- ReadsAs   | seen by a view       | takes none  | where it was
+-- Allocates | seen by a view       | may be wanting where nothing is refused | where it was
+-- Passes    | none: it is skipped  | takes none  | where it was
+-- Exactly   | as Reads             | takes none  | anywhere: a step within one of the above
+-- Skips     | as Passes            | takes none  | anywhere
+-- Follows   | as Allocates         | may be wanting, and then nothing else is known | anywhere
 use Rattle.std.specs.Prelude.{◌≡◌, ◌⊎◌, Result, Ok, Err, IsOk}
 use Rattle.giop_cdr.specs.declared.fault.CdrFault.{CdrFault}
 use Rattle.giop_cdr.specs.declared.fault.CdrKind.TheVariants.{NoMemory}

@@ -11,7 +11,7 @@ use crate::reader::CdrIn;
 
 #[tactic(auto, unfolding(crate::specs::Reading::number_at, crate::specs::Reading::signed_at, crate::specs::Reading::boolean_at))]
 impl<'a, S: Octets> CdrIn<'a, S> {
-    /// A boolean, as an octet (9.3.1.6): 0 is false, 1 is true.
+    /// A boolean, as an octet (9.3.1.5): 0 is false, 1 is true.
     ///
     /// Refused as Short where the octets end, and as BadBoolean where the octet is another one.
     #[inline(always)]

@@ -16,7 +16,7 @@ pub fn passes(bound: u32, length: usize) -> bool
 }
 
 impl<'a, S: Octets> CdrIn<'a, S> {
-    /// The count of a sequence (9.3.2.3): an unsigned long, aligned to 4, that is no more than the
+    /// The count of a sequence (9.3.2.5): an unsigned long, aligned to 4, that is no more than the
     /// number of octets behind it. What memory it asks for is for the caller to bound: an element
     /// of one octet on the wire may take many in memory.
     ///
@@ -91,7 +91,7 @@ impl<'a, S: Octets> CdrIn<'a, S> {
         Ok(count)
     }
 
-    /// A sequence of octets (9.3.2.3): an unsigned long length, aligned to 4, and as many octets.
+    /// A sequence of octets (9.3.2.5): an unsigned long length, aligned to 4, and as many octets.
     /// A `bound` of 0 is none.
     ///
     /// Refused, all at the offset of the length: as Short where it isn't there, as BadCount where

@@ -10,7 +10,7 @@ use std::alloc::AllocError;
 
 #[tactic(auto, unfolding(crate::specs::Output::number_out, crate::specs::Output::signed_out))]
 impl CdrOut {
-    /// A boolean, as an octet (9.3.1.6): 1 for true, 0 for false.
+    /// A boolean, as an octet (9.3.1.5): 1 for true, 0 for false.
     #[inline(always)]
     pub fn write_boolean(&mut self, value: bool) -> Result<(), AllocError>
         ensures { Writes self.old result self.new (number_out w8 (if value then 1 else 0) self.old) }
@@ -103,7 +103,7 @@ impl CdrOut {
         }
     }
 
-    /// A sequence of octets (9.3.2.3): an unsigned long length, aligned to 4, and the octets.
+    /// A sequence of octets (9.3.2.5): an unsigned long length, aligned to 4, and the octets.
     #[tactic(auto, unfolding(crate::specs::Output::octets_out, crate::specs::Output::number_out))]
     pub fn write_octets(&mut self, octets: &[u8]) -> Result<(), AllocError>
         requires { length octets.now < 2 ^ 32 }
