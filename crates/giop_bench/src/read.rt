@@ -1,11 +1,18 @@
 //! Loops that read CDR out of a slice. `bench/cdr/twin.rs` does the same in plain Rust.
+ghost use Rattle.std.specs.Prelude.{◌≤◌, ◌^◌, length};
+
 use crate::work::{Values, Work, mixed};
 use crate::write::{self, GROUPS, PIECES, STRINGS, ULONGS};
-use giop_cdr::{CdrFault, CdrIn, Octets, SliceOctets};
+use giop_cdr::{CdrFault, CdrIn, Octets, Order, SliceOctets};
 use std::alloc::Global;
 
+// Each loop is a function of its own, with a reader of its own: what else the program does then
+// costs it nothing.
 #[inline(never)]
-fn ulongs<S: Octets>(input: &mut CdrIn<S>) -> Result<u64, CdrFault> {
+fn ulongs<S: Octets>(source: &S, order: Order) -> Result<u64, CdrFault>
+    requires { length (S.octets source.now) ≤ 2 ^ 62 }
+{
+    let mut input = CdrIn::new(source, order, 0);
     let mut sum = 0;
     for _ in 0..ULONGS {
         sum = mixed(sum, input.read_ulong()? as u64);
@@ -14,7 +21,10 @@ fn ulongs<S: Octets>(input: &mut CdrIn<S>) -> Result<u64, CdrFault> {
 }
 
 #[inline(never)]
-fn strings<S: Octets>(alloc: Global, input: &mut CdrIn<S>) -> Result<u64, CdrFault> {
+fn strings<S: Octets>(alloc: Global, source: &S, order: Order) -> Result<u64, CdrFault>
+    requires { length (S.octets source.now) ≤ 2 ^ 62 }
+{
+    let mut input = CdrIn::new(source, order, 0);
     let mut sum = 0;
     for _ in 0..STRINGS {
         let text = input.read_string(alloc, 0)?;
@@ -24,7 +34,10 @@ fn strings<S: Octets>(alloc: Global, input: &mut CdrIn<S>) -> Result<u64, CdrFau
 }
 
 #[inline(never)]
-fn octets<S: Octets>(alloc: Global, input: &mut CdrIn<S>) -> Result<u64, CdrFault> {
+fn octets<S: Octets>(alloc: Global, source: &S, order: Order) -> Result<u64, CdrFault>
+    requires { length (S.octets source.now) ≤ 2 ^ 62 }
+{
+    let mut input = CdrIn::new(source, order, 0);
     let mut sum = 0;
     for _ in 0..PIECES {
         let octets = input.read_octets(alloc, 0)?;
@@ -51,21 +64,26 @@ fn wide<S: Octets>(input: &mut CdrIn<S>, sum: u64) -> Result<u64, CdrFault> {
 }
 
 #[inline(never)]
-fn widths<S: Octets>(input: &mut CdrIn<S>) -> Result<u64, CdrFault> {
+fn widths<S: Octets>(source: &S, order: Order) -> Result<u64, CdrFault>
+    requires { length (S.octets source.now) ≤ 2 ^ 62 }
+{
+    let mut input = CdrIn::new(source, order, 0);
     let mut sum = 0;
     for _ in 0..GROUPS {
-        sum = narrow(input, sum)?;
-        sum = wide(input, sum)?;
+        sum = narrow(&mut input, sum)?;
+        sum = wide(&mut input, sum)?;
     }
     Ok(sum)
 }
 
-fn values<S: Octets>(alloc: Global, input: &mut CdrIn<S>, values: Values) -> Result<u64, CdrFault> {
-    match values {
-        Values::Ulong => ulongs(input),
-        Values::String => strings(alloc, input),
-        Values::Octets => octets(alloc, input),
-        Values::Widths => widths(input),
+fn values<S: Octets>(alloc: Global, source: &S, work: Work) -> Result<u64, CdrFault>
+    requires { length (S.octets source.now) ≤ 2 ^ 62 }
+{
+    match work.values {
+        Values::Ulong => ulongs(source, work.order),
+        Values::String => strings(alloc, source, work.order),
+        Values::Octets => octets(alloc, source, work.order),
+        Values::Widths => widths(source, work.order),
     }
 }
 
@@ -79,8 +97,7 @@ pub fn run(alloc: Global, work: Work, times: u32) -> Option<u64> {
     let source = SliceOctets::new(&message);
     let mut sum = 0;
     for _ in 0..times {
-        let mut input = CdrIn::new(&source, work.order, 0);
-        sum = mixed(sum, values(alloc, &mut input, work.values).ok()?);
+        sum = mixed(sum, values(alloc, &source, work).ok()?);
     }
     Some(sum)
 }

@@ -1,6 +1,6 @@
 //! Loops that write CDR. `bench/cdr/twin.rs` does the same in plain Rust.
 use crate::work::{Values, Work, mixed};
-use giop_cdr::CdrOut;
+use giop_cdr::{CdrOut, Order};
 use std::alloc::{AllocError, Global};
 
 pub const ULONGS: u32 = 1_000_000;
@@ -14,28 +14,33 @@ pub const PIECES: u32 = 256;
 
 pub const GROUPS: u32 = 100_000;
 
+// Each loop is a function of its own, with an output of its own: what else the program does then
+// costs it nothing.
 #[inline(never)]
-fn ulongs(out: &mut CdrOut) -> Result<(), AllocError> {
+fn ulongs(alloc: Global, order: Order) -> Result<CdrOut, AllocError> {
+    let mut out = CdrOut::new(alloc, order, 0);
     for i in 0..ULONGS {
         out.write_ulong(i.wrapping_mul(2_654_435_761))?;
     }
-    Ok(())
+    Ok(out)
 }
 
 #[inline(never)]
-fn strings(out: &mut CdrOut) -> Result<(), AllocError> {
+fn strings(alloc: Global, order: Order) -> Result<CdrOut, AllocError> {
+    let mut out = CdrOut::new(alloc, order, 0);
     for _ in 0..STRINGS {
         out.write_string(b"a text of length")?;
     }
-    Ok(())
+    Ok(out)
 }
 
 #[inline(never)]
-fn octets(out: &mut CdrOut) -> Result<(), AllocError> {
+fn octets(alloc: Global, order: Order) -> Result<CdrOut, AllocError> {
+    let mut out = CdrOut::new(alloc, order, 0);
     for _ in 0..PIECES {
         out.write_octets(&OCTETS)?;
     }
-    Ok(())
+    Ok(out)
 }
 
 #[inline(always)]
@@ -56,23 +61,23 @@ fn wide(out: &mut CdrOut, i: u32) -> Result<(), AllocError> {
 }
 
 #[inline(never)]
-fn widths(out: &mut CdrOut) -> Result<(), AllocError> {
+fn widths(alloc: Global, order: Order) -> Result<CdrOut, AllocError> {
+    let mut out = CdrOut::new(alloc, order, 0);
     for i in 0..GROUPS {
-        narrow(out, i)?;
-        wide(out, i)?;
+        narrow(&mut out, i)?;
+        wide(&mut out, i)?;
     }
-    Ok(())
+    Ok(out)
 }
 
 /// The message that a loop writes.
 pub fn message(alloc: Global, work: Work) -> Result<Vec<u8>, AllocError> {
-    let mut out = CdrOut::new(alloc, work.order, 0);
-    match work.values {
-        Values::Ulong => ulongs(&mut out)?,
-        Values::String => strings(&mut out)?,
-        Values::Octets => octets(&mut out)?,
-        Values::Widths => widths(&mut out)?,
-    }
+    let out = match work.values {
+        Values::Ulong => ulongs(alloc, work.order)?,
+        Values::String => strings(alloc, work.order)?,
+        Values::Octets => octets(alloc, work.order)?,
+        Values::Widths => widths(alloc, work.order)?,
+    };
     Ok(out.into_bytes())
 }
 

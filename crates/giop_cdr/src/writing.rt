@@ -105,6 +105,7 @@ impl CdrOut {
 
     /// A sequence of octets (9.3.2.5): an unsigned long length, aligned to 4, and the octets.
     #[tactic(auto, unfolding(crate::specs::Output::octets_out, crate::specs::Output::number_out))]
+    #[inline(always)]
     pub fn write_octets(&mut self, octets: &[u8]) -> Result<(), AllocError>
         requires { length octets.now < 2 ^ 32 }
         ensures { Writes self.old result self.new (octets_out octets.now self.old) }
@@ -116,6 +117,7 @@ impl CdrOut {
     /// A string (9.3.2.7): an unsigned long length, aligned to 4, that counts the null, the octets,
     /// the null. So the empty string is its length 1 and a null. No null stands in `text`.
     #[tactic(auto, unfolding(crate::specs::Output::string_out, crate::specs::Output::number_out))]
+    #[inline(always)]
     pub fn write_string(&mut self, text: &[u8]) -> Result<(), AllocError>
         requires text { has_null text.now ≡ false }
         requires short { length text.now + 1 < 2 ^ 32 }
