@@ -1,5 +1,5 @@
 use super::notes::{Answer, Event, Notes, has_closed, has_open, text};
-use crate::{Mux, Refusal};
+use crate::{Addressed, Mux, Refusal};
 use std::alloc::{AllocError, Global};
 use std::process::Abort;
 use std::test::Fail;
@@ -72,5 +72,47 @@ fn want_of_memory_changes_nothing(rt: HostRuntime) -> Result<(), Fail> {
     assert_eq!(rt; ids.len(), 20);
     assert_eq!(rt; ids.first().copied(), Some(0));
     assert_eq!(rt; ids.get(10).copied(), Some(30));
+    Ok(())
+}
+
+// A note written under each of the ids 0 to 7.
+fn notes(alloc: Global) -> Result<Vec<Addressed<Event>>, AllocError> {
+    let mut events = Vec::with_capacity(alloc, 8)?;
+    for id in 0..8u32 {
+        let what = Event::Write(text(alloc, "note")?);
+        events.push(Addressed { id, what })?;
+    }
+    Ok(events)
+}
+
+fn notes_at_last(alloc: Global) -> Result<Vec<Addressed<Event>>, AllocError> {
+    match notes(alloc) {
+        Ok(events) => Ok(events),
+        Err(_) => notes(alloc),
+    }
+}
+
+// With any one allocation refused: either nothing of the run is applied, or the one event whose
+// entry has no memory is refused, and those behind it are applied.
+#[test]
+fn want_of_memory_in_a_run_refuses_one_event(rt: HostRuntime) -> Result<(), Fail> {
+    let alloc = rt.alloc();
+    let mut mux = Mux::new(alloc, Notes, 40);
+    let outcomes = match mux.apply_all(alloc, notes_at_last(alloc)?) {
+        Ok(outcomes) => outcomes,
+        Err(_) => {
+            assert!(rt; mux.is_empty());
+            mux.apply_all(alloc, notes_at_last(alloc)?)?
+        }
+    };
+    assert_eq!(rt; outcomes.len(), 8);
+    for id in 0..8u32 {
+        match outcomes.get(id as usize) {
+            Some(Ok(Answer::Written)) => assert!(rt; has_open(&mux, id, "note")),
+            Some(Err(Refusal::NoMemory)) => write_at_last(&rt, alloc, &mut mux, id, "note")?,
+            _ => return Err(Fail::from("another outcome")),
+        }
+    }
+    assert_eq!(rt; mux.len(), 8);
     Ok(())
 }
