@@ -31,6 +31,10 @@ impl<F> Refusal<F> {
 
 /// The rule's own fault, or the name of the refusal, as `TooManyCalls`.
 impl<F: fmt::Display> fmt::Display for Refusal<F> {
+    ghost use Rattle.giop_mux.specs.Faults.{refusal_text};
+
+    ghost output = { refusal_text F.output };
+
     fn fmt<W: fmt::Write>(&self, f: &mut fmt::Formatter<W>) -> fmt::Result {
         match self {
             Refusal::Rule(fault) => fault.fmt(f),
