@@ -188,3 +188,8 @@ from_data s d = fitting s (shown s d)
 abbrev pub Reads : {A B : Type 0} → (A → B) → Result A FormFault → Result B FormFault → Type 0
 Reads view (Ok x) answer = answer ≡ Ok (view x)
 Reads view (Err e) answer = (answer ≡ Err e) ⊎ (e ≡ NoMemory)
+
+-- what was written of a value is read as that value, unless memory is wanting
+abbrev pub ReadsBack : Tree → Result Value FormFault → Type 0
+ReadsBack t (Ok v) = value_view v ≡ t
+ReadsBack t (Err e) = e ≡ NoMemory

@@ -34,6 +34,7 @@ pub use form_fault::FormFault;
 pub use interface::{Interface, Operation};
 pub use json::{
     desc_from_json, json_gives_values_back, reference_desc, value_from_json, value_to_json,
+    written_and_read_as_json,
 };
 pub use laws::{
     descriptions_are_checked_node_by_node, encoded_and_decoded, leaves_count_every_part,
