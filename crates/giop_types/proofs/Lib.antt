@@ -28,3 +28,4 @@ pub mod AgainLemmas
 pub mod ViewedPlain
 pub mod WrittenOctets
 pub mod ReferenceBack
+pub mod ParseLemmas

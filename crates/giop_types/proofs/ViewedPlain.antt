@@ -33,7 +33,6 @@ unfolding is_plain
 branches [] = refl
 branches (b ∷ bs) = rw (view-Case b.0, b.1) (branches bs)
 
-
 -- a description, and that it is so; a case, and a named one
 abbrev APlain : Type 0
 APlain = Such block.the_family (folds.claims IsPlain IsPlainCase IsPlainNamed) block.member-Desc

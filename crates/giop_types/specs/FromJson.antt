@@ -94,7 +94,7 @@ label_shown disc d = whole d
 -- ---- lists and objects
 
 -- the values of a list, where each has one
-abbrev pub items_shown : (json.Data → Option Tree) → json.Items → Option (List Tree)
+abbrev pub items_shown : {A : Type 0} → (json.Data → Option A) → json.Items → Option (List A)
 items_shown f json.no_items = Some []
 items_shown f (json.item d ds) = option_and_then (λ t. option_map (λ ts. t ∷ ts) (items_shown f ds)) (f d)
 

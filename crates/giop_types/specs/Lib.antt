@@ -15,6 +15,7 @@ pub mod JsonText
 pub mod ToJson
 pub mod FormFault
 pub mod FromJson
+pub mod DescFromJson
 pub mod Plain
 pub mod Parse
 pub mod Reference

@@ -2,7 +2,7 @@
 use crate::desc::NamedDesc;
 use crate::form_fault::FormFault;
 use crate::interface::{Interface, Operation};
-use crate::json::desc_json::{STEPS, checked, members_of};
+use crate::json::desc_json::{LEVELS, checked, members_of};
 use crate::json::parse::parse;
 use crate::json::texts::octets_in;
 use crate::name_check::has_doubled_member;
@@ -113,7 +113,7 @@ fn parameter_forms(alloc: Global, json: Option<&Json>) -> Result<Vec<NamedDesc>,
     let Some(json) = json else {
         return Ok(Vec::new(alloc));
     };
-    let parameters = members_of(alloc, json, STEPS)?;
+    let parameters = members_of(alloc, json, LEVELS)?;
     if has_doubled_member(&parameters) || has_null(&parameters) {
         return Err(FormFault::BadShape);
     }
