@@ -29,3 +29,4 @@ pub mod ViewedPlain
 pub mod WrittenOctets
 pub mod ReferenceBack
 pub mod ParseLemmas
+pub mod SameLemmas

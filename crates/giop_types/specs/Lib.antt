@@ -23,3 +23,5 @@ pub mod Encoding
 pub mod Nodes
 pub mod DescFaults
 pub mod TreeCode
+pub mod Same
+pub mod SameLaws
