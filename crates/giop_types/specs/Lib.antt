@@ -16,6 +16,7 @@ pub mod ToJson
 pub mod FormFault
 pub mod FromJson
 pub mod DescFromJson
+pub mod InterfaceFaults
 pub mod Plain
 pub mod Parse
 pub mod Reference
