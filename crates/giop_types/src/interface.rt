@@ -1,4 +1,4 @@
-ghost use Rattle.std.specs.Prelude.{◌≡◌, option_copied};
+ghost use Rattle.std.specs.Prelude.{◌≡◌, option_copied, length, true};
 ghost use Rattle.std.specs.BTreeMap.{get_by};
 ghost use Rattle.std.specs.Ordering.{nat_cmp};
 ghost use Rattle.std.specs.Cmp.Lexicographic.{slice_cmp};
@@ -21,6 +21,7 @@ pub struct Operation {
     pub ins: Parameters,
     /// The result, and then the inout and out parameters.
     pub outs: Parameters,
+    pub ghost silent: { oneway ≡ true → length outs.list.items ≡ 0 },
 }
 
 /// What an interface offers: its operations by their names and its exceptions by their ids. No name

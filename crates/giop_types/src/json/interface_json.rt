@@ -1,5 +1,5 @@
 //! Interfaces read from JSON.
-ghost use Rattle.std.specs.Prelude.{◌≡◌, IfOk, IfErr, length};
+ghost use Rattle.std.specs.Prelude.{◌≡◌, IfOk, IfErr, length, true};
 ghost use Rattle.giop_types.specs.DescFromJson.{json_in};
 ghost use Rattle.giop_types.specs.InterfaceFaults.{IsOfForm, IsOfPart, MakesOf};
 
@@ -23,6 +23,7 @@ struct OperationForm {
     oneway: bool,
     ins: Vec<NamedDesc>,
     outs: Vec<NamedDesc>,
+    ghost silent: { oneway ≡ true → length outs.items ≡ 0 },
 }
 
 // An exception whose descriptions are still to be checked.
@@ -209,6 +210,7 @@ fn checked_exceptions(
 
 // Parameters, their descriptions checked.
 fn checked_parameters(alloc: Global, forms: Vec<NamedDesc>) -> Result<Parameters, FormFault>
+    ensures ok { IfOk result (λ parameters. length parameters.list.items ≡ length forms.items) }
     ensures err { IfErr result IsOfPart }
 {
     let mut list = Vec::with_capacity(alloc, forms.len())?;
