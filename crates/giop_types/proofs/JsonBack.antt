@@ -1,8 +1,8 @@
 -- A fitting value that is written as JSON is read back.
 use Rattle.std.proofs.Common.{◌≡◌, ◌≤◌, ◌^◌, ◌+◌, ℕ, ℤ, pos, negsuc, nat_lt, ◌&&◌, ◌==◌, Bool}
 use Rattle.std.proofs.Common.{true, false, not, if◌then◌else◌, int_le}
-use Rattle.std.proofs.Common.{List, [], ◌∷◌, map, length, Option, Some, None, option_map, Ok, refl, ap, ◌∙◌, arith}
-use Rattle.std.proofs.lemmas.Bool.{lt-ltb, leb-true, and_parts, or_parts, not-true}
+use Rattle.std.proofs.Common.{List, [], ◌∷◌, map, length, Option, Some, None, option_map, Result, Ok, Err, inl, inr, refl, ap, ◌∙◌, arith}
+use Rattle.std.proofs.lemmas.Bool.{lt-ltb, leb-true, and_parts, or_parts}
 use Rattle.std.proofs.lemmas.Bool.Decides.{nat_tests}
 use Rattle.std.specs.List.{list_all, list_any}
 use Rattle.std.specs.Option.{option_or}
@@ -11,6 +11,12 @@ use Rattle.hex.proofs.HexLemmas.{decode_of-encode_lower}
 use Rattle.serde_json.specs.Data as json
 use Rattle.serde_json.specs.Events.{members_len}
 use Rattle.serde_json.specs.View.{items_of as json_items}
+use Rattle.giop_types.specs.declared.checked_desc.CheckedDesc.{CheckedDesc}
+use Rattle.giop_types.specs.declared.form_fault.FormFault.{FormFault}
+use Rattle.giop_types.specs.declared.value.Value.{Value}
+use Rattle.giop_types.specs.CheckedShape.{checked_shape}
+use Rattle.giop_types.specs.Views.{value_view}
+use Rattle.giop_types.proofs.ViewedPlain.{viewed_plain}
 use Rattle.giop_types.specs.declared.desc_fault.DescFault.{DescFault}
 use Rattle.giop_types.specs.declared.desc_fault.DescFault.TheVariants.{Empty, Doubled, BadDiscriminant, TooDeep}
 use Rattle.giop_types.specs.Shape.{Shape, boolean, octet, char, short, ushort, long, ulong, longlong}
@@ -30,10 +36,12 @@ use Rattle.giop_types.specs.JsonText as utf8
 use Rattle.giop_types.specs.Reference.{is_reference}
 use Rattle.giop_types.specs.ToJson.{to_data, fields_data, branches_data, fallback_data, only_data, label_data, choice_data}
 use Rattle.giop_types.specs.FromJson.{shown, fields_shown, branches_shown, fallback_shown, items_shown, one_shown}
-use Rattle.giop_types.specs.FromJson.{field_count, union_parts, is_object_of, from_data}
+use Rattle.giop_types.specs.FromJson.{field_count, union_parts, is_object_of, from_data, Reads, ReadsBack}
 use Rattle.giop_cdr.specs.Reading.{has_null, passes}
 use Rattle.giop_types.proofs.FromJsonLemmas.{choice_is}
 use Rattle.giop_types.proofs.JsonLeavesBack.{text_back, char_back, octets_are_bytes, name_back, AreApart, label_back}
+use Rattle.giop_types.proofs.CheckLemmas.{faultless_full}
+use Rattle.giop_types.proofs.ReferenceBack.{reference_back}
 use Rattle.giop_types.proofs.JsonObjects.{member_found, all_new, fields_counted}
 
 -- the values of a list, and the list of the values
@@ -116,6 +124,11 @@ parts_back label member = refl
 equal : (n : ℕ) → (n == n) ≡ true
 equal n = grind (arith, nat_tests)
 
+-- one of two
+either : {P : Type 0} (b : Bool) → (b ≡ true → P) → (b ≡ false → P) → P
+either true then_this else_that = then_this refl
+either false then_this else_that = else_that refl
+
 object_of : (fs : Fields) (ts : List Tree) → fields_fit fs ts ≡ true → has_doubled same_name (field_names fs) ≡ false
     → is_object_of (field_count fs) (json.object (fields_data fs ts json.no_members)) ≡ true
 object_of fs ts fit apart =
@@ -162,9 +175,10 @@ mutual
   json_back (members fs) (members_of ts) depth checked single fit =
       let node = no_fault (node_fault depth (members fs)) (fields_fault (depth + 1) fs) checked in
       let apart = no_doubles depth (members fs) node.0 in
-      let plain = and_parts (not (is_reference fs)) (fields_plain fs) single in
-      let other : is_reference fs ≡ false = not-true (is_reference fs) plain.0 in
-      rw (other, object_of fs (list_of ts) fit apart, fields_back fs (list_of ts) json.no_members (depth + 1) node.1 plain.1 apart fit) (ap (λ us. Some (members_of us)) (listed ts))
+      let full = faultless_full depth (members fs) checked in
+      either (is_reference fs)
+      (λ is. rw is (reference_back (members fs) (members_of ts) full fit))
+      (λ other. rw (other, object_of fs (list_of ts) fit apart, fields_back fs (list_of ts) json.no_members (depth + 1) node.1 single apart fit) (ap (λ us. Some (members_of us)) (listed ts)))
   json_back (members fs) _ depth checked single fit = absurd cc
   json_back (choice disc bs other) (choice_of label ts) depth checked single fit =
       let node = no_fault (node_fault depth (choice disc bs other))
@@ -236,3 +250,17 @@ mutual
 
 pub back_from_json : (s : Shape) → desc_fault 1 s ≡ None → is_plain s ≡ true → (t : Tree) → fits s t ≡ true → from_data s (to_data s t) ≡ Ok t
 back_from_json s checked single t fit = rw (json_back s t 1 checked single fit, fit) refl
+
+-- what was written of a value by a checked description
+pub back_by_checked : (d : CheckedDesc) (t : Tree) (written : json.Data) → written ≡ to_data (checked_shape d) t → fits (checked_shape d) t ≡ true
+    → from_data (checked_shape d) written ≡ Ok t
+back_by_checked d t written is fit =
+    ap (from_data (checked_shape d)) is ∙ back_from_json (checked_shape d) d.checked (viewed_plain d.desc) t fit
+
+-- the answer of a call that reads it
+pub given_back : (t : Tree) (result : Result Value FormFault) (answer : Result Tree FormFault) → answer ≡ Ok t → Reads value_view result answer → ReadsBack t result
+given_back t (Ok v) answer is h = cc
+given_back t (Err e) answer is h = elim h [
+  | inl refused ↦ absurd cc
+  | inr memory ↦ memory
+]

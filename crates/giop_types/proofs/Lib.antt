@@ -25,3 +25,8 @@ pub mod EncodeLemmas
 pub mod SpelledFits
 pub mod NodeLemmas
 pub mod AgainLemmas
+pub mod ViewedPlain
+pub mod WrittenOctets
+pub mod ReferenceBack
+pub mod ParseLemmas
+pub mod SameLemmas

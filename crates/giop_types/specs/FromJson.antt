@@ -94,7 +94,7 @@ label_shown disc d = whole d
 -- ---- lists and objects
 
 -- the values of a list, where each has one
-abbrev pub items_shown : (json.Data → Option Tree) → json.Items → Option (List Tree)
+abbrev pub items_shown : {A : Type 0} → (json.Data → Option A) → json.Items → Option (List A)
 items_shown f json.no_items = Some []
 items_shown f (json.item d ds) = option_and_then (λ t. option_map (λ ts. t ∷ ts) (items_shown f ds)) (f d)
 
@@ -188,3 +188,8 @@ from_data s d = fitting s (shown s d)
 abbrev pub Reads : {A B : Type 0} → (A → B) → Result A FormFault → Result B FormFault → Type 0
 Reads view (Ok x) answer = answer ≡ Ok (view x)
 Reads view (Err e) answer = (answer ≡ Err e) ⊎ (e ≡ NoMemory)
+
+-- what was written of a value is read as that value, unless memory is wanting
+abbrev pub ReadsBack : Tree → Result Value FormFault → Type 0
+ReadsBack t (Ok v) = value_view v ≡ t
+ReadsBack t (Err e) = e ≡ NoMemory

@@ -15,6 +15,8 @@ pub mod JsonText
 pub mod ToJson
 pub mod FormFault
 pub mod FromJson
+pub mod DescFromJson
+pub mod InterfaceFaults
 pub mod Plain
 pub mod Parse
 pub mod Reference
@@ -22,3 +24,5 @@ pub mod Encoding
 pub mod Nodes
 pub mod DescFaults
 pub mod TreeCode
+pub mod Same
+pub mod SameLaws

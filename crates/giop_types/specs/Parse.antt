@@ -1,9 +1,12 @@
--- Texts that are no JSON.
-use Rattle.std.specs.Prelude.{◌≡◌, ◌⊎◌, ℕ, List, None, IsUtf8}
-use Rattle.serde_json.specs.Read.{read}
+-- Texts of JSON.
+use Rattle.std.specs.Prelude.{◌≡◌, ◌⊎◌, Option, Some, None, Result, Ok, Err}
+use Rattle.serde_json.specs.Data as json
+use Rattle.serde_json.specs.View.{view}
+use Rattle.serde_json.specs.declared.value.Value.{Value as Json}
 use Rattle.giop_types.specs.declared.form_fault.FormFault.{FormFault}
 use Rattle.giop_types.specs.declared.form_fault.FormFault.TheVariants.{BadJson, NoMemory}
 
--- a text is no JSON, or memory is wanting
-abbrev pub IsNotJson : FormFault → List ℕ → Type 0
-IsNotJson e text = ((e ≡ BadJson) × (IsUtf8 text → read text ≡ None)) ⊎ (e ≡ NoMemory)
+-- the JSON value of a text was made, or the text is none, or memory is wanting
+abbrev pub Parses : Result Json FormFault → Option json.Data → Type 0
+Parses (Ok j) told = told ≡ Some (view j)
+Parses (Err e) told = ((e ≡ BadJson) × (told ≡ None)) ⊎ (e ≡ NoMemory)

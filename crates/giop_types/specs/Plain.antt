@@ -1,9 +1,8 @@
--- Shapes whose values have a form of their own in JSON at each part: each union has one member by default
--- at most, as in every description, and no struct is an IOR.
-use Rattle.std.specs.Prelude.{◌&&◌, not, Bool, true, false}
+-- Shapes that descriptions have: each union has one member by default at most (CORBA 3.3 Part 2,
+-- 9.3.2.3).
+use Rattle.std.specs.Prelude.{◌&&◌, Bool, true, false}
 use Rattle.giop_types.specs.Shape.{Shape, members, choice, items, row, Fields, no_fields, field, Branches}
 use Rattle.giop_types.specs.Shape.{no_branches, branch}
-use Rattle.giop_types.specs.Reference.{is_reference}
 
 -- one member at most
 abbrev pub is_single : Fields → Bool
@@ -11,9 +10,10 @@ is_single no_fields = true
 is_single (field name s no_fields) = true
 is_single (field name s (field name_2 t fs)) = false
 
+-- whether each union in it has one member by default at most
 unfoldable mutual
   pub is_plain : Shape → Bool
-  is_plain (members fs) = not (is_reference fs) && fields_plain fs
+  is_plain (members fs) = fields_plain fs
   is_plain (choice disc bs other) = branches_plain bs && (is_single other && fields_plain other)
   is_plain (items s bound) = is_plain s
   is_plain (row s n) = is_plain s

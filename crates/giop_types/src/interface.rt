@@ -1,7 +1,9 @@
-ghost use Rattle.std.specs.Prelude.{◌≡◌, option_copied};
+ghost use Rattle.std.specs.Prelude.{◌≡◌, option_copied, length, true};
 ghost use Rattle.std.specs.BTreeMap.{get_by};
 ghost use Rattle.std.specs.Ordering.{nat_cmp};
 ghost use Rattle.std.specs.Cmp.Lexicographic.{slice_cmp};
+ghost use Rattle.giop_types.specs.DescFromJson.{json_in};
+ghost use Rattle.giop_types.specs.InterfaceFaults.{MakesOf};
 
 use crate::form_fault::FormFault;
 use crate::json::interface_from_json;
@@ -19,6 +21,7 @@ pub struct Operation {
     pub ins: Parameters,
     /// The result, and then the inout and out parameters.
     pub outs: Parameters,
+    pub ghost silent: { oneway ≡ true → length outs.list.items ≡ 0 },
 }
 
 /// What an interface offers: its operations by their names and its exceptions by their ids. No name
@@ -46,7 +49,9 @@ impl Interface {
     /// a oneway operation has outs, a name or an id has a null, or two parameters of one list have
     /// the same name; else as BadDesc with the fault of the first description that has one; and as
     /// NoMemory where memory is wanting, in place of any.
-    pub fn from_json(alloc: Global, text: &[u8]) -> Result<Interface, FormFault> {
+    pub fn from_json(alloc: Global, text: &[u8]) -> Result<Interface, FormFault>
+        ensures { MakesOf (json_in text.now) result }
+    {
         interface_from_json(alloc, text)
     }
 

@@ -14,6 +14,8 @@ ghost use Rattle.giop_types.specs.Decoding.{decode_at};
 ghost use Rattle.giop_types.specs.Fits.{are_octets, fits};
 ghost use Rattle.giop_types.specs.Full.{is_full};
 ghost use Rattle.giop_types.specs.Refusals.{RefusedShape};
+ghost use Rattle.giop_types.specs.declared.value.Value.{Value};
+ghost use Rattle.giop_types.specs.Same.{same_value};
 ghost use Rattle.giop_types.specs.Shape.{Shape};
 ghost use Rattle.giop_types.specs.Leaves.{leaves, leaves_of};
 ghost use Rattle.giop_types.specs.Nodes.{nodes, first_fault, IsSound};
@@ -84,6 +86,12 @@ pub fn leaves_count_every_part()
         → leaves first + leaves_of others ≤ leaves_of (tree first others) }
     ensures some { (shape : Shape) (value : Tree)
         → is_full shape ≡ true → fits shape value ≡ true → 0 < leaves value }
+{}
+
+/// Two values are equal by `==` exactly where contracts see the same of both.
+pub fn equal_values_are_the_same()
+    ensures { (one other : Value)
+        → (same_value one other ≡ true) ↔ (value_view one ≡ value_view other) }
 {}
 
 /// Writes a value, in an order and from an offset on, and reads it again. Refused as Unfit where it

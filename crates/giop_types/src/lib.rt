@@ -18,6 +18,7 @@ mod laws;
 mod name_check;
 mod parameters;
 mod reading;
+mod same;
 mod skip;
 #[cfg(test)]
 mod tests;
@@ -34,10 +35,12 @@ pub use form_fault::FormFault;
 pub use interface::{Interface, Operation};
 pub use json::{
     desc_from_json, json_gives_values_back, reference_desc, value_from_json, value_to_json,
+    written_and_read_as_json,
 };
 pub use laws::{
-    descriptions_are_checked_node_by_node, encoded_and_decoded, leaves_count_every_part,
-    spelled_values_fit, values_are_bounded, values_are_spelled, written_values_are_read_back,
+    descriptions_are_checked_node_by_node, encoded_and_decoded, equal_values_are_the_same,
+    leaves_count_every_part, spelled_values_fit, values_are_bounded, values_are_spelled,
+    written_values_are_read_back,
 };
 pub use parameters::{Parameter, Parameters};
 pub use value::Value;

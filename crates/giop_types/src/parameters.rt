@@ -1,5 +1,5 @@
 //! Parameters, of which no two have the same name.
-ghost use Rattle.std.specs.Prelude.{◌≡◌, map, false};
+ghost use Rattle.std.specs.Prelude.{◌≡◌, map, true, false, IfSome, IfNone};
 ghost use Rattle.std.specs.List.{list_any};
 ghost use Rattle.giop_types.specs.Checked.{has_doubled, same_name};
 
@@ -25,7 +25,10 @@ pub struct Parameters {
 impl Parameters {
     /// These parameters, or None where two have the same name. It takes no memory, and a time that
     /// grows with the square of their number.
-    pub fn new(list: Vec<Parameter>) -> Option<Parameters> {
+    pub fn new(list: Vec<Parameter>) -> Option<Parameters>
+        ensures some { IfSome result (λ parameters. parameters.list ≡ list) }
+        ensures none { IfNone result (has_doubled same_name (map (λ p. p.name) list.items) ≡ true) }
+    {
         if has_doubled_parameter(&list) {
             None
         } else {

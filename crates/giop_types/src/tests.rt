@@ -2,7 +2,10 @@
 
 mod check;
 mod decoding;
+mod encoding;
 mod interface;
+mod json;
 mod memory;
 mod recorded;
 mod samples;
+mod values;

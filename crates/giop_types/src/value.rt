@@ -1,7 +1,8 @@
+use crate::same::is_same;
 use giop_cdr::OctetList;
 
 /// A value of a description (CORBA 3.3 Part 2, 9.3): a variant for each of `Desc`.
-#[derive(Debug, Drop, PartialEq, Eq)]
+#[derive(Debug, Drop)]
 #[cycle(value)]
 pub enum Value {
     /// A boolean.
@@ -42,4 +43,24 @@ pub enum Value {
     Items(Vec<Value>),
     /// The values of an array.
     Row(Vec<Value>),
+}
+
+/// Two values are equal where they are the same: of the same variants, with the same parts.
+impl PartialEq for Value {
+    ghost use Rattle.giop_types.specs.Same.{same_value};
+    ghost use Rattle.giop_types.specs.SameLaws.{same_partial};
+
+    ghost eq = { same_value };
+
+    ghost laws = { same_partial };
+
+    fn eq(&self, other: &Value) -> bool {
+        is_same(self, other)
+    }
+}
+
+impl Eq for Value {
+    ghost use Rattle.giop_types.specs.SameLaws.{same_equivalence};
+
+    ghost laws = { same_equivalence };
 }

@@ -1,4 +1,14 @@
 //! Descriptions read from JSON.
+ghost use Rattle.std.specs.Prelude.{◌≡◌, map, option_and_then, IfOk, IfErr};
+ghost use Rattle.serde_json.specs.Find.{as_array};
+ghost use Rattle.serde_json.specs.View.{view, items_view};
+ghost use Rattle.giop_types.specs.declared.form_fault.FormFault.TheVariants.{BadDesc};
+ghost use Rattle.giop_types.specs.Checked.{desc_fault};
+ghost use Rattle.giop_types.specs.CheckedShape.{checked_shape};
+ghost use Rattle.giop_types.specs.DescFromJson.{ulong_in, bound_in, list_in, pair_in, triple_in, named_shape, text_in, octets_in, enum_in, member_in, struct_in, bound_beside, sequence_in, length_beside, array_in, case_in, default_beside, cases_beside, union_in, composed_in, desc_in, json_in, judged, desc_told};
+ghost use Rattle.giop_types.specs.FromJson.{Shows, Reads, octets_shown, label_shown};
+ghost use Rattle.giop_types.specs.Views.{desc_view, named_view, case_view, fallback_view};
+
 use crate::checked_desc::CheckedDesc;
 use crate::desc::{CaseDesc, Desc, NamedDesc};
 use crate::form_fault::FormFault;
@@ -10,42 +20,51 @@ use giop_cdr::OctetList;
 use serde_json::Value as Json;
 use std::alloc::Global;
 
-/// No JSON value that is read nests deeper, and each of its levels takes eight steps at most.
-pub const STEPS: u32 = 1024;
+/// How many descriptions within one another are read: no JSON that is read nests deeper.
+pub const LEVELS: u32 = 128;
 
 /// The description that a JSON text is. Refused as BadJson where the text is none, or nests arrays
 /// and objects more than 127 deep; else as BadShape where it has another form; else as BadDesc with
 /// the fault that `CheckedDesc::check` finds; and as NoMemory where memory is wanting, in place of
 /// any.
-pub fn desc_from_json(alloc: Global, text: &[u8]) -> Result<CheckedDesc, FormFault> {
+pub fn desc_from_json(alloc: Global, text: &[u8]) -> Result<CheckedDesc, FormFault>
+    ensures { Reads checked_shape result (desc_told (json_in text.now)) }
+{
     let json = parse(alloc, text)?;
-    let desc = desc_of(alloc, &json, STEPS)?;
+    let desc = desc_of(alloc, &json, LEVELS)?;
     checked(desc)
 }
 
 /// A description that was checked.
-pub fn checked(desc: Desc) -> Result<CheckedDesc, FormFault> {
+pub fn checked(desc: Desc) -> Result<CheckedDesc, FormFault>
+    ensures ok { IfOk result (λ checked. judged (desc_view desc) (desc_fault 1 (desc_view desc)) ≡ Ok (checked_shape checked)) }
+    ensures err { IfErr result (λ e. judged (desc_view desc) (desc_fault 1 (desc_view desc)) ≡ Err e) }
+{
     match CheckedDesc::check(desc) {
         Ok(checked) => Ok(checked),
         Err(fault) => Err(FormFault::BadDesc(fault)),
     }
 }
 
-/// A description, of which so many steps may be taken.
+/// A description, of which so many may stand within one another.
 #[cycle(desc_of)]
-pub fn desc_of(alloc: Global, json: &Json, steps: u32) -> Result<Desc, FormFault> {
-    if steps == 0 {
+#[tactic(auto, unfolding(crate::specs::DescFromJson::desc_in))]
+pub fn desc_of(alloc: Global, json: &Json, levels: u32) -> Result<Desc, FormFault>
+    ensures { Shows desc_view result (desc_in levels (view json.now)) }
+{
+    if levels == 0 {
         return Err(FormFault::BadShape);
     }
-    match json {
-        Json::String(name) => named_desc(alloc, name.as_str()),
-        Json::Object(_) => composed_desc(alloc, json, steps - 1),
-        _ => Err(FormFault::BadShape),
+    match json.as_str() {
+        Some(name) => named_desc(alloc, name),
+        None => composed_desc(alloc, json, levels - 1),
     }
 }
 
 // A description that is told by its name alone.
-fn named_desc(alloc: Global, name: &str) -> Result<Desc, FormFault> {
+fn named_desc(alloc: Global, name: &str) -> Result<Desc, FormFault>
+    ensures { Shows desc_view result (named_shape name.now) }
+{
     match name {
         "boolean" => Ok(Desc::Boolean),
         "octet" => Ok(Desc::Octet),
@@ -63,48 +82,39 @@ fn named_desc(alloc: Global, name: &str) -> Result<Desc, FormFault> {
     }
 }
 
-// A description that is told by an object.
+// A description that is told by an object, by the first of these keys that it has.
 #[cycle(desc_of)]
-fn composed_desc(alloc: Global, json: &Json, steps: u32) -> Result<Desc, FormFault> {
-    if steps == 0 {
-        return Err(FormFault::BadShape);
-    }
-    let steps = steps - 1;
+fn composed_desc(alloc: Global, json: &Json, levels: u32) -> Result<Desc, FormFault>
+    ensures { Shows desc_view result (composed_in (desc_in levels) (view json.now)) }
+{
     if let Some(bound) = json.get("string") {
-        return Ok(Desc::Text(only(json, bound_of(bound)?)?));
+        return text_desc(json, bound);
     }
     if let Some(bound) = json.get("octets") {
-        return Ok(Desc::Octets(only(json, bound_of(bound)?)?));
+        return octets_desc(json, bound);
     }
     if let Some(names) = json.get("enum") {
-        return Ok(Desc::Labels(only(json, names_of(alloc, names)?)?));
+        return enum_desc(alloc, json, names);
     }
     if let Some(members) = json.get("struct") {
-        return Ok(Desc::Members(only(json, members_of(alloc, members, steps)?)?));
+        return struct_of(alloc, json, members, levels);
     }
     if let Some(item) = json.get("sequence") {
-        return sequence_of(alloc, json, item, steps);
+        return sequence_of(alloc, json, item, levels);
     }
     if let Some(item) = json.get("array") {
-        return array_of(alloc, json, item, steps);
+        return array_of(alloc, json, item, levels);
     }
     match json.get("union") {
-        Some(disc) => union_of(alloc, json, disc, steps),
+        Some(disc) => union_of(alloc, json, disc, levels),
         None => Err(FormFault::BadShape),
     }
 }
 
-// What the only member of an object is.
-fn only<T: Drop>(json: &Json, part: T) -> Result<T, FormFault> {
-    if is_object_of(1, json) {
-        Ok(part)
-    } else {
-        Err(FormFault::BadShape)
-    }
-}
-
 // An unsigned long.
-fn ulong_of(json: &Json) -> Result<u32, FormFault> {
+fn ulong_of(json: &Json) -> Result<u32, FormFault>
+    ensures { Shows (λ n. n) result (ulong_in (view json.now)) }
+{
     match json.as_u64() {
         Some(number) => match u32::try_from(number) {
             Ok(number) => Ok(number),
@@ -115,23 +125,85 @@ fn ulong_of(json: &Json) -> Result<u32, FormFault> {
 }
 
 // A bound, which is 1 or more.
-fn bound_of(json: &Json) -> Result<u32, FormFault> {
+fn bound_of(json: &Json) -> Result<u32, FormFault>
+    ensures { Shows (λ n. n) result (bound_in (view json.now)) }
+{
     match ulong_of(json)? {
         0 => Err(FormFault::BadShape),
         bound => Ok(bound),
     }
 }
 
+// A bounded string.
+fn text_desc(json: &Json, bound: &Json) -> Result<Desc, FormFault>
+    ensures { Shows desc_view result (text_in (view json.now) (view bound.now)) }
+{
+    if !is_object_of(1, json) {
+        return Err(FormFault::BadShape);
+    }
+    Ok(Desc::Text(bound_of(bound)?))
+}
+
+// A bounded sequence of octets.
+fn octets_desc(json: &Json, bound: &Json) -> Result<Desc, FormFault>
+    ensures { Shows desc_view result (octets_in (view json.now) (view bound.now)) }
+{
+    if !is_object_of(1, json) {
+        return Err(FormFault::BadShape);
+    }
+    Ok(Desc::Octets(bound_of(bound)?))
+}
+
+// An enum.
+fn enum_desc(alloc: Global, json: &Json, names: &Json) -> Result<Desc, FormFault>
+    ensures { Shows desc_view result (enum_in (view json.now) (view names.now)) }
+{
+    if !is_object_of(1, json) {
+        return Err(FormFault::BadShape);
+    }
+    Ok(Desc::Labels(names_of(alloc, names)?))
+}
+
 // The items of a list.
-fn list_of(json: &Json) -> Result<&[Json], FormFault> {
+fn list_of(json: &Json) -> Result<&[Json], FormFault>
+    ensures { Shows (λ list. items_view list.now) result (as_array (view json.now)) }
+{
     match json.as_array() {
         Some(list) => Ok(list.as_slice()),
         None => Err(FormFault::BadShape),
     }
 }
 
+// The two items of a list.
+#[tactic(auto, using(crate::proofs::ParseLemmas::short_pair, crate::proofs::ParseLemmas::long_pair))]
+fn pair_of(json: &Json) -> Result<(&Json, &Json), FormFault>
+    ensures { Shows (λ pair. (view pair.0.now, view pair.1.now)) result
+        (option_and_then pair_in (as_array (view json.now))) }
+{
+    let list = list_of(json)?;
+    match list {
+        [one, two] => Ok((one, two)),
+        _ => Err(FormFault::BadShape),
+    }
+}
+
+// The three items of a list.
+#[tactic(auto, using(crate::proofs::ParseLemmas::short_triple, crate::proofs::ParseLemmas::long_triple))]
+fn triple_of(json: &Json) -> Result<(&Json, &Json, &Json), FormFault>
+    ensures { Shows (λ three. (view three.0.now, view three.1.now, view three.2.now)) result
+        (option_and_then triple_in (as_array (view json.now))) }
+{
+    let list = list_of(json)?;
+    match list {
+        [one, two, three] => Ok((one, two, three)),
+        _ => Err(FormFault::BadShape),
+    }
+}
+
 // The names of an enum.
-fn names_of(alloc: Global, json: &Json) -> Result<Vec<OctetList>, FormFault> {
+fn names_of(alloc: Global, json: &Json) -> Result<Vec<OctetList>, FormFault>
+    ensures { Shows (λ names. names.items) result (list_in octets_shown (view json.now)) }
+{
     let list = list_of(json)?;
     let mut names = Vec::with_capacity(alloc, list.len())?;
     for name in list {
@@ -141,16 +213,27 @@ fn names_of(alloc: Global, json: &Json) -> Result<Vec<OctetList>, FormFault> {
     Ok(names)
 }
 
-/// Members: names with their descriptions.
+// A struct.
 #[cycle(desc_of)]
-pub fn members_of(alloc: Global, json: &Json, steps: u32) -> Result<Vec<NamedDesc>, FormFault> {
-    if steps == 0 {
+fn struct_of(alloc: Global, json: &Json, members: &Json, levels: u32) -> Result<Desc, FormFault>
+    ensures { Shows desc_view result (struct_in (desc_in levels) (view json.now) (view members.now)) }
+{
+    if !is_object_of(1, json) {
         return Err(FormFault::BadShape);
     }
+    Ok(Desc::Members(members_of(alloc, members, levels)?))
+}
+
+/// Members: names with their descriptions.
+#[cycle(desc_of)]
+pub fn members_of(alloc: Global, json: &Json, levels: u32) -> Result<Vec<NamedDesc>, FormFault>
+    ensures { Shows (λ members. map named_view members.items) result
+        (list_in (member_in (desc_in levels)) (view json.now)) }
+{
     let list = list_of(json)?;
     let mut members = Vec::with_capacity(alloc, list.len())?;
     for pair in list {
-        let member = member_of(alloc, pair, steps - 1)?;
+        let member = member_of(alloc, pair, levels)?;
         members.push(member)?;
     }
     Ok(members)
@@ -158,67 +241,65 @@ pub fn members_of(alloc: Global, json: &Json, steps: u32) -> Result<Vec<NamedDes
 
 // A name with its description.
 #[cycle(desc_of)]
-fn member_of(alloc: Global, json: &Json, steps: u32) -> Result<NamedDesc, FormFault> {
-    if steps == 0 {
-        return Err(FormFault::BadShape);
-    }
-    match list_of(json)? {
-        [name, desc] => Ok(NamedDesc {
-            name: octets_of(alloc, name)?,
-            desc: desc_of(alloc, desc, steps - 1)?,
-        }),
+fn member_of(alloc: Global, json: &Json, levels: u32) -> Result<NamedDesc, FormFault>
+    ensures { Shows named_view result (member_in (desc_in levels) (view json.now)) }
+{
+    let (name, desc) = pair_of(json)?;
+    Ok(NamedDesc {
+        name: octets_of(alloc, name)?,
+        desc: desc_of(alloc, desc, levels)?,
+    })
+}
+
+// The bound of a sequence, or 0 where it has none.
+fn bound_beside(json: &Json) -> Result<u32, FormFault>
+    ensures { Shows (λ n. n) result (bound_beside (view json.now)) }
+{
+    match json.get("bound") {
+        Some(bound) if is_object_of(2, json) => bound_of(bound),
+        None if is_object_of(1, json) => Ok(0),
         _ => Err(FormFault::BadShape),
     }
 }
 
 // A sequence, with its bound where it has one.
 #[cycle(desc_of)]
-fn sequence_of(alloc: Global, json: &Json, item: &Json, steps: u32) -> Result<Desc, FormFault> {
-    if steps == 0 {
-        return Err(FormFault::BadShape);
-    }
-    let bound = match json.get("bound") {
-        Some(bound) if is_object_of(2, json) => bound_of(bound)?,
-        None if is_object_of(1, json) => 0,
-        _ => return Err(FormFault::BadShape),
-    };
-    let item = desc_of(alloc, item, steps - 1)?;
+fn sequence_of(alloc: Global, json: &Json, item: &Json, levels: u32) -> Result<Desc, FormFault>
+    ensures { Shows desc_view result (sequence_in (desc_in levels) (view json.now) (view item.now)) }
+{
+    let bound = bound_beside(json)?;
+    let item = desc_of(alloc, item, levels)?;
     Ok(Desc::Items(Box::new(alloc, item)?, bound))
+}
+
+// The length of an array.
+fn length_beside(json: &Json) -> Result<u32, FormFault>
+    ensures { Shows (λ n. n) result (length_beside (view json.now)) }
+{
+    match json.get("length") {
+        Some(length) if is_object_of(2, json) => ulong_of(length),
+        _ => Err(FormFault::BadShape),
+    }
 }
 
 // An array, with its length.
 #[cycle(desc_of)]
-fn array_of(alloc: Global, json: &Json, item: &Json, steps: u32) -> Result<Desc, FormFault> {
-    if steps == 0 {
-        return Err(FormFault::BadShape);
-    }
-    let length = match json.get("length") {
-        Some(length) if is_object_of(2, json) => ulong_of(length)?,
-        _ => return Err(FormFault::BadShape),
-    };
-    let item = desc_of(alloc, item, steps - 1)?;
+fn array_of(alloc: Global, json: &Json, item: &Json, levels: u32) -> Result<Desc, FormFault>
+    ensures { Shows desc_view result (array_in (desc_in levels) (view json.now) (view item.now)) }
+{
+    let length = length_beside(json)?;
+    let item = desc_of(alloc, item, levels)?;
     Ok(Desc::Row(Box::new(alloc, item)?, length))
 }
 
 // A union, with its member by default where it has one.
 #[cycle(desc_of)]
-fn union_of(alloc: Global, json: &Json, disc: &Json, steps: u32) -> Result<Desc, FormFault> {
-    if steps == 0 {
-        return Err(FormFault::BadShape);
-    }
-    let steps = steps - 1;
-    let disc = desc_of(alloc, disc, steps)?;
-    let cases = match json.get("cases") {
-        Some(cases) => cases_of(alloc, &disc, cases, steps)?,
-        None => return Err(FormFault::BadShape),
-    };
-    let fallback = match json.get("default") {
-        Some(member) if is_object_of(3, json) => {
-            Some(Box::new(alloc, member_of(alloc, member, steps)?)?)
-        }
-        None if is_object_of(2, json) => None,
-        _ => return Err(FormFault::BadShape),
-    };
+fn union_of(alloc: Global, json: &Json, disc: &Json, levels: u32) -> Result<Desc, FormFault>
+    ensures { Shows desc_view result (union_in (desc_in levels) (view json.now) (view disc.now)) }
+{
+    let disc = desc_of(alloc, disc, levels)?;
+    let cases = cases_beside(alloc, &disc, json, levels)?;
+    let fallback = default_beside(alloc, json, levels)?;
     Ok(Desc::Choice {
         disc: Box::new(alloc, disc)?,
         cases,
@@ -226,21 +307,57 @@ fn union_of(alloc: Global, json: &Json, disc: &Json, steps: u32) -> Result<Desc,
     })
 }
 
+// The member by default of a union, where it has one.
+#[cycle(desc_of)]
+fn default_beside(
+    alloc: Global,
+    json: &Json,
+    levels: u32,
+) -> Result<Option<Box<NamedDesc>>, FormFault>
+    ensures { Shows fallback_view result (default_beside (desc_in levels) (view json.now)) }
+{
+    match json.get("default") {
+        Some(member) if is_object_of(3, json) => {
+            let member = member_of(alloc, member, levels)?;
+            Ok(Some(Box::new(alloc, member)?))
+        }
+        None if is_object_of(2, json) => Ok(None),
+        _ => Err(FormFault::BadShape),
+    }
+}
+
 // The cases of a union.
+#[cycle(desc_of)]
+fn cases_beside(
+    alloc: Global,
+    disc: &Desc,
+    json: &Json,
+    levels: u32,
+) -> Result<Vec<CaseDesc>, FormFault>
+    ensures { Shows (λ cases. map case_view cases.items) result
+        (cases_beside (desc_in levels) (desc_view disc.now) (view json.now)) }
+{
+    match json.get("cases") {
+        Some(cases) => cases_of(alloc, disc, cases, levels),
+        None => Err(FormFault::BadShape),
+    }
+}
+
+// A list of cases.
 #[cycle(desc_of)]
 fn cases_of(
     alloc: Global,
     disc: &Desc,
     json: &Json,
-    steps: u32,
-) -> Result<Vec<CaseDesc>, FormFault> {
-    if steps == 0 {
-        return Err(FormFault::BadShape);
-    }
+    levels: u32,
+) -> Result<Vec<CaseDesc>, FormFault>
+    ensures { Shows (λ cases. map case_view cases.items) result
+        (list_in (case_in (desc_in levels) (desc_view disc.now)) (view json.now)) }
+{
     let list = list_of(json)?;
     let mut cases = Vec::with_capacity(alloc, list.len())?;
     for form in list {
-        let case = case_of(alloc, disc, form, steps - 1)?;
+        let case = case_of(alloc, disc, form, levels)?;
         cases.push(case)?;
     }
     Ok(cases)
@@ -248,22 +365,21 @@ fn cases_of(
 
 // A case: its labels, its name and its description.
 #[cycle(desc_of)]
-fn case_of(alloc: Global, disc: &Desc, json: &Json, steps: u32) -> Result<CaseDesc, FormFault> {
-    if steps == 0 {
-        return Err(FormFault::BadShape);
-    }
-    match list_of(json)? {
-        [labels, name, desc] => Ok(CaseDesc {
-            labels: labels_of(alloc, disc, labels)?,
-            name: octets_of(alloc, name)?,
-            desc: desc_of(alloc, desc, steps - 1)?,
-        }),
-        _ => Err(FormFault::BadShape),
-    }
+fn case_of(alloc: Global, disc: &Desc, json: &Json, levels: u32) -> Result<CaseDesc, FormFault>
+    ensures { Shows case_view result (case_in (desc_in levels) (desc_view disc.now) (view json.now)) }
+{
+    let (labels, name, desc) = triple_of(json)?;
+    Ok(CaseDesc {
+        labels: labels_of(alloc, disc, labels)?,
+        name: octets_of(alloc, name)?,
+        desc: desc_of(alloc, desc, levels)?,
+    })
 }
 
 // The labels of a case.
-fn labels_of(alloc: Global, disc: &Desc, json: &Json) -> Result<Vec<i128>, FormFault> {
+fn labels_of(alloc: Global, disc: &Desc, json: &Json) -> Result<Vec<i128>, FormFault>
+    ensures { Shows (λ labels. labels.items) result (list_in (label_shown (desc_view disc.now)) (view json.now)) }
+{
     let list = list_of(json)?;
     let mut labels = Vec::with_capacity(alloc, list.len())?;
     for label in list {

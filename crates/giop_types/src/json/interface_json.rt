@@ -1,8 +1,12 @@
 //! Interfaces read from JSON.
+ghost use Rattle.std.specs.Prelude.{◌≡◌, IfOk, IfErr, length, true};
+ghost use Rattle.giop_types.specs.DescFromJson.{json_in};
+ghost use Rattle.giop_types.specs.InterfaceFaults.{IsOfForm, IsOfPart, MakesOf};
+
 use crate::desc::NamedDesc;
 use crate::form_fault::FormFault;
 use crate::interface::{Interface, Operation};
-use crate::json::desc_json::{STEPS, checked, members_of};
+use crate::json::desc_json::{LEVELS, checked, members_of};
 use crate::json::parse::parse;
 use crate::json::texts::octets_in;
 use crate::name_check::has_doubled_member;
@@ -19,6 +23,7 @@ struct OperationForm {
     oneway: bool,
     ins: Vec<NamedDesc>,
     outs: Vec<NamedDesc>,
+    ghost silent: { oneway ≡ true → length outs.items ≡ 0 },
 }
 
 // An exception whose descriptions are still to be checked.
@@ -33,7 +38,9 @@ struct ExceptionForm {
 /// oneway operation has outs, a name or an id has a null, or two parameters of one list have the
 /// same name; else as BadDesc with the fault of the first description that has one; and as NoMemory
 /// where memory is wanting, in place of any.
-pub fn interface_from_json(alloc: Global, text: &[u8]) -> Result<Interface, FormFault> {
+pub fn interface_from_json(alloc: Global, text: &[u8]) -> Result<Interface, FormFault>
+    ensures { MakesOf (json_in text.now) result }
+{
     let json = parse(alloc, text)?;
     let operations = operation_forms(alloc, &json)?;
     let exceptions = exception_forms(alloc, &json)?;
@@ -44,7 +51,9 @@ pub fn interface_from_json(alloc: Global, text: &[u8]) -> Result<Interface, Form
 }
 
 // The members of an object.
-fn object_of(json: &Json) -> Result<&Map<String, Json>, FormFault> {
+fn object_of(json: &Json) -> Result<&Map<String, Json>, FormFault>
+    ensures err { IfErr result IsOfForm }
+{
     match json.as_object() {
         Some(object) => Ok(object),
         None => Err(FormFault::BadShape),
@@ -52,7 +61,9 @@ fn object_of(json: &Json) -> Result<&Map<String, Json>, FormFault> {
 }
 
 // The octets of a name or an id, which has no null.
-fn name_of(alloc: Global, text: &str) -> Result<OctetList, FormFault> {
+fn name_of(alloc: Global, text: &str) -> Result<OctetList, FormFault>
+    ensures err { IfErr result IsOfForm }
+{
     match octets_in(alloc, text)? {
         Some(name) if !name.as_slice().contains(&0) => Ok(name),
         _ => Err(FormFault::BadShape),
@@ -60,7 +71,9 @@ fn name_of(alloc: Global, text: &str) -> Result<OctetList, FormFault> {
 }
 
 // The operations of an interface.
-fn operation_forms(alloc: Global, json: &Json) -> Result<Vec<OperationForm>, FormFault> {
+fn operation_forms(alloc: Global, json: &Json) -> Result<Vec<OperationForm>, FormFault>
+    ensures err { IfErr result IsOfForm }
+{
     let Some(operations) = json.get("operations") else {
         return Err(FormFault::BadShape);
     };
@@ -74,7 +87,9 @@ fn operation_forms(alloc: Global, json: &Json) -> Result<Vec<OperationForm>, For
 }
 
 // An operation.
-fn operation_form(alloc: Global, name: &str, json: &Json) -> Result<OperationForm, FormFault> {
+fn operation_form(alloc: Global, name: &str, json: &Json) -> Result<OperationForm, FormFault>
+    ensures err { IfErr result IsOfForm }
+{
     let name = name_of(alloc, name)?;
     let ins = parameter_forms(alloc, json.get("ins"))?;
     let outs = parameter_forms(alloc, json.get("outs"))?;
@@ -98,7 +113,9 @@ fn known_keys(json: &Json) -> usize {
 }
 
 // Whether an operation is oneway, which it isn't where nothing is said.
-fn oneway_of(json: Option<&Json>) -> Result<bool, FormFault> {
+fn oneway_of(json: Option<&Json>) -> Result<bool, FormFault>
+    ensures err { IfErr result IsOfForm }
+{
     match json {
         Some(json) => match json.as_bool() {
             Some(oneway) => Ok(oneway),
@@ -109,11 +126,13 @@ fn oneway_of(json: Option<&Json>) -> Result<bool, FormFault> {
 }
 
 // Parameters, none of which is there where nothing is said.
-fn parameter_forms(alloc: Global, json: Option<&Json>) -> Result<Vec<NamedDesc>, FormFault> {
+fn parameter_forms(alloc: Global, json: Option<&Json>) -> Result<Vec<NamedDesc>, FormFault>
+    ensures err { IfErr result IsOfForm }
+{
     let Some(json) = json else {
         return Ok(Vec::new(alloc));
     };
-    let parameters = members_of(alloc, json, STEPS)?;
+    let parameters = members_of(alloc, json, LEVELS)?;
     if has_doubled_member(&parameters) || has_null(&parameters) {
         return Err(FormFault::BadShape);
     }
@@ -131,7 +150,9 @@ fn has_null(parameters: &[NamedDesc]) -> bool {
 }
 
 // The exceptions of an interface, none of which is there where nothing is said.
-fn exception_forms(alloc: Global, json: &Json) -> Result<Vec<ExceptionForm>, FormFault> {
+fn exception_forms(alloc: Global, json: &Json) -> Result<Vec<ExceptionForm>, FormFault>
+    ensures err { IfErr result IsOfForm }
+{
     let Some(exceptions) = json.get("exceptions") else {
         return match object_of(json)?.len() {
             1 => Ok(Vec::new(alloc)),
@@ -157,7 +178,9 @@ fn exception_forms(alloc: Global, json: &Json) -> Result<Vec<ExceptionForm>, For
 fn checked_operations(
     alloc: Global,
     forms: Vec<OperationForm>,
-) -> Result<BTreeMap<Vec<u8>, Operation>, FormFault> {
+) -> Result<BTreeMap<Vec<u8>, Operation>, FormFault>
+    ensures err { IfErr result IsOfPart }
+{
     let mut operations = BTreeMap::new(alloc);
     for form in forms {
         let operation = Operation {
@@ -174,7 +197,9 @@ fn checked_operations(
 fn checked_exceptions(
     alloc: Global,
     forms: Vec<ExceptionForm>,
-) -> Result<BTreeMap<Vec<u8>, Parameters>, FormFault> {
+) -> Result<BTreeMap<Vec<u8>, Parameters>, FormFault>
+    ensures err { IfErr result IsOfPart }
+{
     let mut exceptions = BTreeMap::new(alloc);
     for form in forms {
         let members = checked_parameters(alloc, form.members)?;
@@ -184,7 +209,10 @@ fn checked_exceptions(
 }
 
 // Parameters, their descriptions checked.
-fn checked_parameters(alloc: Global, forms: Vec<NamedDesc>) -> Result<Parameters, FormFault> {
+fn checked_parameters(alloc: Global, forms: Vec<NamedDesc>) -> Result<Parameters, FormFault>
+    ensures ok { IfOk result (λ parameters. length parameters.list.items ≡ length forms.items) }
+    ensures err { IfErr result IsOfPart }
+{
     let mut list = Vec::with_capacity(alloc, forms.len())?;
     for form in forms {
         let desc = checked(form.desc)?;

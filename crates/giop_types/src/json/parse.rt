@@ -1,8 +1,6 @@
 //! JSON texts.
-ghost use Rattle.std.specs.Prelude.{◌≡◌, Some, IfOk, IfErr};
-ghost use Rattle.giop_types.specs.Parse.{IsNotJson};
-ghost use Rattle.serde_json.specs.Read.{read};
-ghost use Rattle.serde_json.specs.View.{view};
+ghost use Rattle.giop_types.specs.DescFromJson.{json_in};
+ghost use Rattle.giop_types.specs.Parse.{Parses};
 
 use crate::form_fault::FormFault;
 use serde_json::Value as Json;
@@ -11,8 +9,7 @@ use std::alloc::Global;
 /// The JSON value of a text. Refused as BadJson where the text is none, where it is no UTF-8, or
 /// where arrays and objects nest more than 127 deep.
 pub fn parse(alloc: Global, text: &[u8]) -> Result<Json, FormFault>
-    ensures ok { IfOk result (λ json. read text.now ≡ Some (view json)) }
-    ensures err { IfErr result (λ e. IsNotJson e text.now) }
+    ensures { Parses result (json_in text.now) }
 {
     match Json::from_slice(alloc, text) {
         Ok(json) => Ok(json),

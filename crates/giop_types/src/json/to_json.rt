@@ -1,10 +1,11 @@
 //! Values written as JSON.
-ghost use Rattle.std.specs.Prelude.{◌≡◌, ◌⊎◌, map, option_map, false, IfOk, IfErr};
+ghost use Rattle.std.specs.Prelude.{◌≡◌, ◌⊎◌, map, option_map, false, Ok, IfOk, IfErr, IsErrOf};
 ghost use Rattle.serde_json.specs.Data.{array, object, no_members};
 ghost use Rattle.serde_json.specs.View.{view, items_of};
 ghost use Rattle.giop_types.specs.declared.form_fault.FormFault.TheVariants.{Unfit, NoMemory};
 ghost use Rattle.giop_types.specs.CheckedShape.{checked_shape};
 ghost use Rattle.giop_types.specs.Fits.{fits};
+ghost use Rattle.giop_types.specs.FromJson.{from_data};
 ghost use Rattle.giop_types.specs.ToJson.{to_data, fields_data, choice_data, selected, selected_data};
 ghost use Rattle.giop_types.specs.Views.{desc_view, named_view, case_view, fallback_view, value_view, member_view, fields_of, branches_of};
 
@@ -20,11 +21,14 @@ use crate::value::Value;
 use serde_json::{Map, Value as Json};
 use std::alloc::{AllocError, Global};
 
-/// A value of this description as JSON. Refused as Unfit where the value isn't of the description,
-/// and as NoMemory where memory is wanting.
+/// A value of this description as JSON, of which `value_from_json` is the value again. Refused as
+/// Unfit where the value isn't of the description, and as NoMemory where memory is wanting.
 pub fn value_to_json(alloc: Global, desc: &CheckedDesc, value: &Value) -> Result<Json, FormFault>
     ensures value { IfOk result (λ json.
         view json ≡ to_data (checked_shape desc.now) (value_view value.now)) }
+    ensures back { IfOk result (λ json.
+        from_data (checked_shape desc.now) (view json) ≡ Ok (value_view value.now)) }
+    ensures only { fits (checked_shape desc.now) (value_view value.now) ≡ false → IsErrOf result Unfit }
     ensures err { IfErr result (λ e. ((e ≡ Unfit) × (fits (checked_shape desc.now) (value_view value.now) ≡ false)) ⊎ (e ≡ NoMemory)) }
 {
     if !fits(desc, value) {
