@@ -17,6 +17,8 @@ pub mod FormFault
 pub mod FromJson
 pub mod Plain
 pub mod Parse
+pub mod IorTextFault
+pub mod IorText
 pub mod Reference
 pub mod Encoding
 pub mod Nodes
