@@ -117,7 +117,7 @@ pub fn append_tagged<I: TaggedParts>(items: &[I], out: &mut CdrOut) -> Result<()
 
 // The fields in their order. Where memory is wanting a part of them is left.
 #[tactic(auto, unfolding(crate::specs::Ior::ior_layout, crate::specs::Ior::tagged_profile, giop_cdr::specs::Layout::field, giop_cdr::specs::Layout::text, giop_cdr::specs::Layout::gives), using(giop_cdr::proofs::WriterLemmas::grows_then, giop_cdr::proofs::WriterLemmas::grows_not))]
-fn append_ior(ior: &Ior, out: &mut CdrOut) -> Result<(), AllocError>
+pub fn append_ior(ior: &Ior, out: &mut CdrOut) -> Result<(), AllocError>
     requires { ior_layout.fits ior.now ≡ true }
     ensures { Appends out.old result out.new (ior_layout.written ior.now out.old) }
 {

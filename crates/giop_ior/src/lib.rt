@@ -15,11 +15,15 @@ mod iiop_writing;
 mod ior;
 mod ior_laws;
 mod ior_reading;
+mod ior_text;
+mod ior_text_laws;
 mod ior_writing;
 mod key_text;
 mod profile;
 mod sequence;
 mod tagged_profile;
+#[cfg(test)]
+mod tests;
 mod to_ior;
 
 pub use address::Address;
@@ -28,6 +32,7 @@ pub use corbaloc_fault::{CorbalocFault, CorbalocKind};
 pub use corbaloc_laws::{corbalocs_are_read, written_corbalocs_are_read_back};
 pub use corbaloc_reading::corbaloc_from_text;
 pub use corbaloc_writing::corbaloc_to_text;
+pub use giop_types::IorTextFault;
 pub use iiop_reading::iiop_view;
 pub use iiop_writing::iiop_profile;
 pub use ior::{Ior, IorAt};
@@ -36,6 +41,8 @@ pub use ior_laws::{
     written_references_are_read_back,
 };
 pub use ior_reading::{read_ior, view_ior};
+pub use ior_text::{ior_from_text, ior_to_text};
+pub use ior_text_laws::{reference_texts_are_read, written_reference_texts_are_read_back};
 pub use ior_writing::write_ior;
 pub use profile::IiopProfile;
 pub use sequence::Sequence;

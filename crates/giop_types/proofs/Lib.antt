@@ -21,6 +21,8 @@ pub mod JsonLeavesBack
 pub mod JsonObjects
 pub mod JsonBack
 pub mod ReferenceLemmas
+pub mod HexLemmas
+pub mod IorTextLemmas
 pub mod EncodeLemmas
 pub mod SpelledFits
 pub mod NodeLemmas

@@ -1,8 +1,21 @@
--- Which members are those of a reference, and what its text shows.
-use Rattle.std.proofs.Common.{◌≡◌, ℕ, Bool, false, List, [], ◌∷◌, map, length, None, option_and_then, refl, arith, drop, slice_index, ◌<◌}
+-- Which members are those of a reference, and how its text begins.
+use Rattle.std.proofs.Common.{◌≡◌, ℕ, Bool, false, List, [], ◌∷◌, true, map, length, refl, ap, ◌∙◌, rules}
+use Rattle.std.specs.Int.{w8}
+use Rattle.std.specs.Prelude.{String, string_bytes}
+use Rattle.std.specs.declared.alloc.Global.{Global}
+use Rattle.serde_json.specs.Data as json
+use Rattle.serde_json.specs.View.{view}
+use Rattle.serde_json.specs.declared.value.Value.{the_lemmas}
+use Rattle.serde_json.specs.declared.value.Value.TheVariants as Json
+use Rattle.giop_cdr.specs.declared.order.Order.TheVariants.{Big}
+use Rattle.giop_cdr.specs.Output.{Output, number_out}
 use Rattle.giop_types.specs.declared.desc.NamedDesc.{NamedDesc}
+use Rattle.giop_types.specs.Fits.{fits}
+use Rattle.giop_types.specs.IorText.{begun, prefixed}
 use Rattle.giop_types.specs.Shape.{Shape}
-use Rattle.giop_types.specs.Reference.{are_two, encapsulated_in, content_in, order_in}
+use Rattle.giop_types.specs.Reference.{are_two, reference_data}
+use Rattle.giop_types.specs.Tree.{Tree}
+use Rattle.giop_types.specs.Written.{value_out}
 use Rattle.giop_types.specs.Views.{named_view, fields_of}
 
 pub not_two : (n m : List ℕ) (p q : Shape → Bool) (ms : List NamedDesc) → (length ms ≡ 2 → ⊥) → are_two n p m q (fields_of (map named_view ms)) ≡ false
@@ -11,11 +24,17 @@ not_two n m p q (a ∷ []) other = refl
 not_two n m p q (a ∷ b ∷ []) other = absurd (other refl)
 not_two n m p q (a ∷ b ∷ c ∷ ms) other = refl
 
--- a list that isn't empty is its first item, and the rest
-pub encapsulated_parts : (s : Shape) (b : List ℕ) → 0 < length b → encapsulated_in s b ≡ option_and_then (content_in s (drop 1 b)) (order_in (slice_index b 0))
-encapsulated_parts s [] h = absurd (omega arith)
-encapsulated_parts s (o ∷ rest) h = refl
+-- behind the order octet of what is written big-endian
+begins : number_out w8 0 (record { order = Big; at = 0; octets = [] }) ≡ begun
+unfolding number_out
+begins = refl
 
-pub none_encapsulated : (s : Shape) (b : List ℕ) → length b ≡ 0 → encapsulated_in s b ≡ None
-none_encapsulated s [] h = refl
-none_encapsulated s (o ∷ rest) h = absurd (omega arith)
+view-String : (text : String Global) → view (Json.String text) ≡ json.string (string_bytes text)
+view-String text = search (rules, the_lemmas)
+
+-- the text of what is written of a value that fits
+pub text_shown : (s : Shape) (t : Tree) (text : String Global) (done : Output) → string_bytes text ≡ prefixed done.octets
+    → done ≡ value_out s t (number_out w8 0 (record { order = Big; at = 0; octets = [] })) → fits s t ≡ true
+    → view (Json.String text) ≡ reference_data s t
+text_shown s t text done says is fit =
+    view-String text ∙ rw fit (ap json.string (says ∙ ap (λ (d : Output). prefixed d.octets) (is ∙ ap (value_out s t) begins)))

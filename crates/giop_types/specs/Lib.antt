@@ -19,6 +19,8 @@ pub mod DescFromJson
 pub mod InterfaceFaults
 pub mod Plain
 pub mod Parse
+pub mod IorTextFault
+pub mod IorText
 pub mod Reference
 pub mod Encoding
 pub mod Nodes

@@ -1,20 +1,15 @@
--- Object references: their description (CORBA 3.3 Part 2, 7.6.2) and their text (7.6.9).
-use Rattle.std.specs.Prelude.{ℕ, ◌==◌, ◌&&◌, codes, Bool, true, false, if◌then◌else◌, List, [], ◌∷◌, ◌++◌}
-use Rattle.std.specs.Prelude.{take, drop, map, bytes_eq, Option, Some, None, option_map, option_and_then}
-use Rattle.std.specs.Char.{to_ascii_lowercase}
-use Rattle.std.specs.Int.{w8}
+-- Object references: their description (CORBA 3.3 Part 2, 7.6.2), and their text (7.6.9) as JSON.
+use Rattle.std.specs.Prelude.{ℕ, ◌==◌, ◌&&◌, codes, Bool, true, false, if◌then◌else◌, List}
+use Rattle.std.specs.Prelude.{Option, option_and_then}
 use Rattle.std.specs.Result.{result_ok}
-use Rattle.hex.specs.Hex.{decode_of, encode_lower}
 use Rattle.serde_json.specs.Data as json
 use Rattle.serde_json.specs.Find.{as_str}
-use Rattle.giop_cdr.specs.declared.order.Order.{Order}
-use Rattle.giop_cdr.specs.declared.order.Order.TheVariants.{Big, Little}
-use Rattle.giop_cdr.specs.Output.{Output, number_out}
 use Rattle.giop_types.specs.Shape.{Shape, ulong, text, octets, members, items, Fields, no_fields, field}
 use Rattle.giop_types.specs.Tree.{Tree}
 use Rattle.giop_types.specs.Checked.{same_name}
 use Rattle.giop_types.specs.Decoding.{decode_at}
 use Rattle.giop_types.specs.Fits.{fits}
+use Rattle.giop_types.specs.IorText.{ior_text_of, text_written}
 use Rattle.giop_types.specs.Written.{value_out}
 
 -- a profile: its tag and its octets
@@ -55,40 +50,15 @@ are_profiles _ = false
 abbrev pub is_reference : Fields → Bool
 is_reference fs = are_two (codes "type_id") is_any_text (codes "profiles") are_profiles fs
 
--- ---- the text of an IOR: `IOR:` and the digits of an encapsulation
+-- ---- the text of an IOR as JSON
 
--- an encapsulation that is begun, big-endian
-abbrev pub opened : Output
-opened = number_out w8 0 (record { order = Big; at = 0; octets = [] })
-
--- the written text
-abbrev pub reference_text : Shape → Tree → List ℕ
-reference_text s t = codes "IOR:" ++ encode_lower (value_out s t opened).octets
-
--- the same as JSON; null where the value doesn't fit
+-- the written text; null where the value doesn't fit
 abbrev pub reference_data : Shape → Tree → json.Data
-reference_data s t = if fits s t then json.string (reference_text s t) else json.null
+reference_data s t = if fits s t then json.string (text_written (value_out s) t) else json.null
 
--- the digits of a text, whose prefix may have any case
-abbrev pub digits_in : List ℕ → Option (List ℕ)
-digits_in s = if bytes_eq (map to_ascii_lowercase (take 4 s)) (codes "ior:") then Some (drop 4 s) else None
-
--- the byte order that an octet tells
-abbrev pub order_in : ℕ → Option Order
-order_in n = if n == 0 then Some Big else (if n == 1 then Some Little else None)
-
--- the value that an encapsulation's content spells, whatever stands behind it
-abbrev pub content_in : Shape → List ℕ → Order → Option Tree
-content_in s rest order = option_map (λ r. r.0) (result_ok (decode_at s (record { order = order; at = 1; rest = rest })))
-
--- the value that is encapsulated
-abbrev pub encapsulated_in : Shape → List ℕ → Option Tree
-encapsulated_in s [] = None
-encapsulated_in s (o ∷ rest) = option_and_then (content_in s rest) (order_in o)
-
--- the value that a text's digits encapsulate
+-- the value that a text is
 abbrev pub reference_in : Shape → List ℕ → Option Tree
-reference_in s t = option_and_then (encapsulated_in s) (option_and_then (λ digits. result_ok (decode_of digits)) (digits_in t))
+reference_in s t = result_ok (ior_text_of (decode_at s) t)
 
 abbrev pub reference_shown : Shape → json.Data → Option Tree
 reference_shown s d = option_and_then (reference_in s) (as_str d)

@@ -12,6 +12,9 @@ mod encoder;
 mod fitting;
 mod form_fault;
 mod interface;
+mod ior_text;
+mod ior_text_fault;
+mod ior_text_laws;
 mod json;
 mod label_check;
 mod laws;
@@ -33,6 +36,9 @@ pub use encoder::encode;
 pub use fitting::fits;
 pub use form_fault::FormFault;
 pub use interface::{Interface, Operation};
+pub use ior_text::{ior_octets_from_text, ior_octets_to_text, open_octets};
+pub use ior_text_fault::IorTextFault;
+pub use ior_text_laws::{ior_texts_are_read, written_ior_texts_are_read_back};
 pub use json::{
     desc_from_json, json_gives_values_back, reference_desc, value_from_json, value_to_json,
     written_and_read_as_json,

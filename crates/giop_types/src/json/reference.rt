@@ -1,7 +1,11 @@
 //! Object references: their description (CORBA 3.3 Part 2, 7.6.2) and their text (7.6.9).
-ghost use Rattle.std.specs.Prelude.{◌≡◌, map, IfOk};
+ghost use Rattle.std.specs.Prelude.{◌≡◌, map, option_map, IfOk};
+ghost use Rattle.std.specs.Result.{result_ok};
+ghost use Rattle.giop_cdr.specs.Encapsulation.{content_of};
+ghost use Rattle.giop_types.specs.Decoding.{decode_at};
 ghost use Rattle.giop_types.specs.FromJson.{Shows};
-ghost use Rattle.giop_types.specs.Reference.{reference_shape, is_profile, are_profiles, is_reference, reference_data, digits_in, order_in, content_in, encapsulated_in, reference_shown};
+ghost use Rattle.giop_types.specs.IorText.{encapsulated};
+ghost use Rattle.giop_types.specs.Reference.{reference_shape, is_profile, are_profiles, is_reference, reference_data, reference_shown};
 ghost use Rattle.giop_types.specs.Checked.{same_name};
 ghost use Rattle.giop_types.specs.Shape.{members, field, no_fields};
 ghost use Rattle.giop_types.specs.Views.{desc_view, named_view, fields_of, value_view};
@@ -11,9 +15,10 @@ use crate::append::append;
 use crate::decoder::value_of;
 use crate::desc::{Desc, NamedDesc};
 use crate::form_fault::FormFault;
+use crate::ior_text::{ior_octets_from_text, ior_octets_to_text, open_octets};
+use crate::ior_text_fault::IorTextFault;
 use crate::value::Value;
 use giop_cdr::{CdrIn, CdrKind, CdrOut, EncodeFault, OctetList, Order, SliceOctets};
-use hex::FromHexError;
 use serde_json::Value as Json;
 use std::alloc::{AllocError, Global};
 
@@ -101,7 +106,6 @@ pub fn is_reference(members: &[NamedDesc]) -> bool
 }
 
 /// The text of a reference, big-endian; null where the value doesn't fit.
-#[tactic(auto, unfolding(crate::specs::Written::value_out))]
 pub fn reference_json(alloc: Global, value: &Value, desc: &Desc) -> Result<Json, AllocError>
     ensures { IfOk result (λ json. view json ≡ reference_data (desc_view desc.now) (value_view value.now)) }
 {
@@ -112,72 +116,49 @@ pub fn reference_json(alloc: Global, value: &Value, desc: &Desc) -> Result<Json,
         Err(EncodeFault::Unfit) => return Ok(Json::Null),
         Err(EncodeFault::NoMemory) => return Err(AllocError),
     }
-    let digits = hex::encode(alloc, out.as_slice())?;
-    let mut text = String::from_str(alloc, "IOR:")?;
-    text.push_str(digits.as_str())?;
-    Ok(Json::String(text))
+    Ok(Json::String(ior_octets_to_text(alloc, out.as_slice())?))
 }
 
 /// The value of a reference's text.
+#[tactic(auto, unfolding(crate::specs::IorText::ior_text_of))]
 pub fn reference_of(alloc: Global, desc: &Desc, json: &Json) -> Result<Value, FormFault>
     ensures { Shows value_view result (reference_shown (desc_view desc.now) (view json.now)) }
 {
     let Some(text) = json.as_str() else {
         return Err(FormFault::BadShape);
     };
-    let digits = digits_in(text.as_bytes())?;
-    let octets = match hex::decode(alloc, digits) {
-        Ok(octets) => octets,
-        Err(FromHexError::OutOfMemory) => return Err(FormFault::NoMemory),
-        Err(_) => return Err(FormFault::BadShape),
-    };
-    encapsulated(alloc, desc, octets.as_slice())
-}
-
-// The digits of a reference's text, whose prefix may have any case.
-fn digits_in(text: &[u8]) -> Result<&[u8], FormFault>
-    ensures { Shows (λ digits. digits.now) result (digits_in text.now) }
-{
-    if text.len() >= 4 && text[..4].eq_ignore_ascii_case(b"ior:") {
-        Ok(&text[4..])
-    } else {
-        Err(FormFault::BadShape)
-    }
-}
-
-// The byte order that an octet tells.
-fn order_in(octet: u8) -> Option<Order>
-    ensures { result ≡ order_in octet }
-{
-    match octet {
-        0 => Some(Order::Big),
-        1 => Some(Order::Little),
-        _ => None,
+    match ior_octets_from_text(alloc, text.as_bytes()) {
+        Ok(octets) => encapsulated(alloc, desc, octets.as_slice()),
+        Err(IorTextFault::NoMemory) => Err(FormFault::NoMemory),
+        Err(_) => Err(FormFault::BadShape),
     }
 }
 
 // The value of an encapsulation, whatever stands behind it.
-#[tactic(auto, using(crate::proofs::ReferenceLemmas::encapsulated_parts, crate::proofs::ReferenceLemmas::none_encapsulated))]
+#[tactic(auto, unfolding(crate::specs::IorText::encapsulated, giop_cdr::specs::Encapsulated::inside_at))]
 fn encapsulated(alloc: Global, desc: &Desc, octets: &[u8]) -> Result<Value, FormFault>
-    ensures { Shows value_view result (encapsulated_in (desc_view desc.now) octets.now) }
+    ensures { Shows value_view result (result_ok (encapsulated (decode_at (desc_view desc.now)) octets.now)) }
 {
-    if octets.is_empty() {
+    let Ok((order, content)) = open_octets(octets) else {
         return Err(FormFault::BadShape);
-    }
-    match order_in(octets[0]) {
-        Some(order) => content(alloc, desc, &octets[1..], order),
-        None => Err(FormFault::BadShape),
-    }
+    };
+    content_value(alloc, desc, content, order)
 }
 
 // The value of an encapsulation's content.
-fn content(alloc: Global, desc: &Desc, octets: &[u8], order: Order) -> Result<Value, FormFault>
-    ensures { Shows value_view result (content_in (desc_view desc.now) octets.now order) }
+fn content_value(
+    alloc: Global,
+    desc: &Desc,
+    content: &[u8],
+    order: Order,
+) -> Result<Value, FormFault>
+    ensures { Shows value_view result (option_map (λ r. r.0)
+        (result_ok (decode_at (desc_view desc.now) (content_of order content.now)))) }
 {
-    if octets.len() > 1 << 62 {
+    if content.len() > 1 << 62 {
         return Err(FormFault::NoMemory);
     }
-    let source = SliceOctets::new(octets);
+    let source = SliceOctets::new(content);
     match value_of(alloc, desc, &mut CdrIn::new(&source, order, 1)) {
         Ok(value) => Ok(value),
         Err(fault) => match fault.kind {

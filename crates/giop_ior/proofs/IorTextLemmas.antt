@@ -1,0 +1,59 @@
+-- A reference as text: its grammar is that of giop_types, over the table of a reference.
+use Rattle.std.proofs.Common.{◌≡◌, ℕ, ◌<◌, true, List, [], ◌∷◌, ◌++◌, Result, Ok, Err, IfOk, ◌⊎◌, inl, inr, refl, sym, ap, subst, ◌∙◌}
+use Rattle.std.proofs.lemmas.List.Elements.{All-tail}
+use Rattle.std.specs.Int.{w8}
+use Rattle.giop_cdr.specs.declared.order.Order.TheVariants.{Big}
+use Rattle.giop_cdr.specs.Encapsulation.{order_octet}
+use Rattle.giop_cdr.specs.Layout.{Layout, IsLawful, AreOctets}
+use Rattle.giop_cdr.specs.Output.{number_out}
+use Rattle.giop_types.specs.declared.ior_text_fault.IorTextFault.{IorTextFault}
+use Rattle.giop_types.specs.declared.ior_text_fault.IorTextFault.TheVariants.{NoMemory}
+use Rattle.giop_types.specs.IorText.{IorText, ior_text_of, ReadsTexts, begun, text_written}
+use Rattle.giop_types.specs.IorTextFault.{TextReading, AnswersOrWants, IsAnswered}
+use Rattle.giop_cdr.proofs.LayoutLemmas.{octets_of_whole}
+use Rattle.giop_types.proofs.HexLemmas.{are_octets_said}
+use Rattle.giop_types.proofs.IorTextLemmas.{texts_read, value_written}
+use Rattle.giop_ior.specs.Ior.{Reference, ior_layout}
+use Rattle.giop_ior.proofs.IorLemmas.{ior_is}
+
+-- behind the order octet of what is written big-endian
+pub begins : number_out w8 0 (record { order = Big; at = 0; octets = [] }) ≡ begun
+unfolding number_out
+begins = refl
+
+pub iors_read : ReadsTexts ior_layout.spells ior_layout.refused (ior_text_of ior_layout.read)
+iors_read = texts_read ior_layout.spells ior_layout.refused ior_layout.read ior_is.exact
+
+-- what is answered is what the text says
+pub text_found : (text : List ℕ) (r : TextReading Reference) → AnswersOrWants (λ ior. ior) r (ior_text_of ior_layout.read text)
+    → IfOk r (λ ior. IorText ior_layout.spells ior text)
+text_found text (Ok ior) is = iors_read.found text ior is
+text_found text (Err e) is = tt
+
+-- and what it says is answered
+pub text_only : (text : List ℕ) (r : TextReading Reference) → AnswersOrWants (λ ior. ior) r (ior_text_of ior_layout.read text)
+    → (ior : Reference) → IorText ior_layout.spells ior text → IsAnswered r ior
+text_only text (Ok got) is ior says = let known = iors_read.only text ior says in cc
+text_only text (Err e) (inl other) ior says = let known = iors_read.only text ior says in absurd (cc)
+text_only text (Err e) (inr wants) ior says = wants
+
+-- ---- what is read can be written
+
+pub text_fits : {A : Type 0} (f : Layout A) → IsLawful f → (text : List ℕ) (v : A) → IorText f.spells v text → f.fits v ≡ true
+text_fits f lawful text v is =
+    let all = are_octets_said is.octets is.says.digits is.says.are_digits in
+    let e = is.holds in
+    let inside : AreOctets (order_octet e.order ∷ (e.front ++ e.rest)) = subst AreOctets e.whole all in
+    let content = octets_of_whole (e.front ++ e.rest) e.front e.rest refl (All-tail (λ octet. octet < 256) (order_octet e.order) (e.front ++ e.rest) inside) in
+    (lawful.fitting e.order 1 v e.front content.0 e.spells).0
+
+pub text_writable : (text : List ℕ) (r : TextReading Reference) → AnswersOrWants (λ ior. ior) r (ior_text_of ior_layout.read text)
+    → IfOk r (λ ior. ior_layout.fits ior ≡ true)
+text_writable text (Ok ior) is = text_fits ior_layout ior_is text ior (iors_read.found text ior is)
+text_writable text (Err e) is = tt
+
+-- ---- what is written is read back
+
+pub text_says : (ior : Reference) → ior_layout.fits ior ≡ true → ior_layout.holds ior → AreOctets (ior_layout.written ior begun).octets
+    → IorText ior_layout.spells ior (text_written ior_layout.written ior)
+text_says ior fits held all = value_written ior_layout.spells ior (ior_layout.written ior begun) (ior_is.written ior begun fits held) all
