@@ -4,4 +4,5 @@ pub mod StreamLemmas
 pub mod FramerLemmas
 pub mod ReadPiecesLemmas
 pub mod RequestHeadLemmas
+pub mod RequestIdLemmas
 mod StandardFacts

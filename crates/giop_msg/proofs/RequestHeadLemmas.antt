@@ -12,11 +12,11 @@ use Rattle.giop_cdr.proofs.LayoutLemmas.{number_is, signed_is, octets_is, text_i
 use Rattle.giop_msg.specs.declared.target.Target.TheVariants.{Key}
 use Rattle.giop_msg.specs.RequestHead.{Head, service_context, response_flags, reserved_octet, reserved_octets, key_addr, key_of, target_address, request_head, joined_from, request_head_of, IsRequestHead}
 
-service_context_is : IsLawful service_context
+pub service_context_is : IsLawful service_context
 unfolding service_context
 service_context_is = tagged_is _ _ _ (λ tag contents. refl) (λ tag contents. refl)
 
-service_context_takes : TakesOctets service_context.spells
+pub service_context_takes : TakesOctets service_context.spells
 unfolding service_context
 service_context_takes = tagged_takes _ _ _
 

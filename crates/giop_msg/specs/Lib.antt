@@ -1,6 +1,8 @@
 pub mod Kind
+pub mod Version
 pub mod Fault
 pub mod Header
+pub mod RequestId
 pub mod Msg
 pub mod Stream
 pub mod Laws

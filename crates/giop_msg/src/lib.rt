@@ -1,4 +1,4 @@
-//! GIOP 1.2 messages on the wire (CORBA 3.3 Part 2, 9.4): headers, and the framer that cuts a
+//! GIOP messages of versions 1.0 to 1.2 on the wire (CORBA 3.3 Part 2, 9.4): headers, and the framer that cuts a
 //! stream of octets into messages.
 #![tactic(auto)]
 
@@ -11,11 +11,13 @@ mod laws;
 mod msg;
 mod request_head;
 mod request_head_writing;
+mod request_id;
 mod service_context;
 mod stream;
 mod target;
 #[cfg(test)]
 mod tests;
+mod version;
 
 pub use fault::{WireFault, WireKind};
 pub use framer::Framer;
@@ -28,3 +30,4 @@ pub use request_head::{RequestHead, RequestHeadAt};
 pub use service_context::{ServiceContext, ServiceContexts, ServiceContextsAt};
 pub use stream::{Reading, read_pieces};
 pub use target::Target;
+pub use version::Version;

@@ -7,9 +7,12 @@ use Rattle.giop_msg.specs.declared.fault.WireFault.{WireFault}
 use Rattle.giop_msg.specs.declared.kind.Kind.{Kind}
 use Rattle.giop_msg.specs.declared.kind.Kind.TheVariants.{Request}
 use Rattle.giop_msg.specs.declared.msg.Msg.{Msg}
+use Rattle.giop_msg.specs.declared.version.Version.{Version}
+use Rattle.giop_msg.specs.declared.version.Version.TheVariants.{V12}
 use Rattle.giop_msg.specs.RequestHead.{Head, request_head_of}
 use Rattle.giop_msg.specs.Header.{header_fault}
 use Rattle.giop_msg.specs.Msg.{message_octets}
+use Rattle.giop_msg.specs.RequestId.{request_id_of}
 use Rattle.giop_msg.specs.Stream.{Msgs}
 use Rattle.giopctl.specs.declared.status.Status.{Status}
 use Rattle.giopctl.specs.declared.status.Status.TheVariants.{Done, Refused, Usage, InputOutput, Memory}
@@ -19,10 +22,10 @@ use Rattle.giopctl.specs.Lines.{message_line, head_line, fault_line, rest_line}
 abbrev pub ended : List ℕ → List ℕ
 ended line = line ++ 10 ∷ []
 
--- a Request that no fragments follow
-abbrev pub is_whole_request : Kind → Bool → Bool
-is_whole_request Request more = not more
-is_whole_request _ more = false
+-- a Request of 1.2 that no fragments follow
+abbrev pub is_whole_request : Version → Kind → Bool → Bool
+is_whole_request V12 Request more = not more
+is_whole_request _ _ more = false
 
 -- the line of a Request's head and of the body behind it, where the octets spell a head
 abbrev pub head_text : Msg → Result (Head × ℕ) CdrFault → List ℕ
@@ -32,8 +35,8 @@ head_text m (Err e) = []
 -- the lines of a message that begins at an offset of the file
 abbrev pub message_text : ℕ → Msg → List ℕ
 message_text at m =
-    ended (message_line at m)
-    ++ (if is_whole_request m.kind m.more then head_text m (request_head_of m.order m.payload) else [])
+    ended (message_line at m (request_id_of m))
+    ++ (if is_whole_request m.version m.kind m.more then head_text m (request_head_of m.order m.payload) else [])
 
 -- the lines of messages, the first of which begins at an offset of the file
 abbrev pub messages_text : ℕ → List Msg → List ℕ

@@ -10,7 +10,7 @@ use crate::failure::Failure;
 use crate::lines::{FaultLine, HeadLine, MessageLine, RestLine};
 use crate::status::Status;
 use giop_cdr::SliceOctets;
-use giop_msg::{Kind, Msg, RequestHead, WireFault, WireKind};
+use giop_msg::{Kind, Msg, RequestHead, Version, WireFault, WireKind};
 use std::io::Write;
 
 /// The lines of the message that begins at this offset of the file.
@@ -19,7 +19,8 @@ pub fn write_message<W: Write>(at: usize, message: &Msg, writer: &mut W) -> Resu
     ensures { OnOk result
         (Appends (W.contents writer.old) (W.contents writer.new) (message_text at message.now)) }
 {
-    writeln!(writer, "{}", MessageLine { at, message })?;
+    let id = message.request_id();
+    writeln!(writer, "{}", MessageLine { at, message, id })?;
     if is_whole_request(message) {
         write_head(message, writer)?;
     }
@@ -27,9 +28,9 @@ pub fn write_message<W: Write>(at: usize, message: &Msg, writer: &mut W) -> Resu
 }
 
 fn is_whole_request(message: &Msg) -> bool
-    ensures { result ≡ is_whole_request message.now.kind message.now.more }
+    ensures { result ≡ is_whole_request message.now.version message.now.kind message.now.more }
 {
-    matches!(message.kind, Kind::Request) && !message.more
+    message.version == Version::V12 && message.kind == Kind::Request && !message.more
 }
 
 // The line of a Request's head, or none where the octets spell no head.

@@ -122,11 +122,43 @@ fn a_request_has_the_line_of_its_head(rt: HostRuntime) -> Result<(), Fail> {
 }
 
 #[test]
+fn a_message_before_1_2_shows_its_version(rt: HostRuntime) -> Result<(), Fail> {
+    let rows = [
+        // Contexts come before the id of a Request and a Reply, and a LocateRequest begins with it.
+        Row {
+            octets: "47494F50010001010C000000000000000900000000000000\
+                47494F500101000300000009000000050000000161\
+                47494F50010100050000000047494F50010000020000000400000007",
+            text: "0 Reply 1.0 LE size 12 id 9\n\
+                24 LocateRequest 1.1 BE size 9 id 5\n\
+                45 CloseConnection 1.1 BE size 0\n57 CancelRequest 1.0 BE size 4 id 7\nrest 0\n",
+            status: Status::Done,
+        },
+        // No id is read where more contexts are counted than octets follow.
+        Row {
+            octets: "47494F500100000100000008FFFFFFFF00000001",
+            text: "0 Reply 1.0 BE size 8\nrest 0\n",
+            status: Status::Done,
+        },
+    ];
+    for row in &rows {
+        check(&rt, rt.alloc(), row)?;
+    }
+    Ok(())
+}
+
+#[test]
 fn a_fault_in_a_header_ends_the_text(rt: HostRuntime) -> Result<(), Fail> {
     let faults = [
         ("47494F510102000500000000", "0 fault 1 BadMagic at 3\n"),
         ("47494F500202000500000000", "0 fault 2 BadVersion at 4\n"),
         ("47494F500103000500000000", "0 fault 2 BadVersion at 5\n"),
+        ("47494F500100020000000028", "0 fault 3 ReservedFlags at 6\n"),
+        ("47494F50010100070000000C", "0 fault 4 BadKind at 7\n"),
+        (
+            "47494F500101020000000028",
+            "0 fault 8 NotFragmentable at 6\n",
+        ),
         ("47494F500102040500000000", "0 fault 3 ReservedFlags at 6\n"),
         ("47494F500102000800000000", "0 fault 4 BadKind at 7\n"),
         ("47494F500102000000100001", "0 fault 5 TooLarge at 8\n"),
