@@ -12,3 +12,4 @@ pub mod WrittenLemmas
 pub mod IorLemmas
 pub mod IiopLemmas
 pub mod ToIorLemmas
+pub mod ServiceContextLemmas

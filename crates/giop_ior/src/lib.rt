@@ -19,6 +19,7 @@ mod ior_writing;
 mod key_text;
 mod profile;
 mod sequence;
+mod service_context;
 mod tagged_profile;
 mod to_ior;
 
@@ -39,4 +40,5 @@ pub use ior_reading::{read_ior, view_ior};
 pub use ior_writing::write_ior;
 pub use profile::IiopProfile;
 pub use sequence::Sequence;
+pub use service_context::{ServiceContext, append_contexts, are_writable_contexts};
 pub use tagged_profile::{TaggedComponent, TaggedProfile};

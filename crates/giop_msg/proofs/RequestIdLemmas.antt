@@ -8,18 +8,19 @@ use Rattle.giop_cdr.specs.Cursor.{Cursor, num}
 use Rattle.giop_cdr.specs.Outcome.{Exactly}
 use Rattle.giop_cdr.specs.Reading.{Reading, number_at, field_at}
 use Rattle.giop_cdr.specs.Layout.{IsLawful, number, reserved, sequence, chosen, gives}
-use Rattle.giop_cdr.proofs.LayoutLemmas.{number_is, field_is, gives_is, reserved_is, sequence_is, chosen_is}
+use Rattle.giop_cdr.proofs.LayoutLemmas.{number_is, field_is, gives_is, reserved_is, chosen_is}
 use Rattle.giop_msg.specs.declared.kind.Kind.{Kind}
 use Rattle.giop_msg.specs.declared.msg.Msg.{Msg}
 use Rattle.giop_msg.specs.declared.version.Version.{Version}
 use Rattle.giop_msg.specs.Kind.{has_request_id}
 use Rattle.giop_msg.specs.Laws.{RequestIds}
 use Rattle.giop_msg.specs.Msg.{head_of, IsMessage}
-use Rattle.giop_msg.specs.RequestHead.{joined_from}
+use Rattle.giop_msg.specs.Joined.{joined_from}
+use Rattle.giop_ior.specs.ServiceContext.{service_contexts}
+use Rattle.giop_ior.proofs.ServiceContextLemmas.{service_contexts_are}
 use Rattle.giop_msg.specs.RequestId.{begins_with_contexts, passed_contexts, id_behind_contexts, request_id_layout, request_id_of, value_of}
 use Rattle.giop_msg.proofs.FaultLemmas.{sizes_of_sound, room_for_id}
 use Rattle.giop_msg.proofs.HeaderLemmas.{sound_fields}
-use Rattle.giop_msg.proofs.RequestHeadLemmas.{service_context_is, service_context_takes}
 
 -- what a reader answers is what is read
 pub value_exact : (r : Result ℕ CdrFault) (after : Cursor) (reading : Reading ℕ) → Exactly r after reading → r ≡ value_of reading
@@ -27,8 +28,8 @@ value_exact (Ok id) after reading h = rw h refl
 value_exact (Err e) after reading h = rw h refl
 
 passed_contexts_are : IsLawful passed_contexts
-unfolding passed_contexts sequence
-passed_contexts_are = reserved_is [] refl tt (sequence_is service_context_takes service_context_is)
+unfolding passed_contexts service_contexts sequence
+passed_contexts_are = reserved_is [] refl tt service_contexts_are
 
 id_behind_contexts_is : IsLawful id_behind_contexts
 unfolding id_behind_contexts

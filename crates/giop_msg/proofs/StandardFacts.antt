@@ -11,7 +11,9 @@ use Rattle.giop_msg.specs.declared.msg.Msg.{Msg}
 use Rattle.giop_cdr.specs.Output.{Output, number_out, signed_out, octets_out, string_out, sequence_out, items_out}
 use Rattle.giop_cdr.specs.Layout.{number, signed, octets, text, such, field, gives, reserved, chosen, sequence, tagged}
 use Rattle.giop_msg.specs.declared.target.Target.TheVariants.{Key}
-use Rattle.giop_msg.specs.RequestHead.{Head, request_head, response_flags, reserved_octets, reserved_octet, key_addr, target_address, service_context}
+use Rattle.giop_ior.specs.ServiceContext.{service_context, service_contexts}
+use Rattle.giop_msg.specs.Target.{target_layout, target_by, disposition, key_target}
+use Rattle.giop_msg.specs.RequestHead.{Head, request_head, request_head_1_2, response_flags, reserved_octets, reserved_octet}
 use Rattle.giop_msg.specs.Fault.{fault}
 use Rattle.giop_msg.specs.declared.version.Version.TheVariants.{V12}
 use Rattle.giop_cdr.specs.Reading.{number_at, field_at}
@@ -157,11 +159,12 @@ split = record {
 
 -- a request of id 1 for `ping` of the object `k`, which asks for a reply
 abbrev ping_head : Head
-ping_head = record { id = 1; flags = 3; target = Key (0x6B ∷ []); operation = 0x70 ∷ 0x69 ∷ 0x6E ∷ 0x67 ∷ []; contexts = [] }
+ping_head = record { version = V12; id = 1; flags = 3; target = Key (0x6B ∷ []); operation = 0x70 ∷ 0x69 ∷ 0x6E ∷ 0x67 ∷ []; contexts = [] }
 
 -- a request of id 2 for `a` of the object without a key, with the context 9 of one octet
 abbrev context_head : Head
 context_head = record {
+  version = V12;
   id = 2;
   flags = 1;
   target = Key [];
@@ -178,10 +181,11 @@ abbrev behind_header : Order → Output
 behind_header order = record { order = order; at = 12; octets = [] }
 
 record AreHeads : Type 0 where
-  pub ping_octets : (request_head.written ping_head (behind_header Big)).octets ≡ ping_payload
-  pub context_octets_are : (request_head.written context_head (behind_header Little)).octets ≡ context_octets
+  pub ping_octets : ((request_head V12).written ping_head (behind_header Big)).octets ≡ ping_payload
+  pub context_octets_are : ((request_head V12).written context_head (behind_header Little)).octets ≡ context_octets
 
 heads : AreHeads
-unfolding request_head response_flags reserved_octets reserved_octet key_addr target_address service_context number signed octets text such field gives reserved sequence tagged
+unfolding request_head request_head_1_2 response_flags reserved_octets reserved_octet target_layout target_by disposition key_target chosen
+    service_contexts service_context number signed octets text such field gives reserved sequence tagged
     number_out signed_out octets_out string_out sequence_out items_out
 heads = record { ping_octets = refl; context_octets_are = refl }

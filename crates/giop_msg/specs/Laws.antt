@@ -6,7 +6,11 @@ use Rattle.giop_msg.specs.Header.{fault_of, header_fault, header_octets, header_
 use Rattle.giop_msg.specs.Kind.{has_request_id}
 use Rattle.giop_msg.specs.Msg.{IsMessage}
 use Rattle.giop_msg.specs.RequestId.{begins_with_contexts, request_id_layout, request_id_of}
-use Rattle.giop_cdr.specs.Readers.{IsExact, Took}
+use Rattle.giop_cdr.specs.declared.order.Order.{Order}
+use Rattle.giop_cdr.specs.Output.{Output}
+use Rattle.giop_cdr.specs.Layout.{Layout, AreOctets}
+use Rattle.giop_cdr.specs.RoundTrip.{IsReadBack}
+use Rattle.giop_cdr.specs.Readers.{IsExact, StandsAlone, Took}
 use Rattle.giop_msg.specs.declared.kind.Kind.{Kind}
 use Rattle.giop_msg.specs.declared.version.Version.{Version}
 use Rattle.giop_msg.specs.declared.fault.WireFault.{WireFault}
@@ -50,3 +54,16 @@ abbrev pub FaultsStand : Type 0
 FaultsStand =
     (limit : ℕ) (octets more : List ℕ) (e : WireFault) →
     BeginsWithFault limit octets e → BeginsWithFault limit (octets ++ more) e
+
+-- what holds of a table of fields
+pub record IsTable {A : Type 0} (layout : Layout A) : Type 0 where
+  -- what is read is what is spelled, field by field, and else the first refused field is answered
+  pub exact : IsExact (Took layout.spells) layout.refused layout.read
+  -- no spelling begins another
+  pub alone : StandsAlone layout.spells
+  -- whatever octets spell fits, and its numbers are in the ranges of their types
+  pub fits : (order : Order) (at : ℕ) (v : A) (octets : List ℕ) → AreOctets octets →
+      layout.spells order at v octets → (layout.fits v ≡ true) × layout.holds v
+  -- what is written of a value that fits is read back, with what stands behind it left
+  pub back : (v : A) (out : Output) → layout.fits v ≡ true → layout.holds v →
+      IsReadBack layout.spells layout.read v out (layout.written v out)

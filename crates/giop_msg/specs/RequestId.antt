@@ -5,15 +5,16 @@ use Rattle.giop_cdr.specs.declared.order.Order.{Order}
 use Rattle.giop_cdr.specs.declared.fault.CdrFault.{CdrFault}
 use Rattle.giop_cdr.specs.Cursor.{Cursor}
 use Rattle.giop_cdr.specs.Reading.{Reading}
-use Rattle.giop_cdr.specs.Layout.{Layout, number, field, gives, reserved, sequence, chosen}
-use Rattle.giop_msg.specs.declared.service_context.ServiceContext.{ServiceContext}
+use Rattle.giop_cdr.specs.Layout.{Layout, number, field, gives, reserved, chosen}
+use Rattle.giop_ior.specs.declared.service_context.ServiceContext.{ServiceContext}
 use Rattle.giop_msg.specs.declared.kind.Kind.{Kind}
 use Rattle.giop_msg.specs.declared.kind.Kind.TheVariants.{Request, Reply}
 use Rattle.giop_msg.specs.declared.msg.Msg.{Msg}
 use Rattle.giop_msg.specs.declared.version.Version.{Version}
 use Rattle.giop_msg.specs.declared.version.Version.TheVariants.{V10, V11, V12}
 use Rattle.giop_msg.specs.Kind.{has_request_id}
-use Rattle.giop_msg.specs.RequestHead.{service_context, joined_from}
+use Rattle.giop_ior.specs.ServiceContext.{service_contexts}
+use Rattle.giop_msg.specs.Joined.{joined_from}
 
 -- a message of this kind has service contexts
 abbrev pub has_contexts : Kind → Bool
@@ -29,7 +30,7 @@ begins_with_contexts V12 kind = false
 
 -- service contexts of which nothing is kept
 unfoldable pub passed_contexts : Layout (List ServiceContext)
-passed_contexts = reserved (sequence service_context) []
+passed_contexts = reserved service_contexts []
 
 -- an id behind service contexts
 unfoldable pub id_behind_contexts : Layout ℕ

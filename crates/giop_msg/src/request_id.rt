@@ -1,4 +1,4 @@
-#![tactic(auto, unfolding(crate::specs::RequestId::request_id_layout, crate::specs::RequestId::id_behind_contexts, crate::specs::RequestId::passed_contexts, crate::specs::RequestHead::service_context, giop_cdr::specs::Layout::chosen, giop_cdr::specs::Layout::field, giop_cdr::specs::Layout::number, giop_cdr::specs::Layout::octets, giop_cdr::specs::Layout::reserved, giop_cdr::specs::Layout::gives, giop_cdr::specs::Layout::sequence, giop_cdr::specs::Layout::tagged, giop_cdr::specs::View::tagged_at))]
+#![tactic(auto, unfolding(crate::specs::RequestId::request_id_layout, crate::specs::RequestId::id_behind_contexts, crate::specs::RequestId::passed_contexts, giop_ior::specs::ServiceContext::service_contexts, giop_ior::specs::ServiceContext::service_context, giop_cdr::specs::Layout::chosen, giop_cdr::specs::Layout::field, giop_cdr::specs::Layout::number, giop_cdr::specs::Layout::octets, giop_cdr::specs::Layout::reserved, giop_cdr::specs::Layout::gives, giop_cdr::specs::Layout::sequence, giop_cdr::specs::Layout::tagged, giop_cdr::specs::View::tagged_at))]
 
 ghost use Rattle.std.specs.Prelude.{◌≡◌};
 ghost use Rattle.giop_cdr.specs.Outcome.{Exactly};
