@@ -7,6 +7,7 @@ use std::test::Fail;
 
 mod framer;
 mod header;
+mod heads;
 mod request_head;
 mod request_id;
 
