@@ -13,3 +13,4 @@ pub mod IorLemmas
 pub mod IiopLemmas
 pub mod ToIorLemmas
 pub mod IorTextLemmas
+pub mod ServiceContextLemmas

@@ -6,3 +6,4 @@ pub mod CorbalocWriting
 pub mod Ior
 pub mod Iiop
 pub mod ToIor
+pub mod ServiceContext

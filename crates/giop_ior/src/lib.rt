@@ -21,6 +21,7 @@ mod ior_writing;
 mod key_text;
 mod profile;
 mod sequence;
+mod service_context;
 mod tagged_profile;
 #[cfg(test)]
 mod tests;
@@ -46,4 +47,5 @@ pub use ior_text_laws::{reference_texts_are_read, written_reference_texts_are_re
 pub use ior_writing::write_ior;
 pub use profile::IiopProfile;
 pub use sequence::Sequence;
+pub use service_context::{ServiceContext, append_contexts, are_writable_contexts};
 pub use tagged_profile::{TaggedComponent, TaggedProfile};

@@ -8,7 +8,10 @@ use Rattle.giop_msg.specs.declared.fault.WireFault.{WireFault}
 use Rattle.giop_msg.specs.declared.fault.WireKind.TheVariants.{NoMemory}
 use Rattle.giop_msg.specs.declared.header.Header.{Header}
 use Rattle.giop_msg.specs.Fault.{Test, first_failing, wire_kind_number}
-use Rattle.giop_msg.specs.Header.{header_of, octet_tests, octet_fault, field_tests, field_fault, header_fault}
+use Rattle.giop_msg.specs.declared.version.Version.{Version}
+use Rattle.giop_msg.specs.declared.version.Version.TheVariants.{V10, V11, V12}
+use Rattle.giop_msg.specs.Version.{flag_values, kind_count}
+use Rattle.giop_msg.specs.Header.{version_at, header_of, octet_tests, octet_fault, field_tests, field_fault, header_fault}
 use Rattle.giop_msg.specs.Kind.{has_request_id, can_have_size}
 
 -- where nothing fails, the first test passes and nothing fails after it
@@ -47,9 +50,9 @@ pub record HasFront (octets : List ℕ) : Type 0 where
   pub o : slice_index octets 2 ≡ 79
   pub p : slice_index octets 3 ≡ 80
   pub major : slice_index octets 4 ≡ 1
-  pub minor : slice_index octets 5 ≡ 2
-  pub flags : slice_index octets 6 < 4
-  pub kind : slice_index octets 7 < 8
+  pub minor : slice_index octets 5 < 3
+  pub flags : slice_index octets 6 < flag_values (version_at octets)
+  pub kind : slice_index octets 7 < kind_count (version_at octets)
 
 equal_passed : (a b : ℕ) → not (a == b) ≡ false → a ≡ b
 equal_passed a b h = grind (arith, nat_tests)
@@ -81,7 +84,7 @@ front_of octets h =
       o = equal_passed _ _ o.0;
       p = equal_passed _ _ p.0;
       major = equal_passed _ _ major.0;
-      minor = equal_passed _ _ minor.0;
+      minor = below_passed _ _ minor.0;
       flags = below_passed _ _ flags.0;
       kind = below_passed _ _ kind.0;
     }
@@ -94,9 +97,23 @@ octet_fault-sound limit octets sound =
       | Some fault ↦ λ e. let found = header_fault-of_octets limit octets fault e in let no : ⊥ = cc in absurd no
     ]) refl
 
+eight_kinds : (version : Version) → kind_count version ≤ 8
+eight_kinds V10 = omega arith
+eight_kinds V11 = omega arith
+eight_kinds V12 = omega arith
+
+four_flags : (version : Version) → flag_values version ≤ 4
+four_flags V10 = omega arith
+four_flags V11 = omega arith
+four_flags V12 = omega arith
+
 -- the message type is one of the eight
 pub kind_below_8 : (octets : List ℕ) → octet_fault octets ≡ None → slice_index octets 7 < 8
-kind_below_8 octets sound = (front_of octets sound).kind
+kind_below_8 octets sound = omega (arith, (front_of octets sound).kind, eight_kinds (version_at octets))
+
+-- the flags are below 4
+pub flags_below_4 : (octets : List ℕ) → octet_fault octets ≡ None → slice_index octets 6 < 4
+flags_below_4 octets sound = omega (arith, (front_of octets sound).flags, four_flags (version_at octets))
 
 -- where nothing is wrong with the fields, the size is within the limit and one of the kind's
 pub sizes_of_sound : (limit : ℕ) (h : Header) → field_fault limit h ≡ None → (h.size ≤ limit) × (can_have_size h.kind h.size ≡ true)

@@ -48,7 +48,7 @@ waits_for_payload limit octets h begins short = record {
 
 -- the message of a header and the octets after it
 abbrev pub message_of : Header → List ℕ → Msg
-message_of h payload = record { order = h.order; more = h.more; kind = h.kind; payload = payload }
+message_of h payload = record { version = h.version; order = h.order; more = h.more; kind = h.kind; payload = payload }
 
 head_of-message_of : (h : Header) (payload : List ℕ) → length payload ≡ h.size → head_of (message_of h payload) ≡ h
 head_of-message_of h payload e = rw e refl
@@ -73,7 +73,7 @@ message_at_front limit octets h payload below begins limited there slice =
     ap header_octets (head ∙ begins.is) ∙ sound_octets limit (take 12 octets) twelve below_twelve begins.sound in
     let fields = sym (header_fault-of_fields limit (take 12 octets) (octet_fault-sound limit (take 12 octets) begins.sound)) ∙ begins.sound in
     let within : h.size ≤ limit = subst (λ (x : Header). x.size ≤ limit) (sym begins.is) (sizes_of_sound limit (header_of (take 12 octets)) fields).0 in (
-      record { sized = omega (arith, long, within); sound = ap (field_fault limit) (head ∙ begins.is) ∙ fields },
+      record { sized = omega (arith, long, within); sound = ap (header_fault limit) front ∙ begins.sound },
       sym (take-append-drop 12 octets)
           ∙ ap (λ xs. xs ++ drop 12 octets) (sym front)
           ∙ ap (λ xs. header_octets (head_of (message_of h payload)) ++ xs) (payload_and_more octets h.size payload part long)

@@ -3,5 +3,12 @@ pub mod HeaderLemmas
 pub mod StreamLemmas
 pub mod FramerLemmas
 pub mod ReadPiecesLemmas
+pub mod JoinedLemmas
+pub mod TableLemmas
+pub mod MeaningLemmas
+pub mod TargetLemmas
 pub mod RequestHeadLemmas
+pub mod ReplyHeadLemmas
+pub mod LocateLemmas
+pub mod RequestIdLemmas
 mod StandardFacts

@@ -1,24 +1,16 @@
--- The table of a Request's head is lawful, and what follows for joined octets that begin with one.
-use Rattle.std.proofs.Common.{◌≡◌, ℕ, ℤ, pos, ◌+◌, true, false, List, length, Result, Ok, Err, refl, sym, ap, subst, ◌∙◌, arith}
-use Rattle.std.proofs.lemmas.Bool.Decides.{Decides-int_eq}
-use Rattle.std.specs.Int.{w8, w16, w32}
+-- The tables of a Request's head are lawful.
+use Rattle.std.proofs.Common.{◌≡◌, ℕ, ◌==◌, ◌||◌, Bool, true, false, List, [], refl, sym, arith}
+use Rattle.std.proofs.lemmas.Bool.{eqb-true}
+use Rattle.std.specs.Int.{w8, w32}
 use Rattle.giop_cdr.specs.declared.order.Order.{Order}
-use Rattle.giop_cdr.specs.declared.fault.CdrFault.{CdrFault}
-use Rattle.giop_cdr.specs.Cursor.{Cursor, pad, place}
-use Rattle.giop_cdr.specs.Layout.{IsLawful, AreOctets, number, signed, octets, such, field, gives, reserved}
-use Rattle.giop_cdr.specs.Readers.{TakesOctets}
-use Rattle.giop_cdr.proofs.Answers.{bind_elim, ok_same}
-use Rattle.giop_cdr.proofs.LayoutLemmas.{number_is, signed_is, octets_is, text_is, such_is, field_is, gives_is, reserved_is, sequence_is, tagged_is, tagged_takes, unspelled}
-use Rattle.giop_msg.specs.declared.target.Target.TheVariants.{Key}
-use Rattle.giop_msg.specs.RequestHead.{Head, service_context, response_flags, reserved_octet, reserved_octets, key_addr, key_of, target_address, request_head, joined_from, request_head_of, IsRequestHead}
-
-service_context_is : IsLawful service_context
-unfolding service_context
-service_context_is = tagged_is _ _ _ (λ tag contents. refl) (λ tag contents. refl)
-
-service_context_takes : TakesOctets service_context.spells
-unfolding service_context
-service_context_takes = tagged_takes _ _ _
+use Rattle.giop_cdr.specs.Layout.{IsLawful, AreOctets, number, octets, such, field, gives, reserved}
+use Rattle.giop_cdr.proofs.LayoutLemmas.{number_is, boolean_is, octets_is, text_is, such_is, field_is, gives_is, reserved_is, unspelled}
+use Rattle.giop_ior.proofs.ServiceContextLemmas.{service_contexts_are}
+use Rattle.giop_msg.specs.declared.version.Version.{Version}
+use Rattle.giop_msg.specs.declared.version.Version.TheVariants.{V10, V11, V12}
+use Rattle.giop_msg.specs.RequestHead.{Head, response_flags, reserved_octet, reserved_octets, request_head_1_2, flags_expecting, is_expecting, response_expected, reserved_of, principal, early_request_head, request_head}
+use Rattle.giop_msg.proofs.MeaningLemmas.{meaning_is}
+use Rattle.giop_msg.proofs.TargetLemmas.{target_is, object_key_is}
 
 response_flags_is : IsLawful response_flags
 unfolding response_flags
@@ -35,76 +27,79 @@ reserved_octets_is =
     (λ _. field_is _ (λ _ _ _ held _. unfold reserved_octet reserved in cc) reserved_octet_is
     (λ _. field_is _ (λ _ _ _ held _. unfold reserved_octet reserved in cc) reserved_octet_is (λ _. gives_is 0)))
 
-key_addr_is : IsLawful key_addr
-unfolding key_addr
-key_addr_is = such_is _ _ _ (signed_is w16 refl)
-
--- the disposition that is read is the one that is written
-zero_alone : (disposition : ℤ) → key_addr.fits disposition ≡ true → pos 0 ≡ disposition
-unfolding key_addr such signed
-zero_alone disposition fits = sym ((Decides-int_eq disposition (pos 0)).0 fits)
-
-target_address_is : IsLawful target_address
-unfolding target_address
-target_address_is =
-    field_is _ (λ disposition _ fits _ _. zero_alone disposition fits) key_addr_is
-    (λ _. field_is _ (λ _ _ _ _ held. unfold gives in ap key_of held) octets_is (λ key. gives_is (Key key)))
-
-pub request_head_is : IsLawful request_head
-unfolding request_head
-request_head_is =
+request_head_1_2_is : IsLawful request_head_1_2
+unfolding request_head_1_2
+request_head_1_2_is =
     field_is _ (λ _ _ _ _ held. unfold field gives in cc) (number_is w32 refl)
     (λ _. field_is _ (λ _ _ _ _ held. unfold field gives in cc) response_flags_is
     (λ _. field_is _ (λ _ _ _ held _. unfold reserved_octets field gives in cc) reserved_octets_is
-    (λ _. field_is _ (λ _ _ _ _ held. unfold field gives in cc) target_address_is
+    (λ _. field_is _ (λ _ _ _ _ held. unfold field gives in cc) target_is
     (λ _. field_is _ (λ _ _ _ _ held. unfold field gives in cc) text_is
-    (λ _. field_is _ (λ _ _ _ _ held. unfold field gives in cc) (sequence_is service_context_takes service_context_is)
+    (λ _. field_is _ (λ _ _ _ _ held. unfold field gives in cc) service_contexts_are
     (λ _. gives_is _))))))
 
+-- ---- before 1.2
+
+expecting_by : (a b : Bool) (flags : ℕ) → (a || b) ≡ true → (a ≡ true → 0 ≡ flags) → (b ≡ true → 3 ≡ flags) → (a ≡ true → b ≡ false) → flags_expecting b ≡ flags
+expecting_by true true flags one zero three apart = let no : true ≡ false = apart refl in cc
+expecting_by true false flags one zero three apart = zero refl
+expecting_by false true flags one zero three apart = three refl
+expecting_by false false flags one zero three apart = absurd cc
+
+zero_or_three : (flags : ℕ) → (flags == 0) ≡ true → (flags == 3) ≡ false
+zero_or_three flags is = rw (eqb-true flags 0 is) refl
+
+expecting_again : (flags : ℕ) → is_expecting flags ≡ true → flags_expecting (flags == 3) ≡ flags
+expecting_again flags is =
+    expecting_by (flags == 0) (flags == 3) flags is (λ e. sym (eqb-true flags 0 e)) (λ e. sym (eqb-true flags 3 e)) (zero_or_three flags)
+
+told_again : (expected : Bool) → (flags_expecting expected == 3) ≡ expected
+told_again true = refl
+told_again false = refl
+
+all_expecting : (expected : Bool) → is_expecting (flags_expecting expected) ≡ true
+all_expecting true = refl
+all_expecting false = refl
+
+response_expected_is : IsLawful response_expected
+unfolding response_expected
+response_expected_is = meaning_is flags_expecting (λ flags. flags == 3) is_expecting expecting_again told_again all_expecting boolean_is
+
+reserved_of_is : (version : Version) → IsLawful (reserved_of version)
+unfolding reserved_of
+reserved_of_is V10 = gives_is 0
+reserved_of_is V11 = reserved_octets_is
+reserved_of_is V12 = reserved_octets_is
+
+reserved_is_0 : (version : Version) (v : ℕ) → (reserved_of version).holds v → 0 ≡ v
+unfolding reserved_of reserved_octets reserved_octet reserved field gives
+reserved_is_0 V10 v held = sym held
+reserved_is_0 V11 v held = cc
+reserved_is_0 V12 v held = cc
+
+principal_is : IsLawful principal
+unfolding principal octets
+principal_is = reserved_is [] refl tt octets_is
+
+early_request_head_is : (version : Version) → IsLawful (early_request_head version)
+unfolding early_request_head
+early_request_head_is version =
+    field_is _ (λ _ _ _ _ held. unfold field gives in cc) service_contexts_are
+    (λ _. field_is _ (λ _ _ _ _ held. unfold field gives in cc) (number_is w32 refl)
+    (λ _. field_is _ (λ _ _ _ _ held. unfold field gives in cc) response_expected_is
+    (λ _. field_is _ (λ v _ _ held _. cc (reserved_is_0 version v held)) (reserved_of_is version)
+    (λ _. field_is _ (λ _ _ _ _ held. unfold field gives in cc) object_key_is
+    (λ _. field_is _ (λ _ _ _ _ held. unfold field gives in cc) text_is
+    (λ _. field_is _ (λ _ _ _ held _. unfold principal reserved in cc) principal_is
+    (λ _. gives_is _)))))))
+
+pub request_head_is : (version : Version) → IsLawful (request_head version)
+unfolding request_head
+request_head_is V10 = early_request_head_is V10
+request_head_is V11 = early_request_head_is V11
+request_head_is V12 = request_head_1_2_is
+
 -- a head that doesn't fit is spelled by no octets
-pub head_unspelled : (head : Head) → request_head.fits head ≡ false → (order : Order) (at : ℕ) (octets : List ℕ)
-    → AreOctets octets → request_head.spells order at head octets → ⊥
-head_unspelled = unspelled request_head_is
-
--- ---- joined octets that begin with a head
-
-pub head_found : (order : Order) (octets : List ℕ) (head : Head) (after : Cursor)
-    → request_head.read (joined_from order octets) ≡ Ok (head, after) → request_head_of order octets ≡ Ok (head, place 8 after)
-unfolding request_head_of
-head_found order octets head after h = rw h refl
-
-pub head_refused : (order : Order) (octets : List ℕ) (e : CdrFault)
-    → request_head.read (joined_from order octets) ≡ Err e → request_head_of order octets ≡ Err e
-unfolding request_head_of
-head_refused order octets e h = rw h refl
-
-abbrev with_body : Head × Cursor → Result (Head × ℕ) CdrFault
-with_body head = Ok (head.0, place 8 head.1)
-
--- what is read is what the octets begin with
-pub head_is : (order : Order) (octets : List ℕ) (head : Head) (body : ℕ) → request_head_of order octets ≡ Ok (head, body) → IsRequestHead order octets head body
-unfolding request_head_of
-head_is order octets head body h = bind_elim (IsRequestHead order octets head body) (request_head.read (joined_from order octets)) with_body (head, body)
-    (λ x is f.
-    let same : (x.0, place 8 x.1) ≡ (head, body) = ok_same (x.0, place 8 x.1) (head, body) f in
-    let t = (request_head_is.exact (joined_from order octets)).found x.0 x.1 is in
-    let here : IsRequestHead order octets x.0 (place 8 x.1)
-    = record { front = t.octets; rest = x.1.rest; whole = t.front; spells = t.spells; placed = ap (λ (at : ℕ). at + pad 8 at) t.at } in
-    subst (λ (p : Head × ℕ). IsRequestHead order octets p.0 p.1) same here) h
-
--- and what they begin with is read
-pub head_only : (order : Order) (octets : List ℕ) (head : Head) (body : ℕ) → IsRequestHead order octets head body → request_head_of order octets ≡ Ok (head, body)
-head_only order octets head body is =
-    let after : Cursor = record { order = order; at = 12 + length is.front; rest = is.rest } in
-    let read : request_head.read (joined_from order octets) ≡ Ok (head, after) = (request_head_is.exact (joined_from order octets)).only head after
-    (record { octets = is.front; front = is.whole; at = refl; order = refl; spells = is.spells }) in
-    head_found order octets head after read ∙ rw is.placed refl
-
-abbrev answered : Head → ℕ → Result (Head × ℕ) CdrFault
-answered head body = Ok (head, body)
-
--- a copy of the head that was found is that head
-pub copy_is : (copy found head : Head) (at body : ℕ) → copy ≡ found → answered found at ≡ answered head body → (copy ≡ head) × (at ≡ body)
-copy_is copy found head at body same answer =
-    let both : (found, at) ≡ (head, body) = ok_same (found, at) (head, body) answer in
-    (same ∙ ap (λ (p : Head × ℕ). p.0) both, ap (λ (p : Head × ℕ). p.1) both)
+pub head_unspelled : (version : Version) (head : Head) → (request_head version).fits head ≡ false → (order : Order) (at : ℕ) (octets : List ℕ)
+    → AreOctets octets → (request_head version).spells order at head octets → ⊥
+head_unspelled version = unspelled (request_head_is version)

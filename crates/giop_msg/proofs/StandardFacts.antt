@@ -1,5 +1,5 @@
 -- Octets that the rules of 9.4.1 and 9.4.9 give, worked by hand, so that a wrong definition does not check.
-use Rattle.std.proofs.Common.{◌≡◌, ℕ, false, List, [], ◌∷◌, ◌++◌, length, Some, None, refl, arith}
+use Rattle.std.proofs.Common.{◌≡◌, ℕ, false, List, [], ◌∷◌, ◌++◌, length, Ok, Some, None, refl, arith}
 use Rattle.std.specs.List.{flat_map}
 use Rattle.std.proofs.lemmas.List.Elements.{All-append}
 use Rattle.giop_cdr.specs.declared.order.Order.{Order}
@@ -9,25 +9,33 @@ use Rattle.giop_msg.specs.declared.kind.Kind.{Kind}
 use Rattle.giop_msg.specs.declared.kind.Kind.TheVariants.{Request, CancelRequest, CloseConnection}
 use Rattle.giop_msg.specs.declared.msg.Msg.{Msg}
 use Rattle.giop_cdr.specs.Output.{Output, number_out, signed_out, octets_out, string_out, sequence_out, items_out}
-use Rattle.giop_cdr.specs.Layout.{number, signed, octets, text, such, field, gives, reserved, sequence, tagged}
+use Rattle.giop_cdr.specs.Layout.{number, signed, octets, text, such, field, gives, reserved, chosen, sequence, tagged}
 use Rattle.giop_msg.specs.declared.target.Target.TheVariants.{Key}
-use Rattle.giop_msg.specs.RequestHead.{Head, request_head, response_flags, reserved_octets, reserved_octet, key_addr, target_address, service_context}
+use Rattle.giop_ior.specs.ServiceContext.{service_context, service_contexts}
+use Rattle.giop_msg.specs.Target.{target_layout, target_by, disposition, key_target}
+use Rattle.giop_msg.specs.RequestHead.{Head, request_head, request_head_1_2, response_flags, reserved_octets, reserved_octet}
 use Rattle.giop_msg.specs.Fault.{fault}
-use Rattle.giop_msg.specs.Header.{header_octets, header_of, field_fault, header_fault}
-use Rattle.giop_msg.specs.Msg.{message_octets, request_id_of, IsMessage}
+use Rattle.giop_msg.specs.declared.version.Version.TheVariants.{V12}
+use Rattle.giop_cdr.specs.Reading.{number_at, field_at}
+use Rattle.giop_msg.specs.Header.{header_octets, header_of, header_fault}
+use Rattle.giop_msg.specs.Msg.{message_octets, IsMessage}
+use Rattle.giop_msg.specs.RequestId.{request_id_layout, request_id_of}
 use Rattle.giop_msg.specs.Stream.{Msgs}
 use Rattle.giop_msg.proofs.FramerLemmas.{waits_for_header}
 use Rattle.giop_msg.proofs.StreamLemmas.{each_one}
 
 -- "GIOP" and the version, with the flags, the message type and the size behind them
+abbrev front_of : ℕ → ℕ → ℕ → List ℕ → List ℕ
+front_of minor flags kind size = 0x47 ∷ 0x49 ∷ 0x4F ∷ 0x50 ∷ 1 ∷ minor ∷ flags ∷ kind ∷ size
+
 abbrev front : ℕ → ℕ → List ℕ → List ℕ
-front flags kind size = 0x47 ∷ 0x49 ∷ 0x4F ∷ 0x50 ∷ 1 ∷ 2 ∷ flags ∷ kind ∷ size
+front = front_of 2
 
 abbrev octets4 : ℕ → ℕ → ℕ → ℕ → List ℕ
 octets4 a b c d = a ∷ b ∷ c ∷ d ∷ []
 
 abbrev message : Order → Kind → List ℕ → Msg
-message order kind payload = record { order = order; more = false; kind = kind; payload = payload }
+message order kind payload = record { version = V12; order = order; more = false; kind = kind; payload = payload }
 
 -- the octets of a Request of id 1 for `ping` behind its header
 abbrev ping_payload : List ℕ
@@ -47,14 +55,14 @@ ping_and_close = (front 0 0 (octets4 0 0 0 0x24) ++ ping_payload) ++ front 0 5 (
 
 record AreMessages : Type 0 where
   pub ping_is : IsMessage 36 ping
-  pub ping_id : request_id_of ping ≡ Some 1
+  pub ping_id : request_id_of ping ≡ Some (Ok 1)
   pub close_is : IsMessage 0 close
   pub close_id : request_id_of close ≡ None
   pub both : flat_map message_octets (ping ∷ close ∷ []) ≡ ping_and_close
   pub sixty : length ping_and_close ≡ 60
 
 messages : AreMessages
-unfolding header_octets field_fault
+unfolding header_octets header_of header_fault request_id_layout chosen number number_at field_at
 messages = record {
   ping_is = record { sized = omega arith; sound = refl };
   ping_id = refl;
@@ -68,11 +76,11 @@ messages = record {
 record AreCancels : Type 0 where
   pub big : message_octets (message Big CancelRequest (octets4 0 0 0 5)) ≡ front 0 2 (octets4 0 0 0 4) ++ octets4 0 0 0 5
   pub little : message_octets (message Little CancelRequest (octets4 5 0 0 0)) ≡ front 1 2 (octets4 4 0 0 0) ++ octets4 5 0 0 0
-  pub big_id : request_id_of (message Big CancelRequest (octets4 0 0 0 5)) ≡ Some 5
-  pub little_id : request_id_of (message Little CancelRequest (octets4 5 0 0 0)) ≡ Some 5
+  pub big_id : request_id_of (message Big CancelRequest (octets4 0 0 0 5)) ≡ Some (Ok 5)
+  pub little_id : request_id_of (message Little CancelRequest (octets4 5 0 0 0)) ≡ Some (Ok 5)
 
 cancels : AreCancels
-unfolding header_octets
+unfolding header_octets request_id_layout chosen number number_at field_at
 cancels = record { big = refl; little = refl; big_id = refl; little_id = refl }
 
 -- what is wrong with headers, each test at its least and greatest failing value, where sizes are at most 1,024
@@ -95,6 +103,13 @@ record AreFaults : Type 0 where
   pub whole_fragment : header_fault 1024 (front 3 7 (octets4 12 0 0 0)) ≡ None
   pub more_of_close : header_fault 1024 (front 2 5 (octets4 0 0 0 0)) ≡ Some (fault 8 FragmentSize)
   pub more_of_cancel : header_fault 1024 (front 2 2 (octets4 0 0 0 4)) ≡ Some (fault 6 NotFragmentable)
+  pub minor_3 : header_fault 1024 (front_of 3 4 8 (octets4 0 0 0 0)) ≡ Some (fault 5 BadVersion)
+  pub order_2_in_1_0 : header_fault 1024 (front_of 0 2 8 (octets4 0 0 0 0)) ≡ Some (fault 6 ReservedFlags)
+  pub order_1_in_1_0 : header_fault 1024 (front_of 0 1 0 (octets4 4 0 0 0)) ≡ None
+  pub fragment_in_1_0 : header_fault 1024 (front_of 0 0 7 (octets4 0 0 0 4)) ≡ Some (fault 7 BadKind)
+  pub fragment_in_1_1 : header_fault 1024 (front_of 1 2 7 (octets4 0 0 0 4)) ≡ Some (fault 7 BadKind)
+  pub flags_4_in_1_1 : header_fault 1024 (front_of 1 4 0 (octets4 0 0 0 4)) ≡ Some (fault 6 ReservedFlags)
+  pub more_in_1_1 : header_fault 1024 (front_of 1 2 0 (octets4 0 0 0 8)) ≡ Some (fault 6 NotFragmentable)
 
 faults : AreFaults
 unfolding header_fault header_of
@@ -117,6 +132,13 @@ faults = record {
   whole_fragment = refl;
   more_of_close = refl;
   more_of_cancel = refl;
+  minor_3 = refl;
+  order_2_in_1_0 = refl;
+  order_1_in_1_0 = refl;
+  fragment_in_1_0 = refl;
+  fragment_in_1_1 = refl;
+  flags_4_in_1_1 = refl;
+  more_in_1_1 = refl;
 }
 
 -- the front of a third message, without its last octet
@@ -125,7 +147,7 @@ eleven = 0x47 ∷ 0x49 ∷ 0x4F ∷ 0x50 ∷ 1 ∷ 2 ∷ 0 ∷ 5 ∷ 0 ∷ 0 ∷
 
 -- the two messages are the split of their octets and of these behind them
 split : Msgs 1024 (ping_and_close ++ eleven) (ping ∷ close ∷ []) eleven
-unfolding header_octets field_fault
+unfolding header_octets header_of header_fault
 split = record {
   whole = refl;
   each = All-append (IsMessage 1024) (ping ∷ []) (close ∷ [])
@@ -137,11 +159,12 @@ split = record {
 
 -- a request of id 1 for `ping` of the object `k`, which asks for a reply
 abbrev ping_head : Head
-ping_head = record { id = 1; flags = 3; target = Key (0x6B ∷ []); operation = 0x70 ∷ 0x69 ∷ 0x6E ∷ 0x67 ∷ []; contexts = [] }
+ping_head = record { version = V12; id = 1; flags = 3; target = Key (0x6B ∷ []); operation = 0x70 ∷ 0x69 ∷ 0x6E ∷ 0x67 ∷ []; contexts = [] }
 
 -- a request of id 2 for `a` of the object without a key, with the context 9 of one octet
 abbrev context_head : Head
 context_head = record {
+  version = V12;
   id = 2;
   flags = 1;
   target = Key [];
@@ -158,10 +181,11 @@ abbrev behind_header : Order → Output
 behind_header order = record { order = order; at = 12; octets = [] }
 
 record AreHeads : Type 0 where
-  pub ping_octets : (request_head.written ping_head (behind_header Big)).octets ≡ ping_payload
-  pub context_octets_are : (request_head.written context_head (behind_header Little)).octets ≡ context_octets
+  pub ping_octets : ((request_head V12).written ping_head (behind_header Big)).octets ≡ ping_payload
+  pub context_octets_are : ((request_head V12).written context_head (behind_header Little)).octets ≡ context_octets
 
 heads : AreHeads
-unfolding request_head response_flags reserved_octets reserved_octet key_addr target_address service_context number signed octets text such field gives reserved sequence tagged
+unfolding request_head request_head_1_2 response_flags reserved_octets reserved_octet target_layout target_by disposition key_target chosen
+    service_contexts service_context number signed octets text such field gives reserved sequence tagged
     number_out signed_out octets_out string_out sequence_out items_out
 heads = record { ping_octets = refl; context_octets_are = refl }

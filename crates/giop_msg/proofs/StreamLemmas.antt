@@ -7,12 +7,11 @@ use Rattle.std.proofs.lemmas.Grind.{flat_map-append}
 use Rattle.giop_msg.specs.declared.fault.WireFault.{WireFault}
 use Rattle.giop_msg.specs.declared.header.Header.{Header}
 use Rattle.giop_msg.specs.declared.msg.Msg.{Msg}
-use Rattle.giop_msg.specs.Header.{header_octets, header_of, header_fault, ulong_of}
-use Rattle.giop_msg.specs.Laws.{OneSplit, RequestIds, SplitOn}
+use Rattle.giop_msg.specs.Header.{header_octets, header_of, header_fault}
+use Rattle.giop_msg.specs.Laws.{OneSplit, SplitOn}
 use Rattle.giop_msg.specs.Msg.{head_of, message_octets, IsMessage}
 use Rattle.giop_msg.specs.Stream.{BeginsWithMessage, BeginsWithFault, Msgs}
-use Rattle.giop_msg.proofs.FaultLemmas.{sizes_of_sound, room_for_id}
-use Rattle.giop_msg.proofs.HeaderLemmas.{length-header_octets, header_of-header_octets, header_fault-header_octets}
+use Rattle.giop_msg.proofs.HeaderLemmas.{length-header_octets, header_of-header_octets}
 
 pub length-message_octets : (m : Msg) → length (message_octets m) ≡ 12 + length m.payload
 length-message_octets m = length-append (header_octets (head_of m)) m.payload ∙ ap (λ n. n + length m.payload) (length-header_octets (head_of m))
@@ -29,10 +28,10 @@ pub header_of-message_octets : (limit : ℕ) (m : Msg) (more : List ℕ) → IsM
 header_of-message_octets limit m more is = rw (take-message_octets m more) (header_of-header_octets (head_of m) is.sized)
 
 pub header_fault-message_octets : (limit : ℕ) (m : Msg) (more : List ℕ) → IsMessage limit m → header_fault limit (take 12 (message_octets m ++ more)) ≡ None
-header_fault-message_octets limit m more is = rw (take-message_octets m more) (header_fault-header_octets limit (head_of m) is.sized ∙ is.sound)
+header_fault-message_octets limit m more is = rw (take-message_octets m more) is.sound
 
-same_fields : (m n : Msg) → m.order ≡ n.order → m.more ≡ n.more → m.kind ≡ n.kind → m.payload ≡ n.payload → m ≡ n
-same_fields m n order more kind payload = λ i. record { order = order i; more = more i; kind = kind i; payload = payload i }
+same_fields : (m n : Msg) → head_of m ≡ head_of n → m.payload ≡ n.payload → m ≡ n
+same_fields m n heads payload = λ i. let h : Header = heads i in record { version = h.version; order = h.order; more = h.more; kind = h.kind; payload = payload i }
 
 same_front : (xs ys more left : List ℕ) → length xs ≡ length ys → xs ++ more ≡ ys ++ left → (xs ≡ ys) × (more ≡ left)
 same_front xs ys more left same e = (
@@ -47,7 +46,7 @@ same_message limit m n more left is_m is_n e =
     let heads = sym (header_of-message_octets limit m more is_m) ∙ ap (λ o. header_of (take 12 o)) e ∙ header_of-message_octets limit n left is_n in
     let behind = sym (drop-message_octets m more) ∙ ap (drop 12) e ∙ drop-message_octets n left in
     let payloads = same_front m.payload n.payload more left (ap (λ (h : Header). h.size) heads) behind in
-    (same_fields m n (ap (λ (h : Header). h.order) heads) (ap (λ (h : Header). h.more) heads) (ap (λ (h : Header). h.kind) heads) payloads.0, payloads.1)
+    (same_fields m n heads payloads.0, payloads.1)
 
 -- a fault at the front stands there, however many octets follow
 pub fault_stands : (limit : ℕ) (octets more : List ℕ) (e : WireFault) → BeginsWithFault limit octets e → BeginsWithFault limit (octets ++ more) e
@@ -112,9 +111,3 @@ split_goes_on limit stream more first second rest left a b = record {
   each = All-append (IsMessage limit) first second a.each b.each;
   partial = b.partial;
 }
-
--- a message whose kind has a request id has one
-pub request_id_there : RequestIds
-request_id_there limit m is has =
-    let sizes = sizes_of_sound limit (head_of m) is.sound in
-    (ulong_of m.order (take 4 m.payload), rw (has, room_for_id m.kind (length m.payload) sizes.1 has) refl)

@@ -20,11 +20,16 @@ kinds =
     Request ∷ Reply ∷ CancelRequest ∷ LocateRequest
     ∷ LocateReply ∷ CloseConnection ∷ MessageError ∷ Fragment ∷ []
 
--- a message of this kind begins with a request id, the unsigned long at offset 12
+-- a message of this kind has a request id
 abbrev pub has_request_id : Kind → Bool
 has_request_id CloseConnection = false
 has_request_id MessageError = false
 has_request_id _ = true
+
+-- whether the kind is Fragment, which continues another message
+abbrev pub is_fragment : Kind → Bool
+is_fragment Fragment = true
+is_fragment _ = false
 
 -- Fragments may continue a message of this kind (9.4.9)
 abbrev pub is_fragmentable : Kind → Bool

@@ -1,27 +1,39 @@
 -- What holds of every header and of every stream.
-use Rattle.std.specs.Prelude.{◌≡◌, ℕ, ◌<◌, ◌^◌, true, All, List, ◌++◌, None, Some, length}
+use Rattle.std.specs.Prelude.{◌≡◌, ℕ, ◌<◌, ◌^◌, true, false, All, List, Ok, ◌++◌, None, Some, length}
 use Rattle.giop_msg.specs.declared.header.Header.{Header}
 use Rattle.giop_msg.specs.declared.msg.Msg.{Msg}
-use Rattle.giop_msg.specs.Header.{field_fault, header_fault, header_octets, header_of}
+use Rattle.giop_msg.specs.Header.{fault_of, header_fault, header_octets, header_of}
 use Rattle.giop_msg.specs.Kind.{has_request_id}
-use Rattle.giop_msg.specs.Msg.{IsMessage, request_id_of}
+use Rattle.giop_msg.specs.Msg.{IsMessage}
+use Rattle.giop_msg.specs.RequestId.{begins_with_contexts, request_id_layout, request_id_of}
+use Rattle.giop_cdr.specs.declared.order.Order.{Order}
+use Rattle.giop_cdr.specs.Output.{Output}
+use Rattle.giop_cdr.specs.Layout.{Layout, AreOctets}
+use Rattle.giop_cdr.specs.RoundTrip.{IsReadBack}
+use Rattle.giop_cdr.specs.Readers.{IsExact, StandsAlone, Took}
+use Rattle.giop_msg.specs.declared.kind.Kind.{Kind}
+use Rattle.giop_msg.specs.declared.version.Version.{Version}
 use Rattle.giop_msg.specs.declared.fault.WireFault.{WireFault}
 use Rattle.giop_msg.specs.Stream.{BeginsWithFault, Msgs}
 
 pub record HeaderRoundTrip : Type 0 where
-  -- the octets of a header give the header back, and the same is wrong with both
+  -- the octets of a header give the header back, and what is wrong with them its fields tell: 1.0 has
+  -- no flag for more fragments and only 1.2 has Fragments, or else a test of the fields fails
   pub written : (limit : ℕ) (h : Header) → h.size < 2 ^ 32 →
       (header_of (header_octets h) ≡ h)
-      × (header_fault limit (header_octets h) ≡ field_fault limit h)
+      × (header_fault limit (header_octets h) ≡ fault_of limit h)
   -- twelve octets in which nothing is wrong are those of the header that is read from them
   pub read : (limit : ℕ) (octets : List ℕ) → length octets ≡ 12 → All (λ o. o < 256) octets →
       header_fault limit octets ≡ None → header_octets (header_of octets) ≡ octets
 
--- a message that is accepted and whose kind has a request id has one
-abbrev pub RequestIds : Type 0
-RequestIds =
-    (limit : ℕ) (m : Msg) → IsMessage limit m → has_request_id m.kind ≡ true →
-    (id : ℕ) × (request_id_of m ≡ Some id)
+pub record RequestIds : Type 0 where
+  -- the id is what the fields up to it spell, and else the first of them that is refused is told
+  pub exact : (version : Version) (kind : Kind) →
+      IsExact (Took (request_id_layout version kind).spells) (request_id_layout version kind).refused
+      (request_id_layout version kind).read
+  -- a message that is accepted and begins with its request id has one
+  pub there : (limit : ℕ) (m : Msg) → IsMessage limit m → has_request_id m.kind ≡ true →
+      begins_with_contexts m.version m.kind ≡ false → (id : ℕ) × (request_id_of m ≡ Some (Ok id))
 
 -- two splits of one stream are one
 abbrev pub OneSplit : Type 0
@@ -42,3 +54,16 @@ abbrev pub FaultsStand : Type 0
 FaultsStand =
     (limit : ℕ) (octets more : List ℕ) (e : WireFault) →
     BeginsWithFault limit octets e → BeginsWithFault limit (octets ++ more) e
+
+-- what holds of a table of fields
+pub record IsTable {A : Type 0} (layout : Layout A) : Type 0 where
+  -- what is read is what is spelled, field by field, and else the first refused field is answered
+  pub exact : IsExact (Took layout.spells) layout.refused layout.read
+  -- no spelling begins another
+  pub alone : StandsAlone layout.spells
+  -- whatever octets spell fits, and its numbers are in the ranges of their types
+  pub fits : (order : Order) (at : ℕ) (v : A) (octets : List ℕ) → AreOctets octets →
+      layout.spells order at v octets → (layout.fits v ≡ true) × layout.holds v
+  -- what is written of a value that fits is read back, with what stands behind it left
+  pub back : (v : A) (out : Output) → layout.fits v ≡ true → layout.holds v →
+      IsReadBack layout.spells layout.read v out (layout.written v out)

@@ -1,7 +1,14 @@
 pub mod Kind
+pub mod Version
 pub mod Fault
 pub mod Header
+pub mod Joined
+pub mod Meaning
+pub mod Target
+pub mod RequestId
 pub mod Msg
 pub mod Stream
 pub mod Laws
 pub mod RequestHead
+pub mod ReplyHead
+pub mod Locate

@@ -1,25 +1,19 @@
--- The head of a Request (CORBA 3.3 Part 2, 9.4.2.1), which begins at offset 12: the table of its fields.
-use Rattle.std.specs.Prelude.{◌≡◌, ℕ, ℤ, pos, ◌+◌, ◌==◌, ◌||◌, Bool, List, ◌++◌, length, Result, Ok, Err}
-use Rattle.std.specs.Int.{w8, w16, w32}
-use Rattle.std.specs.Ordering.{int_eq}
-use Rattle.giop_cdr.specs.declared.order.Order.{Order}
-use Rattle.giop_cdr.specs.declared.fault.CdrFault.{CdrFault}
-use Rattle.giop_cdr.specs.declared.fault.CdrKind.TheVariants.{BadLabel, NoMemory}
-use Rattle.giop_cdr.specs.Cursor.{Cursor, pad, place}
-use Rattle.giop_cdr.specs.Reading.{◌>>=◌, fault}
-use Rattle.giop_cdr.specs.Layout.{Layout, number, signed, octets, text, such, field, gives, reserved, sequence, tagged}
-use Rattle.giop_msg.specs.declared.service_context.ServiceContext.{ServiceContext}
-use Rattle.giop_msg.specs.declared.target.Target.{Target}
-use Rattle.giop_msg.specs.declared.target.Target.TheVariants.{Key}
+-- The head of a Request (CORBA 3.3 Part 2, 9.4.2), which begins at offset 12: the tables of its fields.
+use Rattle.std.specs.Prelude.{ℕ, ◌==◌, ◌||◌, Bool, List, [], if◌then◌else◌}
+use Rattle.std.specs.Int.{w8, w32}
+use Rattle.giop_cdr.specs.declared.fault.CdrKind.TheVariants.{BadLabel}
+use Rattle.giop_cdr.specs.Layout.{Layout, number, boolean, octets, text, such, field, gives, reserved}
+use Rattle.giop_ior.specs.declared.service_context.ServiceContext.{ServiceContext}
+use Rattle.giop_ior.specs.ServiceContext.{service_contexts}
 use Rattle.giop_msg.specs.declared.request_head.RequestHead.{RequestHead}
+use Rattle.giop_msg.specs.declared.version.Version.{Version}
+use Rattle.giop_msg.specs.declared.version.Version.TheVariants.{V10, V11, V12}
+use Rattle.giop_msg.specs.Meaning.{meaning}
+use Rattle.giop_msg.specs.Target.{AnyTarget, target_layout, object_key}
 
 -- a head as contracts see it, wherever its octets lie
 abbrev pub Head : Type 0
-Head = RequestHead (List ℕ) (List ServiceContext)
-
--- a service context: an unsigned long id and a sequence of octets
-unfoldable pub service_context : Layout ServiceContext
-service_context = tagged (λ context. context.id) (λ context. context.octets) (λ id contents. record { id = id; octets = contents })
+Head = RequestHead (List ℕ) (List ServiceContext) AnyTarget
 
 -- the response flags: 0 no reply, 1 a reply without a body, 3 a reply
 abbrev pub is_response_flags : ℕ → Bool
@@ -41,60 +35,53 @@ reserved_octets =
     field (λ _. 0) reserved_octet λ _.
     gives 0
 
--- the addressing disposition KeyAddr
-abbrev pub is_key_addr : ℤ → Bool
-is_key_addr disposition = int_eq disposition (pos 0)
-
--- a short that is KeyAddr
-unfoldable pub key_addr : Layout ℤ
-key_addr = such is_key_addr 2 BadLabel (signed w16)
-
--- the object key of a target
-abbrev pub key_of : Target (List ℕ) → List ℕ
-key_of (Key key) = key
-
--- a target: the disposition KeyAddr and the object key
-unfoldable pub target_address : Layout (Target (List ℕ))
-target_address =
-    field (λ _. pos 0) key_addr λ _.
-    field key_of octets λ key.
-    gives (Key key)
-
--- the fields in their order
-unfoldable pub request_head : Layout Head
-request_head =
+-- the fields in 1.2, in their order
+unfoldable pub request_head_1_2 : Layout Head
+request_head_1_2 =
     field (λ head. head.id) (number w32) λ id.
     field (λ head. head.flags) response_flags λ flags.
     field (λ _. 0) reserved_octets λ _.
-    field (λ head. head.target) target_address λ target.
+    field (λ head. head.target) target_layout λ target.
     field (λ head. head.operation) text λ operation.
-    field (λ head. head.contexts) (sequence service_context) λ contexts.
-    gives (record { id = id; flags = flags; target = target; operation = operation; contexts = contexts })
+    field (λ head. head.contexts) service_contexts λ contexts.
+    gives (record { version = V12; id = id; flags = flags; target = target; operation = operation; contexts = contexts })
 
--- joined octets, of which the first has offset 12, begin with a head, and its body stands at an offset:
--- the first multiple of 8 at or past the end of the fields
-pub record IsRequestHead (order : Order) (joined : List ℕ) (head : Head) (body : ℕ) : Type 0 where
-  pub front : List ℕ
-  pub rest : List ℕ
-  pub whole : joined ≡ front ++ rest
-  pub spells : request_head.spells order 12 head front
-  pub placed : body ≡ (12 + length front) + pad 8 (12 + length front)
+-- the flags that response_expected means
+abbrev pub flags_expecting : Bool → ℕ
+flags_expecting expected = if expected then 3 else 0
 
--- where joined octets begin to be read
-abbrev pub joined_from : Order → List ℕ → Cursor
-joined_from order joined = record { order = order; at = 12; rest = joined }
+-- whether flags are meant by it
+abbrev pub is_expecting : ℕ → Bool
+is_expecting flags = (flags == 0) || (flags == 3)
 
--- the head that joined octets begin with, and the offset of its body; or the first fault
-unfoldable pub request_head_of : Order → List ℕ → Result (Head × ℕ) CdrFault
-request_head_of order joined = do
-  head ← request_head.read (joined_from order joined)
-  Ok (head.0, place 8 head.1)
+-- response_expected: a boolean
+unfoldable pub response_expected : Layout ℕ
+response_expected = meaning flags_expecting (λ flags. flags == 3) is_expecting boolean
 
--- want of memory, of a head as a whole
-abbrev pub no_memory : CdrFault
-no_memory = fault 12 NoMemory
+-- the reserved octets behind it: none in 1.0
+unfoldable pub reserved_of : Version → Layout ℕ
+reserved_of V10 = gives 0
+reserved_of V11 = reserved_octets
+reserved_of V12 = reserved_octets
 
--- this head and this place of its body are the answer, unless memory is wanting
-abbrev pub IsAnswered : Result (Head × ℕ) CdrFault → Head → ℕ → Type 0
-IsAnswered (Ok answer) head body = (answer.0 ≡ head) × (answer.1 ≡ body)
-IsAnswered (Err e) head body = e ≡ no_memory
+-- the principal: any octets are read as none
+unfoldable pub principal : Layout (List ℕ)
+principal = reserved octets []
+
+-- the fields before 1.2, in their order
+unfoldable pub early_request_head : Version → Layout Head
+early_request_head version =
+    field (λ head. head.contexts) service_contexts λ contexts.
+    field (λ head. head.id) (number w32) λ id.
+    field (λ head. head.flags) response_expected λ flags.
+    field (λ _. 0) (reserved_of version) λ _.
+    field (λ head. head.target) object_key λ target.
+    field (λ head. head.operation) text λ operation.
+    field (λ _. []) principal λ _.
+    gives (record { version = version; id = id; flags = flags; target = target; operation = operation; contexts = contexts })
+
+-- the fields in each version
+unfoldable pub request_head : Version → Layout Head
+request_head V10 = early_request_head V10
+request_head V11 = early_request_head V11
+request_head V12 = request_head_1_2

@@ -9,19 +9,19 @@ use std::fmt;
 pub enum WireKind {
     /// The first four octets are not `GIOP`.
     BadMagic,
-    /// The version is not 1.2.
+    /// The version is none of 1.0, 1.1 and 1.2.
     BadVersion,
-    /// One of the six upper bits of the flags is set.
+    /// One of the six upper bits of the flags is set; in 1.0, the byte order is neither 0 nor 1.
     ReservedFlags,
-    /// The message type is above 7.
+    /// The message type is above 7, or 7 before 1.2.
     BadKind,
     /// The message size is above the limit.
     TooLarge,
     /// The message size is not the one of the kind, or is too small for its request id.
     BadSize,
-    /// More fragments follow, and the message with its header is no multiple of 8 octets long.
+    /// In 1.2 more fragments follow, and the message with its header is no multiple of 8 octets long.
     FragmentSize,
-    /// More fragments follow a message of a kind that none may continue.
+    /// More fragments follow a message of a kind that none may continue, or a message of 1.1.
     NotFragmentable,
     /// Memory ran out. It says nothing of the octets.
     NoMemory,

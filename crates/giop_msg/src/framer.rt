@@ -122,6 +122,7 @@ fn first_message(alloc: Global, octets: &[u8], limit: u32) -> Result<Option<Msg>
         return Ok(None);
     };
     Ok(Some(Msg {
+        version: header.version,
         order: header.order,
         more: header.more,
         kind: header.kind,

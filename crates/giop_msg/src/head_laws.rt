@@ -1,26 +1,30 @@
-// Laws of the table of a Request's head. Each function's contract is one of them; the bodies are empty,
-// and no program calls these.
-ghost use Rattle.std.specs.Prelude.{◌≡◌, ℕ, List, true};
-ghost use Rattle.giop_cdr.specs.declared.order.Order.{Order};
-ghost use Rattle.giop_cdr.specs.Output.{Output};
-ghost use Rattle.giop_cdr.specs.Layout.{AreOctets};
-ghost use Rattle.giop_cdr.specs.RoundTrip.{IsReadBack};
-ghost use Rattle.giop_cdr.specs.Readers.{IsExact, Took, StandsAlone};
-ghost use Rattle.giop_msg.specs.RequestHead.{Head, request_head};
+// Laws of the tables of messages. Each function's contract is one of them; the bodies are empty, and no
+// program calls these.
+ghost use Rattle.giop_msg.specs.declared.version.Version.{Version};
+ghost use Rattle.giop_msg.specs.Laws.{IsTable};
+ghost use Rattle.giop_msg.specs.Locate.{locate_reply_head, locate_request};
+ghost use Rattle.giop_msg.specs.ReplyHead.{reply_head};
+ghost use Rattle.giop_msg.specs.RequestHead.{request_head};
 
-/// A Request's head: what is read is what is spelled, field by field, and where nothing is spelled the
-/// first refused field is answered. No spelling of a head begins another. Whatever octets spell fits,
-/// and its numbers are in the ranges of their types: where a head doesn't fit, no octets spell it.
+/// A Request's head, in each version: what is read is what is spelled, field by field, and where nothing
+/// is spelled the first refused field is answered. No spelling of a head begins another. Whatever octets
+/// spell fits: where a head doesn't fit, no octets spell it. What `write` appends of a head spells it, and
+/// reading gives the head back and leaves what stands behind it: in both orders, at every offset.
 pub fn request_heads_are_spelled()
-    ensures exact { IsExact (Took request_head.spells) request_head.refused request_head.read }
-    ensures alone { StandsAlone request_head.spells }
-    ensures fits { (order : Order) (at : ℕ) (head : Head) (octets : List ℕ) → AreOctets octets
-        → request_head.spells order at head octets → (request_head.fits head ≡ true) × request_head.holds head }
+    ensures { (version : Version) → IsTable (request_head version) }
 {}
 
-/// What `write` appends of a head spells it, and reading gives the head back and leaves what stands
-/// behind it: in both orders, at every offset.
-pub fn written_heads_are_read_back()
-    ensures { (head : Head) (out : Output) → request_head.fits head ≡ true → request_head.holds head
-        → IsReadBack request_head.spells request_head.read head out (request_head.written head out) }
+/// The same of a Reply's head.
+pub fn reply_heads_are_spelled()
+    ensures { (version : Version) → IsTable (reply_head version) }
+{}
+
+/// The same of a LocateRequest.
+pub fn locate_requests_are_spelled()
+    ensures { (version : Version) → IsTable (locate_request version) }
+{}
+
+/// The same of a LocateReply's fields before its body.
+pub fn locate_reply_heads_are_spelled()
+    ensures { (version : Version) → IsTable (locate_reply_head version) }
 {}

@@ -1,15 +1,21 @@
 ghost use Rattle.std.specs.Prelude.{◌≡◌, ◌<◌, Some, None, IfOk, IfErr, slice_index};
 ghost use Rattle.giop_msg.specs.Header.{octet_fault};
 
-use crate::{Kind, WireFault, WireKind};
+use crate::{Kind, Version, WireFault, WireKind};
 use giop_cdr::Order;
 
-/// The header of a message (9.4.1), without its magic and its version, which are `GIOP` and 1.2.
+/// The header of a message (9.4.1), without its magic, which is `GIOP`, and its major version, which
+/// is 1.
+///
+/// The fields can say what no header may: in 1.0 that more fragments follow, and before 1.2 that the
+/// message is a Fragment. A `Framer` refuses the octets of such a header.
 #[derive(Clone, Copy, Debug, PartialEq, Eq)]
 pub struct Header {
-    /// The byte order of the message, its size included: bit 0 of the flags.
+    /// The version in which the message is laid out: octet 5, the minor number.
+    pub version: Version,
+    /// The byte order of the message, its size included: bit 0 of octet 6.
     pub order: Order,
-    /// Whether more fragments follow: bit 1 of the flags.
+    /// Whether more fragments follow: bit 1 of octet 6.
     pub more: bool,
     /// The message type.
     pub kind: Kind,
@@ -18,7 +24,7 @@ pub struct Header {
 }
 
 impl Header {
-    ghost use Rattle.giop_msg.specs.Header.{flags_of, header_octets, header_of, field_fault, header_fault};
+    ghost use Rattle.giop_msg.specs.Header.{can_continue, flags_of, header_octets, header_of, field_fault, header_fault};
 
     /// The twelve octets of the header on the wire. It takes no memory.
     #[tactic(auto, unfolding(crate::specs::Header::header_octets))]
@@ -26,8 +32,9 @@ impl Header {
         ensures { result ≡ header_octets self.now }
     {
         let [a, b, c, d] = self.order.ulong_octets(self.size);
+        let (minor, flags) = (self.version.minor(), self.flags());
         let kind = self.kind.number();
-        [b'G', b'I', b'O', b'P', 1, 2, self.flags(), kind, a, b, c, d]
+        [b'G', b'I', b'O', b'P', 1, minor, flags, kind, a, b, c, d]
     }
 
     // Bit 0 is the byte order, bit 1 tells that more fragments follow.
@@ -67,11 +74,19 @@ impl Header {
             (Order::Little, u32::from_le_bytes(size))
         };
         Header {
+            version: Version::from_minor(octets[5]),
             order,
             more: octets[6] >= 2,
             kind: Kind::from_number(octets[7]),
             size,
         }
+    }
+
+    // Whether Fragments may continue the message.
+    fn can_continue(&self) -> bool
+        ensures { result ≡ can_continue self.now.version self.now.kind }
+    {
+        self.version.has_fragments() && self.kind.is_fragmentable()
     }
 
     // What is wrong with the fields, where message sizes are at most `limit`.
@@ -83,9 +98,9 @@ impl Header {
             (8, WireKind::TooLarge)
         } else if !self.kind.can_have_size(self.size) {
             (8, WireKind::BadSize)
-        } else if self.more && self.size % 8 != 4 {
+        } else if self.more && self.version.has_fragments() && self.size % 8 != 4 {
             (8, WireKind::FragmentSize)
-        } else if self.more && !self.kind.is_fragmentable() {
+        } else if self.more && !self.can_continue() {
             (6, WireKind::NotFragmentable)
         } else {
             return None;
@@ -99,6 +114,7 @@ impl Header {
 fn octet_fault(octets: &[u8; 12]) -> Option<WireFault>
     ensures { result ≡ octet_fault octets.now }
 {
+    let version = Version::from_minor(octets[5]);
     let (at, kind) = if octets[0] != b'G' {
         (0, WireKind::BadMagic)
     } else if octets[1] != b'I' {
@@ -109,11 +125,11 @@ fn octet_fault(octets: &[u8; 12]) -> Option<WireFault>
         (3, WireKind::BadMagic)
     } else if octets[4] != 1 {
         (4, WireKind::BadVersion)
-    } else if octets[5] != 2 {
+    } else if octets[5] >= 3 {
         (5, WireKind::BadVersion)
-    } else if octets[6] >= 4 {
+    } else if octets[6] >= version.flag_values() {
         (6, WireKind::ReservedFlags)
-    } else if octets[7] >= 8 {
+    } else if octets[7] >= version.kind_count() {
         (7, WireKind::BadKind)
     } else {
         return None;

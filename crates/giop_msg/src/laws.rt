@@ -1,13 +1,14 @@
 //! Laws of headers and of streams: each is the contract of a function that does nothing.
 ghost use Rattle.giop_msg.specs.Laws.{FaultsStand, HeaderRoundTrip, OneSplit, RequestIds, SplitOn};
 
-/// The octets of a sound header are judged sound and give the header back, and octets in which
-/// nothing is wrong are those of the header that is read from them.
+/// The octets of a header give the header back, and its fields tell what is wrong with them; octets in
+/// which nothing is wrong are those of the header that is read from them.
 pub fn header_round_trip()
     ensures { HeaderRoundTrip }
 {}
 
-/// Each message that is accepted and whose kind has a request id has one.
+/// A request id is what the fields up to it spell, and else the first of these that is refused is told;
+/// each message that is accepted and begins with its request id has one.
 pub fn request_ids()
     ensures { RequestIds }
 {}

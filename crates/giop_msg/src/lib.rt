@@ -1,4 +1,4 @@
-//! GIOP 1.2 messages on the wire (CORBA 3.3 Part 2, 9.4): headers, and the framer that cuts a
+//! GIOP messages of versions 1.0 to 1.2 on the wire (CORBA 3.3 Part 2, 9.4): headers, and the framer that cuts a
 //! stream of octets into messages.
 #![tactic(auto)]
 
@@ -6,25 +6,42 @@ mod fault;
 mod framer;
 mod head_laws;
 mod header;
+mod joined;
 mod kind;
 mod laws;
+mod locate_reply_head;
+mod locate_request;
 mod msg;
+mod reply_head;
+mod reply_head_writing;
 mod request_head;
 mod request_head_writing;
-mod service_context;
+mod request_id;
+mod service_contexts;
 mod stream;
 mod target;
+mod target_reading;
+mod target_writing;
 #[cfg(test)]
 mod tests;
+mod version;
 
 pub use fault::{WireFault, WireKind};
 pub use framer::Framer;
-pub use head_laws::{request_heads_are_spelled, written_heads_are_read_back};
+pub use giop_ior::ServiceContext;
+pub use head_laws::{
+    locate_reply_heads_are_spelled, locate_requests_are_spelled, reply_heads_are_spelled,
+    request_heads_are_spelled,
+};
 pub use header::Header;
 pub use kind::Kind;
 pub use laws::{faults_stand, header_round_trip, one_split, request_ids, split_on};
+pub use locate_reply_head::LocateReplyHead;
+pub use locate_request::{LocateRequest, LocateRequestAt};
 pub use msg::Msg;
+pub use reply_head::{ReplyHead, ReplyHeadAt};
 pub use request_head::{RequestHead, RequestHeadAt};
-pub use service_context::{ServiceContext, ServiceContexts, ServiceContextsAt};
+pub use service_contexts::{ServiceContexts, ServiceContextsAt};
 pub use stream::{Reading, read_pieces};
-pub use target::Target;
+pub use target::{ProfileAt, Target, TargetAt};
+pub use version::Version;

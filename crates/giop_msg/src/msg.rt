@@ -1,11 +1,14 @@
-ghost use Rattle.std.specs.Prelude.{◌≡◌, ◌^◌, ◌<◌, length};
+ghost use Rattle.std.specs.Prelude.{◌≡◌, ◌^◌, ◌<◌, ◌≤◌, length};
 
-use crate::{Header, Kind};
-use giop_cdr::{OctetList, Order};
+use crate::request_id::read_request_id;
+use crate::{Header, Kind, Version};
+use giop_cdr::{CdrFault, CdrIn, OctetList, Order, SliceOctets};
 
 /// A message: what its header says but for its size, and the octets after the header.
 #[derive(Debug, Drop, PartialEq, Eq)]
 pub struct Msg {
+    /// The version in which the payload is laid out.
+    pub version: Version,
     /// The byte order of the header and of the payload.
     pub order: Order,
     /// Whether more fragments follow (9.4.9).
@@ -17,7 +20,8 @@ pub struct Msg {
 }
 
 impl Msg {
-    ghost use Rattle.giop_msg.specs.Msg.{head_of, request_id_of};
+    ghost use Rattle.giop_msg.specs.Msg.{head_of};
+    ghost use Rattle.giop_msg.specs.RequestId.{request_id_of};
 
     /// The header of the message, whose size is the number of its octets after the header.
     pub fn header(&self) -> Header
@@ -25,6 +29,7 @@ impl Msg {
         ensures { result ≡ head_of self.now }
     {
         Header {
+            version: self.version,
             order: self.order,
             more: self.more,
             kind: self.kind,
@@ -32,19 +37,21 @@ impl Msg {
         }
     }
 
-    /// The request id, the unsigned long at offset 12 in the message's byte order. It is `None` for
-    /// CloseConnection and MessageError, which have none, and where the payload is shorter than an
-    /// id, as in no message of a `Framer`. It takes no memory.
-    pub fn request_id(&self) -> Option<u32>
+    /// The request id, in the message's byte order: the unsigned long at offset 12 or, in a Request or
+    /// a Reply before 1.2, the one behind the service contexts. It takes no memory.
+    ///
+    /// It is `None` for CloseConnection and MessageError, which have none. Refused as the first field up
+    /// to the id that is refused; in a message of a `Framer` that begins with its id, none is.
+    #[tactic(auto, using(crate::proofs::RequestIdLemmas::value_exact))]
+    pub fn request_id(&self) -> Option<Result<u32, CdrFault>>
+        requires { length self.now.payload ≤ 2 ^ 62 }
         ensures { result ≡ request_id_of self.now }
     {
         if !self.kind.has_request_id() {
             return None;
         }
-        let id = *self.payload.as_slice().first_chunk::<4>()?;
-        Some(match self.order {
-            Order::Big => u32::from_be_bytes(id),
-            Order::Little => u32::from_le_bytes(id),
-        })
+        let joined = SliceOctets::new(self.payload.as_slice());
+        let mut input = CdrIn::new(&joined, self.order, 12);
+        Some(read_request_id(self.version, self.kind, &mut input))
     }
 }

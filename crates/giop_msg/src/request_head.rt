@@ -1,25 +1,31 @@
-#![tactic(auto, unfolding(crate::specs::RequestHead::request_head, crate::specs::RequestHead::response_flags, crate::specs::RequestHead::reserved_octets, crate::specs::RequestHead::reserved_octet, crate::specs::RequestHead::key_addr, crate::specs::RequestHead::target_address, crate::specs::RequestHead::service_context, giop_cdr::specs::Layout::field, giop_cdr::specs::Layout::such, giop_cdr::specs::Layout::number, giop_cdr::specs::Layout::signed, giop_cdr::specs::Layout::octets, giop_cdr::specs::Layout::text, giop_cdr::specs::Layout::reserved, giop_cdr::specs::Layout::gives, giop_cdr::specs::Layout::sequence, giop_cdr::specs::Layout::tagged, giop_cdr::specs::Reading::such_at, giop_cdr::specs::View::tagged_at))]
+#![tactic(auto, unfolding(crate::specs::RequestHead::request_head, crate::specs::RequestHead::request_head_1_2, crate::specs::RequestHead::early_request_head, crate::specs::RequestHead::response_flags, crate::specs::RequestHead::response_expected, crate::specs::RequestHead::reserved_of, crate::specs::RequestHead::reserved_octets, crate::specs::RequestHead::reserved_octet, crate::specs::RequestHead::principal, crate::specs::Meaning::meaning, giop_ior::specs::ServiceContext::service_contexts, giop_ior::specs::ServiceContext::service_context, giop_cdr::specs::Layout::field, giop_cdr::specs::Layout::such, giop_cdr::specs::Layout::number, giop_cdr::specs::Layout::boolean, giop_cdr::specs::Layout::octets, giop_cdr::specs::Layout::text, giop_cdr::specs::Layout::reserved, giop_cdr::specs::Layout::gives, giop_cdr::specs::Layout::sequence, giop_cdr::specs::Layout::tagged, giop_cdr::specs::Reading::such_at, giop_cdr::specs::View::tagged_at))]
 
 ghost use Rattle.std.specs.Prelude.{◌≡◌, ◌≤◌, ◌^◌, ◌⊎◌, length, Ok, Err, IfOk, IfErr, IsOk};
 ghost use Rattle.giop_cdr.specs.Outcome.{Reads, Exactly, Skips};
-ghost use Rattle.giop_msg.specs.RequestHead.{response_flags, reserved_octets, key_addr, target_address, request_head, request_head_of, IsRequestHead, IsAnswered, no_memory};
+ghost use Rattle.giop_msg.specs.Joined.{BeginsWith, body_place, head_of_joined, IsAnswered, no_memory};
+ghost use Rattle.giop_msg.specs.RequestHead.{response_expected, response_flags, reserved_of, reserved_octets, early_request_head, request_head, request_head_1_2};
 
-use crate::service_context::{ServiceContexts, ServiceContextsAt};
-use crate::target::Target;
+use crate::joined::body_place;
+use crate::service_contexts::{ServiceContexts, ServiceContextsAt};
+use crate::target::{Target, TargetAt};
+use crate::target_reading::{view_object_key, view_target};
+use crate::version::Version;
 use giop_cdr::{CdrFault, CdrIn, CdrKind, OctetList, Octets, OctetsAt, Order};
 use std::alloc::{AllocError, Global};
 
-/// What a Request says before its body (9.4.2.1): with its octets and contexts on their own, or, as a
+/// What a Request says before its body (9.4.2): with its octets and contexts on their own, or, as a
 /// `RequestHeadAt`, where they lie. Contracts see both as one value.
 #[derive(Debug, Drop)]
-pub struct RequestHead<O = OctetList, C = ServiceContexts> {
+pub struct RequestHead<O = OctetList, C = ServiceContexts, T = Target> {
+    /// The version in which the head is laid out.
+    pub version: Version,
     /// The id by which the reply, a cancel and the fragments name this request.
     pub id: u32,
     /// The response flags: 0 for no reply, 1 for a reply whose body is empty unless it is an
-    /// exception, 3 for a reply.
+    /// exception, 3 for a reply. Before 1.2 it is 3 where a response is expected, else 0.
     pub flags: u8,
-    /// The object that is called.
-    pub target: Target<O>,
+    /// The object that is called: before 1.2 a key.
+    pub target: T,
     /// The name of the operation, without its null.
     pub operation: O,
     /// The service contexts, in their order.
@@ -27,32 +33,42 @@ pub struct RequestHead<O = OctetList, C = ServiceContexts> {
 }
 
 /// A head whose octets and contexts lie where they were read. It takes no memory.
-pub type RequestHeadAt<'a, S> = RequestHead<OctetsAt<'a, S>, ServiceContextsAt<'a, S>>;
+pub type RequestHeadAt<'a, S> = RequestHead<
+    OctetsAt<'a, S>,
+    ServiceContextsAt<'a, S>,
+    TargetAt<'a, S>,
+>;
 
 impl RequestHead {
-    /// The head that joined octets begin with, where it lies, and the offset of the body behind it:
-    /// the first multiple of 8 at or past the end of the fields, whether octets are there or not. It
-    /// takes no memory.
+    /// The head that joined octets begin with, where it lies, and the offset of the body behind it. In
+    /// 1.2 that is the first multiple of 8 at or past the end of the fields, whether octets are there
+    /// or not; before 1.2 it is the end of the fields. It takes no memory.
     ///
-    /// The joined octets are those of the message from offset 12 on, of all its fragments together;
-    /// the first has offset 12. Refused as the first field that is refused, in reading order: each as
-    /// its own reader says, flags other than 0, 1 and 3 as BadLabel, and so a target that isn't a key.
+    /// The joined octets are those of the message from offset 12 on and then those of its fragments,
+    /// each from offset 16 on, behind its request id; the first has offset 12, and all are in the byte
+    /// order of the message. Refused as the first field that is refused, in reading order: each as its
+    /// own reader says; in 1.2 flags other than 0, 1 and 3 as BadLabel, and a disposition other than 0,
+    /// 1 and 2; before 1.2 a `response_expected` other than 0 and 1 as BadBoolean. Reserved octets may
+    /// be any, and before 1.2 so may be the principal, which isn't kept.
     pub fn view<'a, S: Octets>(
         octets: &'a S,
+        version: Version,
         order: Order,
     ) -> Result<(RequestHeadAt<'a, S>, usize), CdrFault>
         requires { length (S.octets octets.now) ≤ 2 ^ 62 }
         // What is answered is what the octets begin with, and what they begin with is answered.
-        ensures found { IfOk result (λ x. IsRequestHead order (S.octets octets.now) x.0 x.1) }
-        ensures only { (head : _) (body : _) → IsRequestHead order (S.octets octets.now) head body
+        ensures found { IfOk result (λ x.
+            BeginsWith (request_head version) (body_place version) order (S.octets octets.now) x.0 x.1) }
+        ensures only { (head : _) (body : _)
+            → BeginsWith (request_head version) (body_place version) order (S.octets octets.now) head body
             → result ≡ Ok (head, body) }
 
         // Which refusal it is.
-        ensures exact { result ≡ request_head_of order (S.octets octets.now) }
+        ensures exact { result ≡ head_of_joined (request_head version) (body_place version) order (S.octets octets.now) }
     {
         let mut input = CdrIn::new(octets, order, 12);
-        let head = view_head(&mut input)?;
-        Ok((head, input.place::<8>()))
+        let head = view_head(version, &mut input)?;
+        Ok((head, body_place(version, &input)))
     }
 
     /// The same head on its own. Where memory is wanting for octets that no field refuses, it is
@@ -60,20 +76,26 @@ impl RequestHead {
     pub fn decode<S: Octets>(
         alloc: Global,
         octets: &S,
+        version: Version,
         order: Order,
     ) -> Result<(RequestHead, usize), CdrFault>
         requires { length (S.octets octets.now) ≤ 2 ^ 62 }
         // What is answered is what the octets begin with, and what they begin with is answered.
-        ensures found { IfOk result (λ x. IsRequestHead order (S.octets octets.now) x.0 x.1) }
-        ensures only { (head : _) (body : _) → IsRequestHead order (S.octets octets.now) head body
+        ensures found { IfOk result (λ x.
+            BeginsWith (request_head version) (body_place version) order (S.octets octets.now) x.0 x.1) }
+        ensures only { (head : _) (body : _)
+            → BeginsWith (request_head version) (body_place version) order (S.octets octets.now) head body
             → IsAnswered result head body }
 
         // Which refusal it is.
-        ensures exact { IfOk result (λ x. request_head_of order (S.octets octets.now) ≡ Ok (x.0, x.1)) }
-        ensures err { IfErr result (λ e. (request_head_of order (S.octets octets.now) ≡ Err e)
-            ⊎ ((e ≡ no_memory) × IsOk (request_head_of order (S.octets octets.now)))) }
+        ensures exact { IfOk result (λ x.
+            head_of_joined (request_head version) (body_place version) order (S.octets octets.now) ≡ Ok (x.0, x.1)) }
+        ensures err { IfErr result (λ e.
+            (head_of_joined (request_head version) (body_place version) order (S.octets octets.now) ≡ Err e)
+            ⊎ ((e ≡ no_memory)
+            × IsOk (head_of_joined (request_head version) (body_place version) order (S.octets octets.now)))) }
     {
-        let (head, body) = RequestHead::view(octets, order)?;
+        let (head, body) = RequestHead::view(octets, version, order)?;
         let Ok(head) = head.to_owned(alloc) else {
             return Err(CdrFault {
                 at: 12,
@@ -90,6 +112,7 @@ impl<'a, S: Octets> RequestHeadAt<'a, S> {
         ensures { IfOk result (λ head. head ≡ self.now) }
     {
         Ok(RequestHead {
+            version: self.version,
             id: self.id,
             flags: self.flags,
             target: self.target.to_owned(alloc)?,
@@ -99,18 +122,7 @@ impl<'a, S: Octets> RequestHeadAt<'a, S> {
     }
 }
 
-impl<'a, S: Octets> Target<OctetsAt<'a, S>> {
-    /// A copy of the target on its own. It takes memory for its octets.
-    pub fn to_owned(&self, alloc: Global) -> Result<Target, AllocError>
-        ensures { IfOk result (λ target. target ≡ self.now) }
-    {
-        match self {
-            Target::Key(key) => Ok(Target::Key(key.to_list(alloc)?)),
-        }
-    }
-}
-
-// The response flags.
+// The response flags of 1.2.
 fn read_flags<S: Octets>(input: &mut CdrIn<S>) -> Result<u8, CdrFault>
     ensures { Reads input.old result input.new (response_flags.read input.old) }
 {
@@ -126,6 +138,14 @@ fn read_flags<S: Octets>(input: &mut CdrIn<S>) -> Result<u8, CdrFault>
     Ok(flags)
 }
 
+// The response flags that a boolean tells before 1.2.
+fn read_expected<S: Octets>(input: &mut CdrIn<S>) -> Result<u8, CdrFault>
+    ensures { Exactly result input.new (response_expected.read input.old) }
+{
+    let expected = input.read_boolean()?;
+    Ok(if expected { 3 } else { 0 })
+}
+
 // The three reserved octets, whatever they are.
 fn read_reserved<S: Octets>(input: &mut CdrIn<S>) -> Result<(), CdrFault>
     ensures { Skips result input.new (reserved_octets.read input.old) }
@@ -136,31 +156,19 @@ fn read_reserved<S: Octets>(input: &mut CdrIn<S>) -> Result<(), CdrFault>
     Ok(())
 }
 
-// The disposition of a target, which is a key.
-fn read_key_addr<S: Octets>(input: &mut CdrIn<S>) -> Result<(), CdrFault>
-    ensures { Skips result input.new (key_addr.read input.old) }
+// The reserved octets of a version, of which 1.0 has none.
+fn read_reserved_of<S: Octets>(version: Version, input: &mut CdrIn<S>) -> Result<(), CdrFault>
+    ensures { Skips result input.new ((reserved_of version).read input.old) }
 {
-    let at = input.place::<2>();
-    if input.read_short()? != 0 {
-        return Err(CdrFault {
-            at,
-            kind: CdrKind::BadLabel,
-        });
+    match version {
+        Version::V10 => Ok(()),
+        Version::V11 | Version::V12 => read_reserved(input),
     }
-    Ok(())
 }
 
-fn view_target<'a, S: Octets>(input: &mut CdrIn<'a, S>) -> Result<Target<OctetsAt<'a, S>>, CdrFault>
-    ensures { Exactly result input.new (target_address.read input.old) }
-{
-    read_key_addr(input)?;
-    let key = input.view_octets(0)?;
-    Ok(Target::Key(key))
-}
-
-// The fields of a head in their order.
-fn view_head<'a, S: Octets>(input: &mut CdrIn<'a, S>) -> Result<RequestHeadAt<'a, S>, CdrFault>
-    ensures { Exactly result input.new (request_head.read input.old) }
+// The fields of a head of 1.2 in their order.
+fn view_head_1_2<'a, S: Octets>(input: &mut CdrIn<'a, S>) -> Result<RequestHeadAt<'a, S>, CdrFault>
+    ensures { Exactly result input.new (request_head_1_2.read input.old) }
 {
     let id = input.read_ulong()?;
     let flags = read_flags(input)?;
@@ -169,10 +177,49 @@ fn view_head<'a, S: Octets>(input: &mut CdrIn<'a, S>) -> Result<RequestHeadAt<'a
     let operation = input.view_string(0)?;
     let contexts = input.view_tagged_list()?;
     Ok(RequestHead {
+        version: Version::V12,
         id,
         flags,
         target,
         operation,
         contexts,
     })
+}
+
+// The fields of a head before 1.2 in their order; the principal is passed over.
+fn view_early_head<'a, S: Octets>(
+    version: Version,
+    input: &mut CdrIn<'a, S>,
+) -> Result<RequestHeadAt<'a, S>, CdrFault>
+    ensures { Exactly result input.new ((early_request_head version).read input.old) }
+{
+    let contexts = input.view_tagged_list()?;
+    let id = input.read_ulong()?;
+    let flags = read_expected(input)?;
+    read_reserved_of(version, input)?;
+    let target = view_object_key(input)?;
+    let operation = input.view_string(0)?;
+    input.view_octets(0)?;
+    Ok(RequestHead {
+        version,
+        id,
+        flags,
+        target,
+        operation,
+        contexts,
+    })
+}
+
+// The fields of a head in their order.
+fn view_head<'a, S: Octets>(
+    version: Version,
+    input: &mut CdrIn<'a, S>,
+) -> Result<RequestHeadAt<'a, S>, CdrFault>
+    ensures { Exactly result input.new ((request_head version).read input.old) }
+{
+    match version {
+        Version::V10 => view_early_head(Version::V10, input),
+        Version::V11 => view_early_head(Version::V11, input),
+        Version::V12 => view_head_1_2(input),
+    }
 }

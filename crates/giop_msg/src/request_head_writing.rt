@@ -1,42 +1,45 @@
-#![tactic(auto, unfolding(crate::specs::RequestHead::request_head, crate::specs::RequestHead::response_flags, crate::specs::RequestHead::reserved_octets, crate::specs::RequestHead::reserved_octet, crate::specs::RequestHead::key_addr, crate::specs::RequestHead::target_address, crate::specs::RequestHead::service_context, giop_cdr::specs::Layout::field, giop_cdr::specs::Layout::such, giop_cdr::specs::Layout::number, giop_cdr::specs::Layout::signed, giop_cdr::specs::Layout::octets, giop_cdr::specs::Layout::text, giop_cdr::specs::Layout::reserved, giop_cdr::specs::Layout::gives, giop_cdr::specs::Layout::sequence, giop_cdr::specs::Layout::tagged, giop_cdr::specs::Output::sequence_out), using(giop_cdr::proofs::WriterLemmas::grows_then, giop_cdr::proofs::WriterLemmas::grows_not))]
+#![tactic(auto, unfolding(crate::specs::RequestHead::request_head, crate::specs::RequestHead::request_head_1_2, crate::specs::RequestHead::early_request_head, crate::specs::RequestHead::response_flags, crate::specs::RequestHead::response_expected, crate::specs::RequestHead::reserved_of, crate::specs::RequestHead::reserved_octets, crate::specs::RequestHead::reserved_octet, crate::specs::RequestHead::principal, crate::specs::Meaning::meaning, giop_cdr::specs::Layout::field, giop_cdr::specs::Layout::such, giop_cdr::specs::Layout::number, giop_cdr::specs::Layout::boolean, giop_cdr::specs::Layout::octets, giop_cdr::specs::Layout::text, giop_cdr::specs::Layout::reserved, giop_cdr::specs::Layout::gives), using(giop_cdr::proofs::WriterLemmas::grows_then, giop_cdr::proofs::WriterLemmas::grows_not))]
 
-ghost use Rattle.std.specs.Prelude.{◌≡◌, ◌+◌, ◌^◌, ◌<◌, ◌↔◌, ◌&&◌, length, nat_lt, not, false, true, ℕ, List, IsErrOf};
-ghost use Rattle.std.specs.List.{list_all};
+ghost use Rattle.std.specs.Prelude.{◌≡◌, ◌↔◌, false, true, ℕ, List, IsErrOf};
 ghost use Rattle.giop_cdr.specs.declared.order.Order.{Order};
-ghost use Rattle.giop_cdr.specs.Output.{items_out};
 ghost use Rattle.giop_cdr.specs.Writing.{Writes, Appends};
-ghost use Rattle.giop_cdr.specs.Layout.{sequence, is_countable, is_spellable, AreOctets};
-ghost use Rattle.giop_msg.specs.RequestHead.{service_context, reserved_octets, target_address, request_head};
+ghost use Rattle.giop_cdr.specs.Layout.{is_spellable, AreOctets};
+ghost use Rattle.giop_msg.specs.RequestHead.{early_request_head, reserved_octets, reserved_of, request_head, request_head_1_2, response_expected};
 
 use crate::request_head::RequestHead;
-use crate::service_context::ServiceContext;
-use crate::target::Target;
+use crate::target_writing::{append_key, append_target, is_writable_key, is_writable_target};
+use crate::version::Version;
 use giop_cdr::{CdrOut, EncodeFault};
+use giop_ior::{append_contexts, are_writable_contexts};
 use std::alloc::AllocError;
 
 impl RequestHead {
-    /// Whether octets spell the head: its flags are 0, 1 or 3, no null is in the operation, and each
-    /// text and list is short enough for its count. It takes no memory.
+    /// Whether octets spell the head in its version: its flags are 0, 1 or 3, no null is in the
+    /// operation, and each text and list is short enough for its count; before 1.2 the flags are 0 or
+    /// 3 and the target is a key. It takes no memory.
     pub fn is_writable(&self) -> bool
-        ensures { result ≡ request_head.fits self.now }
+        ensures { result ≡ (request_head self.now.version).fits self.now }
     {
-        matches!(self.flags, 0 | 1 | 3)
-            && is_writable_target(&self.target)
-            && is_operation(self.operation.as_slice())
-            && are_writable(self.contexts.as_slice())
+        match self.version {
+            Version::V10 => is_writable_early(Version::V10, self),
+            Version::V11 => is_writable_early(Version::V11, self),
+            Version::V12 => is_writable_1_2(self),
+        }
     }
 
-    /// Writes the head: the fields in their order, the three reserved octets as zeros. The body is
-    /// aligned to 8 behind it, unless it is empty.
+    /// Writes the head: the fields in their order, reserved octets as zeros and the principal as
+    /// empty. In 1.2 the body is aligned to 8 behind it, unless it is empty.
     ///
     /// Refused as Unfit where `is_writable` is false, and then no octets spell the head; else as
     /// NoMemory where memory is wanting. The output is then as it was.
     #[tactic(auto, using(crate::proofs::RequestHeadLemmas::head_unspelled))]
     pub fn write(&self, out: &mut CdrOut) -> Result<(), EncodeFault>
-        ensures value { Writes out.old result out.new (request_head.written self.now out.old) }
-        ensures err { IsErrOf result EncodeFault.Unfit ↔ (request_head.fits self.now ≡ false) }
+        ensures value { Writes out.old result out.new
+            ((request_head self.now.version).written self.now out.old) }
+        ensures err { IsErrOf result EncodeFault.Unfit
+            ↔ ((request_head self.now.version).fits self.now ≡ false) }
         ensures unfit { IsErrOf result EncodeFault.Unfit → (order : Order) (at : ℕ) (octets : List ℕ)
-            → AreOctets octets → request_head.spells order at self.now octets → ⊥ }
+            → AreOctets octets → (request_head self.now.version).spells order at self.now octets → ⊥ }
     {
         if !self.is_writable() {
             return Err(EncodeFault::Unfit);
@@ -50,18 +53,22 @@ impl RequestHead {
     }
 }
 
-fn is_countable(octets: &[u8]) -> bool
-    ensures { result ≡ is_countable octets.now }
+fn is_writable_1_2(head: &RequestHead) -> bool
+    ensures { result ≡ request_head_1_2.fits head.now }
 {
-    octets.len() <= u32::MAX as usize
+    matches!(head.flags, 0 | 1 | 3)
+        && is_writable_target(&head.target)
+        && is_operation(head.operation.as_slice())
+        && are_writable_contexts(head.contexts.as_slice())
 }
 
-fn is_writable_target(target: &Target) -> bool
-    ensures { result ≡ target_address.fits target.now }
+fn is_writable_early(version: Version, head: &RequestHead) -> bool
+    ensures { result ≡ (early_request_head version).fits head.now }
 {
-    match target {
-        Target::Key(key) => is_countable(key.as_slice()),
-    }
+    are_writable_contexts(head.contexts.as_slice())
+        && matches!(head.flags, 0 | 3)
+        && is_writable_key(&head.target)
+        && is_operation(head.operation.as_slice())
 }
 
 // Whether an operation's name is a text, and short enough for its count.
@@ -69,38 +76,6 @@ fn is_operation(name: &[u8]) -> bool
     ensures { result ≡ is_spellable name.now }
 {
     name.len() < u32::MAX as usize && !name.contains(&0)
-}
-
-fn are_writable(contexts: &[ServiceContext]) -> bool
-    ensures { result ≡ (sequence service_context).fits contexts.now }
-{
-    contexts.len() <= u32::MAX as usize && each_is_writable(contexts)
-}
-
-fn each_is_writable(contexts: &[ServiceContext]) -> bool
-    ensures { result ≡ list_all service_context.fits contexts.now }
-{
-    for context in contexts {
-        if !is_writable_context(context) {
-            return false;
-        }
-    }
-    true
-}
-
-fn is_writable_context(context: &ServiceContext) -> bool
-    ensures { result ≡ service_context.fits context.now }
-{
-    is_countable(context.octets.as_slice())
-}
-
-fn append_context(context: &ServiceContext, out: &mut CdrOut) -> Result<(), AllocError>
-    requires { service_context.fits context.now ≡ true }
-    ensures { Appends out.old result out.new (service_context.written context.now out.old) }
-{
-    out.write_ulong(context.id)?;
-    out.write_octets(context.octets.as_slice())?;
-    Ok(())
 }
 
 fn append_reserved(out: &mut CdrOut) -> Result<(), AllocError>
@@ -112,42 +87,19 @@ fn append_reserved(out: &mut CdrOut) -> Result<(), AllocError>
     Ok(())
 }
 
-fn append_target(target: &Target, out: &mut CdrOut) -> Result<(), AllocError>
-    requires { target_address.fits target.now ≡ true }
-    ensures { Appends out.old result out.new (target_address.written target.now out.old) }
+fn append_reserved_of(version: Version, out: &mut CdrOut) -> Result<(), AllocError>
+    ensures { Appends out.old result out.new ((reserved_of version).written 0 out.old) }
 {
-    match target {
-        Target::Key(key) => {
-            out.write_short(0)?;
-            out.write_octets(key.as_slice())?;
-            Ok(())
-        }
+    match version {
+        Version::V10 => Ok(()),
+        Version::V11 | Version::V12 => append_reserved(out),
     }
 }
 
-fn append_contexts(contexts: &[ServiceContext], out: &mut CdrOut) -> Result<(), AllocError>
-    requires { (sequence service_context).fits contexts.now ≡ true }
-    ensures { Appends out.old result out.new ((sequence service_context).written contexts.now out.old) }
-{
-    out.write_ulong(contexts.len() as u32)?;
-    append_each(contexts, out)?;
-    Ok(())
-}
-
-fn append_each(contexts: &[ServiceContext], out: &mut CdrOut) -> Result<(), AllocError>
-    requires { list_all service_context.fits contexts.now ≡ true }
-    ensures { Appends out.old result out.new (items_out service_context.written contexts.now out.old) }
-{
-    for context in contexts {
-        append_context(context, out)?;
-    }
-    Ok(())
-}
-
-// The fields in their order. Where memory is wanting a part of them is left.
-fn append_head(head: &RequestHead, out: &mut CdrOut) -> Result<(), AllocError>
-    requires { request_head.fits head.now ≡ true }
-    ensures { Appends out.old result out.new (request_head.written head.now out.old) }
+// The fields of 1.2 in their order. Where memory is wanting a part of them is left.
+fn append_head_1_2(head: &RequestHead, out: &mut CdrOut) -> Result<(), EncodeFault>
+    requires { request_head_1_2.fits head.now ≡ true }
+    ensures { Appends out.old result out.new (request_head_1_2.written head.now out.old) }
 {
     out.write_ulong(head.id)?;
     out.write_octet(head.flags)?;
@@ -156,4 +108,35 @@ fn append_head(head: &RequestHead, out: &mut CdrOut) -> Result<(), AllocError>
     out.write_string(head.operation.as_slice())?;
     append_contexts(head.contexts.as_slice(), out)?;
     Ok(())
+}
+
+// The fields before 1.2 in their order, the principal empty. Where memory is wanting a part of them is
+// left.
+fn append_early_head(
+    version: Version,
+    head: &RequestHead,
+    out: &mut CdrOut,
+) -> Result<(), EncodeFault>
+    requires { (early_request_head version).fits head.now ≡ true }
+    ensures { Appends out.old result out.new ((early_request_head version).written head.now out.old) }
+{
+    append_contexts(head.contexts.as_slice(), out)?;
+    out.write_ulong(head.id)?;
+    out.write_boolean(head.flags == 3)?;
+    append_reserved_of(version, out)?;
+    append_key(&head.target, out)?;
+    out.write_string(head.operation.as_slice())?;
+    out.write_octets(&[])?;
+    Ok(())
+}
+
+fn append_head(head: &RequestHead, out: &mut CdrOut) -> Result<(), EncodeFault>
+    requires { (request_head head.now.version).fits head.now ≡ true }
+    ensures { Appends out.old result out.new ((request_head head.now.version).written head.now out.old) }
+{
+    match head.version {
+        Version::V10 => append_early_head(Version::V10, head, out),
+        Version::V11 => append_early_head(Version::V11, head, out),
+        Version::V12 => append_head_1_2(head, out),
+    }
 }

@@ -7,7 +7,9 @@ use std::test::Fail;
 
 mod framer;
 mod header;
+mod heads;
 mod request_head;
+mod request_id;
 
 /// A Request of id 1 for the operation `ping`, big-endian: 48 octets.
 const PING: [u8; 48] = [

@@ -25,11 +25,17 @@ Example:
   giopctl dump examples/ping.giop";
 
 const DUMP_HELP: &str = "\
-Each message has a line: its offset in the file, its kind, its byte order (BE or LE), `more` where
-fragments follow, its message size, and its request id where it has one. A Request that no fragments
-follow has a second line, behind two spaces: its response flags, the object key in hexadecimal, the
-operation, the number of service contexts, and how many octets its body has. The last line tells how
-many octets are left, or what is wrong with the header that stands there.
+Each message has a line: its offset in the file, its kind, its version where that is 1.0 or 1.1, its
+byte order (BE or LE), `more` where fragments follow, its message size, and its request id where one is
+read. A Request, Reply, LocateRequest or LocateReply that no fragments follow has a second line, behind
+two spaces, and `body` tells how many octets stand behind its fields:
+  Request        response flags, the target (an object key in hexadecimal, a profile's tag, or the
+                 number of a reference's profile), the operation, the number of service contexts, body
+  Reply          status, the number of service contexts, body
+  LocateRequest  the target
+  LocateReply    status, body
+  any of them    what is wrong with its fields, and where, counted from the message's first octet
+The last line tells how many octets are left, or what is wrong with the header that stands there.
 
 Exit statuses:
   0  the file is messages and nothing else
@@ -53,7 +59,7 @@ pub fn task_of<'a>(alloc: Global, words: &'a [String]) -> Result<Option<Task<'a>
 
 fn giopctl<'a>(alloc: Global) -> Result<Command<'a>, AllocError> {
     Command::new(alloc, "giopctl")
-        .about("Shows what files of GIOP 1.2 messages hold")
+        .about("Shows what files of GIOP messages hold")
         .version("0.1.0")
         .subcommand_required(true)
         .arg_required_else_help(true)

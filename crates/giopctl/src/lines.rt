@@ -1,11 +1,16 @@
 //! The lines that `dump` writes, without their newlines.
 
 mod end;
-mod head;
+mod locate;
 mod message;
 mod octets;
+mod reply;
+mod request;
+mod target;
 
-pub use end::{FaultLine, RestLine};
-pub use head::HeadLine;
+pub use end::{FaultLine, HeadFaultLine, RestLine};
+pub use locate::{LocateReplyLine, LocateRequestLine};
 pub use message::MessageLine;
 pub use octets::{EscapedText, HexText};
+pub use reply::ReplyLine;
+pub use request::RequestLine;

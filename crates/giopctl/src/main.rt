@@ -1,4 +1,4 @@
-//! The program giopctl: it shows what files of GIOP 1.2 messages hold.
+//! The program giopctl: it shows what files of GIOP messages hold.
 #![tactic(auto)]
 
 mod cli;

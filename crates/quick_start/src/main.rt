@@ -17,7 +17,7 @@ fn main(rt: HostRuntime) -> Result<()> {
         match framer.next()? {
             Some(message) if message.kind == Kind::Request && !message.more => {
                 let joined = SliceOctets::new(message.payload.as_slice());
-                let (head, _body) = RequestHead::view(&joined, message.order)?;
+                let (head, _body) = RequestHead::view(&joined, message.version, message.order)?;
                 let operation = head.operation.to_list(rt.alloc())?;
                 let operation = String::from_utf8_lossy(rt.alloc(), operation.as_slice())?;
                 println!(rt; "{} {operation}", head.id)?;

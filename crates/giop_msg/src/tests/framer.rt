@@ -1,5 +1,5 @@
 use super::{CLOSE, LIMIT, NO_MEMORY, PING, feed, next};
-use crate::{Framer, Header, Kind, Msg, WireFault, WireKind, read_pieces};
+use crate::{Framer, Header, Kind, Msg, Version, WireFault, WireKind, read_pieces};
 use giop_cdr::Order;
 use std::process::Abort;
 use std::test::Fail;
@@ -8,6 +8,7 @@ use std::test::Fail;
 fn is_ping(rt: &impl Abort, message: Option<Msg>) -> Result<(), Fail> {
     let message = message.ok_or("no message")?;
     let header = Header {
+        version: Version::V12,
         order: Order::Big,
         more: false,
         kind: Kind::Request,
@@ -15,7 +16,7 @@ fn is_ping(rt: &impl Abort, message: Option<Msg>) -> Result<(), Fail> {
     };
     assert_eq!(rt; message.payload.as_slice(), &PING[12..]);
     assert_eq!(rt; message.header(), header);
-    assert_eq!(rt; message.request_id(), Some(1));
+    assert_eq!(rt; message.request_id(), Some(Ok(1)));
     Ok(())
 }
 
@@ -103,7 +104,8 @@ fn one_cancel_is_spelled_in_both_byte_orders(rt: HostRuntime) -> Result<(), Fail
         assert_eq!(rt; message.kind, Kind::CancelRequest);
         assert_eq!(rt; message.order, order);
         assert!(rt; !message.more);
-        assert_eq!(rt; message.request_id(), Some(5));
+        assert_eq!(rt; message.payload.len(), 4);
+        assert_eq!(rt; message.request_id(), Some(Ok(5)));
     }
     Ok(())
 }

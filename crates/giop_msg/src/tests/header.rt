@@ -1,5 +1,5 @@
 use super::{CLOSE, LIMIT, feed, next};
-use crate::{Framer, Header, Kind, WireFault, WireKind};
+use crate::{Framer, Header, Kind, Version, WireFault, WireKind};
 use giop_cdr::Order;
 use std::fmt;
 use std::process::Abort;
@@ -7,8 +7,13 @@ use std::test::Fail;
 
 /// A header: magic, version 1.2, flags, message type, and the four octets of the size.
 const fn front(flags: u8, kind: u8, size: [u8; 4]) -> [u8; 12] {
+    front_of(2, flags, kind, size)
+}
+
+/// The same of version 1 and a minor number.
+const fn front_of(minor: u8, flags: u8, kind: u8, size: [u8; 4]) -> [u8; 12] {
     let [a, b, c, d] = size;
-    [0x47, 0x49, 0x4F, 0x50, 1, 2, flags, kind, a, b, c, d]
+    [0x47, 0x49, 0x4F, 0x50, 1, minor, flags, kind, a, b, c, d]
 }
 
 /// What a framer answers to these twelve octets: `None` where it takes them as a header.
@@ -46,7 +51,7 @@ fn magic_and_version_are_judged_octet_by_octet(rt: HostRuntime) -> Result<(), Fa
         (4, 2, WireKind::BadVersion),
         (4, 0, WireKind::BadVersion),
         (5, 3, WireKind::BadVersion),
-        (5, 1, WireKind::BadVersion),
+        (5, 255, WireKind::BadVersion),
     ];
     for (at, octet, kind) in rows {
         let mut octets = CLOSE;
@@ -114,6 +119,53 @@ fn each_field_is_judged_in_both_byte_orders(rt: HostRuntime) -> Result<(), Fail>
     Ok(())
 }
 
+// The minor version, octet 6, the message type, the size, and what is wrong.
+type VersionRow = (u8, u8, u8, u8, Option<(usize, WireKind)>);
+
+#[test]
+fn versions_1_0_and_1_1_have_headers_of_their_own(rt: HostRuntime) -> Result<(), Fail> {
+    let rows: [VersionRow; 21] = [
+        // In 1.0 octet 6 is the byte order.
+        (0, 0, 0, 40, None),
+        (0, 2, 0, 40, Some((6, WireKind::ReservedFlags))),
+        (0, 3, 0, 40, Some((6, WireKind::ReservedFlags))),
+        (0, 255, 7, 40, Some((6, WireKind::ReservedFlags))),
+        // In 1.1 it is the flags, but no message has more fragments to come.
+        (1, 0, 0, 40, None),
+        (1, 2, 0, 40, Some((6, WireKind::NotFragmentable))),
+        (1, 3, 1, 40, Some((6, WireKind::NotFragmentable))),
+        (1, 4, 0, 40, Some((6, WireKind::ReservedFlags))),
+        (1, 2, 5, 0, Some((6, WireKind::NotFragmentable))),
+        // The size is told before, and no multiple of 8 is asked for.
+        (1, 2, 0, 3, Some((8, WireKind::BadSize))),
+        (1, 2, 0, 41, Some((6, WireKind::NotFragmentable))),
+        // MessageError, 6, is the last message type.
+        (0, 0, 6, 0, None),
+        (0, 0, 7, 12, Some((7, WireKind::BadKind))),
+        (1, 0, 6, 0, None),
+        (1, 0, 7, 12, Some((7, WireKind::BadKind))),
+        (1, 2, 7, 12, Some((7, WireKind::BadKind))),
+        (0, 0, 8, 12, Some((7, WireKind::BadKind))),
+        // Sizes are judged as in 1.2.
+        (0, 0, 2, 4, None),
+        (0, 0, 2, 8, Some((8, WireKind::BadSize))),
+        (0, 0, 1, 3, Some((8, WireKind::BadSize))),
+        (1, 0, 5, 4, Some((8, WireKind::BadSize))),
+    ];
+    for (minor, octet, kind, size, want) in rows {
+        let octets = match octet % 2 == 0 {
+            true => front_of(minor, octet, kind, [0, 0, 0, size]),
+            false => front_of(minor, octet, kind, [size, 0, 0, 0]),
+        };
+        assert_eq!(rt;
+            fault_of(&rt, &octets)?,
+            want,
+            "1.{minor} {octet} {kind} {size}"
+        );
+    }
+    Ok(())
+}
+
 #[test]
 fn of_two_faults_the_earlier_in_the_list_is_answered(rt: HostRuntime) -> Result<(), Fail> {
     let rows = [
@@ -153,6 +205,7 @@ fn of_two_faults_the_earlier_in_the_list_is_answered(rt: HostRuntime) -> Result<
 #[test]
 fn a_header_is_its_twelve_octets(rt: HostRuntime) {
     let request = Header {
+        version: Version::V12,
         order: Order::Big,
         more: true,
         kind: Kind::Request,
@@ -160,12 +213,23 @@ fn a_header_is_its_twelve_octets(rt: HostRuntime) {
     };
     assert_eq!(rt; request.octets(), front(2, 0, [1, 2, 3, 12]));
     let fragment = Header {
+        version: Version::V12,
         order: Order::Little,
         more: false,
         kind: Kind::Fragment,
         size: 0x0102_030C,
     };
     assert_eq!(rt; fragment.octets(), front(1, 7, [12, 3, 2, 1]));
+    let versions = [(Version::V10, 0), (Version::V11, 1), (Version::V12, 2)];
+    for (version, minor) in versions {
+        let header = Header {
+            version,
+            ..fragment
+        };
+        assert_eq!(rt; header.octets(), front_of(minor, 1, 7, [12, 3, 2, 1]));
+        assert_eq!(rt; version.minor(), minor);
+        assert_eq!(rt; version.has_fragments(), minor == 2);
+    }
 }
 
 #[test]

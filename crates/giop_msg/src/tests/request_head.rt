@@ -1,7 +1,7 @@
 ghost use Rattle.std.specs.Prelude.{◌≤◌, ◌^◌, length};
 
 use super::PING;
-use crate::{RequestHead, ServiceContext, ServiceContexts, Target};
+use crate::{RequestHead, ServiceContext, ServiceContexts, Target, Version};
 use giop_cdr::{CdrFault, CdrKind, CdrOut, EncodeFault, OctetList, Order, SliceOctets};
 use std::alloc::{AllocError, Global};
 use std::process::Abort;
@@ -22,8 +22,10 @@ fn decode(
 ) -> Result<(RequestHead, usize), CdrFault>
     requires { length octets.now ≤ 2 ^ 62 }
 {
-    match RequestHead::decode(alloc, octets, order) {
-        Err(fault) if fault.kind == CdrKind::NoMemory => RequestHead::decode(alloc, octets, order),
+    match RequestHead::decode(alloc, octets, Version::V12, order) {
+        Err(fault) if fault.kind == CdrKind::NoMemory => {
+            RequestHead::decode(alloc, octets, Version::V12, order)
+        }
         answer => answer,
     }
 }
@@ -35,7 +37,9 @@ fn the_head_of_ping_is_decoded(rt: HostRuntime) -> Result<(), Fail> {
         .ok()
         .ok_or("no head")?;
     assert_eq!(rt; (head.id, head.flags, body), (1, 3, 48));
-    let Target::Key(key) = &head.target;
+    let Target::Key(key) = &head.target else {
+        return Err("no key".into());
+    };
     assert_eq!(rt; key.as_slice(), [0x6B].as_slice());
     assert_eq!(rt; head.operation.as_slice(), b"ping".as_slice());
     assert_eq!(rt; (head.contexts.len(), head.contexts.is_empty()), (0, true));
@@ -59,11 +63,13 @@ fn pads_and_reserved_octets_may_be_any(rt: HostRuntime) -> Result<(), Fail> {
 #[test]
 fn a_view_of_a_head_lies_in_the_joined_octets(rt: HostRuntime) -> Result<(), Fail> {
     let octets = SliceOctets::new(&WITH_CONTEXT);
-    let (head, body) = RequestHead::view(&octets, Order::Little)
+    let (head, body) = RequestHead::view(&octets, Version::V12, Order::Little)
         .ok()
         .ok_or("no head")?;
     assert_eq!(rt; (head.id, head.flags, body), (2, 1, 56));
-    let Target::Key(key) = &head.target;
+    let Target::Key(key) = &head.target else {
+        return Err("no key".into());
+    };
     assert_eq!(rt; key.as_slice().len(), 0);
     assert_eq!(rt; head.operation.as_slice(), b"a".as_slice());
     assert_eq!(rt; head.contexts.len(), 1);
@@ -98,9 +104,9 @@ fn lacks(octets: usize) -> CdrFault {
 fn a_head_cut_short_is_refused_at_the_field_that_lacks_octets(rt: HostRuntime) {
     for octets in 12..48usize {
         let cut = SliceOctets::new(&PING[12..octets]);
-        let refused = RequestHead::decode(rt.alloc(), &cut, Order::Big).err();
+        let refused = RequestHead::decode(rt.alloc(), &cut, Version::V12, Order::Big).err();
         assert_eq!(rt; refused, Some(lacks(octets)), "at {octets}");
-        let unseen = RequestHead::view(&cut, Order::Big).err();
+        let unseen = RequestHead::view(&cut, Version::V12, Order::Big).err();
         assert_eq!(rt; unseen, Some(lacks(octets)), "at {octets}");
     }
 }
@@ -126,7 +132,7 @@ fn a_wrong_octet_is_refused_at_its_field(rt: HostRuntime) {
         ),
         (
             21,
-            1,
+            3,
             CdrFault {
                 at: 20,
                 kind: CdrKind::BadLabel,
@@ -164,7 +170,7 @@ fn a_wrong_octet_is_refused_at_its_field(rt: HostRuntime) {
         }
         let joined = SliceOctets::new(&octets[12..]);
         assert_eq!(rt;
-            RequestHead::decode(rt.alloc(), &joined, Order::Big).err(),
+            RequestHead::decode(rt.alloc(), &joined, Version::V12, Order::Big).err(),
             Some(want)
         );
     }
@@ -172,6 +178,7 @@ fn a_wrong_octet_is_refused_at_its_field(rt: HostRuntime) {
 
 fn ping_head(alloc: Global, flags: u8, operation: &[u8]) -> Result<RequestHead, AllocError> {
     Ok(RequestHead {
+        version: Version::V12,
         id: 1,
         flags,
         target: Target::Key(OctetList::from_slice(alloc, &[0x6B])?),

@@ -2,15 +2,14 @@
 ghost use Rattle.std.specs.Prelude.{◌≡◌, ◌≢◌, ◌^◌, ◌<◌, ◌==◌, length, OnOk, IfOk, if◌then◌else◌};
 ghost use Rattle.std.specs.Io.KnownBytes.{Appends};
 ghost use Rattle.giop_msg.specs.declared.fault.WireKind.TheVariants.{NoMemory};
-ghost use Rattle.giop_msg.specs.RequestHead.{request_head_of};
-ghost use Rattle.giopctl.specs.Dump.{ended, head_text, is_whole_request, message_text};
+ghost use Rattle.giopctl.specs.Dump.{ended, message_text};
 ghost use Rattle.giopctl.specs.Lines.{fault_line, rest_line};
 
+use crate::commands::dump_heads::write_second;
 use crate::failure::Failure;
-use crate::lines::{FaultLine, HeadLine, MessageLine, RestLine};
+use crate::lines::{FaultLine, MessageLine, RestLine};
 use crate::status::Status;
-use giop_cdr::SliceOctets;
-use giop_msg::{Kind, Msg, RequestHead, WireFault, WireKind};
+use giop_msg::{Msg, WireFault, WireKind};
 use std::io::Write;
 
 /// The lines of the message that begins at this offset of the file.
@@ -19,32 +18,11 @@ pub fn write_message<W: Write>(at: usize, message: &Msg, writer: &mut W) -> Resu
     ensures { OnOk result
         (Appends (W.contents writer.old) (W.contents writer.new) (message_text at message.now)) }
 {
-    writeln!(writer, "{}", MessageLine { at, message })?;
-    if is_whole_request(message) {
-        write_head(message, writer)?;
+    let id = message.request_id();
+    writeln!(writer, "{}", MessageLine { at, message, id })?;
+    if !message.more {
+        write_second(message, writer)?;
     }
-    Ok(())
-}
-
-fn is_whole_request(message: &Msg) -> bool
-    ensures { result ≡ is_whole_request message.now.kind message.now.more }
-{
-    matches!(message.kind, Kind::Request) && !message.more
-}
-
-// The line of a Request's head, or none where the octets spell no head.
-fn write_head<W: Write>(message: &Msg, writer: &mut W) -> Result<(), Failure>
-    requires { length message.now.payload < 2 ^ 32 }
-    ensures { OnOk result (Appends (W.contents writer.old) (W.contents writer.new)
-        (head_text message.now (request_head_of message.now.order message.now.payload))) }
-{
-    let octets = message.payload.as_slice();
-    let joined = SliceOctets::new(octets);
-    let Ok((head, place)) = RequestHead::view(&joined, message.order) else {
-        return Ok(());
-    };
-    let body = (12 + octets.len()).saturating_sub(place);
-    writeln!(writer, "{}", HeadLine { head: &head, body })?;
     Ok(())
 }
 

@@ -1,3 +1,4 @@
+use giop_cdr::CdrFault;
 use giop_msg::WireFault;
 use std::fmt;
 
@@ -19,6 +20,22 @@ impl fmt::Display for FaultLine {
     fn fmt<W: fmt::Write>(&self, f: &mut fmt::Formatter<W>) -> fmt::Result {
         let FaultLine { at, fault } = *self;
         write!(f, "{at} fault {} {fault}", fault.number())
+    }
+}
+
+/// Why the head of a message isn't read, in one line: `  fault NUMBER NAME at PLACE`.
+#[derive(Clone, Copy)]
+pub struct HeadFaultLine(pub CdrFault);
+
+impl fmt::Display for HeadFaultLine {
+    ghost use Rattle.std.specs.Prelude.{Some};
+    ghost use Rattle.giopctl.specs.Lines.{head_fault_line};
+
+    ghost output = { λ l. Some (head_fault_line l.0) };
+
+    fn fmt<W: fmt::Write>(&self, f: &mut fmt::Formatter<W>) -> fmt::Result {
+        let fault = self.0;
+        write!(f, "  fault {} {fault} at {}", fault.number(), fault.at)
     }
 }
 

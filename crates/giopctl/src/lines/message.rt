@@ -1,30 +1,52 @@
-use giop_cdr::Order;
-use giop_msg::Msg;
+use giop_cdr::{CdrFault, Order};
+use giop_msg::{Msg, Version};
 use std::fmt;
 
-/// A message, in one line: `OFFSET KIND BE|LE[ more] size SIZE[ id ID]`.
+/// A message, in one line: `OFFSET KIND[ VERSION] BE|LE[ more] size SIZE[ id ID]`.
 #[derive(Clone, Copy)]
 pub struct MessageLine<'a> {
     /// The offset of the message in the file.
     pub at: usize,
     /// The message.
     pub message: &'a Msg,
+    /// Its request id, as the message tells it.
+    pub id: Option<Result<u32, CdrFault>>,
 }
 
 impl fmt::Display for MessageLine<'_> {
     ghost use Rattle.std.specs.Prelude.{Some};
     ghost use Rattle.giopctl.specs.Lines.{message_line};
 
-    ghost output = { λ l. Some (message_line l.at l.message.now) };
+    ghost output = { λ l. Some (message_line l.at l.message.now l.id) };
 
     fn fmt<W: fmt::Write>(&self, f: &mut fmt::Formatter<W>) -> fmt::Result {
         let at = self.at;
         let kind = self.message.kind;
+        let version = VersionText(self.message.version);
         let order = OrderText(self.message.order);
         let more = MoreText(self.message.more);
         let size = self.message.payload.len();
-        let id = IdText(self.message.request_id());
-        write!(f, "{at} {kind} {order}{more} size {size}{id}")
+        let id = IdText(self.id);
+        write!(f, "{at} {kind}{version} {order}{more} size {size}{id}")
+    }
+}
+
+// A version: ` 1.0`, ` 1.1`, or nothing for 1.2.
+#[derive(Clone, Copy)]
+struct VersionText(Version);
+
+impl fmt::Display for VersionText {
+    ghost use Rattle.std.specs.Prelude.{Some};
+    ghost use Rattle.giopctl.specs.Lines.{version_text};
+
+    ghost output = { λ v. Some (version_text v.0) };
+
+    fn fmt<W: fmt::Write>(&self, f: &mut fmt::Formatter<W>) -> fmt::Result {
+        f.write_str(match self.0 {
+            Version::V10 => " 1.0",
+            Version::V11 => " 1.1",
+            Version::V12 => "",
+        })
     }
 }
 
@@ -61,9 +83,9 @@ impl fmt::Display for MoreText {
     }
 }
 
-// The request id of a message: ` id ID`, or nothing.
+// The request id of a message: ` id ID`, or nothing where none is read.
 #[derive(Clone, Copy)]
-struct IdText(Option<u32>);
+struct IdText(Option<Result<u32, CdrFault>>);
 
 impl fmt::Display for IdText {
     ghost use Rattle.std.specs.Prelude.{Some};
@@ -73,8 +95,8 @@ impl fmt::Display for IdText {
 
     fn fmt<W: fmt::Write>(&self, f: &mut fmt::Formatter<W>) -> fmt::Result {
         match self.0 {
-            Some(id) => write!(f, " id {id}"),
-            None => Ok(()),
+            Some(Ok(id)) => write!(f, " id {id}"),
+            Some(Err(_)) | None => Ok(()),
         }
     }
 }

@@ -29,7 +29,7 @@ const SERVER: &str = "47494F5001020104080000000200000001000000\
     47494F5001020101280000000E00000001000000000000001100000049444C3A44656D6F\
     2F4261643A312E300000000007000000";
 
-const CLIENT_TEXT: &str = "0 LocateRequest LE size 16 id 2\n\
+const CLIENT_TEXT: &str = "0 LocateRequest LE size 16 id 2\n  key 63616c63\n\
     28 Request LE size 56 id 4\n  \
     flags 3 key 63616c63 operation ping contexts 1 body 0\n\
     96 Request LE size 44 id 6\n  \
@@ -44,12 +44,12 @@ const CLIENT_TEXT: &str = "0 LocateRequest LE size 16 id 2\n\
     flags 3 key 63616c63 operation fail contexts 0 body 0\n\
     391 CloseConnection LE size 0\nrest 0\n";
 
-const SERVER_TEXT: &str = "0 LocateReply LE size 8 id 2\n\
-    20 Reply LE size 12 id 4\n\
-    44 Reply LE size 16 id 6\n\
-    72 Reply LE size 25 id 8\n\
-    109 Reply LE size 16 id 10\n\
-    137 Reply LE size 40 id 14\nrest 0\n";
+const SERVER_TEXT: &str = "0 LocateReply LE size 8 id 2\n  status 1 body 0\n\
+    20 Reply LE size 12 id 4\n  status 0 contexts 0 body 0\n\
+    44 Reply LE size 16 id 6\n  status 0 contexts 0 body 4\n\
+    72 Reply LE size 25 id 8\n  status 0 contexts 0 body 13\n\
+    109 Reply LE size 16 id 10\n  status 0 contexts 0 body 4\n\
+    137 Reply LE size 40 id 14\n  status 1 contexts 0 body 28\nrest 0\n";
 
 #[test]
 fn a_session_of_another_broker_is_shown(rt: HostRuntime) -> Result<(), Fail> {

@@ -1,4 +1,4 @@
-use Rattle.giop_msg.proofs.StreamLemmas.{request_id_there}
+use Rattle.giop_msg.proofs.RequestIdLemmas.{request_id_there}
 use Rattle.giop_msg.proofs.laws.request_ids.Goals as goal
 
 pub returns : goal.returns

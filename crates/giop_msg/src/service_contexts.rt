@@ -1,26 +1,9 @@
 ghost use Rattle.std.specs.Prelude.{◌≡◌, ◌==◌, length};
 
-use giop_cdr::{OctetList, Tagged, TaggedListAt};
+use giop_cdr::TaggedListAt;
+use giop_ior::ServiceContext;
 use std::alloc::Global;
 use std::marker::Model;
-
-/// What a service of the broker sends along with a request or a reply (9.4.2): octets that are
-/// carried unread.
-#[derive(Debug, Drop, PartialEq, Eq)]
-pub struct ServiceContext {
-    /// Which service it is of.
-    pub id: u32,
-    /// Its octets, as they came.
-    pub octets: OctetList,
-}
-
-impl Tagged for ServiceContext {
-    ghost made = { λ id contents. record { id = id; octets = contents } };
-
-    fn from_parts(id: u32, octets: OctetList) -> ServiceContext {
-        ServiceContext { id, octets }
-    }
-}
 
 /// The service contexts of a message where they lie.
 pub type ServiceContextsAt<'a, S> = TaggedListAt<'a, S, ServiceContext>;
@@ -33,7 +16,7 @@ pub struct ServiceContexts {
 
 impl Model for ServiceContexts {
     ghost use Rattle.std.specs.Prelude.{List};
-    ghost use Rattle.giop_msg.specs.declared.service_context.ServiceContext.{ServiceContext};
+    ghost use Rattle.giop_ior.specs.declared.service_context.ServiceContext.{ServiceContext};
 
     ghost Value = { List ServiceContext };
 

@@ -1,0 +1,190 @@
+#![tactic(auto, unfolding(crate::specs::Locate::locate_request, crate::specs::Locate::located, giop_cdr::specs::Layout::field, giop_cdr::specs::Layout::number, giop_cdr::specs::Layout::gives))]
+
+ghost use Rattle.std.specs.Prelude.{◌≡◌, ◌≤◌, ◌^◌, ◌⊎◌, ◌↔◌, length, false, true, ℕ, List, Ok, Err, IfOk, IfErr, IsOk, IsErrOf};
+ghost use Rattle.giop_cdr.specs.declared.order.Order.{Order};
+ghost use Rattle.giop_cdr.specs.Layout.{AreOctets};
+ghost use Rattle.giop_cdr.specs.Outcome.{Exactly};
+ghost use Rattle.giop_cdr.specs.Writing.{Writes, Appends};
+ghost use Rattle.giop_msg.specs.Joined.{AreWhole, no_memory, whole_of_joined};
+ghost use Rattle.giop_msg.specs.Locate.{located, locate_request};
+
+use crate::target::{Target, TargetAt};
+use crate::target_reading::{view_object_key, view_target};
+use crate::target_writing::{append_key, append_target, is_writable_key, is_writable_target};
+use crate::version::Version;
+use giop_cdr::{CdrFault, CdrIn, CdrKind, CdrOut, EncodeFault, Octets, Order};
+use std::alloc::{AllocError, Global};
+
+/// A client asks where an object is (9.4.5): with its target on its own, or, as a `LocateRequestAt`,
+/// where it lies. Contracts see both as one value.
+#[derive(Debug, Drop)]
+pub struct LocateRequest<T = Target> {
+    /// The version in which the message is laid out.
+    pub version: Version,
+    /// The id by which the reply, a cancel and the fragments name this request.
+    pub id: u32,
+    /// The object that is asked for: before 1.2 a key.
+    pub target: T,
+}
+
+/// A LocateRequest whose target lies where it was read. It takes no memory.
+pub type LocateRequestAt<'a, S> = LocateRequest<TargetAt<'a, S>>;
+
+impl LocateRequest {
+    /// The LocateRequest that joined octets are, where it lies. It takes no memory.
+    ///
+    /// The joined octets are as for `RequestHead::view`. Refused as the first field that is refused, in
+    /// reading order, each as its own reader says; then as Trailing at the first octet that is left
+    /// behind the target.
+    pub fn view<'a, S: Octets>(
+        octets: &'a S,
+        version: Version,
+        order: Order,
+    ) -> Result<LocateRequestAt<'a, S>, CdrFault>
+        requires { length (S.octets octets.now) ≤ 2 ^ 62 }
+        // What is answered is what the octets are, and what they are is answered.
+        ensures found { IfOk result (AreWhole (locate_request version) order (S.octets octets.now)) }
+        ensures only { (request : _) → AreWhole (locate_request version) order (S.octets octets.now) request
+            → result ≡ Ok request }
+
+        // Which refusal it is.
+        ensures exact { result ≡ whole_of_joined (locate_request version) order (S.octets octets.now) }
+    {
+        let mut input = CdrIn::new(octets, order, 12);
+        let request = view_request(version, &mut input)?;
+        if input.remaining() > 0 {
+            return Err(CdrFault {
+                at: input.position(),
+                kind: CdrKind::Trailing,
+            });
+        }
+        Ok(request)
+    }
+
+    /// The same on its own. Where memory is wanting for octets that are a LocateRequest, it is NoMemory
+    /// at 12.
+    pub fn decode<S: Octets>(
+        alloc: Global,
+        octets: &S,
+        version: Version,
+        order: Order,
+    ) -> Result<LocateRequest, CdrFault>
+        requires { length (S.octets octets.now) ≤ 2 ^ 62 }
+        ensures found { IfOk result (AreWhole (locate_request version) order (S.octets octets.now)) }
+        ensures exact { IfOk result (λ request.
+            whole_of_joined (locate_request version) order (S.octets octets.now) ≡ Ok request) }
+        ensures err { IfErr result (λ e.
+            (whole_of_joined (locate_request version) order (S.octets octets.now) ≡ Err e)
+            ⊎ ((e ≡ no_memory)
+            × IsOk (whole_of_joined (locate_request version) order (S.octets octets.now)))) }
+    {
+        let request = LocateRequest::view(octets, version, order)?;
+        let Ok(request) = request.to_owned(alloc) else {
+            return Err(CdrFault {
+                at: 12,
+                kind: CdrKind::NoMemory,
+            });
+        };
+        Ok(request)
+    }
+
+    /// Whether octets spell the LocateRequest in its version: each text and list of the target is short
+    /// enough for its count and no null is in a text; before 1.2 the target is a key. It takes no memory.
+    pub fn is_writable(&self) -> bool
+        ensures { result ≡ (locate_request self.now.version).fits self.now }
+    {
+        match self.version {
+            Version::V10 | Version::V11 => is_writable_key(&self.target),
+            Version::V12 => is_writable_target(&self.target),
+        }
+    }
+
+    /// Writes the LocateRequest: the fields in their order.
+    ///
+    /// Refused as Unfit where `is_writable` is false, and then no octets spell it; else as NoMemory
+    /// where memory is wanting. The output is then as it was.
+    #[tactic(auto, using(crate::proofs::LocateLemmas::request_unspelled))]
+    pub fn write(&self, out: &mut CdrOut) -> Result<(), EncodeFault>
+        ensures value { Writes out.old result out.new
+            ((locate_request self.now.version).written self.now out.old) }
+        ensures err { IsErrOf result EncodeFault.Unfit
+            ↔ ((locate_request self.now.version).fits self.now ≡ false) }
+        ensures unfit { IsErrOf result EncodeFault.Unfit → (order : Order) (at : ℕ) (octets : List ℕ)
+            → AreOctets octets → (locate_request self.now.version).spells order at self.now octets → ⊥ }
+    {
+        if !self.is_writable() {
+            return Err(EncodeFault::Unfit);
+        }
+        let point = out.checkpoint();
+        if append_request(self, out).is_err() {
+            out.back_to(point);
+            return Err(EncodeFault::NoMemory);
+        }
+        Ok(())
+    }
+}
+
+impl<'a, S: Octets> LocateRequestAt<'a, S> {
+    /// A copy of the LocateRequest on its own. It takes memory for its target.
+    pub fn to_owned(&self, alloc: Global) -> Result<LocateRequest, AllocError>
+        ensures { IfOk result (λ request. request ≡ self.now) }
+    {
+        Ok(LocateRequest {
+            version: self.version,
+            id: self.id,
+            target: self.target.to_owned(alloc)?,
+        })
+    }
+}
+
+fn view_located<'a, S: Octets>(
+    version: Version,
+    input: &mut CdrIn<'a, S>,
+) -> Result<TargetAt<'a, S>, CdrFault>
+    ensures { Exactly result input.new ((located version).read input.old) }
+{
+    match version {
+        Version::V10 | Version::V11 => view_object_key(input),
+        Version::V12 => view_target(input),
+    }
+}
+
+// The fields in their order.
+fn view_request<'a, S: Octets>(
+    version: Version,
+    input: &mut CdrIn<'a, S>,
+) -> Result<LocateRequestAt<'a, S>, CdrFault>
+    ensures { Exactly result input.new ((locate_request version).read input.old) }
+{
+    let id = input.read_ulong()?;
+    let target = view_located(version, input)?;
+    Ok(LocateRequest {
+        version,
+        id,
+        target,
+    })
+}
+
+#[tactic(auto, unfolding(crate::specs::Locate::located), using(giop_cdr::proofs::WriterLemmas::grows_then, giop_cdr::proofs::WriterLemmas::grows_not))]
+fn append_located(version: Version, target: &Target, out: &mut CdrOut) -> Result<(), EncodeFault>
+    requires { (located version).fits target.now ≡ true }
+    ensures { Appends out.old result out.new ((located version).written target.now out.old) }
+{
+    match version {
+        Version::V10 | Version::V11 => append_key(target, out)?,
+        Version::V12 => append_target(target, out)?,
+    }
+    Ok(())
+}
+
+// The fields in their order. Where memory is wanting a part of them is left.
+#[tactic(auto, unfolding(crate::specs::Locate::locate_request, giop_cdr::specs::Layout::field, giop_cdr::specs::Layout::number, giop_cdr::specs::Layout::gives), using(giop_cdr::proofs::WriterLemmas::grows_then, giop_cdr::proofs::WriterLemmas::grows_not))]
+fn append_request(request: &LocateRequest, out: &mut CdrOut) -> Result<(), EncodeFault>
+    requires { (locate_request request.now.version).fits request.now ≡ true }
+    ensures { Appends out.old result out.new
+        ((locate_request request.now.version).written request.now out.old) }
+{
+    out.write_ulong(request.id)?;
+    append_located(request.version, &request.target, out)?;
+    Ok(())
+}

@@ -1,0 +1,180 @@
+#![tactic(auto, unfolding(crate::specs::ReplyHead::reply_head, crate::specs::ReplyHead::reply_head_1_2, crate::specs::ReplyHead::early_reply_head, crate::specs::ReplyHead::reply_status, giop_ior::specs::ServiceContext::service_contexts, giop_ior::specs::ServiceContext::service_context, giop_cdr::specs::Layout::field, giop_cdr::specs::Layout::such, giop_cdr::specs::Layout::number, giop_cdr::specs::Layout::octets, giop_cdr::specs::Layout::gives, giop_cdr::specs::Layout::sequence, giop_cdr::specs::Layout::tagged, giop_cdr::specs::Reading::such_at, giop_cdr::specs::View::tagged_at))]
+
+ghost use Rattle.std.specs.Prelude.{◌≡◌, ◌≤◌, ◌^◌, ◌⊎◌, length, Ok, Err, IfOk, IfErr, IsOk};
+ghost use Rattle.giop_cdr.specs.Outcome.{Exactly};
+ghost use Rattle.giop_msg.specs.Joined.{BeginsWith, body_place, head_of_joined, IsAnswered, no_memory};
+ghost use Rattle.giop_msg.specs.ReplyHead.{early_reply_head, last_reply_status, reply_head, reply_head_1_2, reply_status};
+
+use crate::joined::body_place;
+use crate::service_contexts::{ServiceContexts, ServiceContextsAt};
+use crate::version::Version;
+use giop_cdr::{CdrFault, CdrIn, CdrKind, Octets, Order};
+use std::alloc::{AllocError, Global};
+
+/// What a Reply says before its body (9.4.3): with its contexts on their own, or, as a `ReplyHeadAt`,
+/// where they lie. Contracts see both as one value.
+#[derive(Debug, Drop)]
+pub struct ReplyHead<C = ServiceContexts> {
+    /// The version in which the head is laid out.
+    pub version: Version,
+    /// The id of the request that is answered.
+    pub id: u32,
+    /// What the body is: 0 NO_EXCEPTION, 1 USER_EXCEPTION, 2 SYSTEM_EXCEPTION, 3 LOCATION_FORWARD; and
+    /// in 1.2 alone 4 LOCATION_FORWARD_PERM, 5 NEEDS_ADDRESSING_MODE.
+    pub status: u32,
+    /// The service contexts, in their order.
+    pub contexts: C,
+}
+
+/// A head whose contexts lie where they were read. It takes no memory.
+pub type ReplyHeadAt<'a, S> = ReplyHead<ServiceContextsAt<'a, S>>;
+
+impl ReplyHead {
+    /// The head that joined octets begin with, where it lies, and the offset of the body behind it. In
+    /// 1.2 that is the first multiple of 8 at or past the end of the fields, whether octets are there
+    /// or not; before 1.2 it is the end of the fields. It takes no memory.
+    ///
+    /// The joined octets are as for `RequestHead::view`. Refused as the first field that is refused, in
+    /// reading order: each as its own reader says, and a status that the version hasn't as BadLabel.
+    pub fn view<'a, S: Octets>(
+        octets: &'a S,
+        version: Version,
+        order: Order,
+    ) -> Result<(ReplyHeadAt<'a, S>, usize), CdrFault>
+        requires { length (S.octets octets.now) ≤ 2 ^ 62 }
+        // What is answered is what the octets begin with, and what they begin with is answered.
+        ensures found { IfOk result (λ x.
+            BeginsWith (reply_head version) (body_place version) order (S.octets octets.now) x.0 x.1) }
+        ensures only { (head : _) (body : _)
+            → BeginsWith (reply_head version) (body_place version) order (S.octets octets.now) head body
+            → result ≡ Ok (head, body) }
+
+        // Which refusal it is.
+        ensures exact { result
+            ≡ head_of_joined (reply_head version) (body_place version) order (S.octets octets.now) }
+    {
+        let mut input = CdrIn::new(octets, order, 12);
+        let head = view_head(version, &mut input)?;
+        Ok((head, body_place(version, &input)))
+    }
+
+    /// The same head on its own. Where memory is wanting for octets that no field refuses, it is
+    /// NoMemory at 12.
+    pub fn decode<S: Octets>(
+        alloc: Global,
+        octets: &S,
+        version: Version,
+        order: Order,
+    ) -> Result<(ReplyHead, usize), CdrFault>
+        requires { length (S.octets octets.now) ≤ 2 ^ 62 }
+        // What is answered is what the octets begin with, and what they begin with is answered.
+        ensures found { IfOk result (λ x.
+            BeginsWith (reply_head version) (body_place version) order (S.octets octets.now) x.0 x.1) }
+        ensures only { (head : _) (body : _)
+            → BeginsWith (reply_head version) (body_place version) order (S.octets octets.now) head body
+            → IsAnswered result head body }
+
+        // Which refusal it is.
+        ensures exact { IfOk result (λ x. head_of_joined (reply_head version) (body_place version) order
+            (S.octets octets.now) ≡ Ok (x.0, x.1)) }
+        ensures err { IfErr result (λ e.
+            (head_of_joined (reply_head version) (body_place version) order (S.octets octets.now) ≡ Err e)
+            ⊎ ((e ≡ no_memory) × IsOk (head_of_joined (reply_head version) (body_place version) order
+            (S.octets octets.now)))) }
+    {
+        let (head, body) = ReplyHead::view(octets, version, order)?;
+        let Ok(head) = head.to_owned(alloc) else {
+            return Err(CdrFault {
+                at: 12,
+                kind: CdrKind::NoMemory,
+            });
+        };
+        Ok((head, body))
+    }
+}
+
+impl<'a, S: Octets> ReplyHeadAt<'a, S> {
+    /// A copy of the head on its own. It takes memory for its contexts.
+    pub fn to_owned(&self, alloc: Global) -> Result<ReplyHead, AllocError>
+        ensures { IfOk result (λ head. head ≡ self.now) }
+    {
+        Ok(ReplyHead {
+            version: self.version,
+            id: self.id,
+            status: self.status,
+            contexts: ServiceContexts::from(self.contexts.to_vec(alloc)?),
+        })
+    }
+}
+
+// The last reply status of a version.
+pub(crate) fn last_reply_status(version: Version) -> u32
+    ensures { result ≡ last_reply_status version }
+{
+    match version {
+        Version::V10 | Version::V11 => 3,
+        Version::V12 => 5,
+    }
+}
+
+// A reply status of a version.
+fn read_status<S: Octets>(version: Version, input: &mut CdrIn<S>) -> Result<u32, CdrFault>
+    ensures { Exactly result input.new ((reply_status version).read input.old) }
+{
+    let at = input.place::<4>();
+    let status = input.read_ulong()?;
+    if status > last_reply_status(version) {
+        return Err(CdrFault {
+            at,
+            kind: CdrKind::BadLabel,
+        });
+    }
+    Ok(status)
+}
+
+// The fields of a head of 1.2 in their order.
+fn view_head_1_2<'a, S: Octets>(input: &mut CdrIn<'a, S>) -> Result<ReplyHeadAt<'a, S>, CdrFault>
+    ensures { Exactly result input.new (reply_head_1_2.read input.old) }
+{
+    let id = input.read_ulong()?;
+    let status = read_status(Version::V12, input)?;
+    let contexts = input.view_tagged_list()?;
+    Ok(ReplyHead {
+        version: Version::V12,
+        id,
+        status,
+        contexts,
+    })
+}
+
+// The fields of a head before 1.2 in their order.
+fn view_early_head<'a, S: Octets>(
+    version: Version,
+    input: &mut CdrIn<'a, S>,
+) -> Result<ReplyHeadAt<'a, S>, CdrFault>
+    ensures { Exactly result input.new ((early_reply_head version).read input.old) }
+{
+    let contexts = input.view_tagged_list()?;
+    let id = input.read_ulong()?;
+    let status = read_status(version, input)?;
+    Ok(ReplyHead {
+        version,
+        id,
+        status,
+        contexts,
+    })
+}
+
+// The fields of a head in their order.
+fn view_head<'a, S: Octets>(
+    version: Version,
+    input: &mut CdrIn<'a, S>,
+) -> Result<ReplyHeadAt<'a, S>, CdrFault>
+    ensures { Exactly result input.new ((reply_head version).read input.old) }
+{
+    match version {
+        Version::V10 => view_early_head(Version::V10, input),
+        Version::V11 => view_early_head(Version::V11, input),
+        Version::V12 => view_head_1_2(input),
+    }
+}

@@ -1,0 +1,80 @@
+#![tactic(auto, unfolding(crate::specs::Target::target_layout, crate::specs::Target::target_by, crate::specs::Target::disposition, crate::specs::Target::key_target, crate::specs::Target::profile_target, crate::specs::Target::reference_target, crate::specs::Target::object_key, crate::specs::Meaning::meaning, giop_ior::specs::Ior::tagged_profile, giop_cdr::specs::Layout::chosen, giop_cdr::specs::Layout::field, giop_cdr::specs::Layout::such, giop_cdr::specs::Layout::number, giop_cdr::specs::Layout::signed, giop_cdr::specs::Layout::octets, giop_cdr::specs::Layout::gives, giop_cdr::specs::Layout::tagged, giop_cdr::specs::Reading::such_at))]
+
+ghost use Rattle.std.specs.Prelude.{◌≡◌};
+ghost use Rattle.giop_cdr.specs.Outcome.{Exactly};
+ghost use Rattle.giop_ior.specs.Ior.{tagged_profile};
+ghost use Rattle.giop_msg.specs.Target.{disposition, key_target, object_key, profile_target, reference_target, target_layout};
+
+use crate::target::{ProfileAt, Target, TargetAt};
+use giop_cdr::{CdrFault, CdrIn, CdrKind, Octets};
+use giop_ior::view_ior;
+
+// The disposition of a target: 0, 1 or 2.
+fn read_disposition<S: Octets>(input: &mut CdrIn<S>) -> Result<i16, CdrFault>
+    ensures { Exactly result input.new (disposition.read input.old) }
+{
+    let at = input.place::<2>();
+    let disposition = input.read_short()?;
+    if !matches!(disposition, 0 | 1 | 2) {
+        return Err(CdrFault {
+            at,
+            kind: CdrKind::BadLabel,
+        });
+    }
+    Ok(disposition)
+}
+
+fn view_key<'a, S: Octets>(input: &mut CdrIn<'a, S>) -> Result<TargetAt<'a, S>, CdrFault>
+    ensures { Exactly result input.new (key_target.read input.old) }
+{
+    let key = input.view_octets(0)?;
+    Ok(Target::Key(key))
+}
+
+fn view_tagged_profile<'a, S: Octets>(
+    input: &mut CdrIn<'a, S>,
+) -> Result<ProfileAt<'a, S>, CdrFault>
+    ensures { Exactly result input.new (tagged_profile.read input.old) }
+{
+    let tag = input.read_ulong()?;
+    let octets = input.view_octets(0)?;
+    Ok(ProfileAt { tag, octets })
+}
+
+fn view_profile<'a, S: Octets>(input: &mut CdrIn<'a, S>) -> Result<TargetAt<'a, S>, CdrFault>
+    ensures { Exactly result input.new (profile_target.read input.old) }
+{
+    let profile = view_tagged_profile(input)?;
+    Ok(Target::Profile(profile))
+}
+
+fn view_reference<'a, S: Octets>(input: &mut CdrIn<'a, S>) -> Result<TargetAt<'a, S>, CdrFault>
+    ensures { Exactly result input.new (reference_target.read input.old) }
+{
+    let index = input.read_ulong()?;
+    let ior = view_ior(input)?;
+    Ok(Target::Reference { index, ior })
+}
+
+// A target of 1.2: the disposition, and what it says.
+pub(crate) fn view_target<'a, S: Octets>(
+    input: &mut CdrIn<'a, S>,
+) -> Result<TargetAt<'a, S>, CdrFault>
+    ensures { Exactly result input.new (target_layout.read input.old) }
+{
+    match read_disposition(input)? {
+        0 => view_key(input),
+        1 => view_profile(input),
+        _ => view_reference(input),
+    }
+}
+
+// A target before 1.2: an object key.
+pub(crate) fn view_object_key<'a, S: Octets>(
+    input: &mut CdrIn<'a, S>,
+) -> Result<TargetAt<'a, S>, CdrFault>
+    ensures { Exactly result input.new (object_key.read input.old) }
+{
+    let key = input.view_octets(0)?;
+    Ok(Target::Key(key))
+}
