@@ -1,46 +1,42 @@
--- The text of a reference that was written is read as the reference.
-use Rattle.std.proofs.Common.{◌≡◌, ℕ, true, false, List, [], ◌∷◌, ◌++◌, codes, Option, Some, option_map, option_and_then, Result, Ok, refl, sym, ap, ◌∙◌, subst}
-use Rattle.std.proofs.lemmas.List.{append-nil}
+-- What is written of a fitting value are octets, and so the text of a reference that was written is read
+-- as the reference.
+use Rattle.std.proofs.Common.{◌≡◌, ◌<◌, ◌^◌, ℕ, true, List, [], ◌∷◌, Ok, Some, refl, ap}
+use Rattle.std.proofs.lemmas.Bool.{and_parts, ltb-true}
+use Rattle.std.proofs.lemmas.List.Elements.{All-nil, All-cons}
 use Rattle.std.specs.Result.{result_ok}
-use Rattle.hex.specs.Hex.{decode_of, encode_lower}
-use Rattle.hex.proofs.HexLemmas.{decode_of-encode_lower}
-use Rattle.giop_cdr.specs.declared.order.Order.TheVariants.{Big}
-use Rattle.giop_cdr.specs.Output.{Output}
-use Rattle.giop_cdr.specs.Cursor.{Cursor}
-use Rattle.giop_cdr.specs.RoundTrip.{IsReadBack}
-use Rattle.giop_types.specs.Shape.{Shape}
-use Rattle.giop_types.specs.Tree.{Tree}
+use Rattle.giop_cdr.specs.Layout.{AreOctets}
 use Rattle.giop_types.specs.Decoding.{decode_at}
-use Rattle.giop_types.specs.Fits.{are_octets, fits}
+use Rattle.giop_types.specs.Fits.{are_octets, fits, is_unsigned}
 use Rattle.giop_types.specs.Full.{is_full}
-use Rattle.giop_types.specs.Reference.{opened, reference_data, reference_shown, reference_in, encapsulated_in, content_in, digits_in}
+use Rattle.giop_types.specs.IorText.{IorText, begun, ior_text_of, text_written}
+use Rattle.giop_types.specs.Reference.{reference_data, reference_shown}
+use Rattle.giop_types.specs.Refusals.{RefusedShape}
+use Rattle.giop_types.specs.Shape.{Shape}
 use Rattle.giop_types.specs.Spells.{Spells}
+use Rattle.giop_types.specs.Tree.{Tree}
 use Rattle.giop_types.specs.Written.{value_out}
-use Rattle.giop_cdr.specs.Output.{number_out}
 use Rattle.giop_types.proofs.EncodeLemmas.{encoded_back}
-use Rattle.giop_types.proofs.JsonLeavesBack.{octets_are_bytes}
+use Rattle.giop_types.proofs.IorTextLemmas.{texts_read, value_written}
+use Rattle.giop_types.proofs.ShapeExact.{shape_exact}
 use Rattle.giop_types.proofs.WrittenOctets.{value_keeps}
 
--- an encapsulation begins with the octet of its order
-opened_is : opened ≡ record { order = Big; at = 1; octets = 0 ∷ [] }
-unfolding number_out
-opened_is = refl
+all_octets : (t : List ℕ) → are_octets t ≡ true → AreOctets t
+all_octets [] h = All-nil (λ octet. octet < 256)
+all_octets (o ∷ t) h =
+    let parts = and_parts (is_unsigned 8 o) (are_octets t) h in
+    All-cons (λ octet. octet < 256) o t (ltb-true o (2 ^ 8) parts.0) (all_octets t parts.1)
 
-text_digits : (digits : List ℕ) → digits_in (codes "IOR:" ++ digits) ≡ Some digits
-text_digits digits = refl
+pub text_says : (s : Shape) → is_full s ≡ true → (t : Tree) → fits s t ≡ true → IorText (Spells s) t (text_written (value_out s) t)
+text_says s full t fit =
+    let back = encoded_back s t begun (value_out s t begun) full fit refl in
+    value_written (Spells s) t (value_out s t begun)
+    (record { part = back.part; octets = back.octets; order = back.order; at = back.at; spells = back.spells })
+    (all_octets (value_out s t begun).octets (value_keeps s t fit begun refl))
 
-content_back : (s : Shape) (t : Tree) → is_full s ≡ true → fits s t ≡ true → encapsulated_in s (value_out s t opened).octets ≡ Some t
-content_back s t full fit =
-    let back : IsReadBack (Spells s) (decode_at s) t opened (value_out s t opened) = encoded_back s t opened (value_out s t opened) full fit refl in
-    let written : (value_out s t opened).octets ≡ 0 ∷ back.part = back.octets ∙ ap (λ (o : Output). o.octets ++ back.part) opened_is in
-    let read : decode_at s (record { order = Big; at = 1; rest = back.part }) ≡ Ok (t, record { order = (value_out s t opened).order; at = (value_out s t opened).at; rest = [] })
-    = ap (λ (rest : List ℕ). decode_at s (record { order = Big; at = 1; rest = rest })) (sym (append-nil back.part))
-    ∙ ap (λ (o : Output). decode_at s (record { order = o.order; at = o.at; rest = back.part ++ [] })) (sym opened_is) ∙ back.back [] in
-    ap (encapsulated_in s) written ∙ ap (λ r. option_map (λ (p : Tree × Cursor). p.0) (result_ok r)) read
+pub text_back : (s : Shape) → is_full s ≡ true → (t : Tree) → fits s t ≡ true
+    → ior_text_of (decode_at s) (text_written (value_out s) t) ≡ Ok t
+text_back s full t fit =
+    (texts_read (Spells s) (RefusedShape s) (decode_at s) (shape_exact s full)).only _ t (text_says s full t fit)
 
 pub reference_back : (s : Shape) (t : Tree) → is_full s ≡ true → fits s t ≡ true → reference_shown s (reference_data s t) ≡ Some t
-reference_back s t full fit =
-    let bytes = octets_are_bytes (value_out s t opened).octets (value_keeps s t fit opened (ap (λ (o : Output). are_octets o.octets) opened_is)) in
-    rw fit (ap (λ o. option_and_then (encapsulated_in s) (option_and_then (λ digits. result_ok (decode_of digits)) o)) (text_digits (encode_lower (value_out s t opened).octets))
-    ∙ ap (λ r. option_and_then (encapsulated_in s) (result_ok r)) (decode_of-encode_lower (value_out s t opened).octets bytes)
-    ∙ content_back s t full fit)
+reference_back s t full fit = rw fit (ap result_ok (text_back s full t fit))

@@ -27,9 +27,9 @@ pub fn ior_texts_are_read()
 pub fn written_ior_texts_are_read_back()
     ensures octets { (octets : List ℕ) → AreOctets octets → PrefixedText octets (prefixed octets) }
     ensures written { (shape : Shape) → is_full shape ≡ true
-        → (tree : Tree) → fits shape tree ≡ true → AreOctets (value_out shape tree begun).octets
+        → (tree : Tree) → fits shape tree ≡ true
         → IorText (Spells shape) tree (text_written (value_out shape) tree) }
     ensures again { (shape : Shape) → is_full shape ≡ true
-        → (tree : Tree) → fits shape tree ≡ true → AreOctets (value_out shape tree begun).octets
+        → (tree : Tree) → fits shape tree ≡ true
         → ior_text_of (decode_at shape) (text_written (value_out shape) tree) ≡ Ok tree }
 {}
