@@ -26,7 +26,7 @@ abbrev pub has_branches : Branches → Bool
 has_branches no_branches = false
 has_branches (branch ls name s bs) = true
 
--- whether a case has no label: each has one or more (9.3.2.2)
+-- whether a case has no label: each has one or more (9.3.2.3)
 abbrev pub has_bare_branch : Branches → Bool
 has_bare_branch no_branches = false
 has_bare_branch (branch ls name s bs) = length ls == 0 || has_bare_branch bs
@@ -40,7 +40,7 @@ is_empty (choice disc bs other) = not (has_branches bs) || has_bare_branch bs
 is_empty (row s n) = n == 0
 is_empty _ = false
 
--- ---- discriminants and labels (9.3.2.2)
+-- ---- discriminants and labels (9.3.2.3)
 
 -- whether a number is from the first one to the last one
 abbrev pub is_between : ℤ → ℤ → ℤ → Bool

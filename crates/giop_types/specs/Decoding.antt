@@ -24,7 +24,7 @@ as_read f read = read >>= λ x. Ok (f x.0, x.1)
 unfoldable pub ordinal_at : ℕ → Cursor → Reading ℕ
 ordinal_at n = such_at (λ ordinal. nat_lt ordinal n) 4 BadLabel (number_at w32)
 
--- what a discriminant of this shape is: a boolean, a char, an ordinal or a number (9.3.2.2)
+-- what a discriminant of this shape is: a boolean, a char, an ordinal or a number (9.3.2.3)
 unfoldable pub label_at : Shape → Cursor → Reading ℤ
 label_at boolean c = as_read (λ b. if b then pos 1 else pos 0) (boolean_at c)
 label_at char c = as_read pos (number_at w8 c)
@@ -51,6 +51,8 @@ bounded_at item bound c = do
 abbrev pub is_label : ℤ → List ℤ → Bool
 is_label label ls = list_any (λ l. int_eq l label) ls
 
+-- what reading answers at a cursor, shape by shape as `Spells` says what is spelled and `RefusedShape`
+-- what is refused; that it is exact is the law `values_are_spelled`
 unfoldable mutual
   pub decode_at : Shape → Cursor → Reading Tree
   decode_at boolean c = as_read boolean_of (boolean_at c)

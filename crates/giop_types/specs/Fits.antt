@@ -52,6 +52,10 @@ abbrev pub is_one : (Tree → Bool) → List Tree → Bool
 is_one test (t ∷ []) = test t
 is_one test _ = false
 
+-- whether a value is of a shape: of the same kind; numbers in their range; a text without a null, and
+-- within its bound (9.3.2.7); a sequence within its bound and its count (9.3.2.5); an ordinal of a name
+-- (9.3.2.6); as many values as a struct has members (9.3.2.2) or an array says (9.3.2.4); a union's
+-- discriminant in range, with the member that it selects and no other (9.3.2.3)
 unfoldable mutual
   pub fits : Shape → Tree → Bool
   fits boolean (boolean_of b) = true

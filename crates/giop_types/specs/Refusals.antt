@@ -48,6 +48,9 @@ abbrev pub RefusedBy : Bool → Refusal → Refusal → Refusal
 RefusedBy true R S = R
 RefusedBy false R S = S
 
+-- where and why no value of a shape is read: too few octets for a number, what giop_cdr refuses of a
+-- boolean, a string or octets, an ordinal of no name (9.3.2.6), a count above its bound or above what is
+-- left (9.3.2.5), an array longer than what is left (9.3.2.4), or the first of the parts that is refused
 unfoldable mutual
   pub RefusedShape : Shape → Refusal
   RefusedShape boolean = RefusedBoolean
@@ -68,10 +71,12 @@ unfoldable mutual
   RefusedShape (items s bound) = RefusedBounded bound (Took (Spells s)) (RefusedShape s)
   RefusedShape (row s n) = RefusedRow n (Took (Spells s)) (RefusedShape s)
 
+  -- the first member that is refused, behind those that are read
   pub RefusedFields : Fields → Refusal
   RefusedFields no_fields = NeverRefused
   RefusedFields (field name s fs) = FirstRefused (Took (Spells s)) (RefusedShape s) (λ t. RefusedFields fs)
 
+  -- the member of the first case that has the label is refused, or else what is there by default
   pub RefusedBranches : Branches → Refusal → ℤ → Refusal
   RefusedBranches no_branches other label = other
   RefusedBranches (branch ls name s bs) other label =

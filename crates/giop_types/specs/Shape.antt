@@ -4,29 +4,40 @@ use Rattle.std.specs.Prelude.{ℕ, ℤ, List}
 mutual
   -- a type of IDL, without its name
   pub data Shape : Type 0 where
+    -- a boolean (9.3.1.5), an octet (9.3.1.4), a char (9.3.1.6)
     boolean : Shape
     octet : Shape
     char : Shape
+    -- integers of 16, 32 and 64 bits, with a sign and without one (9.3.1.2)
     short : Shape
     ushort : Shape
     long : Shape
     ulong : Shape
     longlong : Shape
     ulonglong : Shape
+    -- a string of so many octets at most, where 0 is no bound (9.3.2.7)
     text : ℕ → Shape
+    -- a sequence of octets, of so many at most, where 0 is no bound (9.3.2.5)
     octets : ℕ → Shape
+    -- an enum, by the names of its ordinals from 0 on (9.3.2.6)
     labels : List (List ℕ) → Shape
+    -- a struct (9.3.2.2)
     members : Fields → Shape
+    -- a union: its discriminant, its cases, and its member by default or none (9.3.2.3)
     choice : Shape → Branches → Fields → Shape
+    -- a sequence of so many values at most, where 0 is no bound (9.3.2.5)
     items : Shape → ℕ → Shape
+    -- an array of so many values (9.3.2.4)
     row : Shape → ℕ → Shape
 
   -- named members in their order
   pub data Fields : Type 0 where
     no_fields : Fields
+    -- a name, what is there, and the members behind it
     field : List ℕ → Shape → Fields → Fields
 
   -- members that labels select
   pub data Branches : Type 0 where
     no_branches : Branches
+    -- labels, a name, what is there, and the cases behind it
     branch : List ℤ → List ℕ → Shape → Branches → Branches

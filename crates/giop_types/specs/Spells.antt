@@ -47,6 +47,10 @@ SpellsLabel ulonglong = As pos (SpellsNumber w64)
 SpellsLabel (labels names) = As pos (SpellsOrdinal (length names))
 SpellsLabel _ = Nothing
 
+-- the octets of a value, in an order and from an offset on: a boolean, an octet, a char and a number as
+-- giop_cdr spells them (9.3.1); a string and octets within their bound (9.3.2.7, 9.3.2.5); an enum by its
+-- ordinal (9.3.2.6); a struct member by member (9.3.2.2); a union by its discriminant and the member that
+-- it selects (9.3.2.3); a sequence behind its count (9.3.2.5), an array without one (9.3.2.4)
 unfoldable mutual
   pub Spells : Shape → Spelling Tree
   Spells boolean = As boolean_of SpellsBoolean
@@ -67,10 +71,12 @@ unfoldable mutual
   Spells (items s bound) = As (λ ts. items_of (trees_of ts)) (SpellsBounded bound (Spells s))
   Spells (row s n) = As (λ ts. row_of (trees_of ts)) (CountedItems (Spells s) n)
 
+  -- each member's value, one after the other
   pub SpellsFields : Fields → Spelling (List Tree)
   SpellsFields no_fields = Known []
   SpellsFields (field name s fs) = Then (Spells s) (λ t. As (λ ts. t ∷ ts) (SpellsFields fs))
 
+  -- the member of the first case that has the label, or else what is there by default
   pub SpellsBranches : Branches → Spelling (List Tree) → ℤ → Spelling (List Tree)
   SpellsBranches no_branches other label = other
   SpellsBranches (branch ls name s bs) other label =

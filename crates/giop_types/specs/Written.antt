@@ -29,6 +29,8 @@ abbrev pub one_out : (Tree → Output → Output) → List Tree → Output → O
 one_out item (t ∷ []) out = item t out
 one_out item _ out = out
 
+-- an output with a value behind it; nothing is written of a value of another kind. That what is written
+-- of a fitting value is read back is the law `written_values_are_read_back`
 unfoldable mutual
   pub value_out : Shape → Tree → Output → Output
   value_out boolean (boolean_of b) = number_out w8 (if b then 1 else 0)
@@ -50,10 +52,12 @@ unfoldable mutual
   value_out (row s n) (row_of ts) = items_out (value_out s) (list_of ts)
   value_out _ _ = λ out. out
 
+  -- each member's value, one after the other
   pub fields_out : Fields → List Tree → Output → Output
   fields_out (field name s fs) (t ∷ ts) = λ out. fields_out fs ts (value_out s t out)
   fields_out _ _ = λ out. out
 
+  -- the member of the first case that has the label, or else what is there by default
   pub branches_out : Branches → (List Tree → Output → Output) → ℤ → List Tree → Output → Output
   branches_out no_branches other label ts = other ts
   branches_out (branch ls name s bs) other label ts =
