@@ -6,7 +6,7 @@ use Rattle.std.proofs.lemmas.List.Elements.{All-append}
 use Rattle.std.proofs.lemmas.Bool.{cases_lt}
 use Rattle.giop_msg.specs.declared.header.Header.{Header}
 use Rattle.giop_msg.specs.declared.msg.Msg.{Msg}
-use Rattle.giop_msg.specs.Header.{header_octets, header_of, field_fault, header_fault}
+use Rattle.giop_msg.specs.Header.{header_octets, header_of, header_fault}
 use Rattle.giop_msg.specs.Msg.{head_of, message_octets, IsMessage}
 use Rattle.giop_msg.specs.Stream.{Unread, Waits, AppendsTaken, TakesMessage}
 use Rattle.giop_msg.proofs.FaultLemmas.{header_fault-of_fields, octet_fault-sound, sizes_of_sound}

@@ -5,6 +5,7 @@ pub mod FramerLemmas
 pub mod ReadPiecesLemmas
 pub mod JoinedLemmas
 pub mod TableLemmas
+pub mod CutLemmas
 pub mod MeaningLemmas
 pub mod TargetLemmas
 pub mod RequestHeadLemmas

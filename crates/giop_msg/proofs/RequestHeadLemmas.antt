@@ -3,7 +3,7 @@ use Rattle.std.proofs.Common.{◌≡◌, ℕ, ◌==◌, ◌||◌, Bool, true, fa
 use Rattle.std.proofs.lemmas.Bool.{eqb-true}
 use Rattle.std.specs.Int.{w8, w32}
 use Rattle.giop_cdr.specs.declared.order.Order.{Order}
-use Rattle.giop_cdr.specs.Layout.{IsLawful, AreOctets, number, octets, such, field, gives, reserved}
+use Rattle.giop_cdr.specs.Layout.{IsLawful, AreOctets, number, octets, field, gives, reserved}
 use Rattle.giop_cdr.proofs.LayoutLemmas.{number_is, boolean_is, octets_is, text_is, such_is, field_is, gives_is, reserved_is, unspelled}
 use Rattle.giop_ior.proofs.ServiceContextLemmas.{service_contexts_are}
 use Rattle.giop_msg.specs.declared.version.Version.{Version}

@@ -1,14 +1,14 @@
 -- The layouts of targets are lawful.
-use Rattle.std.proofs.Common.{◌≡◌, ℕ, ℤ, pos, ◌||◌, Bool, true, false, List, refl, sym, ap, ◌∙◌}
+use Rattle.std.proofs.Common.{◌≡◌, ℤ, pos, ◌||◌, Bool, true, false, refl, sym, ap, ◌∙◌}
 use Rattle.std.proofs.lemmas.Bool.Decides.{Decides-int_eq}
 use Rattle.std.specs.Int.{w16, w32}
 use Rattle.std.specs.Ordering.{int_eq}
-use Rattle.giop_cdr.specs.Layout.{IsLawful, signed, octets, such, field, gives, chosen}
+use Rattle.giop_cdr.specs.Layout.{IsLawful, signed, such, field, gives, chosen}
 use Rattle.giop_cdr.proofs.LayoutLemmas.{number_is, signed_is, octets_is, such_is, field_is, gives_is, chosen_is, tagged_is}
 use Rattle.giop_ior.specs.Ior.{tagged_profile}
 use Rattle.giop_ior.proofs.IorLemmas.{ior_is}
 use Rattle.giop_msg.specs.declared.target.Target.TheVariants.{Key, Profile, Reference}
-use Rattle.giop_msg.specs.Target.{AnyTarget, disposition_of, disposition, is_disposition, key_of, profile_of, index_of, ior_of, key_target, profile_target, reference_target, target_by, target_layout, is_key, object_key}
+use Rattle.giop_msg.specs.Target.{AnyTarget, disposition_of, disposition, key_of, profile_of, index_of, ior_of, key_target, profile_target, reference_target, target_by, target_layout, is_key, object_key}
 use Rattle.giop_msg.proofs.MeaningLemmas.{meaning_is}
 
 disposition_is : IsLawful disposition

@@ -1,6 +1,6 @@
 -- Joined octets: those of a message from offset 12 on, of all its fragments together, without the four
 -- octets in each Fragment that are its request id (CORBA 3.3 Part 2, 9.4.9).
-use Rattle.std.specs.Prelude.{◌≡◌, ℕ, ◌+◌, ◌==◌, List, [], ◌++◌, length, Result, Ok, Err, if◌then◌else◌}
+use Rattle.std.specs.Prelude.{◌≡◌, ℕ, ◌+◌, ◌==◌, List, ◌++◌, length, Result, Ok, Err, if◌then◌else◌}
 use Rattle.giop_cdr.specs.declared.order.Order.{Order}
 use Rattle.giop_cdr.specs.declared.fault.CdrFault.{CdrFault}
 use Rattle.giop_cdr.specs.declared.fault.CdrKind.TheVariants.{NoMemory, Trailing}

@@ -12,3 +12,4 @@ pub mod Laws
 pub mod RequestHead
 pub mod ReplyHead
 pub mod Locate
+pub mod Cut

@@ -1,5 +1,5 @@
 -- A value that the wire spells by another, as the response flags of GIOP 1.0 by a boolean.
-use Rattle.std.specs.Prelude.{◌≡◌, ℕ, ◌&&◌, Bool, List, Ok}
+use Rattle.std.specs.Prelude.{◌≡◌, ◌&&◌, Bool, Ok}
 use Rattle.giop_cdr.specs.Reading.{◌>>=◌}
 use Rattle.giop_cdr.specs.Layout.{Layout}
 

@@ -1,9 +1,7 @@
 -- Where the request id of a message stands (CORBA 3.3 Part 2, 9.4.2 to 9.4.8).
 use Rattle.std.specs.Prelude.{ℕ, Bool, true, false, List, [], Result, Ok, Err, Option, Some, None, if◌then◌else◌}
 use Rattle.std.specs.Int.{w32}
-use Rattle.giop_cdr.specs.declared.order.Order.{Order}
 use Rattle.giop_cdr.specs.declared.fault.CdrFault.{CdrFault}
-use Rattle.giop_cdr.specs.Cursor.{Cursor}
 use Rattle.giop_cdr.specs.Reading.{Reading}
 use Rattle.giop_cdr.specs.Layout.{Layout, number, field, gives, reserved, chosen}
 use Rattle.giop_ior.specs.declared.service_context.ServiceContext.{ServiceContext}

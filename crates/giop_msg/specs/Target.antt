@@ -1,5 +1,5 @@
 -- The target of a Request and of a LocateRequest (CORBA 3.3 Part 2, 9.4.2.1).
-use Rattle.std.specs.Prelude.{◌≡◌, ℕ, ℤ, pos, ◌||◌, Bool, true, false, List, []}
+use Rattle.std.specs.Prelude.{ℕ, ℤ, pos, ◌||◌, Bool, true, false, List, []}
 use Rattle.std.specs.Int.{w16, w32}
 use Rattle.std.specs.Ordering.{int_eq}
 use Rattle.giop_cdr.specs.declared.fault.CdrKind.TheVariants.{BadLabel}

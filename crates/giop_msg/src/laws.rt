@@ -1,4 +1,5 @@
 //! Laws of headers and of streams: each is the contract of a function that does nothing.
+ghost use Rattle.giop_msg.specs.Cut.{CutLaws};
 ghost use Rattle.giop_msg.specs.Laws.{FaultsStand, HeaderRoundTrip, OneSplit, RequestIds, SplitOn};
 
 /// The octets of a header give the header back, and its fields tell what is wrong with them; octets in
@@ -26,4 +27,10 @@ pub fn split_on()
 /// A fault at the front of octets stands there for good, however many octets follow.
 pub fn faults_stand()
     ensures { FaultsStand }
+{}
+
+/// What `cut` answers gives the joined octets again, and a framer reads it back as these messages and
+/// nothing else.
+pub fn cuts_are_undone()
+    ensures { CutLaws }
 {}

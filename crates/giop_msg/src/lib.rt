@@ -2,6 +2,7 @@
 //! stream of octets into messages.
 #![tactic(auto)]
 
+mod cutting;
 mod fault;
 mod framer;
 mod head_laws;
@@ -26,6 +27,7 @@ mod target_writing;
 mod tests;
 mod version;
 
+pub use cutting::{can_cut, cut};
 pub use fault::{WireFault, WireKind};
 pub use framer::Framer;
 pub use giop_ior::ServiceContext;
@@ -35,7 +37,9 @@ pub use head_laws::{
 };
 pub use header::Header;
 pub use kind::Kind;
-pub use laws::{faults_stand, header_round_trip, one_split, request_ids, split_on};
+pub use laws::{
+    cuts_are_undone, faults_stand, header_round_trip, one_split, request_ids, split_on,
+};
 pub use locate_reply_head::LocateReplyHead;
 pub use locate_request::{LocateRequest, LocateRequestAt};
 pub use msg::Msg;

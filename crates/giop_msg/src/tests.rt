@@ -5,6 +5,7 @@ use crate::{Framer, Msg, WireFault, WireKind};
 use std::process::Abort;
 use std::test::Fail;
 
+mod cutting;
 mod framer;
 mod header;
 mod heads;

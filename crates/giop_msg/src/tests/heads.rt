@@ -87,32 +87,36 @@ fn located(octets: &[u8], version: Version) -> Result<(LocateReplyHead, usize), 
 // What is written of a head behind a header; again where memory was wanting.
 fn written(alloc: Global, head: &RequestHead) -> Result<CdrOut, EncodeFault> {
     let mut out = CdrOut::new(alloc, Order::Big, 12);
-    if let Err(EncodeFault::NoMemory) = head.write(&mut out) {
-        head.write(&mut out)?;
+    match head.write(&mut out) {
+        Err(EncodeFault::NoMemory) => head.write(&mut out)?,
+        answer => answer?,
     }
     Ok(out)
 }
 
 fn written_reply(alloc: Global, head: &ReplyHead) -> Result<CdrOut, EncodeFault> {
     let mut out = CdrOut::new(alloc, Order::Big, 12);
-    if let Err(EncodeFault::NoMemory) = head.write(&mut out) {
-        head.write(&mut out)?;
+    match head.write(&mut out) {
+        Err(EncodeFault::NoMemory) => head.write(&mut out)?,
+        answer => answer?,
     }
     Ok(out)
 }
 
 fn written_locate(alloc: Global, head: &LocateRequest) -> Result<CdrOut, EncodeFault> {
     let mut out = CdrOut::new(alloc, Order::Big, 12);
-    if let Err(EncodeFault::NoMemory) = head.write(&mut out) {
-        head.write(&mut out)?;
+    match head.write(&mut out) {
+        Err(EncodeFault::NoMemory) => head.write(&mut out)?,
+        answer => answer?,
     }
     Ok(out)
 }
 
 fn written_located(alloc: Global, head: &LocateReplyHead) -> Result<CdrOut, EncodeFault> {
     let mut out = CdrOut::new(alloc, Order::Big, 12);
-    if let Err(EncodeFault::NoMemory) = head.write(&mut out) {
-        head.write(&mut out)?;
+    match head.write(&mut out) {
+        Err(EncodeFault::NoMemory) => head.write(&mut out)?,
+        answer => answer?,
     }
     Ok(out)
 }
@@ -215,7 +219,9 @@ fn a_reply_is_read_and_written(rt: HostRuntime) -> Result<(), Fail> {
         .ok()
         .ok_or("no head")?;
     assert_eq!(rt; (head.id, head.status, body), (1, 0, 40));
-    assert_eq!(rt; head.contexts.as_slice()[0].id, 9);
+    let contexts = head.contexts.as_slice();
+    assert_eq!(rt; contexts.len(), 1);
+    assert_eq!(rt; contexts[0].id, 9);
     let out = written_reply(rt.alloc(), &head).ok().ok_or("not written")?;
     assert_eq!(rt; out.as_slice(), &WITH_CONTEXT[..21]);
     // Before 1.2 the contexts come first, and the body right behind the status.

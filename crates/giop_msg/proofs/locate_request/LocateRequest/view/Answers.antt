@@ -1,4 +1,4 @@
-use Rattle.std.proofs.Common.{sym, ap, ◌∙◌, length, arith}
+use Rattle.std.proofs.Common.{sym, ap, ◌∙◌, arith}
 use Rattle.std.proofs.lemmas.Result.{err_from_is_err_and}
 use Rattle.giop_msg.specs.Locate.{locate_request}
 use Rattle.giop_msg.proofs.JoinedLemmas.{whole_found, whole_trails, whole_refused, whole_is, whole_only}
