@@ -27,9 +27,11 @@ pub record Call : Type 0 where
   pub entry : Option Entry
   pub pieces : Option Pieces
 
+-- what stands under an id
 abbrev pub at : Held → ℕ → Call
 at h id = record { entry = finite.get h.table id; pieces = finite.get h.gathered id }
 
+-- an end in which something else stands under an id
 abbrev pub put_call : Held → ℕ → Call → Held
 put_call h id call = record h {
   table = put h.table id call.entry;
@@ -153,6 +155,7 @@ abbrev pub reply : Result (Unit {0}) EndFault → Result Reply EndFault
 reply (Ok done) = Ok IsDone
 reply (Err fault) = Err fault
 
+-- what taking an entry out answers
 abbrev pub take_reply : Result (Option Entry) EndFault → Result Reply EndFault
 take_reply (Ok entry) = Ok (Gives entry)
 take_reply (Err fault) = Err fault
@@ -163,6 +166,7 @@ stored Arriving = None
 stored (Whole n) = Some (Some n)
 stored Cancelled = Some None
 
+-- the entry of a number, as it was stored
 abbrev pub from_stored : Option (Option ℕ) → Entry
 from_stored None = Arriving
 from_stored (Some (Some n)) = Whole n
@@ -173,6 +177,7 @@ from_stored-stored Arriving = refl
 from_stored-stored (Whole n) = refl
 from_stored-stored Cancelled = refl
 
+-- entries can be stored as numbers, so that a map of them can be seen by contracts
 abbrev pub entry_code : Coded Entry
 entry_code =
     code_by (Option (Option ℕ)) (coded_option (coded_option coded_ℕ))

@@ -49,12 +49,15 @@ abbrev pub minor_of_parts : Option (List ℕ × List ℕ) → Option ℕ
 minor_of_parts None = None
 minor_of_parts (Some parts) = minor_behind (number_of 3 parts.0) (up_to 255 (number_of 3 parts.1))
 
+-- the minor number of a version, which a "." parts from the major
 abbrev pub minor_of : List ℕ → Option ℕ
 minor_of text = minor_of_parts (cut 46 text)
 
+-- the number of a port
 abbrev pub port_of : List ℕ → Option ℕ
 port_of text = up_to 65535 (number_of 5 text)
 
+-- whether octets are a host's name
 abbrev pub is_host : List ℕ → Bool
 is_host text = nat_lt 0 (length text) && list_all is_host_octet text
 
@@ -75,6 +78,7 @@ endpoint_of_parts minor at text (Some parts) =
 abbrev pub endpoint_at : ℕ → ℕ → List ℕ → Read Address
 endpoint_at minor at text = endpoint_of_parts minor at text (cut 58 text)
 
+-- an address from its version on, where a "@" parts them
 abbrev pub located_of_parts : ℕ → List ℕ → Option (List ℕ × List ℕ) → Read Address
 located_of_parts at text None = endpoint_at 0 at text
 located_of_parts at text (Some parts) =
@@ -138,6 +142,7 @@ key_octet_len text =
     else if is_escape (slice_index text 0) (slice_index text 1) (slice_index text 2) then 3
     else 0
 
+-- the octets of a key in which nothing is wrong
 abbrev pub key_unless : Option CorbalocFault → List ℕ → Read (List ℕ)
 key_unless None text = Ok (percent_decode text)
 key_unless (Some e) text = Err e
@@ -148,6 +153,7 @@ key_at at text = key_unless (key_fault at text) text
 
 -- ---- the whole text
 
+-- a corbaloc, where a "/" parts its addresses from its key
 abbrev pub corbaloc_of_parts : List ℕ → Option (List ℕ × List ℕ) → Read Corbaloc
 corbaloc_of_parts text None =
     addresses_at 9 text >>= λ addresses.

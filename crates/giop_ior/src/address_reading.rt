@@ -48,7 +48,7 @@ fn are_host_octets(text: &[u8]) -> bool
     text.iter().all(|octet| is_host_octet(*octet))
 }
 
-// Whether octets are a host's name.
+/// Whether octets are a host's name.
 pub fn is_host(text: &[u8]) -> bool
     ensures { result ≡ is_host text.now }
 {

@@ -11,7 +11,7 @@ fn position_of(octet: u8, text: &[u8]) -> Option<usize>
     text.iter().position(|x| *x == octet)
 }
 
-// What stands before and behind the first of these octets, where there is one.
+/// What stands before and behind the first of these octets, where there is one.
 pub fn cut(octet: u8, text: &[u8]) -> Option<(&[u8], &[u8])>
     ensures { MatchOption result (cut octet text.now ≡ None)
         (λ parts. cut octet text.now ≡ Some (parts.0.now, parts.1.now)) }
@@ -40,7 +40,7 @@ fn digits_value(text: &[u8]) -> u32
     number
 }
 
-// The number that 1 to `most` decimal digits write.
+/// The number that 1 to `most` decimal digits write.
 pub fn number_of(most: usize, text: &[u8]) -> Option<u32>
     requires { most ≤ 5 }
     ensures { result ≡ number_of most text.now }

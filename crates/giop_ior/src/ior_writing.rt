@@ -44,13 +44,14 @@ pub fn write_ior(out: &mut CdrOut, ior: &Ior) -> Result<(), EncodeFault>
     Ok(())
 }
 
+/// Whether octets are few enough for the count of a sequence.
 pub fn is_countable(octets: &[u8]) -> bool
     ensures { result ≡ is_countable octets.now }
 {
     octets.len() <= u32::MAX as usize
 }
 
-// Whether octets are a string's, and few enough for their count.
+/// Whether octets are a string's, and few enough for their count.
 pub fn is_text(octets: &[u8]) -> bool
     ensures { result ≡ is_spellable octets.now }
 {

@@ -70,7 +70,7 @@ fn wrong_key_octet(octet: u8) -> CorbalocKind
     }
 }
 
-// Whether each octet of a key that begins at this place stands for itself or is escaped.
+/// Whether each octet of a key that begins at this place stands for itself or is escaped.
 pub fn judge_key(at: usize, text: &[u8]) -> Result<(), CorbalocFault>
     requires { at + length text.now < 2 ^ 64 }
     ensures { MatchResult result (λ _. key_fault at text.now ≡ None)

@@ -70,8 +70,11 @@ impl Framer {
     /// A fault changes nothing. One of the octets stands for good, since it stands however many
     /// octets follow; `NoMemory`, at 0, comes only where a whole message stands at the front.
     pub fn next(&mut self) -> Result<Option<Msg>, WireFault>
+        // What is given stood at the front, and is taken away; None leaves what is no message yet.
         ensures found { IfOk result (λ o. IfSome o (λ m. TakesMessage self.old m self.new)) }
         ensures waits { IfOk result (λ o. IfNone o (Waits self.old × (self.new ≡ self.old))) }
+
+        // A fault at the front is told, and only such a one, or want of memory for a message.
         ensures exact { (e : WireFault) → BeginsWithFault self.old.limit self.old.octets e →
             result ≡ Err e }
         ensures err { IfErr result (IsRefusal self.old) }

@@ -27,26 +27,32 @@ abbrev pub are_two : List ℕ → (Shape → Bool) → List ℕ → (Shape → B
 are_two n p m q (field a s (field b t no_fields)) = (same_name a n && p s) && (same_name b m && q t)
 are_two n p m q _ = false
 
+-- a string of any length
 abbrev pub is_any_text : Shape → Bool
 is_any_text (text bound) = bound == 0
 is_any_text _ = false
 
+-- a sequence of octets of any length
 abbrev pub are_any_octets : Shape → Bool
 are_any_octets (octets bound) = bound == 0
 are_any_octets _ = false
 
+-- an unsigned long
 abbrev pub is_ulong : Shape → Bool
 is_ulong ulong = true
 is_ulong _ = false
 
+-- a profile
 abbrev pub is_profile : Shape → Bool
 is_profile (members fs) = are_two (codes "tag") is_ulong (codes "octets") are_any_octets fs
 is_profile _ = false
 
+-- a sequence of profiles of any length
 abbrev pub are_profiles : Shape → Bool
 are_profiles (items s bound) = is_profile s && (bound == 0)
 are_profiles _ = false
 
+-- the members of a reference
 abbrev pub is_reference : Fields → Bool
 is_reference fs = are_two (codes "type_id") is_any_text (codes "profiles") are_profiles fs
 
@@ -60,5 +66,6 @@ reference_data s t = if fits s t then json.string (text_written (value_out s) t)
 abbrev pub reference_in : Shape → List ℕ → Option Tree
 reference_in s t = result_ok (ior_text_of (decode_at s) t)
 
+-- the value that a JSON value is the text of
 abbrev pub reference_shown : Shape → json.Data → Option Tree
 reference_shown s d = option_and_then (reference_in s) (as_str d)

@@ -15,23 +15,28 @@ use Rattle.giop_types.specs.Tree.{Tree, boolean_of, octet_of, char_of, short_of,
 use Rattle.giop_types.specs.Tree.{longlong_of, ulonglong_of, text_of, octets_of, label_of, members_of}
 use Rattle.giop_types.specs.Tree.{choice_of, items_of, row_of, Trees, no_trees, tree}
 
+-- a name, and what it names
 pub record Named : Type 0 where
   pub name : List ℕ
   pub shape : Shape
 
+-- a case of a union: its labels, its name, and what it names
 pub record Selected : Type 0 where
   pub labels : List ℤ
   pub name : List ℕ
   pub shape : Shape
 
+-- members as a tree's own list
 abbrev pub fields_of : List Named → Fields
 fields_of [] = no_fields
 fields_of (m ∷ ms) = field m.name m.shape (fields_of ms)
 
+-- cases as a tree's own list
 abbrev pub branches_of : List Selected → Branches
 branches_of [] = no_branches
 branches_of (b ∷ bs) = branch b.labels b.name b.shape (branches_of bs)
 
+-- values as a tree's own list
 abbrev pub trees_of : List Tree → Trees
 trees_of [] = no_trees
 trees_of (t ∷ ts) = tree t (trees_of ts)
@@ -56,9 +61,11 @@ desc_step (level.Choice disc cases (Some f)) = choice disc.value (branches_of ca
 desc_step (level.Items d bound) = items d.value bound
 desc_step (level.Row d n) = row d.value n
 
+-- a case, where its description is seen
 abbrev pub case_step : level.CaseDesc-F Shape Selected Named → Selected
 case_step c = record { labels = c.labels.items; name = c.name; shape = c.desc }
 
+-- a member, where its description is seen
 abbrev pub named_step : level.NamedDesc-F Shape Selected Named → Named
 named_step m = record { name = m.name; shape = m.desc }
 
@@ -66,9 +73,11 @@ named_step m = record { name = m.name; shape = m.desc }
 abbrev pub desc_view : Desc → Shape
 desc_view = fold-Desc Shape Selected Named desc_step case_step named_step
 
+-- what contracts see of a member
 abbrev pub named_view : NamedDesc → Named
 named_view = fold-NamedDesc Shape Selected Named desc_step case_step named_step
 
+-- what contracts see of a case
 abbrev pub case_view : CaseDesc → Selected
 case_view = fold-CaseDesc Shape Selected Named desc_step case_step named_step
 

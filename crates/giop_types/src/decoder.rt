@@ -43,8 +43,8 @@ pub fn decode<S: Octets>(
     value_of(alloc, desc.desc(), input)
 }
 
-// The value, in one pass where all goes well. Memory comes last: where it is wanting, a second pass
-// without memory looks for a fault.
+/// The value, in one pass where all goes well. Memory comes last: where it is wanting, a second pass
+/// without memory looks for a fault.
 pub fn value_of<S: Octets>(
     alloc: Global,
     desc: &Desc,
