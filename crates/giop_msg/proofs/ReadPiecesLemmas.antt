@@ -8,7 +8,7 @@ use Rattle.giop_msg.specs.declared.fault.WireKind.TheVariants.{NoMemory}
 use Rattle.giop_msg.specs.declared.msg.Msg.{Msg}
 use Rattle.giop_msg.specs.Fault.{fault}
 use Rattle.giop_msg.specs.Msg.{IsMessage, message_octets}
-use Rattle.giop_msg.specs.Stream.{AppendsTaken, BeginsWithFault, BeginsWithMessage, IsStopped, Msgs, Unread, Waits}
+use Rattle.giop_msg.specs.Stream.{AppendsTaken, BeginsWithFault, BeginsWithMessage, IsRefusal, IsStopped, Msgs, Unread, Waits}
 use Rattle.giop_msg.proofs.FaultLemmas.{not_memory}
 use Rattle.giop_msg.proofs.StreamLemmas.{length-message_octets, message_or_fault, one_fault, split_goes_on}
 
@@ -28,16 +28,16 @@ stopped_by_fault unread e stands = record {
 }
 
 -- a refusal of kind NoMemory is want of memory
-pub refused_by_memory : (unread : Unread) (e : WireFault) → BeginsWithFault unread.limit unread.octets e ⊎ (e ≡ fault 0 NoMemory) →
+pub refused_by_memory : (unread : Unread) (e : WireFault) → IsRefusal unread e →
     e.kind ≡ NoMemory → e ≡ fault 0 NoMemory
 refused_by_memory unread e (inl stands) memory = absurd (not_memory unread.limit (take 12 unread.octets) e stands.1 memory)
-refused_by_memory unread e (inr is) memory = is
+refused_by_memory unread e (inr is) memory = is.0
 
 -- another one stands at the front of the octets
-pub refused_by_fault : (unread : Unread) (e : WireFault) → BeginsWithFault unread.limit unread.octets e ⊎ (e ≡ fault 0 NoMemory) →
+pub refused_by_fault : (unread : Unread) (e : WireFault) → IsRefusal unread e →
     e.kind ≢ NoMemory → BeginsWithFault unread.limit unread.octets e
 refused_by_fault unread e (inl stands) other = stands
-refused_by_fault unread e (inr is) other = absurd (other (ap (λ (w : WireFault). w.kind) is))
+refused_by_fault unread e (inr is) other = absurd (other (ap (λ (w : WireFault). w.kind) is.0))
 
 -- what is read of a stream: its messages, the fault behind them, and the rest
 pub record ReadSoFar (limit : ℕ) (stream : List ℕ) (messages : List Msg) (stands : Option WireFault) (unread : Unread) : Type 0 where

@@ -82,7 +82,7 @@ impl Framer {
     {
         let found = first_message(self.alloc, self.unread.as_slice(), self.limit)?;
         if let Some(message) = &found {
-            self.unread.advance(12 + message.payload.len());
+            self.pass(message);
         }
         Ok(found)
     }
@@ -90,20 +90,32 @@ impl Framer {
     /// Takes away all messages at the front of the unread octets, and appends them to `messages`.
     ///
     /// After a fault the messages before it are taken, and nothing else has changed: one of the
-    /// octets stands at the front of those that are left, and `NoMemory` is at 0.
+    /// octets stands at the front of those that are left, and `NoMemory`, at 0, comes only where a
+    /// whole message stands there.
     pub fn take_messages(&mut self, messages: &mut Vec<Msg>) -> Result<(), WireFault>
         ensures found { AppendsTaken self.old messages.old.items self.new messages.new.items }
         ensures ok { OnOk result (Waits self.new) }
-        ensures err { IfErr result (λ e. BeginsWithFault self.new.limit self.new.octets e
-            ⊎ (e ≡ fault 0 NoMemory)) }
+        ensures err { IfErr result (IsRefusal self.new) }
     {
         loop {
-            messages.reserve(1)?;
-            let Some(message) = self.next()? else {
+            let octets = self.unread.as_slice();
+            let Some(message) = first_message(self.alloc, octets, self.limit)? else {
                 return Ok(());
             };
+            messages.reserve(1)?;
+            self.pass(&message);
             messages.push(message).unwrap();
         }
+    }
+
+    // Takes away the message that stands at the front of the unread octets.
+    fn pass(&mut self, message: &Msg)
+        requires { IsMessage self.old.limit message.now
+            × (self.old.octets ≡ message_octets message.now
+            ++ drop (12 + length message.now.payload) self.old.octets) }
+        ensures { TakesMessage self.old message.now self.new }
+    {
+        self.unread.advance(12 + message.payload.len());
     }
 }
 
