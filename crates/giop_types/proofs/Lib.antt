@@ -22,6 +22,7 @@ pub mod JsonObjects
 pub mod JsonBack
 pub mod ReferenceLemmas
 pub mod HexLemmas
+pub mod JsonFloatLemmas
 pub mod IorTextLemmas
 pub mod EncodeLemmas
 pub mod SpelledFits

@@ -1,3 +1,4 @@
 pub mod DumpLemmas
 pub mod OctetsLemmas
 pub mod PiecesLemmas
+pub mod ConvertLemmas

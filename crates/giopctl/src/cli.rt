@@ -1,6 +1,8 @@
 //! The command line.
 
-use clap::{Arg, Command, Error};
+use crate::commands::Way;
+use clap::{Arg, ArgAction, ArgMatches, Command, Error};
+use giop_cdr::Order;
 use std::alloc::{AllocError, Global};
 
 /// What the command line asks for.
@@ -10,6 +12,31 @@ pub enum Task<'a> {
     Dump {
         /// The file's name, or `-` for the standard input.
         file: &'a str,
+    },
+    /// Write what a file holds in another form.
+    Convert {
+        /// The file's name, or `-` for the standard input.
+        file: &'a str,
+        /// From what, and into what.
+        kind: ConvertKind<'a>,
+    },
+}
+
+/// The kinds of `convert`.
+#[derive(Clone, Copy, Debug)]
+pub enum ConvertKind<'a> {
+    /// The text of a reference, shown.
+    Ior,
+    /// A corbaloc, and its reference.
+    Corbaloc,
+    /// A value, between JSON and octets.
+    Value {
+        /// Which of them the file holds.
+        way: Way,
+        /// The name of the file of the value's description.
+        desc: &'a str,
+        /// The byte order of the octets.
+        order: Order,
     },
 }
 
@@ -21,8 +48,9 @@ Exit statuses:
   3  reading or writing failed
   4  out of memory
 
-Example:
-  giopctl dump examples/ping.giop";
+Examples:
+  giopctl dump examples/ping.giop
+  giopctl convert ior examples/printer.ior";
 
 const DUMP_HELP: &str = "\
 Each message has a line: its offset in the file, its kind, its version where that is 1.0 or 1.1, its
@@ -47,24 +75,95 @@ Exit statuses:
 Example:
   giopctl dump examples/ping.giop";
 
+const CONVERT_HELP: &str = "\
+One newline at the file's end is dropped. What is refused is told as `fault NUMBER NAME`, with the
+place where it has one, and status 1.
+
+Examples:
+  giopctl convert ior examples/printer.ior
+  giopctl convert corbaloc examples/printer.corbaloc
+  giopctl convert encode examples/point.json --desc examples/point.desc.json
+  giopctl convert decode examples/point.hex --desc examples/point.desc.json";
+
+const IOR_HELP: &str = "\
+The file holds IOR: and hexadecimal digits. The first line is the type id, the last one the text
+again; between them each profile has a line: one of tag 0 its version, host, port, object key and the
+number of its components, any other its tag and its octets.
+
+Example:
+  giopctl convert ior examples/printer.ior";
+
+const CORBALOC_HELP: &str = "\
+The file holds corbaloc: and addresses of IIOP. The first line is the corbaloc written in full, the
+second one the text of its reference.
+
+Example:
+  giopctl convert corbaloc examples/printer.corbaloc";
+
+const ENCODE_HELP: &str = "\
+The file holds a value in JSON, and the file of --desc its description. The line is the value's
+octets from offset 0 on, in hexadecimal.
+
+Example:
+  giopctl convert encode examples/point.json --desc examples/point.desc.json --little";
+
+const DECODE_HELP: &str = "\
+The file holds octets in hexadecimal, from offset 0 on, and the file of --desc the description of the
+value that they are. The line is the value in JSON.
+
+Example:
+  giopctl convert decode examples/point.hex --desc examples/point.desc.json";
+
 /// What the words ask for, of which the first is the program's name. There is no task where they are
 /// refused or ask for help or the version: then the error has the text to print.
 pub fn task_of<'a>(alloc: Global, words: &'a [String]) -> Result<Option<Task<'a>>, Error> {
     let matches = giopctl(alloc)?.try_get_matches_from(words)?;
-    let Some(dump) = matches.subcommand_matches("dump") else {
+    if let Some(dump) = matches.subcommand_matches("dump") {
+        return Ok(dump.get_str("FILE").map(|file| Task::Dump { file }));
+    }
+    let Some(convert) = matches.subcommand_matches("convert") else {
         return Ok(None);
     };
-    Ok(dump.get_str("FILE").map(|file| Task::Dump { file }))
+    if let Some(ior) = convert.subcommand_matches("ior") {
+        return Ok(converted(ior, Some(ConvertKind::Ior)));
+    }
+    if let Some(corbaloc) = convert.subcommand_matches("corbaloc") {
+        return Ok(converted(corbaloc, Some(ConvertKind::Corbaloc)));
+    }
+    if let Some(encode) = convert.subcommand_matches("encode") {
+        return Ok(converted(encode, value_of(encode, Way::Encode)));
+    }
+    match convert.subcommand_matches("decode") {
+        Some(decode) => Ok(converted(decode, value_of(decode, Way::Decode))),
+        None => Ok(None),
+    }
+}
+
+fn converted<'a>(matches: &ArgMatches<'a>, kind: Option<ConvertKind<'a>>) -> Option<Task<'a>> {
+    let file = matches.get_str("FILE")?;
+    let kind = kind?;
+    Some(Task::Convert { file, kind })
+}
+
+fn value_of<'a>(matches: &ArgMatches<'a>, way: Way) -> Option<ConvertKind<'a>> {
+    let desc = matches.get_str("desc")?;
+    let order = if matches.get_flag("little") {
+        Order::Little
+    } else {
+        Order::Big
+    };
+    Some(ConvertKind::Value { way, desc, order })
 }
 
 fn giopctl<'a>(alloc: Global) -> Result<Command<'a>, AllocError> {
     Command::new(alloc, "giopctl")
-        .about("Shows what files of GIOP messages hold")
+        .about("Shows what GIOP messages, references and CDR values hold")
         .version("0.1.0")
         .subcommand_required(true)
         .arg_required_else_help(true)
         .after_help(STATUSES)
-        .subcommand(dump(alloc)?)
+        .subcommand(dump(alloc)?)?
+        .subcommand(convert(alloc)?)
 }
 
 fn dump<'a>(alloc: Global) -> Result<Command<'a>, AllocError> {
@@ -75,4 +174,66 @@ fn dump<'a>(alloc: Global) -> Result<Command<'a>, AllocError> {
         .about("Shows each message of a file")
         .after_help(DUMP_HELP)
         .arg(file)
+}
+
+fn convert<'a>(alloc: Global) -> Result<Command<'a>, AllocError> {
+    Command::new(alloc, "convert")
+        .about("Writes what a file holds in another form")
+        .subcommand_required(true)
+        .arg_required_else_help(true)
+        .after_help(CONVERT_HELP)
+        .subcommand(kind(alloc, "ior", "Shows the text of a reference", IOR_HELP)?)?
+        .subcommand(kind(
+            alloc,
+            "corbaloc",
+            "Writes a corbaloc in full, and its reference",
+            CORBALOC_HELP,
+        )?)?
+        .subcommand(of_value(
+            alloc,
+            "encode",
+            "Writes the octets of a value in JSON",
+            ENCODE_HELP,
+        )?)?
+        .subcommand(of_value(
+            alloc,
+            "decode",
+            "Writes octets as a value in JSON",
+            DECODE_HELP,
+        )?)
+}
+
+// A kind of `convert`, by its name, with what it does and how.
+fn kind<'a>(
+    alloc: Global,
+    name: &'a str,
+    about: &'a str,
+    help: &'a str,
+) -> Result<Command<'a>, AllocError> {
+    let file = Arg::new(alloc, "FILE")
+        .required(true)
+        .help("The file to convert, or - for the standard input");
+    Command::new(alloc, name)
+        .about(about)
+        .after_help(help)
+        .arg(file)
+}
+
+// The same of a value, which takes its description and may take a byte order.
+fn of_value<'a>(
+    alloc: Global,
+    name: &'a str,
+    about: &'a str,
+    help: &'a str,
+) -> Result<Command<'a>, AllocError> {
+    let desc = Arg::new(alloc, "desc")
+        .long("desc")
+        .required(true)
+        .value_name("FILE")
+        .help("The file of the value's description, in JSON");
+    let little = Arg::new(alloc, "little")
+        .long("little")
+        .action(ArgAction::SetTrue)
+        .help("The octets are little-endian, not big-endian");
+    kind(alloc, name, about, help)?.arg(desc)?.arg(little)
 }

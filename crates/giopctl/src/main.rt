@@ -1,8 +1,10 @@
-//! The program giopctl: it shows what files of GIOP messages hold.
+//! The program giopctl: it shows what files of GIOP messages hold, and writes references and values in
+//! another form.
 #![tactic(auto)]
 
 mod cli;
 mod commands;
+mod converting;
 mod failure;
 mod lines;
 mod pieces;
@@ -33,6 +35,7 @@ fn run(rt: &HostRuntime) -> Status {
     };
     match cli::task_of(rt.alloc(), words.as_slice()) {
         Ok(Some(Task::Dump { file })) => report::answer(rt, file, dump(rt, file)),
+        Ok(Some(Task::Convert { file, kind })) => converting::convert(rt, file, kind),
         Ok(None) => Status::Usage,
         Err(error) => report::usage(rt, &error),
     }

@@ -1,5 +1,6 @@
 //! What no clause says: the text of worked files, runs that fail, and the words that are taken.
 
+mod convert;
 mod dump;
 mod failing;
 mod reading;

@@ -43,9 +43,8 @@ fn the_nil_reference_goes_both_ways(rt: HostRuntime) -> Result<(), Fail> {
         octets.as_slice()
     );
 
-    let (Ok(again), end) = read(&rt, &octets, Order::Big) else {
-        return Err(Fail::from("no reference"));
-    };
+    let (answer, end) = read(&rt, &octets, Order::Big);
+    let again = answer?;
     assert!(rt; again.type_id.is_empty());
     assert!(rt; again.profiles.is_empty());
     assert_eq!(rt; end, octets.len());
@@ -64,9 +63,8 @@ fn a_reference_is_read_in_either_order(rt: HostRuntime) -> Result<(), Fail> {
         0, 0, 0, 2, 0, 0, 0, 1, 2, 0, 0, 0, 0, 0, 0, 0, 0, 0, 0,
     ];
     for (octets, order) in [(big, Order::Big), (little, Order::Little)] {
-        let (Ok(ior), _end) = read(&rt, &octets, order) else {
-            return Err(Fail::from("no reference"));
-        };
+        let (answer, _end) = read(&rt, &octets, order);
+        let ior = answer?;
         assert_eq!(rt; ior.type_id.as_slice(), b"IDL:a:1.0".as_slice());
         assert_eq!(rt; ior.profiles.len(), 2);
         let profiles = ior.profiles.as_slice();

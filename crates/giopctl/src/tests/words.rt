@@ -1,4 +1,6 @@
-use crate::cli::{Task, task_of};
+use crate::cli::{ConvertKind, Task, task_of};
+use crate::commands::Way;
+use giop_cdr::Order;
 use std::alloc::{AllocError, Global};
 use std::test::Fail;
 
@@ -33,26 +35,101 @@ fn is_usage(alloc: Global, words: &[String]) -> Option<bool> {
 // What is refused is told on standard error; what was asked for, on standard output.
 #[test]
 fn other_words_are_usage(rt: HostRuntime) -> Result<(), Fail> {
-    let refused: [&[&str]; 5] = [
+    let refused: [&[&str]; 13] = [
         &["giopctl"],
         &["giopctl", "dump"],
         &["giopctl", "dump", "one", "two"],
         &["giopctl", "show", "ping.giop"],
         &["giopctl", "--dump", "ping.giop"],
+        &["giopctl", "convert"],
+        &["giopctl", "convert", "ior"],
+        &["giopctl", "convert", "iors", "a"],
+        &["giopctl", "convert", "ior", "a", "b"],
+        &["giopctl", "convert", "ior", "a", "--little"],
+        &["giopctl", "convert", "corbaloc", "a", "--desc", "b"],
+        &["giopctl", "convert", "encode", "a"],
+        &["giopctl", "convert", "decode", "a", "--little"],
     ];
     for words in refused {
         let words = words_of(rt.alloc(), words)?;
         assert_eq!(rt; is_usage(rt.alloc(), words.as_slice()), Some(true));
     }
-    let asked: [&[&str]; 4] = [
+    let asked: [&[&str]; 6] = [
         &["giopctl", "--help"],
         &["giopctl", "help"],
         &["giopctl", "dump", "--help"],
+        &["giopctl", "convert", "--help"],
+        &["giopctl", "convert", "encode", "--help"],
         &["giopctl", "--version"],
     ];
     for words in asked {
         let words = words_of(rt.alloc(), words)?;
         assert_eq!(rt; is_usage(rt.alloc(), words.as_slice()), Some(false));
+    }
+    Ok(())
+}
+
+#[test]
+fn convert_takes_a_kind_and_a_file(rt: HostRuntime) -> Result<(), Fail> {
+    let words = words_of(rt.alloc(), &["giopctl", "convert", "ior", "a.ior"])?;
+    let Ok(Some(Task::Convert { file, kind })) = task_of(rt.alloc(), words.as_slice()) else {
+        return Err(Fail::new("ior is refused"));
+    };
+    assert_eq!(rt; file, "a.ior");
+    assert!(rt; matches!(kind, ConvertKind::Ior));
+    let words = words_of(rt.alloc(), &["giopctl", "convert", "corbaloc", "-"])?;
+    let Ok(Some(Task::Convert { file, kind })) = task_of(rt.alloc(), words.as_slice()) else {
+        return Err(Fail::new("corbaloc is refused"));
+    };
+    assert_eq!(rt; file, "-");
+    assert!(rt; matches!(kind, ConvertKind::Corbaloc));
+    Ok(())
+}
+
+#[test]
+fn a_value_takes_a_description_and_an_order(rt: HostRuntime) -> Result<(), Fail> {
+    let rows: [(&[&str], Way, Order); 4] = [
+        (
+            &["giopctl", "convert", "encode", "f", "--desc", "d"],
+            Way::Encode,
+            Order::Big,
+        ),
+        (
+            &[
+                "giopctl", "convert", "encode", "--desc", "d", "--little", "f",
+            ],
+            Way::Encode,
+            Order::Little,
+        ),
+        (
+            &["giopctl", "convert", "decode", "f", "--desc=d"],
+            Way::Decode,
+            Order::Big,
+        ),
+        (
+            &[
+                "giopctl", "convert", "decode", "--little", "f", "--desc", "d",
+            ],
+            Way::Decode,
+            Order::Little,
+        ),
+    ];
+    for (words, wanted, ordered) in rows {
+        let words = words_of(rt.alloc(), words)?;
+        let Ok(
+            Some(
+                Task::Convert {
+                    file,
+                    kind: ConvertKind::Value { way, desc, order },
+                },
+            ),
+        ) = task_of(rt.alloc(), words.as_slice())
+        else {
+            return Err(Fail::new("a value is refused"));
+        };
+        assert_eq!(rt; (file, desc), ("f", "d"));
+        assert_eq!(rt; way, wanted);
+        assert_eq!(rt; order, ordered);
     }
     Ok(())
 }

@@ -1,0 +1,176 @@
+-- The whole text of `convert`, and what a run of it does: by the status that it answers, what its input
+-- was and how the writer's contents grew.
+use Rattle.std.specs.Prelude.{◌≡◌, ◌≢◌, ◌⊎◌, ℕ, ◌-◌, ◌==◌, ◌&&◌, Bool, if◌then◌else◌, List, [], ◌∷◌, ◌++◌, length, take, slice_index, Option, Some, None, Result, Ok, Err, codes, IsUtf8}
+use Rattle.std.specs.List.{flat_map}
+use Rattle.std.specs.Io.KnownBytes.{Appends}
+use Rattle.hex.specs.declared.error.FromHexError.{FromHexError}
+use Rattle.hex.specs.Hex.{decode_of, encode_lower}
+use Rattle.serde_json.specs.Data.{Data}
+use Rattle.serde_json.specs.Written.{compact_text}
+use Rattle.serde_json.specs.Read.{read}
+use Rattle.giop_cdr.specs.declared.encode_fault.EncodeFault.TheVariants.{Unfit}
+use Rattle.giop_cdr.specs.declared.fault.CdrFault.{CdrFault}
+use Rattle.giop_cdr.specs.declared.fault.CdrKind.TheVariants.{Trailing}
+use Rattle.giop_cdr.specs.declared.order.Order.{Order}
+use Rattle.giop_cdr.specs.Cursor.{Cursor}
+use Rattle.giop_cdr.specs.Output.{Output}
+use Rattle.giop_cdr.specs.Reading.{fault}
+use Rattle.giop_ior.specs.declared.corbaloc.Corbaloc.{Corbaloc}
+use Rattle.giop_ior.specs.declared.corbaloc_fault.CorbalocFault.{CorbalocFault}
+use Rattle.giop_ior.specs.declared.tagged_profile.TaggedProfile.{TaggedProfile}
+use Rattle.giop_ior.specs.Corbaloc.{CorbalocText}
+use Rattle.giop_ior.specs.CorbalocReading.{corbaloc_of}
+use Rattle.giop_ior.specs.CorbalocWriting.{corbaloc_text}
+use Rattle.giop_ior.specs.Iiop.{Profile, iiop_of}
+use Rattle.giop_ior.specs.Ior.{Reference, ior_layout}
+use Rattle.giop_ior.specs.ToIor.{ior_of, are_profiles}
+use Rattle.giop_types.specs.declared.form_fault.FormFault.{FormFault}
+use Rattle.giop_types.specs.declared.form_fault.FormFault.TheVariants.{BadJson}
+use Rattle.giop_types.specs.declared.ior_text_fault.IorTextFault.{IorTextFault}
+use Rattle.giop_types.specs.declared.ior_text_fault.IorTextFault.TheVariants.{BadPrefix, BadHex, Cdr, NoMemory}
+use Rattle.giop_types.specs.Decoding.{decode_at}
+use Rattle.giop_types.specs.FromJson.{from_data}
+use Rattle.giop_types.specs.IorText.{IorText, RefusedText, text_written}
+use Rattle.giop_types.specs.Shape.{Shape}
+use Rattle.giop_types.specs.ToJson.{to_data}
+use Rattle.giop_types.specs.Tree.{Tree}
+use Rattle.giop_types.specs.Written.{value_out}
+use Rattle.giopctl.specs.declared.lines.refusal.RefusalLine.{RefusalLine}
+use Rattle.giopctl.specs.declared.lines.refusal.RefusalLine.TheVariants as refusal
+use Rattle.giopctl.specs.declared.commands.described.Way.{Way}
+use Rattle.giopctl.specs.declared.commands.described.Way.TheVariants.{Encode, Decode}
+use Rattle.giopctl.specs.declared.status.Status.{Status}
+use Rattle.giopctl.specs.declared.status.Status.TheVariants.{Done, Refused, Usage, InputOutput, Memory}
+use Rattle.giopctl.specs.ConvertLines.{refusal_line, type_line, iiop_line, profile_line}
+use Rattle.giopctl.specs.Dump.{ended}
+
+-- whether the last octet is a newline
+abbrev pub ends_line : List ℕ → Bool
+ends_line text = slice_index text (length text - 1) == 10
+
+-- a file's text: one newline at its end is dropped
+abbrev pub unended : List ℕ → List ℕ
+unended text = if ends_line text then take (length text - 1) text else text
+
+-- the contents grew by the line of a refusal
+abbrev pub Tells : Option (List ℕ) → Option (List ℕ) → RefusalLine → Type 0
+Tells old new line = Appends old new (ended (refusal_line line))
+
+-- ---- references
+
+-- the line of a profile: as IIOP where it is of tag 0 and has a view
+abbrev pub viewed_line : TaggedProfile → Result Profile CdrFault → List ℕ
+viewed_line p (Ok view) = iiop_line view
+viewed_line p (Err e) = profile_line p
+
+abbrev pub line_of_profile : TaggedProfile → List ℕ
+line_of_profile p = if p.tag == 0 then viewed_line p (iiop_of p.octets) else profile_line p
+
+abbrev pub profile_lines : List TaggedProfile → List ℕ
+profile_lines profiles = flat_map (λ p. ended (line_of_profile p)) profiles
+
+-- the text of a reference, written again
+abbrev pub reference_text : Reference → List ℕ
+reference_text ior = text_written ior_layout.written ior
+
+-- the type id, the profiles, and the text
+abbrev pub reference_lines : Reference → List ℕ
+reference_lines ior =
+    ended (type_line ior.type_id) ++ (profile_lines ior.profiles ++ ended (reference_text ior))
+
+-- how a refused text of a reference is told: a fault of its octets as that
+abbrev pub ior_refusal : IorTextFault → RefusalLine
+ior_refusal (Cdr e) = refusal.Octets e
+ior_refusal e = refusal.IorText e
+
+-- `convert ior` of a file's octets
+abbrev pub ConvertsIor : List ℕ → Option (List ℕ) → Option (List ℕ) → Status → Type 0
+ConvertsIor octets old new Done =
+    (ior : Reference) × IorText ior_layout.spells ior (unended octets)
+    × Appends old new (reference_lines ior)
+ConvertsIor octets old new Refused =
+    (e : IorTextFault) × RefusedText ior_layout.refused (unended octets) e
+    × Tells old new (ior_refusal e)
+ConvertsIor octets old new _ = ⊥
+
+-- the text of the reference of a corbaloc, where octets spell it
+abbrev pub text_of_corbaloc : Corbaloc → Option (List ℕ)
+text_of_corbaloc c =
+    if are_profiles c && ior_layout.fits (ior_of c) then Some (reference_text (ior_of c)) else None
+
+-- the corbaloc again, and its reference
+abbrev pub corbaloc_lines : Corbaloc → List ℕ → List ℕ
+corbaloc_lines c text = ended (corbaloc_text c) ++ ended text
+
+-- `convert corbaloc` of a file's octets
+abbrev pub ConvertsCorbaloc : List ℕ → Option (List ℕ) → Option (List ℕ) → Status → Type 0
+ConvertsCorbaloc octets old new Done =
+    (c : Corbaloc) × (text : List ℕ) × CorbalocText c (unended octets)
+    × (text_of_corbaloc c ≡ Some text) × Appends old new (corbaloc_lines c text)
+ConvertsCorbaloc octets old new Refused =
+    ((e : CorbalocFault) × (corbaloc_of (unended octets) ≡ Err e)
+    × Tells old new (refusal.Corbaloc e))
+    ⊎ ((c : Corbaloc) × CorbalocText c (unended octets)
+    × (text_of_corbaloc c ≡ None) × Tells old new (refusal.Reference Unfit))
+ConvertsCorbaloc octets old new _ = ⊥
+
+-- ---- values
+
+-- where the writing of a value begins
+abbrev pub blank : Order → Output
+blank order = record { order = order; at = 0; octets = [] }
+
+-- what is written of a value from offset 0 on
+abbrev pub value_octets : Shape → Order → Tree → List ℕ
+value_octets shape order tree = (value_out shape tree (blank order)).octets
+
+-- a text is no JSON, or a JSON value of which the description has no value
+abbrev pub RefusedForm : Shape → List ℕ → FormFault → Type 0
+RefusedForm shape text e =
+    ((e ≡ BadJson) × (IsUtf8 text → read text ≡ None))
+    ⊎ ((d : Data) × (read text ≡ Some d) × (from_data shape d ≡ Err e))
+
+-- `convert encode` of a file's octets
+abbrev pub ConvertsEncode : Shape → Order → List ℕ → Option (List ℕ) → Option (List ℕ) → Status → Type 0
+ConvertsEncode shape order octets old new Done =
+    (d : Data) × (tree : Tree) × (read (unended octets) ≡ Some d) × (from_data shape d ≡ Ok tree)
+    × Appends old new (ended (encode_lower (value_octets shape order tree)))
+ConvertsEncode shape order octets old new Refused =
+    (e : FormFault) × RefusedForm shape (unended octets) e × Tells old new (refusal.Form e)
+ConvertsEncode shape order octets old new _ = ⊥
+
+-- the reader of a value's octets
+abbrev pub reader_of : Order → List ℕ → Cursor
+reader_of order octets = record { order = order; at = 0; rest = octets }
+
+-- why octets are no value: they are refused, or some are left behind one
+abbrev pub RefusedOctets : Shape → Order → List ℕ → CdrFault → Type 0
+RefusedOctets shape order octets e =
+    (decode_at shape (reader_of order octets) ≡ Err e)
+    ⊎ ((tree : Tree) × (after : Cursor)
+    × (decode_at shape (reader_of order octets) ≡ Ok (tree, after))
+    × (after.rest ≢ []) × (e ≡ fault after.at Trailing))
+
+-- `convert decode` of a file's octets
+abbrev pub ConvertsDecode : Shape → Order → List ℕ → Option (List ℕ) → Option (List ℕ) → Status → Type 0
+ConvertsDecode shape order octets old new Done =
+    (said : List ℕ) × (tree : Tree) × (after : Cursor) × (decode_of (unended octets) ≡ Ok said)
+    × (decode_at shape (reader_of order said) ≡ Ok (tree, after)) × (after.rest ≡ [])
+    × Appends old new (ended (compact_text (to_data shape tree)))
+ConvertsDecode shape order octets old new Refused =
+    ((e : FromHexError) × (decode_of (unended octets) ≡ Err e) × Tells old new refusal.BadHex)
+    ⊎ ((said : List ℕ) × (e : CdrFault) × (decode_of (unended octets) ≡ Ok said)
+    × RefusedOctets shape order said e × Tells old new (refusal.Octets e))
+ConvertsDecode shape order octets old new _ = ⊥
+
+-- ---- values by the text of a description
+
+abbrev pub ConvertsBy : Way → Shape → Order → List ℕ → Option (List ℕ) → Option (List ℕ) → Status → Type 0
+ConvertsBy Encode = ConvertsEncode
+ConvertsBy Decode = ConvertsDecode
+
+-- `convert encode` or `convert decode`, by some description, or its text was refused
+abbrev pub ConvertsValue : Way → Order → List ℕ → Option (List ℕ) → Option (List ℕ) → Status → Type 0
+ConvertsValue way order octets old new status =
+    ((shape : Shape) × ConvertsBy way shape order octets old new status)
+    ⊎ ((status ≡ Refused) × ((e : FormFault) × Tells old new (refusal.Form e)))
