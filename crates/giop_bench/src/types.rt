@@ -1,19 +1,22 @@
 //! Values by their description: a sequence of 100,000 structs of an octet, a long long, a string of 16
 //! octets, an unsigned short and a boolean, and a sequence of 100,000 longs, read and written.
-//! `bench/types/twin.rs` does the same in plain Rust.
+//! `bench/types/twin.rs` does the same in plain Rust. And 10,000 and 100,000 such structs as JSON,
+//! written, and written and read again, which have no twin.
 use crate::work::mixed;
 use giop_cdr::{CdrIn, CdrOut, OctetList, Order, SliceOctets};
-use giop_types::{CheckedDesc, Desc, NamedDesc, Value, decode, encode};
+use giop_types::{
+    CheckedDesc, Desc, NamedDesc, Value, decode, encode, value_from_json, value_to_json,
+};
 use std::alloc::{AllocError, Global};
 
 const VALUES: u32 = 100_000;
 
 const TIMES: u32 = 10;
 
-fn structs(alloc: Global) -> Result<Vec<u8>, AllocError> {
+fn structs(alloc: Global, count: u32) -> Result<Vec<u8>, AllocError> {
     let mut out = CdrOut::new(alloc, Order::Big, 0);
-    out.write_ulong(VALUES)?;
-    for i in 0..VALUES {
+    out.write_ulong(count)?;
+    for i in 0..count {
         out.write_octet(7)?;
         out.write_longlong(i as i64)?;
         out.write_string(b"a text of length")?;
@@ -111,15 +114,37 @@ fn write(alloc: Global, desc: &CheckedDesc, message: &[u8]) -> Option<u64> {
     Some(sum)
 }
 
+// Writes the value of a message as JSON, TIMES times, and reads it again where that is asked for.
+fn json(alloc: Global, desc: &CheckedDesc, message: &[u8], again: bool) -> Option<u64> {
+    let source = SliceOctets::new(message);
+    if message.len() > 1 << 62 {
+        return None;
+    }
+    let value = decode(alloc, &mut CdrIn::new(&source, Order::Big, 0), desc).ok()?;
+    let mut sum = checksum(&value);
+    for _ in 0..TIMES {
+        let json = value_to_json(alloc, desc, &value).ok()?;
+        if again {
+            let back = value_from_json(alloc, desc, &json).ok()?;
+            sum = mixed(sum, checksum(&back));
+        }
+    }
+    Some(sum)
+}
+
 /// Runs a loop, and gives its checksum; or none where there is no such loop, or memory is wanting.
 pub fn run(alloc: Global, name: &str) -> Option<u64> {
     let (item, message) = match name {
-        "structs-read" | "structs-write" => (a_struct(alloc).ok()?, structs(alloc).ok()?),
+        "structs-read" | "structs-write" => (a_struct(alloc).ok()?, structs(alloc, VALUES).ok()?),
+        "json-write" | "json-again" => (a_struct(alloc).ok()?, structs(alloc, VALUES / 10).ok()?),
+        "json-write-10" | "json-again-10" => (a_struct(alloc).ok()?, structs(alloc, VALUES).ok()?),
         "longs-read" | "longs-write" => (Desc::Long, longs(alloc).ok()?),
         _ => return None,
     };
     let desc = CheckedDesc::check(items(alloc, item).ok()?).ok()?;
-    if name.ends_with("read") {
+    if name.starts_with("json") {
+        json(alloc, &desc, &message, name.starts_with("json-again"))
+    } else if name.ends_with("read") {
         read(alloc, &desc, &message)
     } else {
         write(alloc, &desc, &message)
