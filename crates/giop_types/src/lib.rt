@@ -39,7 +39,8 @@ pub use ior_text::{ior_octets_from_text, ior_octets_to_text, open_octets};
 pub use ior_text_fault::IorTextFault;
 pub use ior_text_laws::{ior_texts_are_read, written_ior_texts_are_read_back};
 pub use json::{
-    desc_from_json, json_gives_values_back, parse_json, reference_desc, value_from_json, value_to_json,
+    desc_from_json, json_gives_values_back, parse_json, reference_desc, value_from_json,
+    value_to_json,
 };
 pub use laws::{
     descriptions_are_checked_node_by_node, encoded_and_decoded, leaves_count_every_part,
