@@ -15,13 +15,20 @@ const KINDS: [&str; 8] = [
     "Fragment",
 ];
 const REQUEST: u8 = 0;
+const REPLY: u8 = 1;
 const CANCEL_REQUEST: u8 = 2;
+const LOCATE_REQUEST: u8 = 3;
+const LOCATE_REPLY: u8 = 4;
 const CLOSE_CONNECTION: u8 = 5;
 const MESSAGE_ERROR: u8 = 6;
 
 struct Fault(u32, &'static str, usize);
 
+// Why a head isn't read: number, name and place.
+type Refused = Fault;
+
 struct Header {
+    minor: u8,
     kind: u8,
     little: bool,
     more: bool,
@@ -43,16 +50,18 @@ fn header(octets: &[u8]) -> Result<Header, Fault> {
             return Err(Fault(1, "BadMagic", at));
         }
     }
-    for (at, version) in [(4, 1), (5, 2)] {
-        if octets[at] != version {
-            return Err(Fault(2, "BadVersion", at));
-        }
+    let minor = octets[5];
+    if octets[4] != 1 {
+        return Err(Fault(2, "BadVersion", 4));
+    }
+    if minor > 2 {
+        return Err(Fault(2, "BadVersion", 5));
     }
     let (flags, kind) = (octets[6], octets[7]);
-    if flags > 3 {
+    if flags > if minor == 0 { 1 } else { 3 } {
         return Err(Fault(3, "ReservedFlags", 6));
     }
-    if kind > 7 {
+    if kind > if minor == 2 { 7 } else { 6 } {
         return Err(Fault(4, "BadKind", 7));
     }
     let little = flags & 1 == 1;
@@ -69,81 +78,242 @@ fn header(octets: &[u8]) -> Result<Header, Fault> {
     if !fixed {
         return Err(Fault(6, "BadSize", 8));
     }
-    if more && size % 8 != 4 {
+    if more && minor == 2 && size % 8 != 4 {
         return Err(Fault(7, "FragmentSize", 8));
     }
-    if more && matches!(kind, CANCEL_REQUEST | CLOSE_CONNECTION | MESSAGE_ERROR) {
+    if more && (minor < 2 || matches!(kind, CANCEL_REQUEST | CLOSE_CONNECTION | MESSAGE_ERROR)) {
         return Err(Fault(8, "NotFragmentable", 6));
     }
-    Ok(Header { kind, little, more, size })
+    Ok(Header { minor, kind, little, more, size })
 }
 
-// Reads a message from its first octet on; None where the octets end.
+// Reads a message from its first octet on.
 struct Reader<'a> {
     octets: &'a [u8],
     at: usize,
     little: bool,
 }
 
+enum Target<'a> {
+    Key(&'a [u8]),
+    Profile(u32),
+    Reference(u32),
+}
+
 impl<'a> Reader<'a> {
-    fn take(&mut self, n: usize, align: usize) -> Option<&'a [u8]> {
-        let from = self.at.next_multiple_of(align);
-        let taken = self.octets.get(from..from.checked_add(n)?)?;
-        self.at = from + n;
-        Some(taken)
+    fn take(&mut self, n: usize) -> Result<&'a [u8], Refused> {
+        let from = self.at.next_multiple_of(n);
+        match self.octets.get(from..from + n) {
+            Some(taken) => {
+                self.at = from + n;
+                Ok(taken)
+            }
+            None => Err(Fault(1, "Short", from)),
+        }
     }
 
-    fn ulong(&mut self) -> Option<u32> {
+    fn ulong(&mut self) -> Result<u32, Refused> {
         let little = self.little;
-        self.take(4, 4).map(|field| number(field, 0, little))
+        self.take(4).map(|field| number(field, 0, little))
     }
 
-    fn octets(&mut self) -> Option<&'a [u8]> {
+    // A count, and where it stands.
+    fn count(&mut self) -> Result<(usize, usize), Refused> {
+        let place = self.at.next_multiple_of(4);
         let count = self.ulong()? as usize;
-        self.take(count, 1)
+        if count > self.octets.len() - self.at {
+            return Err(Fault(4, "BadCount", place));
+        }
+        Ok((count, place))
     }
 
-    fn string(&mut self) -> Option<&'a [u8]> {
-        match self.octets()? {
-            [] => Some(&[]),
-            [text @ .., 0] if !text.contains(&0) => Some(text),
-            _ => None,
+    fn counted(&mut self) -> Result<(&'a [u8], usize), Refused> {
+        let (count, place) = self.count()?;
+        let taken = &self.octets[self.at..self.at + count];
+        self.at += count;
+        Ok((taken, place))
+    }
+
+    fn string(&mut self) -> Result<&'a [u8], Refused> {
+        match self.counted()? {
+            ([], _) => Ok(&[]),
+            ([text @ .., 0], _) if !text.contains(&0) => Ok(text),
+            (_, place) => Err(Fault(3, "BadString", place)),
+        }
+    }
+
+    // Numbers with octets: how many there are.
+    fn tagged(&mut self) -> Result<usize, Refused> {
+        let (count, _) = self.count()?;
+        for _ in 0..count {
+            self.ulong()?;
+            self.counted()?;
+        }
+        Ok(count)
+    }
+
+    fn status(&mut self, last: u32) -> Result<u32, Refused> {
+        let place = self.at.next_multiple_of(4);
+        match self.ulong()? {
+            status if status <= last => Ok(status),
+            _ => Err(Fault(5, "BadLabel", place)),
+        }
+    }
+
+    fn target(&mut self, minor: u8) -> Result<Target<'a>, Refused> {
+        if minor < 2 {
+            return Ok(Target::Key(self.counted()?.0));
+        }
+        let place = self.at.next_multiple_of(2);
+        let field = self.take(2)?.try_into().unwrap();
+        let disposition = if self.little {
+            u16::from_le_bytes(field)
+        } else {
+            u16::from_be_bytes(field)
+        };
+        match disposition {
+            0 => Ok(Target::Key(self.counted()?.0)),
+            1 => {
+                let tag = self.ulong()?;
+                self.counted()?;
+                Ok(Target::Profile(tag))
+            }
+            2 => {
+                let index = self.ulong()?;
+                self.string()?;
+                self.tagged()?;
+                Ok(Target::Reference(index))
+            }
+            _ => Err(Fault(5, "BadLabel", place)),
+        }
+    }
+
+    // The number of octets of the body behind a head.
+    fn body(&self, minor: u8) -> usize {
+        let align = if minor < 2 { 1 } else { 8 };
+        self.octets.len().saturating_sub(self.at.next_multiple_of(align))
+    }
+
+    // Three octets of any value.
+    fn reserved(&mut self) -> Result<(), Refused> {
+        for _ in 0..3 {
+            self.take(1)?;
+        }
+        Ok(())
+    }
+
+    fn id(&mut self, kind: u8, minor: u8) -> Result<u32, Refused> {
+        if minor < 2 && matches!(kind, REQUEST | REPLY) {
+            self.tagged()?;
+        }
+        self.ulong()
+    }
+}
+
+struct Request<'a> {
+    flags: u8,
+    target: Target<'a>,
+    operation: &'a [u8],
+    contexts: usize,
+    body: usize,
+}
+
+fn request<'a>(reader: &mut Reader<'a>, minor: u8) -> Result<Request<'a>, Refused> {
+    let early = if minor < 2 { reader.tagged()? } else { 0 };
+    reader.ulong()?;
+    let place = reader.at;
+    let flags = match (reader.take(1)?[0], minor) {
+        (flags @ (0 | 1 | 3), 2) => flags,
+        (_, 2) => return Err(Fault(5, "BadLabel", place)),
+        (0, _) => 0,
+        (1, _) => 3,
+        _ => return Err(Fault(2, "BadBoolean", place)),
+    };
+    if minor > 0 {
+        reader.reserved()?;
+    }
+    let target = reader.target(minor)?;
+    let operation = reader.string()?;
+    let contexts = if minor < 2 {
+        reader.counted()?;
+        early
+    } else {
+        reader.tagged()?
+    };
+    let body = reader.body(minor);
+    Ok(Request { flags, target, operation, contexts, body })
+}
+
+// The status, the contexts and the body of a Reply.
+fn reply(reader: &mut Reader, minor: u8) -> Result<(u32, usize, usize), Refused> {
+    if minor < 2 {
+        let contexts = reader.tagged()?;
+        reader.ulong()?;
+        let status = reader.status(3)?;
+        return Ok((status, contexts, reader.body(minor)));
+    }
+    reader.ulong()?;
+    let status = reader.status(5)?;
+    let contexts = reader.tagged()?;
+    Ok((status, contexts, reader.body(minor)))
+}
+
+fn locate_request<'a>(reader: &mut Reader<'a>, minor: u8) -> Result<Target<'a>, Refused> {
+    reader.ulong()?;
+    let target = reader.target(minor)?;
+    if reader.at < reader.octets.len() {
+        return Err(Fault(8, "Trailing", reader.at));
+    }
+    Ok(target)
+}
+
+fn locate_reply(reader: &mut Reader, minor: u8) -> Result<(u32, usize), Refused> {
+    reader.ulong()?;
+    let status = reader.status(if minor < 2 { 2 } else { 5 })?;
+    Ok((status, reader.octets.len() - reader.at))
+}
+
+impl fmt::Display for Target<'_> {
+    fn fmt(&self, f: &mut fmt::Formatter) -> fmt::Result {
+        match self {
+            Target::Key(key) => write!(f, "key {}", Hex(key)),
+            Target::Profile(tag) => write!(f, "profile {tag}"),
+            Target::Reference(index) => write!(f, "reference {index}"),
         }
     }
 }
 
-struct Head<'a> {
-    flags: u8,
-    key: &'a [u8],
-    operation: &'a [u8],
-    contexts: u32,
-    body: usize,
-}
-
-fn head(octets: &[u8], little: bool) -> Option<Head<'_>> {
-    let mut reader = Reader { octets, at: 12, little };
-    reader.ulong()?;
-    let flags = reader.take(1, 1)?[0];
-    if !matches!(flags, 0 | 1 | 3) {
-        return None;
-    }
-    reader.take(3, 1)?;
-    let disposition = reader.take(2, 2)?;
-    if disposition != [0, 0] {
-        return None;
-    }
-    let key = reader.octets()?;
-    let operation = reader.string()?;
-    let contexts = reader.ulong()?;
-    if contexts as usize > octets.len() - reader.at {
-        return None;
-    }
-    for _ in 0..contexts {
-        reader.ulong()?;
-        reader.octets()?;
-    }
-    let body = octets.len().saturating_sub(reader.at.next_multiple_of(8));
-    Some(Head { flags, key, operation, contexts, body })
+// The second line of a message, where its kind has one.
+fn second(octets: &[u8], header: &Header, out: &mut impl Write) -> io::Result<()> {
+    let Header { minor, kind, little, .. } = *header;
+    let reader = &mut Reader { octets, at: 12, little };
+    let refused = match kind {
+        REQUEST => match request(reader, minor) {
+            Ok(Request { flags, target, operation, contexts, body }) => {
+                let operation = Escaped(operation);
+                write!(out, "  flags {flags} {target} operation {operation}")?;
+                return writeln!(out, " contexts {contexts} body {body}");
+            }
+            Err(fault) => fault,
+        },
+        REPLY => match reply(reader, minor) {
+            Ok((status, contexts, body)) => {
+                return writeln!(out, "  status {status} contexts {contexts} body {body}");
+            }
+            Err(fault) => fault,
+        },
+        LOCATE_REQUEST => match locate_request(reader, minor) {
+            Ok(target) => return writeln!(out, "  {target}"),
+            Err(fault) => fault,
+        },
+        LOCATE_REPLY => match locate_reply(reader, minor) {
+            Ok((status, body)) => return writeln!(out, "  status {status} body {body}"),
+            Err(fault) => fault,
+        },
+        _ => return Ok(()),
+    };
+    let Fault(number, name, place) = refused;
+    writeln!(out, "  fault {number} {name} at {place}")
 }
 
 struct Hex<'a>(&'a [u8]);
@@ -193,18 +363,17 @@ fn dump(octets: &[u8], out: &mut impl Write) -> io::Result<bool> {
         let order = if header.little { "LE" } else { "BE" };
         let more = if header.more { " more" } else { "" };
         let name = KINDS[header.kind as usize];
-        write!(out, "{at} {name} {order}{more} size {}", header.size)?;
+        let version = ["", " 1.0", " 1.1"][usize::from(header.minor + 1) % 3];
+        write!(out, "{at} {name}{version} {order}{more} size {}", header.size)?;
         if !matches!(header.kind, CLOSE_CONNECTION | MESSAGE_ERROR) {
-            write!(out, " id {}", number(message, 12, header.little))?;
+            let reader = &mut Reader { octets: message, at: 12, little: header.little };
+            if let Ok(id) = reader.id(header.kind, header.minor) {
+                write!(out, " id {id}")?;
+            }
         }
         writeln!(out)?;
-        if header.kind == REQUEST && !header.more {
-            if let Some(head) = head(message, header.little) {
-                let Head { flags, contexts, body, .. } = head;
-                let (key, operation) = (Hex(head.key), Escaped(head.operation));
-                write!(out, "  flags {flags} key {key} operation {operation}")?;
-                writeln!(out, " contexts {contexts} body {body}")?;
-            }
+        if !header.more {
+            second(message, &header, out)?;
         }
         at += end;
     }
