@@ -1,3 +1,4 @@
 pub mod Gathered
-pub mod Table
+pub mod Blocks
+pub mod Placed
 pub mod Runs
