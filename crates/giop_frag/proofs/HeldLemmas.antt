@@ -1,5 +1,6 @@
 -- The steps of a gatherer: how each leaves blocks and lists.
 use Rattle.std.proofs.Common.{◌≡◌, ℕ, ◌+◌, ◌≤◌, ◌++◌, max, List, [], length, take, Option, Some, None, option_and_then, refl, sym, ap, ◌∙◌, arith, length-append}
+use Rattle.std.specs.Option.{option_map}
 use Rattle.std.specs.Ordering.{nat_cmp}
 use Rattle.std.specs.Map.{lookup}
 use Rattle.std.specs.BTreeMap.{is_at}
@@ -224,3 +225,14 @@ pub chained_as : (pool : Pooled) (held : List (ℕ × Placed)) (id : ℕ) (p : P
     → lookup (is_at (nat_cmp id)) held ≡ Some p → numbers ≡ p.numbers → size ≡ p.size → AreChained pool.blocks numbers size
 chained_as pool held id p numbers size are found those many =
     rw (those, many) (chained_at pool held id p are.standing found)
+
+-- what is told of a list
+pub chain_shown : (blocks : List (List ℕ)) (held : List (ℕ × Placed)) (id : ℕ) (p : Placed) (order : Order) (numbers : List ℕ) (size : ℕ) (octets : List ℕ)
+    → lookup (is_at (nat_cmp id)) held ≡ Some p → order ≡ p.order → numbers ≡ p.numbers → size ≡ p.size
+    → octets ≡ octets_at blocks numbers size
+    → let shown : Option (Order × List ℕ) = Some (order, octets) in shown ≡ option_map (λ q. (q.order, q.octets)) (map.get (lists_at blocks held) id)
+chain_shown blocks held id p order numbers size octets found is_order those many lie =
+    let show : Order → List ℕ → Option (Order × List ℕ) = λ o l. Some (o, l) in
+    ap (λ o. show o octets) is_order
+    ∙ ap (show p.order) (lie ∙ ap (λ ns. octets_at blocks ns size) those ∙ ap (octets_at blocks p.numbers) many)
+    ∙ sym (ap (option_map (λ q. (q.order, q.octets))) (pieces_found blocks held id (Some p) found))

@@ -1,4 +1,5 @@
 pub mod Gathered
+pub mod Faults
 pub mod Blocks
 pub mod Placed
 pub mod Runs

@@ -12,6 +12,7 @@ use crate::{Chain, GatherFault, lists};
 use giop_cdr::{OctetList, Order};
 use std::alloc::Global;
 use std::collections::BTreeMap;
+use std::fmt;
 use std::marker::Model;
 
 /// Octets of many messages, each joined under its id, and no more of them together than a limit.
@@ -245,5 +246,17 @@ impl Gather {
         ensures { result ≡ is_over self.now.limit self.now.lists more }
     {
         more > self.limit - self.total
+    }
+}
+
+/// The limit, and how many octets, ids and blocks there are; not the octets themselves.
+impl fmt::Debug for Gather {
+    fn fmt<W: fmt::Write>(&self, f: &mut fmt::Formatter<W>) -> fmt::Result {
+        f.debug_struct("Gather")
+            .field("limit", &self.limit())
+            .field("total", &self.total())
+            .field("ids", &self.len())
+            .field("blocks", &self.blocks())
+            .finish()
     }
 }

@@ -90,6 +90,9 @@ impl Pool {
         ensures whole { AreWhole self.new.blocks }
     {
         let left = self.free.len() - n;
+        if n == 0 {
+            return;
+        }
         into.extend_from_slice(&self.free[left..]).unwrap();
         self.free.truncate(left);
     }

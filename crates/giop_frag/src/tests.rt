@@ -1,3 +1,5 @@
+mod blocks;
 mod gathering;
 mod limits;
 mod memory;
+mod random;

@@ -1,7 +1,7 @@
 use Rattle.std.proofs.Common.{None, Some, sym, ap, ◌∙◌}
 use Rattle.std.specs.Option.{option_copied, option_map}
 use Rattle.giop_frag.specs.Blocks.{octets_at}
-use Rattle.giop_frag.proofs.HeldLemmas.{chained_as, pieces_found}
+use Rattle.giop_frag.proofs.HeldLemmas.{chain_shown, chained_as, pieces_found}
 use Rattle.giop_frag.proofs.lists.chain_of.Goals as goal
 
 pub new-requires : goal.new-requires
@@ -17,10 +17,6 @@ returns-in_err-joined c =
 
 pub returns : goal.returns
 returns c =
-    let found = pieces_found _ c.args.table.now.entries c.args.id (Some c.in_ok-joined.joined.now)
-    (sym c.get.ensures.value ∙ ap option_copied c.in_ok-joined.was) in
-    ap (λ o. Some (o, c.new.result)) c.order.ensures
-    ∙ ap (λ l. Some (c.in_ok-joined.joined.now.order, l)) c.new.ensures
-    ∙ ap (λ ns. Some (c.in_ok-joined.joined.now.order, octets_at c.args.pool.now.blocks ns c.len.result)) c.numbers.ensures
-    ∙ ap (λ n. Some (c.in_ok-joined.joined.now.order, octets_at c.args.pool.now.blocks c.in_ok-joined.joined.now.numbers n)) c.len.ensures
-    ∙ sym (ap (option_map (λ p. (p.order, p.octets))) found)
+    chain_shown _ c.args.table.now.entries c.args.id c.in_ok-joined.joined.now c.order.result c.numbers.result.now c.len.result c.new.result
+    (sym c.get.ensures.value ∙ ap option_copied c.in_ok-joined.was)
+    c.order.ensures c.numbers.ensures c.len.ensures c.new.ensures
