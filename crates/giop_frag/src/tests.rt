@@ -2,4 +2,3 @@ mod blocks;
 mod gathering;
 mod limits;
 mod memory;
-mod random;

@@ -109,26 +109,3 @@ fn want_of_memory_changes_nothing(rt: HostRuntime) -> Result<(), Fail> {
     assert_eq!(rt; gather.total(), 0);
     Ok(())
 }
-
-// Pieces that begin, fill and leave blocks of two ids in turn: with any one allocation refused it
-// ends as with none, and with as many blocks.
-#[test]
-fn want_of_memory_in_a_growing_pool_changes_nothing(rt: HostRuntime) -> Result<(), Fail> {
-    let mut gather = Gather::new(rt.alloc(), 10_000);
-    for turn in 0..4u8 {
-        put_at_last(&rt, &mut gather, 1, Order::Big, &[turn; 300]);
-        put_at_last(&rt, &mut gather, 2, Order::Little, &[turn; 700]);
-    }
-    assert_eq!(rt; gather.blocks(), 9);
-    let (_, octets) = finish_at_last(&rt, &mut gather, 2)?;
-    assert_eq!(rt; octets.len(), 2800);
-    gather.discard(1);
-    put_at_last(&rt, &mut gather, 2, Order::Big, &[9; 4000]);
-    assert_eq!(rt; gather.blocks(), 9);
-    put_at_last(&rt, &mut gather, 1, Order::Big, &[8; 1000]);
-    assert_eq!(rt; gather.blocks(), 10);
-    let (order, octets) = finish_at_last(&rt, &mut gather, 2)?;
-    assert_eq!(rt; order, Order::Big);
-    assert!(rt; octets.as_slice() == [9; 4000].as_slice());
-    Ok(())
-}

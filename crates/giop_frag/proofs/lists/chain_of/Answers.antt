@@ -1,6 +1,5 @@
-use Rattle.std.proofs.Common.{None, Some, sym, ap, ◌∙◌}
+use Rattle.std.proofs.Common.{None, sym, ap, ◌∙◌}
 use Rattle.std.specs.Option.{option_copied, option_map}
-use Rattle.giop_frag.specs.Blocks.{octets_at}
 use Rattle.giop_frag.proofs.HeldLemmas.{chain_shown, chained_as, pieces_found}
 use Rattle.giop_frag.proofs.lists.chain_of.Goals as goal
 
