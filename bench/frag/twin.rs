@@ -1,10 +1,8 @@
-//! The plain Rust twin of `giop_bench frag SIZE`: 64 MB in pieces of SIZE octets, interleaved over 64
-//! ids.
+//! The plain Rust twin of `giop_bench fragSIZE IDS`: 64 MB in pieces of SIZE octets, interleaved over
+//! IDS ids. Each id has one growing `Vec`.
 use std::collections::BTreeMap;
 
 const OCTETS: usize = 64 << 20;
-const IDS: u32 = 64;
-
 struct Gather {
     limit: usize,
     total: usize,
@@ -39,32 +37,42 @@ impl Gather {
         Ok(())
     }
 
-    fn finish(&mut self, id: u32) -> Result<Vec<u8>, Fault> {
-        let list = self.lists.remove(&id).ok_or(Fault::Stray)?;
-        self.total -= list.len();
-        Ok(list)
+    fn chain(&self, id: u32) -> Option<&[u8]> {
+        self.lists.get(&id).map(Vec::as_slice)
+    }
+
+    fn discard(&mut self, id: u32) {
+        if let Some(list) = self.lists.remove(&id) {
+            self.total -= list.len();
+        }
     }
 }
 
 fn checksum(sum: u64, octets: &[u8]) -> u64 {
-    let last = octets.last().map_or(0, |octet| u64::from(*octet));
-    sum.rotate_left(5) ^ octets.len() as u64 ^ last << 32
+    let sum = sum.rotate_left(5) ^ octets.len() as u64;
+    octets
+        .chunks(512)
+        .fold(sum, |sum, part| sum.rotate_left(1) ^ u64::from(part[0]))
+}
+
+fn number(n: usize, default: usize) -> usize {
+    std::env::args().nth(n).and_then(|word| word.parse().ok()).unwrap_or(default)
 }
 
 fn main() {
-    let size: usize = std::env::args().nth(1).and_then(|word| word.parse().ok()).unwrap_or(512);
-    let mut piece = vec![0u8; size.min(4096)];
+    let size = number(1, 512).min(4096);
+    let ids = number(2, 64) as u32;
+    let mut piece = vec![0u8; size];
     let mut gather = Gather {
         limit: OCTETS,
         total: 0,
         lists: BTreeMap::new(),
     };
     let mut refused = 0u64;
-    let rounds = OCTETS / (size * IDS as usize);
-    for turn in 0..rounds as u32 {
+    for turn in 0..OCTETS / (size * ids as usize) {
         piece[0] = (turn % 251) as u8;
-        for k in 0..IDS {
-            let id = k.wrapping_mul(37) % IDS * 4099;
+        for k in 0..ids {
+            let id = (k.wrapping_mul(37) % ids).wrapping_mul(4099);
             let done = if turn == 0 {
                 gather.begin(id, &piece)
             } else {
@@ -76,13 +84,12 @@ fn main() {
         }
     }
     let mut sum = refused ^ gather.total as u64;
-    for k in 0..IDS {
-        if let Ok(octets) = gather.finish(k * 4099) {
-            sum = checksum(sum, &octets);
-            for at in (0..octets.len()).step_by(size) {
-                sum = sum.rotate_left(1) ^ u64::from(octets[at]);
-            }
+    for k in 0..ids {
+        let id = k.wrapping_mul(4099);
+        if let Some(octets) = gather.chain(id) {
+            sum = checksum(sum, octets);
         }
+        gather.discard(id);
     }
     println!("{sum}");
 }

@@ -1,14 +1,12 @@
-//! 64 MB in pieces of one size, interleaved over 64 ids. `bench/frag/twin.rs` does the same in
-//! plain Rust.
-ghost use Rattle.std.specs.Prelude.{◌<◌, ◌≤◌};
+//! 64 MB in pieces of one size, interleaved over some ids, read where they lie and dropped.
+//! `bench/frag/twin.rs` does the same in plain Rust.
+ghost use Rattle.std.specs.Prelude.{◌<◌, ◌≤◌, ◌^◌, length};
 
-use giop_cdr::Order;
-use giop_frag::{Gather, GatherFault};
+use giop_cdr::{Octets, Order};
+use giop_frag::{Chain, Gather, GatherFault};
 use std::alloc::Global;
 
 const OCTETS: usize = 67_108_864;
-
-const IDS: u32 = 64;
 
 fn refusals(outcome: Result<(), GatherFault>) -> u64 {
     match outcome {
@@ -25,10 +23,12 @@ fn begin(gather: &mut Gather, id: u32, octets: &[u8]) -> u64 {
 }
 
 // One piece for each id, and how many of them are refused.
-fn round(gather: &mut Gather, turn: usize, octets: &[u8]) -> u64 {
+fn round(gather: &mut Gather, ids: u32, turn: usize, octets: &[u8]) -> u64
+    requires { 0 < ids }
+{
     let mut refused = 0u64;
-    for k in 0..IDS {
-        let id = k.wrapping_mul(37) % IDS * 4099;
+    for k in 0..ids {
+        let id = (k.wrapping_mul(37) % ids).wrapping_mul(4099);
         let more = if turn == 0 {
             begin(gather, id, octets)
         } else {
@@ -39,36 +39,49 @@ fn round(gather: &mut Gather, turn: usize, octets: &[u8]) -> u64 {
     refused
 }
 
-// The length, the last octet, and the first octet of each piece.
-fn checksum(sum: u64, octets: &[u8], size: usize) -> u64
-    requires { 0 < size }
-{
-    let last = octets.last().map_or(0, |octet| *octet as u64);
-    let mut sum = sum.rotate_left(5) ^ octets.len() as u64 ^ last << 32;
-    for piece in octets.chunks(size) {
-        sum = sum.rotate_left(1) ^ piece.first().map_or(0, |octet| *octet as u64);
+fn firsts(sum: u64, octets: &[u8]) -> u64 {
+    let mut sum = sum;
+    for part in octets.chunks(512) {
+        sum = sum.rotate_left(1) ^ part.first().map_or(0, |octet| *octet as u64);
     }
     sum
 }
 
-/// Runs the loop with pieces of `size` octets, and gives its checksum.
+// The length, and the first octet of each 512, run by run.
+fn checksum(sum: u64, chain: &Chain<'_>) -> u64
+    requires { length chain.now ≤ 2 ^ 62 }
+{
+    let mut sum = sum.rotate_left(5) ^ chain.len() as u64;
+    let mut at = 0;
+    'runs: while at < chain.len() {
+        let run = chain.run(at);
+        sum = firsts(sum, run);
+        at += run.len();
+    }
+    sum
+}
+
+/// Runs the loop with pieces of `size` octets over so many ids, and gives its checksum.
 #[inline(never)]
-pub fn run(alloc: Global, size: usize) -> u64
+pub fn run(alloc: Global, size: usize, ids: u32) -> u64
     requires some { 0 < size }
     requires most { size ≤ 4096 }
+    requires ids { 0 < ids }
 {
     let mut piece = [0u8; 4096];
     let mut gather = Gather::new(alloc, OCTETS);
     let mut refused = 0u64;
-    for turn in 0..OCTETS / (size * 64) {
+    for turn in 0..OCTETS / (size * ids as usize) {
         piece[0] = (turn % 251) as u8;
-        refused = refused.wrapping_add(round(&mut gather, turn, &piece[..size]));
+        refused = refused.wrapping_add(round(&mut gather, ids, turn, &piece[..size]));
     }
     let mut sum = refused ^ gather.total() as u64;
-    for k in 0..IDS {
-        if let Ok((_, octets)) = gather.finish(k * 4099) {
-            sum = checksum(sum, octets.as_slice(), size);
+    for k in 0..ids {
+        let id = k.wrapping_mul(4099);
+        if let Some((_, chain)) = gather.chain(id) {
+            sum = checksum(sum, &chain);
         }
+        gather.discard(id);
     }
     sum
 }

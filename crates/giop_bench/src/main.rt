@@ -2,6 +2,8 @@
 //! the loop, the second how often a loop over CDR runs; it does its work and prints a checksum.
 #![tactic(auto)]
 
+ghost use Rattle.std.specs.Prelude.{◌<◌};
+
 mod frag;
 mod mux;
 mod read;
@@ -13,7 +15,8 @@ use std::alloc::Global;
 use std::{env, io};
 use work::Work;
 
-const USAGE: &str = "usage: giop_bench LOOP, where LOOP is frag24, frag512, frag4096 or mux,
+const USAGE: &str = "usage: giop_bench mux
+or giop_bench (frag24|frag512|frag4096) IDS, where IDS is 1, 64 or 1024
 or giop_bench types-(structs|longs)-(read|write),
 or giop_bench (read|write)-VALUES-(big|little) TIMES, where VALUES is ulong, string, octets or widths";
 
@@ -36,14 +39,25 @@ fn named(alloc: Global, name: &str, times: &str) -> Option<u64> {
     }
 }
 
+// Over how many ids a loop of fragments is interleaved.
+fn ids(times: &str) -> u32
+    ensures { 0 < result }
+{
+    match times {
+        "1" => 1,
+        "1024" => 1024,
+        _ => 64,
+    }
+}
+
 fn main(rt: HostRuntime) -> io::Result<()> {
     let name = env::args(&rt)?.nth(1);
     let times = env::args(&rt)?.nth(2);
     let times = times.as_ref().map_or("", |times| times.as_str());
     match name.as_ref().map_or("", |name| name.as_str()) {
-        "frag24" => println!(rt; "{}", frag::run(rt.alloc(), 24)),
-        "frag512" => println!(rt; "{}", frag::run(rt.alloc(), 512)),
-        "frag4096" => println!(rt; "{}", frag::run(rt.alloc(), 4096)),
+        "frag24" => println!(rt; "{}", frag::run(rt.alloc(), 24, ids(times))),
+        "frag512" => println!(rt; "{}", frag::run(rt.alloc(), 512, ids(times))),
+        "frag4096" => println!(rt; "{}", frag::run(rt.alloc(), 4096, ids(times))),
         "mux" => println!(rt; "{}", mux::run(rt.alloc())),
         name => match named(rt.alloc(), name, times) {
             Some(sum) => println!(rt; "{sum}"),

@@ -1,240 +1,188 @@
--- The counts of a gatherer, after one list has changed.
-use Rattle.std.proofs.Common.{◌≡◌, ℕ, ◌≤◌, ◌+◌, ◌-◌, ◌^◌, ◌++◌, nat_lt, max, false, List, [], length, Option, Some, None, option_and_then, Result, Ok, Err, is_ok, OnOk, OnErr, IfOk, IfErr, refl, sym, ap, subst, ◌∙◌, arith, true, Bool}
+-- The count of all octets, and the limits that are kept, after a call.
+use Rattle.std.proofs.Common.{◌≡◌, ℕ, ◌≤◌, ◌+◌, ◌-◌, ◌^◌, nat_lt, true, false, Bool, cond, List, [], length, Option, Some, None, IfSome, refl, sym, ap, ◌∙◌, arith, inl, inr, ◌⊎◌}
 use Rattle.std.proofs.lemmas.Bool.Decides.{nat_tests}
-use Rattle.std.specs.Ordering.{nat_cmp}
-use Rattle.std.specs.Map.{lookup}
-use Rattle.std.specs.BTreeMap.{is_at}
+use Rattle.std.specs.Option.{option_map}
 use Rattle.std.specs.FinMap as map
 use Rattle.giop_cdr.specs.declared.order.Order.{Order}
 use Rattle.giop_ids.specs.ById.{put}
 use Rattle.giop_ids.specs.Runs.{RefusedAs}
-use Rattle.giop_ids.specs.Slots.{Becomes}
-use Rattle.giop_ids.proofs.Puts.{put_same}
 use Rattle.giop_ids.proofs.Sums.{sum_empty, weight_within}
-use Rattle.giop_ids.proofs.SlotLemmas as slots
 use Rattle.giop_frag.specs.declared.fault.GatherFault.{GatherFault}
-use Rattle.giop_frag.specs.declared.fault.GatherFault.TheVariants.{NoMemory}
-use Rattle.giop_frag.specs.Gathered.{Gathered, Lists, Pieces, grown, octets_in, total_of, blocks_for, blocks_of, blocks_after, is_over, add_fault_by}
-use Rattle.giop_frag.specs.Table.{entries_of, IsTable}
-use Rattle.giop_frag.proofs.TotalLemmas.{total_put, blocks_put, blocks_for_more, blocks_within_total, octets_in-grown, no_fault}
+use Rattle.giop_frag.specs.declared.fault.GatherFault.TheVariants.{Stray, OrderDiffers, GatherFull, NoMemory}
+use Rattle.giop_frag.specs.Gathered.{Gathered, Lists, Pieces, grown, octets_in, total_of, blocks_for, blocks_of, blocks_after, is_over, add_fault_by, room_fault, same_order, first_fault, IsBlocksAfter}
+use Rattle.giop_frag.specs.Blocks.{Pooled, once, times}
+use Rattle.giop_frag.specs.Placed.{Placed, AreHeld, IsTable, lists_at}
+use Rattle.giop_frag.proofs.TotalLemmas.{total_put, blocks_within_total, octets_in-grown, no_fault}
 
--- the list under an id is the one in its slot
-pub looked_up : (held : List (ℕ × Pieces)) (id : ℕ) → map.get (entries_of held) id ≡ lookup (is_at (nat_cmp id)) held
-looked_up held id = slots.get_of (λ pieces. Some pieces) held id ∙ itself (lookup (is_at (nat_cmp id)) held)
-  where
-    itself : (slot : Option Pieces) → option_and_then (λ pieces. Some pieces) slot ≡ slot
-    itself None = refl
-    itself (Some pieces) = refl
+-- a gatherer's lists are within its limit
+pub within_limit : (limit total : ℕ) (pool : Pooled) (held : List (ℕ × Placed)) → IsTable limit total pool held
+    → total_of (lists_at pool.blocks held) ≤ limit
+within_limit limit total pool held table = let counted = table.counted in let within = table.within in omega arith
 
--- what a look-up among the slots gives is the list under the id
-pub found_at : (held : List (ℕ × Pieces)) (id : ℕ) (slot : Option Pieces)
-    → lookup (is_at (nat_cmp id)) held ≡ slot → map.get (entries_of held) id ≡ slot
-found_at held id slot found = looked_up held id ∙ found
+-- nothing is gathered as yet
+pub no_octets : (limit : ℕ) (pool : Pooled) (held : List (ℕ × Placed)) → limit ≤ 2 ^ 62 → pool ≡ record { blocks = []; free = [] } → held ≡ []
+    → IsTable limit 0 pool held
+no_octets limit pool held small fresh none = rw (fresh, none) (record {
+  held = record {
+    standing = record {
+      whole = record { whole = λ n below. absurd (omega arith) };
+      stands = λ n.
+          let nothing = sum_empty (λ (p : Placed). times n p.numbers) in
+          let below : nat_lt n 0 ≡ false = grind (arith, nat_tests) in
+          let once_none : once n [] ≡ 0 = ap (λ b. cond b 1 0) below in
+          omega arith;
+      counts = λ id p found. absurd cc;
+    };
+    free = let nothing = sum_empty (λ (p : Pieces). blocks_for (length p.octets)) in omega arith;
+  };
+  counted = sym (sum_empty (λ (p : Pieces). length p.octets));
+  within = omega arith;
+  few = omega arith;
+  small = small;
+})
 
--- slots that change at one id hold the lists with that one put
-pub one_put : (old new : List (ℕ × Pieces)) (id : ℕ) (held : Option Pieces)
-    → Becomes old new id held → entries_of new ≡ put (entries_of old) id held
-one_put old new id None becomes = slots.one_put (λ pieces. Some pieces) old new id None becomes
-one_put old new id (Some pieces) becomes = slots.one_put (λ p. Some p) old new id (Some pieces) becomes
+-- where there was room for octets that came, all is within the limit
+pub fits : (limit : ℕ) (m : Lists) (id n : ℕ) (held : Option Pieces) → is_over limit m n ≡ false
+    → octets_in held ≡ octets_in (map.get m id) + n
+    → (total_of (put m id held) ≡ total_of m + n) × (total_of (put m id held) ≤ limit) × (blocks_of (put m id held) ≤ limit)
+fits limit m id n held room grows =
+    let is : nat_lt limit (total_of m + n) ≡ false = room in
+    let most : total_of m + n ≤ limit = grind (arith, nat_tests) in
+    let sum = total_put m id held in
+    let few = blocks_within_total (put m id held) in
+    (omega arith, omega arith, omega arith)
 
--- a slot that is filled holds a list more
-pub new_list : (old new : List (ℕ × Pieces)) (id : ℕ) (filled pieces : Pieces)
-    → Becomes old new id (Some filled) → filled ≡ pieces → entries_of new ≡ put (entries_of old) id (Some pieces)
-new_list old new id filled pieces becomes is =
-    one_put old new id (Some filled) becomes ∙ ap (λ p. put (entries_of old) id (Some p)) is
-
--- where there was room for octets that came, the counts are right again
-pub more_octets : (limit total needed blocks n more id : ℕ) (old new : List (ℕ × Pieces)) (held : Option Pieces)
-    → IsTable limit total needed blocks old → entries_of new ≡ put (entries_of old) id held
-    → octets_in held ≡ octets_in (map.get (entries_of old) id) + n
-    → more + blocks_for (octets_in (map.get (entries_of old) id)) ≡ blocks_for (octets_in held)
-    → nat_lt limit (total_of (entries_of old) + n) ≡ false
-    → IsTable limit (total + n) (needed + more) (max blocks (needed + more)) new
-more_octets limit total needed blocks n more id old new held table puts grows blocks_grow room =
-    let fits : total_of (entries_of old) + n ≤ limit = grind (arith, nat_tests) in
+-- octets were joined or begun with
+pub more_octets : (limit total : ℕ) (from to : Pooled) (old new : List (ℕ × Placed)) (id n : ℕ) (held : Option Pieces)
+    → IsTable limit total from old → AreHeld to new → lists_at to.blocks new ≡ put (lists_at from.blocks old) id held
+    → octets_in held ≡ octets_in (map.get (lists_at from.blocks old) id) + n
+    → length to.blocks ≡ blocks_after (length from.blocks) (lists_at to.blocks new)
+    → is_over limit (lists_at from.blocks old) n ≡ false → IsTable limit (total + n) to new
+more_octets limit total from to old new id n held table are puts grows number room =
+    let fitting = fits limit (lists_at from.blocks old) id n held room grows in
+    let one = fitting.0 in
+    let two = fitting.1 in
+    let three = fitting.2 in
     let sum = ap total_of puts in
-    let sum_blocks = ap blocks_of puts in
-    let changes = total_put (entries_of old) id held in
-    let changes_blocks = blocks_put (entries_of old) id held in
-    let few = blocks_within_total (entries_of new) in
+    let needed = ap blocks_of puts in
     let counted = table.counted in
-    let needs = table.needs in
-    let most = table.few in
+    let few = table.few in
     record {
+      held = are;
       counted = omega arith;
-      needs = omega arith;
       within = omega arith;
-      enough = omega arith;
       few = omega arith;
       small = table.small;
     }
 
--- what a call that gathers octets leaves of the counts
-pub record Counted (limit total needed blocks most : ℕ) (lists : Lists) (new : List (ℕ × Pieces)) : Type 0 where
-  pub table : IsTable limit total needed most new
-  pub most_is : most ≡ blocks_after blocks lists
+-- a refusal leaves no more blocks than before, or, for want of memory, than fit
+pub few_left : (fault : GatherFault) (old new limit : ℕ) (m : Lists) → IsBlocksAfter fault old m new → old ≤ limit
+    → (fault ≡ NoMemory → blocks_of m ≤ limit) → new ≤ limit
+few_left Stray old new limit m same few most = let is : new ≡ old = same in omega arith
+few_left OrderDiffers old new limit m same few most = let is : new ≡ old = same in omega arith
+few_left GatherFull old new limit m same few most = let is : new ≡ old = same in omega arith
+few_left NoMemory old new limit m between few most = let upper = between.1 in let fit = most refl in omega arith
 
--- where there was room for the first octets under an id
-pub begun : (limit total needed blocks more most id : ℕ) (old new : List (ℕ × Pieces)) (pieces : Pieces)
-    → IsTable limit total needed blocks old → map.get (entries_of old) id ≡ None
-    → entries_of new ≡ put (entries_of old) id (Some pieces)
-    → more ≡ blocks_for (length pieces.octets) → most ≡ max blocks (needed + more)
-    → is_over limit (entries_of old) (length pieces.octets) ≡ false
-    → Counted limit (total + length pieces.octets) (needed + more) blocks most (put (entries_of old) id (Some pieces)) new
-begun limit total needed blocks more most id old new pieces table absent puts is_more is_most room =
-    let none : octets_in (map.get (entries_of old) id) ≡ 0 = ap octets_in absent in
-    let no_blocks : blocks_for (octets_in (map.get (entries_of old) id)) ≡ 0 = ap blocks_for none in
-    let all = more_octets limit total needed blocks (length pieces.octets) more id old new (Some pieces) table puts (omega arith) (omega arith) room in
-    let needs = all.needs in
-    let sum_blocks = ap blocks_of puts in
-    record {
-      table = subst (λ (k : ℕ). IsTable limit (total + length pieces.octets) (needed + more) k new) (sym is_most) all;
-      most_is = is_most ∙ ap (max blocks) (needs ∙ sum_blocks);
-    }
+-- the lists are as they were
+pub same_octets : (limit total : ℕ) (from to : Pooled) (old new : List (ℕ × Placed)) → IsTable limit total from old → AreHeld to new
+    → lists_at to.blocks new ≡ lists_at from.blocks old → length to.blocks ≤ limit → IsTable limit total to new
+same_octets limit total from to old new table are same few = record {
+  held = are;
+  counted = table.counted ∙ sym (ap total_of same);
+  within = table.within;
+  few = few;
+  small = table.small;
+}
 
--- and for octets behind those of an id
-pub went_on : (limit total needed blocks before one two most id : ℕ) (old new : List (ℕ × Pieces)) (more : List ℕ) (order : Order)
-    → IsTable limit total needed blocks old
-    → add_fault_by (is_over limit (entries_of old) (length more)) (map.get (entries_of old) id) order ≡ None
-    → entries_of new ≡ put (entries_of old) id (grown (map.get (entries_of old) id) more)
-    → before ≡ octets_in (map.get (entries_of old) id) → one ≡ blocks_for (before + length more) → two ≡ blocks_for before
-    → most ≡ max blocks (needed + (one - two))
-    → Counted limit (total + length more) (needed + (one - two)) blocks most (put (entries_of old) id (grown (map.get (entries_of old) id) more)) new
-went_on limit total needed blocks before one two most id old new more order table accepts puts is_before is_one is_two is_most =
-    let sound = no_fault (is_over limit (entries_of old) (length more)) (map.get (entries_of old) id) order accepts in
-    let held = grown (map.get (entries_of old) id) more in
-    let grows = octets_in-grown (map.get (entries_of old) id) more sound.0 in
-    let longer : before + length more ≡ octets_in held = omega arith in
-    let one_of : one ≡ blocks_for (octets_in held) = is_one ∙ ap blocks_for longer in
-    let two_of : two ≡ blocks_for (octets_in (map.get (entries_of old) id)) = is_two ∙ ap blocks_for is_before in
-    let no_fewer = blocks_for_more before (length more) in
-    let all = more_octets limit total needed blocks (length more) (one - two) id old new held table puts grows (omega arith) sound.1 in
-    let needs = all.needs in
-    let sum_blocks = ap blocks_of puts in
-    record {
-      table = subst (λ (k : ℕ). IsTable limit (total + length more) (needed + (one - two)) k new) (sym is_most) all;
-      most_is = is_most ∙ ap (max blocks) (needs ∙ sum_blocks);
-    }
+-- want of memory is not what the octets of an id are refused for
+found_nothing : (over : Bool) (held : Option Pieces) (order : Order) → RefusedAs NoMemory NoMemory (add_fault_by over held order)
+    → add_fault_by over held order ≡ None
+found_nothing over None order why = elim why [ inl is ↦ absurd cc | inr none ↦ none.1 ]
+found_nothing over (Some p) order why = by_tests over (same_order order p.order) why
+  where
+    by_tests : (b same : Bool) → (first_fault (cond same None (Some OrderDiffers)) (room_fault b) ≡ Some NoMemory)
+        ⊎ ((NoMemory ≡ NoMemory) × (first_fault (cond same None (Some OrderDiffers)) (room_fault b) ≡ None))
+        → first_fault (cond same None (Some OrderDiffers)) (room_fault b) ≡ None
+    by_tests b same (inl is) = never b same is
+      where
+        never : (b same : Bool) → first_fault (cond same None (Some OrderDiffers)) (room_fault b) ≡ Some NoMemory
+            → first_fault (cond same None (Some OrderDiffers)) (room_fault b) ≡ None
+        never true true is = absurd cc
+        never true false is = absurd cc
+        never false true is = refl
+        never false false is = absurd cc
+    by_tests b same (inr none) = none.1
 
--- what the gatherer was asked is what its counts say
-pub accepts : (limit blocks n id : ℕ) (held : List (ℕ × Pieces)) (order : Order) (over : Bool) (g : Gathered)
-    → record { limit = limit; blocks = blocks; lists = entries_of held } ≡ g → over ≡ is_over g.limit g.lists n
-    → add_fault_by over (map.get (entries_of held) id) order ≡ None
-    → add_fault_by (is_over limit (entries_of held) n) (map.get (entries_of held) id) order ≡ None
-accepts limit blocks n id held order over g seen asked none =
-    ap (λ b. add_fault_by b (map.get (entries_of held) id) order) (ap (λ k. is_over k.limit k.lists n) seen ∙ sym asked) ∙ none
+-- where octets are not joined for want of memory alone, their blocks would be within the limit
+pub memory_fits : (fault : GatherFault) (limit : ℕ) (m : Lists) (id : ℕ) (order : Order) (more : List ℕ) (over : Bool)
+    → over ≡ is_over limit m (length more) → RefusedAs NoMemory fault (add_fault_by over (map.get m id) order) → fault ≡ NoMemory
+    → blocks_of (put m id (grown (map.get m id) more)) ≤ limit
+memory_fits fault limit m id order more over asked why memory =
+    let none = found_nothing over (map.get m id) order (rw memory at why) in
+    let sound = no_fault over (map.get m id) order none in
+    (fits limit m id (length more) (grown (map.get m id) more) (sym asked ∙ sound.1) (octets_in-grown (map.get m id) more sound.0)).2
+
+-- octets were joined
+pub joined_octets : (limit total : ℕ) (from to : Pooled) (old new : List (ℕ × Placed)) (id : ℕ) (order : Order) (more : List ℕ) (over : Bool)
+    → IsTable limit total from old → AreHeld to new
+    → lists_at to.blocks new ≡ put (lists_at from.blocks old) id (grown (map.get (lists_at from.blocks old) id) more)
+    → length to.blocks ≡ blocks_after (length from.blocks) (lists_at to.blocks new)
+    → over ≡ is_over limit (lists_at from.blocks old) (length more)
+    → add_fault_by over (map.get (lists_at from.blocks old) id) order ≡ None → IsTable limit (total + length more) to new
+joined_octets limit total from to old new id order more over table are puts number asked none =
+    let sound = no_fault over (map.get (lists_at from.blocks old) id) order none in
+    more_octets limit total from to old new id (length more) _ table are puts
+    (octets_in-grown (map.get (lists_at from.blocks old) id) more sound.0) number (sym asked ∙ sound.1)
 
 -- the octets under an id are among all
-pub octets_within : (limit total needed blocks id : ℕ) (held : List (ℕ × Pieces)) → IsTable limit total needed blocks held
-    → (octets_in (map.get (entries_of held) id) ≤ total) × (octets_in (map.get (entries_of held) id) ≤ limit)
-octets_within limit total needed blocks id held table =
-    let among = weight_within (λ p. length p.octets) (entries_of held) id in
+pub octets_within : (limit total id : ℕ) (pool : Pooled) (held : List (ℕ × Placed)) → IsTable limit total pool held
+    → (octets_in (map.get (lists_at pool.blocks held) id) ≤ total) × (octets_in (map.get (lists_at pool.blocks held) id) ≤ limit)
+octets_within limit total id pool held table =
+    let among = weight_within (λ p. length p.octets) (lists_at pool.blocks held) id in
     let counted = table.counted in
     let within = table.within in
     (omega arith, omega arith)
 
--- and with those that come there are no more than the limit
-pub fits_limit : (limit total needed blocks id before n : ℕ) (held : List (ℕ × Pieces)) (order : Order) → IsTable limit total needed blocks held
-    → add_fault_by (is_over limit (entries_of held) n) (map.get (entries_of held) id) order ≡ None
-    → before ≡ octets_in (map.get (entries_of held) id) → before + n ≤ limit
-fits_limit limit total needed blocks id before n held order table accepts is_before =
-    let sound = no_fault (is_over limit (entries_of held) n) (map.get (entries_of held) id) order accepts in
-    let room : nat_lt limit (total_of (entries_of held) + n) ≡ false = sound.1 in
-    let fits : total_of (entries_of held) + n ≤ limit = grind (arith, nat_tests) in
-    let among = weight_within (λ p. length p.octets) (entries_of held) id in
+-- where there is room for more, there is for those of one id with them
+pub small_enough : (limit total id n : ℕ) (pool : Pooled) (held : List (ℕ × Placed)) → IsTable limit total pool held
+    → is_over limit (lists_at pool.blocks held) n ≡ false → octets_in (map.get (lists_at pool.blocks held) id) + n ≤ 2 ^ 62
+small_enough limit total id n pool held table room =
+    let is : nat_lt limit (total_of (lists_at pool.blocks held) + n) ≡ false = room in
+    let most : total_of (lists_at pool.blocks held) + n ≤ limit = grind (arith, nat_tests) in
+    let among = weight_within (λ p. length p.octets) (lists_at pool.blocks held) id in
+    let small = table.small in
     omega arith
 
--- a gatherer whose lists and blocks have changed
-pub changed_view : (limit blocks most : ℕ) (old new : List (ℕ × Pieces)) (id : ℕ) (held : Lists → Option Pieces) (g : Gathered)
-    → record { limit = limit; blocks = blocks; lists = entries_of old } ≡ g
-    → entries_of new ≡ put (entries_of old) id (held (entries_of old))
-    → most ≡ blocks_after blocks (put (entries_of old) id (held (entries_of old)))
-    → record { limit = limit; blocks = most; lists = entries_of new }
-    ≡ record g { lists = put g.lists id (held g.lists); blocks = blocks_after g.blocks (put g.lists id (held g.lists)) }
-changed_view limit blocks most old new id held g seen puts is_most =
-    let Becomes_seen : Gathered → Type 0 = λ k. record { limit = limit; blocks = most; lists = entries_of new }
-    ≡ record k { lists = put k.lists id (held k.lists); blocks = blocks_after k.blocks (put k.lists id (held k.lists)) } in
-    subst Becomes_seen seen (λ i. record { limit = limit; blocks = is_most i; lists = puts i })
-
--- and where octets went
-pub less_octets : (limit total needed blocks n more id : ℕ) (old new : List (ℕ × Pieces)) → IsTable limit total needed blocks old
-    → entries_of new ≡ put (entries_of old) id None → n ≡ octets_in (map.get (entries_of old) id) → more ≡ blocks_for n
-    → IsTable limit (total - n) (needed - more) blocks new × (n ≤ total) × (more ≤ needed)
-less_octets limit total needed blocks n more id old new table puts is is_more =
-    let sum = ap total_of puts in
-    let sum_blocks = ap blocks_of puts in
-    let changes = total_put (entries_of old) id None in
-    let changes_blocks = blocks_put (entries_of old) id None in
-    let same_blocks = ap blocks_for is in
-    let none : blocks_for 0 ≡ 0 = refl in
+-- octets were taken out
+pub less_octets : (limit total n id : ℕ) (from to : Pooled) (old new : List (ℕ × Placed)) → IsTable limit total from old → AreHeld to new
+    → n ≡ octets_in (map.get (lists_at from.blocks old) id) → lists_at to.blocks new ≡ map.remove (lists_at from.blocks old) id
+    → length to.blocks ≡ length from.blocks → IsTable limit (total - n) to new
+less_octets limit total n id from to old new table are is_n removed number =
+    let sum = total_put (lists_at from.blocks old) id None in
+    let now = ap total_of removed in
     let counted = table.counted in
-    let needs = table.needs in
     let within = table.within in
-    let enough = table.enough in (
-      record {
-        counted = omega arith;
-        needs = omega arith;
-        within = omega arith;
-        enough = omega arith;
-        few = table.few;
-        small = table.small;
-      },
-      omega arith,
-      omega arith,
-    )
+    let few = table.few in
+    record {
+      held = are;
+      counted = omega arith;
+      within = omega arith;
+      few = omega arith;
+      small = table.small;
+    }
 
--- the total of a table is within the limit
-pub within_limit : (limit total needed blocks : ℕ) (slots : List (ℕ × Pieces)) → IsTable limit total needed blocks slots
-    → total_of (entries_of slots) ≤ limit
-within_limit limit total needed blocks slots table = let counted = table.counted in let within = table.within in omega arith
+-- what is asked of a gatherer is what its lists say
+pub asked_of : (limit n : ℕ) (blocks : ℕ) (m : Lists) (over : Bool) (g : Gathered) → record { limit = limit; blocks = blocks; lists = m } ≡ g
+    → over ≡ is_over g.limit g.lists n → over ≡ is_over limit m n
+asked_of limit n blocks m over g seen asked = asked ∙ ap (λ k. is_over k.limit k.lists n) (sym seen)
 
--- nothing gathered yet
-pub no_octets : (limit : ℕ) (slots : List (ℕ × Pieces)) → slots ≡ [] → limit ≤ 2 ^ 62 → IsTable limit 0 0 0 slots
-no_octets limit slots none small = record {
-  counted = sym (ap (λ s. total_of (entries_of s)) none ∙ sum_empty (λ p. length p.octets));
-  needs = sym (ap (λ s. blocks_of (entries_of s)) none ∙ sum_empty (λ p. blocks_for (length p.octets)));
-  within = omega arith;
-  enough = omega arith;
-  few = omega arith;
-  small = small;
-}
+-- a list that is found is within the limit
+pub found_within : (bound : ℕ) (slot : Option Pieces) (found : Option (Order × List ℕ)) → octets_in slot ≤ bound
+    → found ≡ option_map (λ p. (p.order, p.octets)) slot → IfSome found (λ f. length f.1 ≤ bound)
+found_within bound None found within is = rw is tt
+found_within bound (Some p) found within is = rw is within
 
--- what holds where a result is Ok, of one that is
-pub ok_part : {T E P : Type 0} (r : Result T E) → is_ok r ≡ true → OnOk r P → P
-ok_part (Ok x) is h = h
-ok_part (Err e) is h = absurd cc
-
--- what a call that appends to the list under an id leaves: its clauses
-pub record Grows (old new : List (ℕ × Pieces)) (over : Bool) (id : ℕ) (order : Order) (more : List ℕ) (r : Result ℕ GatherFault) : Type 0 where
-  pub value : IfOk r (λ before. before ≡ octets_in (map.get (entries_of old) id))
-  pub ok : OnOk r (entries_of new ≡ put (entries_of old) id (grown (map.get (entries_of old) id) more))
-  pub only : OnOk r (add_fault_by over (map.get (entries_of old) id) order ≡ None)
-  pub err : IfErr r (λ fault. RefusedAs NoMemory fault (add_fault_by over (map.get (entries_of old) id) order))
-  pub kept : OnErr r (entries_of new ≡ entries_of old)
-
--- as the call on the list itself says
-pub by_append : (old new : List (ℕ × Pieces)) (over : Bool) (id : ℕ) (order : Order) (more : List ℕ) (r : Result ℕ GatherFault)
-    (held left : Pieces) → map.get (entries_of old) id ≡ Some held → entries_of new ≡ put (entries_of old) id (Some left)
-    → IfOk r (λ before. before ≡ length held.octets) → OnOk r (left ≡ record held { octets = held.octets ++ more })
-    → OnOk r (add_fault_by over (Some held) order ≡ None)
-    → IfErr r (λ fault. RefusedAs NoMemory fault (add_fault_by over (Some held) order)) → OnErr r (left ≡ held)
-    → Grows old new over id order more r
-by_append old new over id order more (Ok before) held left found becomes value ok only err kept = record {
-  value = value ∙ sym (ap octets_in found);
-  ok = becomes ∙ ap (λ p. put (entries_of old) id (Some p)) ok ∙ ap (λ h. put (entries_of old) id (grown h more)) (sym found);
-  only = ap (λ h. add_fault_by over h order) found ∙ only;
-  err = tt;
-  kept = tt;
-}
-by_append old new over id order more (Err fault) held left found becomes value ok only err kept = record {
-  value = tt;
-  ok = tt;
-  only = tt;
-  err = rw found err;
-  kept = becomes ∙ ap (λ p. put (entries_of old) id (Some p)) kept ∙ put_same (entries_of old) id (Some held) found;
-}
-
--- what holds anyway holds where a result is Err
-pub OnErr_of : {T E P : Type 0} (r : Result T E) → P → OnErr r P
-OnErr_of (Ok x) p = tt
-OnErr_of (Err e) p = p
+-- what is under no id is nothing
+pub from_nothing : (m : Lists) (id : ℕ) (order : Order) (octets : List ℕ) → map.get m id ≡ None
+    → octets_in (Some (record { order = order; octets = octets })) ≡ octets_in (map.get m id) + length octets
+from_nothing m id order octets none = let nothing : octets_in (map.get m id) ≡ 0 = ap octets_in none in omega arith

@@ -32,8 +32,15 @@ blocks_for_more n more =
     let rest = mod-lt (n + more + 511) {m = 512} (lit< tt) in
     omega arith
 
+-- they have room for these
+pub blocks_hold : (size : ℕ) → size ≤ 512 * blocks_for size
+blocks_hold size =
+    let parts = div-add-mod' (size + 511) 512 in
+    let rest = mod-lt (size + 511) {m = 512} (lit< tt) in
+    omega arith
+
 -- the blocks of a list are those of its octets
-blocks_in : (held : Option Pieces) → weight_in (λ p. blocks_for (length p.octets)) held ≡ blocks_for (octets_in held)
+pub blocks_in : (held : Option Pieces) → weight_in (λ p. blocks_for (length p.octets)) held ≡ blocks_for (octets_in held)
 blocks_in None = refl
 blocks_in (Some p) = refl
 

@@ -1,3 +1,5 @@
 pub mod Gathered
-pub mod Table
+pub mod Faults
+pub mod Blocks
+pub mod Placed
 pub mod Runs

@@ -1,31 +1,56 @@
-ghost use Rattle.std.specs.Prelude.{◌≡◌};
+ghost use Rattle.std.specs.Prelude.{◌≡◌, ◌+◌, ◌<◌, ◌≤◌, ◌^◌, length, IfOk};
+ghost use Rattle.giop_frag.specs.Blocks.{AreChained, octets_at};
 
-use giop_cdr::Octets;
+use crate::pool::Pool;
+use giop_cdr::{OctetList, Octets};
+use std::alloc::{AllocError, Global};
 use std::marker::Model;
 
-/// The octets gathered under an id, where they lie. They need not lie together: `run` tells how
-/// many do.
+/// The octets gathered under an id, where they lie: in blocks, one behind the other, that need not
+/// lie together. `run` gives the rest of a block.
 ///
 /// Contracts see the list of the octets.
 #[derive(Drop)]
 pub struct Chain<'a> {
-    octets: &'a [u8],
+    pool: &'a Pool,
+    numbers: &'a [usize],
+    size: usize,
 }
 
 impl<'a> Model for Chain<'a> {
     ghost use Rattle.std.specs.Prelude.{List, ℕ};
+    ghost use Rattle.giop_frag.specs.Blocks.{AreChained, octets_at};
 
     ghost Value = { List ℕ };
 
-    ghost view = { λ c. c.octets.now };
+    ghost view = { λ c. octets_at c.pool.now.blocks c.numbers.now c.size };
+
+    ghost invariant = { λ c. AreChained c.pool.now.blocks c.numbers.now c.size };
 }
 
 impl<'a> Chain<'a> {
-    // The octets of one slice.
-    pub(crate) fn new(octets: &'a [u8]) -> Chain<'a>
-        ensures { result ≡ octets.now }
+    // The first octets of the blocks of these numbers.
+    pub(crate) fn new(pool: &'a Pool, numbers: &'a [usize], size: usize) -> Chain<'a>
+        requires { AreChained pool.now.blocks numbers.now size }
+        ensures { result ≡ octets_at pool.now.blocks numbers.now size }
     {
-        Chain { octets }
+        Chain {
+            pool,
+            numbers,
+            size,
+        }
+    }
+
+    // A copy of all of them, in one list.
+    pub(crate) fn to_list(&self, alloc: Global) -> Result<OctetList, AllocError>
+        requires { length self.now < 2 ^ 64 }
+        ensures { IfOk result (λ list. list ≡ self.now) }
+    {
+        let mut octets = Vec::with_capacity(alloc, self.size)?;
+        'runs: while octets.len() < self.len() {
+            octets.extend_from_slice(self.run(octets.len()))?;
+        }
+        Ok(OctetList::from(octets))
     }
 }
 
@@ -33,14 +58,16 @@ impl<'a> Octets for Chain<'a> {
     ghost octets = { λ c. c };
 
     fn len(&self) -> usize {
-        self.octets.len()
+        self.size
     }
 
     fn at(&self, i: usize) -> u8 {
-        self.octets[i]
+        self.run(i)[0]
     }
 
     fn run(&self, from: usize) -> &[u8] {
-        &self.octets[from..]
+        let at = from % 512;
+        let end = (at + (self.size - from)).min(512);
+        self.pool.part(self.numbers[from / 512], at, end)
     }
 }

@@ -1,4 +1,4 @@
-ghost use Rattle.std.specs.Prelude.{◌≡◌, ◌≤◌, ◌^◌, ◌==◌, ◌/◌, ◌+◌, length, is_some, Some, None, IfSome, OnOk, OnErr, IfOk, IfErr};
+ghost use Rattle.std.specs.Prelude.{◌≡◌, ◌≤◌, ◌^◌, ◌==◌, ◌+◌, length, is_some, Some, None, IfSome, OnOk, OnErr, IfOk, IfErr};
 ghost use Rattle.std.specs.Option.{option_map};
 ghost use Rattle.std.specs.FinMap as map;
 ghost use Rattle.giop_ids.specs.ById.{put};
@@ -6,11 +6,13 @@ ghost use Rattle.giop_ids.specs.Runs.{Does, RefusedAs};
 ghost use Rattle.giop_frag.specs.Gathered.{grown, total_of, is_over, begin_fault, add_fault, finish_fault, blocks_after, IsBlocksAfter};
 ghost use Rattle.giop_frag.specs.Runs.{gather_rules, call_reply, finish_reply, Begins, Adds, IsFinished, IsDiscarded, IsDone};
 
-use crate::pieces::Joined;
+use crate::joined::Joined;
+use crate::pool::Pool;
 use crate::{Chain, GatherFault, lists};
 use giop_cdr::{OctetList, Order};
 use std::alloc::Global;
 use std::collections::BTreeMap;
+use std::fmt;
 use std::marker::Model;
 
 /// Octets of many messages, each joined under its id, and no more of them together than a limit.
@@ -23,9 +25,8 @@ pub struct Gather {
     limit: usize,
     // The number of all gathered octets.
     total: usize,
-    // How many blocks their lists need now, and the most that they have needed.
-    needed: usize,
-    blocks: usize,
+    // All blocks. None is let go: a block that a list leaves serves the lists to come.
+    pool: Pool,
     table: BTreeMap<u32, Joined>,
 }
 
@@ -36,15 +37,16 @@ impl Model for Gather {
 
     ghost coded = { gathered_code };
 
-    ghost use Rattle.giop_frag.specs.Table.{entries_of, IsTable};
+    ghost use Rattle.std.specs.Prelude.{length};
+    ghost use Rattle.giop_frag.specs.Placed.{lists_at, IsTable};
 
     ghost view = { λ g. record {
       limit = g.limit;
-      blocks = g.blocks;
-      lists = entries_of g.table.entries;
+      blocks = length g.pool.blocks;
+      lists = lists_at g.pool.blocks g.table.entries;
     } };
 
-    ghost invariant = { λ g. IsTable g.limit g.total g.needed g.blocks g.table.entries };
+    ghost invariant = { λ g. IsTable g.limit g.total g.pool g.table.entries };
 }
 
 impl Gather {
@@ -58,8 +60,7 @@ impl Gather {
             alloc,
             limit,
             total: 0,
-            needed: 0,
-            blocks: 0,
+            pool: Pool::new(alloc),
             table: BTreeMap::new(alloc),
         }
     }
@@ -94,10 +95,15 @@ impl Gather {
         if self.is_over(octets.len()) {
             return Err(GatherFault::GatherFull);
         }
-        lists::begin_list(self.alloc, &mut self.table, id, order, octets)?;
+        lists::begin_list(
+            self.alloc,
+            &mut self.table,
+            &mut self.pool,
+            id,
+            order,
+            octets,
+        )?;
         self.total += octets.len();
-        self.needed += blocks_for(octets.len());
-        self.blocks = self.blocks.max(self.needed);
         Ok(())
     }
 
@@ -128,10 +134,8 @@ impl Gather {
         ensures within { total_of self.new.lists ≤ self.new.limit }
     {
         let over = self.is_over(octets.len());
-        let before = lists::add_to_list(&mut self.table, over, id, order, octets)?;
+        lists::add_to_list(&mut self.table, &mut self.pool, over, id, order, octets)?;
         self.total += octets.len();
-        self.needed += blocks_for(before + octets.len()) - blocks_for(before);
-        self.blocks = self.blocks.max(self.needed);
         Ok(())
     }
 
@@ -152,10 +156,12 @@ impl Gather {
             (record { id = id; what = IsFinished }) (finish_reply result) self.new.lists }
         ensures within { total_of self.new.lists ≤ self.new.limit }
     {
-        match self.take(id) {
-            Some(joined) => Ok(joined.into_parts()),
-            None => Err(GatherFault::Stray),
-        }
+        let Some((order, chain)) = self.chain(id) else {
+            return Err(GatherFault::Stray);
+        };
+        let octets = chain.to_list(self.alloc)?;
+        self.take(id);
+        Ok((order, octets))
     }
 
     /// Takes the id out, and drops its octets; does nothing where it has none. It takes no memory.
@@ -175,15 +181,14 @@ impl Gather {
         ensures within { IfSome result (λ found. length found.1 ≤ self.now.limit) }
         ensures most { IfSome result (λ found. length found.1 ≤ 2 ^ 62) }
     {
-        let joined = lists::list_in(&self.table, id)?;
-        Some((joined.order(), Chain::new(joined.octets())))
+        lists::chain_of(&self.table, &self.pool, id)
     }
 
     /// Whether the id has been begun and not taken out. It takes no memory.
     pub fn contains(&self, id: u32) -> bool
         ensures { result ≡ is_some (map.get self.now.lists id) }
     {
-        lists::is_in(&self.table, id)
+        lists::is_in(&self.table, &self.pool, id)
     }
 
     /// The number of all gathered octets. It is kept, and not counted anew; it takes no memory.
@@ -198,13 +203,12 @@ impl Gather {
     /// list its octets over 512, rounded up. None is given back: a block that a list leaves serves
     /// the lists to come.
     ///
-    /// It is a count, and takes no memory. What the allocator holds follows it only as the code
-    /// shows, and no contract says.
+    /// It takes no memory.
     pub fn blocks(&self) -> usize
         ensures value { result ≡ self.now.blocks }
         ensures within { result ≤ self.now.limit }
     {
-        self.blocks
+        self.pool.len()
     }
 
     /// The most octets that may be gathered at a time.
@@ -219,7 +223,7 @@ impl Gather {
     pub fn len(&self) -> usize
         ensures { result ≡ map.len self.now.lists }
     {
-        lists::count_of(&self.table)
+        lists::count_of(&self.table, &self.pool)
     }
 
     /// Whether there is no id.
@@ -230,16 +234,11 @@ impl Gather {
     }
 
     // Takes the octets of the id out, if it has any, and counts them no longer.
-    fn take(&mut self, id: u32) -> Option<Joined>
+    fn take(&mut self, id: u32)
         ensures ok { self.new ≡ record self.old { lists = map.remove self.old.lists id } }
-        ensures value { result ≡ map.get self.old.lists id }
         ensures within { total_of self.new.lists ≤ self.new.limit }
     {
-        let taken = lists::take_list(&mut self.table, id);
-        let octets = lists::octets_of(&taken);
-        self.total -= octets;
-        self.needed -= blocks_for(octets);
-        taken
+        self.total -= lists::take_list(&mut self.table, &mut self.pool, id);
     }
 
     // Whether `more` octets would be too many.
@@ -250,11 +249,14 @@ impl Gather {
     }
 }
 
-// How many blocks of 512 octets these need.
-fn blocks_for(octets: usize) -> usize
-    requires { octets ≤ 2 ^ 62 }
-    ensures value { result ≡ (octets + 511) / 512 }
-    ensures few { result ≤ octets }
-{
-    (octets + 511) / 512
+/// The limit, and how many octets, ids and blocks there are; not the octets themselves.
+impl fmt::Debug for Gather {
+    fn fmt<W: fmt::Write>(&self, f: &mut fmt::Formatter<W>) -> fmt::Result {
+        f.debug_struct("Gather")
+            .field("limit", &self.limit())
+            .field("total", &self.total())
+            .field("ids", &self.len())
+            .field("blocks", &self.blocks())
+            .finish()
+    }
 }

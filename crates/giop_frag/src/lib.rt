@@ -2,12 +2,14 @@
 //! its id, in a list of its own (CORBA 3.3 Part 2, 9.4.9).
 #![tactic(auto)]
 
+mod block;
 mod chain;
 mod fault;
 mod gather;
+mod joined;
 pub mod laws;
 mod lists;
-mod pieces;
+mod pool;
 
 pub use chain::Chain;
 pub use fault::GatherFault;

@@ -1,96 +1,172 @@
-//! The steps over the plain map: what each leaves of the lists.
-ghost use Rattle.std.specs.Prelude.{◌≡◌, OnOk, OnErr, IfOk, IfErr, Some, None, is_some, option_copied};
+//! The steps over the slots and the pool: what each leaves of the lists.
+ghost use Rattle.std.specs.Prelude.{◌≡◌, ◌≤◌, ◌+◌, ◌^◌, OnOk, OnErr, IfOk, IfErr, Some, None, false, is_some, length};
+ghost use Rattle.std.specs.Option.{option_map};
+ghost use Rattle.std.specs.Ordering.{nat_cmp};
+ghost use Rattle.std.specs.Map.{lookup};
+ghost use Rattle.std.specs.BTreeMap.{is_at};
 ghost use Rattle.std.specs.FinMap as map;
 ghost use Rattle.giop_ids.specs.ById.{put};
 ghost use Rattle.giop_ids.specs.Runs.{RefusedAs};
-ghost use Rattle.giop_frag.specs.Gathered.{grown, octets_in, add_fault_by};
-ghost use Rattle.giop_frag.specs.Table.{entries_of};
+ghost use Rattle.giop_frag.specs.Gathered.{grown, octets_in, add_fault_by, blocks_after, IsBlocksAfter};
+ghost use Rattle.giop_frag.specs.Placed.{AreHeld, IsOpened, IsProvided, IsReady, lists_at};
 
-use crate::GatherFault;
-use crate::pieces::Joined;
+use crate::joined::{Joined, blocks_for};
+use crate::pool::Pool;
+use crate::{Chain, GatherFault};
 use giop_cdr::Order;
-use std::alloc::Global;
+use std::alloc::{AllocError, Global};
 use std::collections::BTreeMap;
 
-/// Puts octets under an id.
+/// Puts octets under an id that has none. All memory is taken before a slot changes.
 pub fn begin_list(
     alloc: Global,
     table: &mut BTreeMap<u32, Joined>,
+    pool: &mut Pool,
     id: u32,
     order: Order,
     octets: &[u8],
 ) -> Result<(), GatherFault>
-    ensures ok { OnOk result (entries_of table.new.entries ≡ put (entries_of table.old.entries) id
-        (Some (record { order = order; octets = octets.now }))) }
+    requires held { AreHeld pool.old table.old.entries }
+    requires absent { map.get (lists_at pool.old.blocks table.old.entries) id ≡ None }
+    requires small { length octets.now ≤ 2 ^ 62 }
+    ensures held { AreHeld pool.new table.new.entries }
+    ensures ok { let m = lists_at pool.old.blocks table.old.entries in
+        OnOk result (lists_at pool.new.blocks table.new.entries
+        ≡ put m id (Some (record { order = order; octets = octets.now }))) }
+    ensures number { let m = lists_at pool.new.blocks table.new.entries in
+        OnOk result (length pool.new.blocks ≡ blocks_after (length pool.old.blocks) m) }
     ensures err { IfErr result (λ fault. fault ≡ GatherFault.NoMemory) }
-    ensures kept { OnErr result (entries_of table.new.entries ≡ entries_of table.old.entries) }
+    ensures kept { OnErr result (lists_at pool.new.blocks table.new.entries
+        ≡ lists_at pool.old.blocks table.old.entries) }
+    ensures left { let m = lists_at pool.old.blocks table.old.entries in
+        IfErr result (λ fault. IsBlocksAfter fault (length pool.old.blocks)
+        (put m id (Some (record { order = order; octets = octets.now })))
+        (length pool.new.blocks)) }
 {
-    let joined = Joined::new(alloc, order, octets)?;
-    table.insert(id, joined).map_err(|_| GatherFault::NoMemory)?;
+    open_list(alloc, table, pool, id, order, blocks_for(octets.len()))?;
+    fill_list(table, pool, id, octets);
     Ok(())
 }
 
+// Takes all memory for a list of so many blocks, and puts it under an id that has none, with no
+// octets as yet.
+fn open_list(
+    alloc: Global,
+    table: &mut BTreeMap<u32, Joined>,
+    pool: &mut Pool,
+    id: u32,
+    order: Order,
+    wanted: usize,
+) -> Result<(), AllocError>
+    ensures ok { OnOk result
+        (IsOpened pool.new table.old.entries table.new.entries id order wanted) }
+    ensures kept { OnErr result (table.new.entries ≡ table.old.entries) }
+    ensures provided { IsProvided wanted pool.old pool.new }
+{
+    pool.provide(wanted)?;
+    let joined = Joined::with_room(alloc, order, wanted)?;
+    table.insert(id, joined).map_err(|_| AllocError)?;
+    Ok(())
+}
+
+// Appends octets to those under an id. It takes no memory: enough blocks are free, and there is
+// room for their numbers.
+fn fill_list(table: &mut BTreeMap<u32, Joined>, pool: &mut Pool, id: u32, octets: &[u8])
+    requires held { AreHeld pool.old table.old.entries }
+    requires ready { IsReady pool.old (lookup (is_at (nat_cmp id)) table.old.entries)
+        (length octets.now) }
+    ensures held { AreHeld pool.new table.new.entries }
+    ensures ok { let m = lists_at pool.old.blocks table.old.entries in
+        lists_at pool.new.blocks table.new.entries ≡ put m id (grown (map.get m id) octets.now) }
+    ensures number { length pool.new.blocks ≡ length pool.old.blocks }
+{
+    if let Some(joined) = table.get_mut(&id) {
+        joined.fill(pool, octets);
+    }
+}
+
 /// Appends octets to those under an id, where they come in one order and `over` says that there is
-/// room; gives how many there were.
+/// room.
 pub fn add_to_list(
     table: &mut BTreeMap<u32, Joined>,
+    pool: &mut Pool,
     over: bool,
     id: u32,
     order: Order,
     octets: &[u8],
-) -> Result<usize, GatherFault>
-    ensures value { let m = entries_of table.old.entries in
-        IfOk result (λ before. before ≡ octets_in (map.get m id)) }
-    ensures ok { let m = entries_of table.old.entries in OnOk result
-        (entries_of table.new.entries ≡ put m id (grown (map.get m id) octets.now)) }
-    ensures only { let m = entries_of table.old.entries in
+) -> Result<(), GatherFault>
+    requires held { AreHeld pool.old table.old.entries }
+    requires small { let m = lists_at pool.old.blocks table.old.entries in
+        over ≡ false → octets_in (map.get m id) + length octets.now ≤ 2 ^ 62 }
+    ensures held { AreHeld pool.new table.new.entries }
+    ensures ok { let m = lists_at pool.old.blocks table.old.entries in
+        OnOk result (lists_at pool.new.blocks table.new.entries
+        ≡ put m id (grown (map.get m id) octets.now)) }
+    ensures number { let m = lists_at pool.new.blocks table.new.entries in
+        OnOk result (length pool.new.blocks ≡ blocks_after (length pool.old.blocks) m) }
+    ensures only { let m = lists_at pool.old.blocks table.old.entries in
         OnOk result (add_fault_by over (map.get m id) order ≡ None) }
-    ensures err { let m = entries_of table.old.entries in
+    ensures err { let m = lists_at pool.old.blocks table.old.entries in
         IfErr result (λ fault. RefusedAs GatherFault.NoMemory fault
         (add_fault_by over (map.get m id) order)) }
-    ensures kept { OnErr result (entries_of table.new.entries ≡ entries_of table.old.entries) }
+    ensures kept { OnErr result (lists_at pool.new.blocks table.new.entries
+        ≡ lists_at pool.old.blocks table.old.entries) }
+    ensures left { let m = lists_at pool.old.blocks table.old.entries in
+        IfErr result (λ fault. IsBlocksAfter fault (length pool.old.blocks)
+        (put m id (grown (map.get m id) octets.now)) (length pool.new.blocks)) }
 {
     match table.get_mut(&id) {
-        Some(joined) => joined.append(over, order, octets),
+        Some(joined) => joined.append(pool, over, order, octets),
         None => Err(GatherFault::Stray),
     }
 }
 
-/// Takes the octets under an id out.
-pub fn take_list(table: &mut BTreeMap<u32, Joined>, id: u32) -> Option<Joined>
-    ensures value { result ≡ map.get (entries_of table.old.entries) id }
-    ensures ok { entries_of table.new.entries ≡ map.remove (entries_of table.old.entries) id }
+/// Takes the octets under an id out, and gives their blocks back; tells how many octets there were.
+pub fn take_list(table: &mut BTreeMap<u32, Joined>, pool: &mut Pool, id: u32) -> usize
+    requires held { AreHeld pool.old table.old.entries }
+    ensures held { AreHeld pool.new table.new.entries }
+    ensures value { let m = lists_at pool.old.blocks table.old.entries in
+        result ≡ octets_in (map.get m id) }
+    ensures ok { lists_at pool.new.blocks table.new.entries
+        ≡ map.remove (lists_at pool.old.blocks table.old.entries) id }
+    ensures number { length pool.new.blocks ≡ length pool.old.blocks }
 {
-    table.remove(&id)
-}
-
-/// The number of octets that were taken out.
-pub fn octets_of(taken: &Option<Joined>) -> usize
-    ensures { result ≡ octets_in taken.now }
-{
-    match taken {
-        Some(joined) => joined.len(),
+    match table.remove(&id) {
+        Some(joined) => {
+            pool.give_back(joined.numbers());
+            joined.len()
+        }
         None => 0,
     }
 }
 
-/// The octets under an id.
-pub fn list_in(table: &BTreeMap<u32, Joined>, id: u32) -> Option<&Joined>
-    ensures { option_copied result ≡ map.get (entries_of table.now.entries) id }
+/// The byte order and the octets under an id.
+pub fn chain_of<'a>(
+    table: &'a BTreeMap<u32, Joined>,
+    pool: &'a Pool,
+    id: u32,
+) -> Option<(Order, Chain<'a>)>
+    requires held { AreHeld pool.now table.now.entries }
+    ensures { result ≡ option_map (λ p. (p.order, p.octets))
+        (map.get (lists_at pool.now.blocks table.now.entries) id) }
 {
-    table.get(&id)
+    let joined = table.get(&id)?;
+    Some((
+        joined.order(),
+        Chain::new(pool, joined.numbers(), joined.len()),
+    ))
 }
 
-/// Whether there are octets under an id, or an empty list of them.
-pub fn is_in(table: &BTreeMap<u32, Joined>, id: u32) -> bool
-    ensures { result ≡ is_some (map.get (entries_of table.now.entries) id) }
+/// Whether there are octets under the id.
+pub fn is_in(table: &BTreeMap<u32, Joined>, pool: &Pool, id: u32) -> bool
+    ensures { result ≡ is_some (map.get (lists_at pool.now.blocks table.now.entries) id) }
 {
     table.contains_key(&id)
 }
 
 /// The number of the lists.
-pub fn count_of(table: &BTreeMap<u32, Joined>) -> usize
-    ensures { result ≡ map.len (entries_of table.now.entries) }
+pub fn count_of(table: &BTreeMap<u32, Joined>, pool: &Pool) -> usize
+    ensures { result ≡ map.len (lists_at pool.now.blocks table.now.entries) }
 {
     table.len()
 }

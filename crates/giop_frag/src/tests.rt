@@ -1,3 +1,4 @@
+mod blocks;
 mod gathering;
 mod limits;
 mod memory;

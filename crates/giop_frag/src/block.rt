@@ -1,0 +1,51 @@
+ghost use Rattle.std.specs.Prelude.{◌≡◌, ◌≤◌, ◌+◌, ◌++◌, IfOk, length, take, drop};
+ghost use Rattle.std.specs.List.{slice_range};
+ghost use Rattle.giop_frag.specs.Blocks.{blank};
+
+use std::alloc::{AllocError, Global};
+use std::marker::Model;
+
+/// A block: 512 octets on the heap, which never move.
+#[derive(Drop)]
+pub struct Block {
+    octets: Box<[u8; 512]>,
+}
+
+impl Model for Block {
+    ghost use Rattle.std.specs.Prelude.{List, ℕ, length, ◌≡◌};
+
+    ghost Value = { List ℕ };
+
+    ghost view = { λ b. b.octets.value };
+
+    ghost invariant = { λ b. length b.octets.value ≡ 512 };
+}
+
+impl Block {
+    /// A block without meaning.
+    pub fn new(alloc: Global) -> Result<Block, AllocError>
+        ensures { IfOk result (λ block. block ≡ blank) }
+    {
+        Ok(Block {
+            octets: Box::new(alloc, [0; 512])?,
+        })
+    }
+
+    /// Writes octets from an index on.
+    pub fn write(&mut self, from: usize, octets: &[u8])
+        requires { from + length octets.now ≤ 512 }
+        ensures { self.new
+            ≡ take from self.old ++ octets.now ++ drop (from + length octets.now) self.old }
+    {
+        self.octets[from..from + octets.len()].copy_from_slice(octets);
+    }
+
+    /// The octets from one index up to another.
+    pub fn part(&self, from: usize, to: usize) -> &[u8]
+        requires ends { from ≤ to }
+        requires within { to ≤ 512 }
+        ensures { result.now ≡ slice_range self.now from to }
+    {
+        &self.octets[from..to]
+    }
+}

@@ -1,0 +1,137 @@
+ghost use Rattle.std.specs.Prelude.{◌≡◌, ◌≤◌, ◌+◌, ◌-◌, ◌/◌, ◌^◌, ◌++◌, [], Some, None, false, length, IfOk, IfErr, OnOk, OnErr};
+ghost use Rattle.giop_ids.specs.Runs.{RefusedAs};
+ghost use Rattle.giop_frag.specs.Blocks.{AreApart};
+ghost use Rattle.giop_frag.specs.Gathered.{add_fault_by, blocks_for};
+ghost use Rattle.giop_frag.specs.Placed.{IsFilled, IsJoinedTo, IsLeft, lacking, pieces_at};
+
+use crate::GatherFault;
+use crate::pool::Pool;
+use giop_cdr::Order;
+use std::alloc::{AllocError, Global};
+use std::marker::Model;
+
+/// Where the octets of one message lie, and their byte order.
+#[derive(Drop)]
+pub struct Joined {
+    order: Order,
+    size: usize,
+    numbers: Vec<usize>,
+}
+
+impl Model for Joined {
+    ghost use Rattle.giop_frag.specs.Placed.{Placed, placed_code};
+    ghost use Rattle.std.specs.Prelude.{vec_capacity};
+
+    ghost Value = { Placed };
+
+    ghost coded = { placed_code };
+
+    ghost view = { λ j. record {
+      order = j.order;
+      size = j.size;
+      numbers = j.numbers.items;
+      room = vec_capacity j.numbers;
+    } };
+}
+
+impl Joined {
+    /// No octets, and room for the numbers of so many blocks.
+    pub fn with_room(alloc: Global, order: Order, room: usize) -> Result<Joined, AllocError>
+        ensures value { IfOk result (λ joined. joined
+            ≡ record { order = order; size = 0; numbers = []; room = joined.room }) }
+        ensures room { IfOk result (λ joined. room ≤ joined.room) }
+    {
+        Ok(Joined {
+            order,
+            size: 0,
+            numbers: Vec::with_capacity(alloc, room)?,
+        })
+    }
+
+    /// Appends octets, where they come in the same order and `over` says that there is room.
+    pub fn append(
+        &mut self,
+        pool: &mut Pool,
+        over: bool,
+        order: Order,
+        octets: &[u8],
+    ) -> Result<(), GatherFault>
+        requires count { length self.old.numbers ≡ blocks_for self.old.size }
+        requires apart { AreApart pool.old.blocks (self.old.numbers ++ pool.old.free) }
+        requires small { over ≡ false → self.old.size + length octets.now ≤ 2 ^ 62 }
+        ensures ok { OnOk result (IsJoinedTo self.old pool.old self.new pool.new octets.now) }
+        ensures only { OnOk result
+            (add_fault_by over (Some (pieces_at pool.old.blocks self.old)) order ≡ None) }
+        ensures err { IfErr result (λ fault. RefusedAs GatherFault.NoMemory fault
+            (add_fault_by over (Some (pieces_at pool.old.blocks self.old)) order)) }
+        ensures kept { OnErr result (self.new ≡ record self.old { room = self.new.room }) }
+        ensures left { IfErr result (λ fault.
+            IsLeft fault (lacking self.old (length octets.now)) pool.old pool.new) }
+    {
+        if order != self.order {
+            return Err(GatherFault::OrderDiffers);
+        }
+        if over {
+            return Err(GatherFault::GatherFull);
+        }
+        let lacking = blocks_for(self.size + octets.len()) - self.count();
+        pool.provide(lacking)?;
+        self.numbers.reserve(lacking)?;
+        self.fill(pool, octets);
+        Ok(())
+    }
+
+    /// Appends octets. It takes no memory: enough blocks are free, and there is room for their
+    /// numbers.
+    pub fn fill(&mut self, pool: &mut Pool, octets: &[u8])
+        requires count { length self.old.numbers ≡ blocks_for self.old.size }
+        requires apart { AreApart pool.old.blocks (self.old.numbers ++ pool.old.free) }
+        requires small { self.old.size + length octets.now ≤ 2 ^ 62 }
+        requires free { lacking self.old (length octets.now) ≤ length pool.old.free }
+        requires room { blocks_for (self.old.size + length octets.now) ≤ self.old.room }
+        ensures { IsFilled self.old pool.old self.new pool.new octets.now }
+    {
+        let size = self.size + octets.len();
+        let lacking = blocks_for(size) - self.count();
+        pool.take(lacking, &mut self.numbers);
+        pool.write(&self.numbers, self.size, octets);
+        self.size = size;
+    }
+
+    /// Their byte order.
+    pub fn order(&self) -> Order
+        ensures { result ≡ self.now.order }
+    {
+        self.order
+    }
+
+    /// The numbers of their blocks.
+    pub fn numbers(&self) -> &[usize]
+        ensures { result.now ≡ self.now.numbers }
+    {
+        self.numbers.as_slice()
+    }
+
+    // How many blocks there are.
+    fn count(&self) -> usize
+        ensures { result ≡ length self.now.numbers }
+    {
+        self.numbers.len()
+    }
+
+    /// How many octets there are.
+    pub fn len(&self) -> usize
+        ensures { result ≡ self.now.size }
+    {
+        self.size
+    }
+}
+
+/// How many blocks of 512 octets these need.
+pub fn blocks_for(octets: usize) -> usize
+    requires { octets ≤ 2 ^ 62 }
+    ensures value { result ≡ blocks_for octets }
+    ensures few { result ≤ octets }
+{
+    (octets + 511) / 512
+}
