@@ -1,13 +1,12 @@
 -- The whole text of `convert`, and what a run of it does: by the status that it answers, what its input
 -- was and how the writer's contents grew.
-use Rattle.std.specs.Prelude.{◌≡◌, ◌≢◌, ◌⊎◌, ℕ, ◌-◌, ◌==◌, ◌&&◌, Bool, if◌then◌else◌, List, [], ◌∷◌, ◌++◌, length, take, slice_index, Option, Some, None, Result, Ok, Err, codes, IsUtf8}
+use Rattle.std.specs.Prelude.{◌≡◌, ◌≢◌, ◌⊎◌, ℕ, ◌-◌, ◌==◌, ◌&&◌, Bool, if◌then◌else◌, List, [], ◌∷◌, ◌++◌, length, take, slice_index, Option, Some, None, Result, Ok, Err, codes}
 use Rattle.std.specs.List.{flat_map}
 use Rattle.std.specs.Io.KnownBytes.{Appends}
 use Rattle.hex.specs.declared.error.FromHexError.{FromHexError}
 use Rattle.hex.specs.Hex.{decode_of, encode_lower}
 use Rattle.serde_json.specs.Data.{Data}
 use Rattle.serde_json.specs.Written.{compact_text}
-use Rattle.serde_json.specs.Read.{read}
 use Rattle.giop_cdr.specs.declared.encode_fault.EncodeFault.TheVariants.{Unfit}
 use Rattle.giop_cdr.specs.declared.fault.CdrFault.{CdrFault}
 use Rattle.giop_cdr.specs.declared.fault.CdrKind.TheVariants.{Trailing}
@@ -24,6 +23,7 @@ use Rattle.giop_ior.specs.CorbalocWriting.{corbaloc_text}
 use Rattle.giop_ior.specs.Iiop.{Profile, iiop_of}
 use Rattle.giop_ior.specs.Ior.{Reference, ior_layout}
 use Rattle.giop_ior.specs.ToIor.{ior_of, are_profiles}
+use Rattle.giop_types.specs.DescFromJson.{json_in}
 use Rattle.giop_types.specs.declared.form_fault.FormFault.{FormFault}
 use Rattle.giop_types.specs.declared.form_fault.FormFault.TheVariants.{BadJson}
 use Rattle.giop_types.specs.declared.ior_text_fault.IorTextFault.{IorTextFault}
@@ -127,13 +127,13 @@ value_octets shape order tree = (value_out shape tree (blank order)).octets
 -- a text is no JSON, or a JSON value of which the description has no value
 abbrev pub RefusedForm : Shape → List ℕ → FormFault → Type 0
 RefusedForm shape text e =
-    ((e ≡ BadJson) × (IsUtf8 text → read text ≡ None))
-    ⊎ ((d : Data) × (read text ≡ Some d) × (from_data shape d ≡ Err e))
+    ((e ≡ BadJson) × (json_in text ≡ None))
+    ⊎ ((d : Data) × (json_in text ≡ Some d) × (from_data shape d ≡ Err e))
 
 -- `convert encode` of a file's octets
 abbrev pub ConvertsEncode : Shape → Order → List ℕ → Option (List ℕ) → Option (List ℕ) → Status → Type 0
 ConvertsEncode shape order octets old new Done =
-    (d : Data) × (tree : Tree) × (read (unended octets) ≡ Some d) × (from_data shape d ≡ Ok tree)
+    (d : Data) × (tree : Tree) × (json_in (unended octets) ≡ Some d) × (from_data shape d ≡ Ok tree)
     × Appends old new (ended (encode_lower (value_octets shape order tree)))
 ConvertsEncode shape order octets old new Refused =
     (e : FormFault) × RefusedForm shape (unended octets) e × Tells old new (refusal.Form e)

@@ -2,13 +2,13 @@
 ghost use Rattle.std.specs.Prelude.{◌≡◌, ◌≢◌, ◌⊎◌, [], true, Ok, Some, IfOk, OnOk, IfErr};
 ghost use Rattle.std.specs.String.{string_bytes};
 ghost use Rattle.serde_json.specs.Data.{Data};
-ghost use Rattle.serde_json.specs.Read.{read};
 ghost use Rattle.serde_json.specs.Written.{compact_text};
 ghost use Rattle.giop_cdr.specs.declared.fault.CdrKind.TheVariants.{NoMemory as octets_no_memory};
 ghost use Rattle.giop_cdr.specs.Cursor.{Cursor};
 ghost use Rattle.giop_types.specs.declared.form_fault.FormFault.TheVariants.{NoMemory};
 ghost use Rattle.giop_types.specs.CheckedShape.{checked_shape};
 ghost use Rattle.giop_types.specs.Decoding.{decode_at};
+ghost use Rattle.giop_types.specs.DescFromJson.{json_in};
 ghost use Rattle.giop_types.specs.Fits.{fits};
 ghost use Rattle.giop_types.specs.FromJson.{from_data};
 ghost use Rattle.giop_types.specs.ToJson.{to_data};
@@ -66,7 +66,7 @@ pub fn form_refusal(fault: FormFault) -> Result<RefusalLine, Failure>
 
 // The value that a JSON text is.
 fn value_of_text(alloc: Global, text: &[u8], desc: &CheckedDesc) -> Result<Value, FormFault>
-    ensures value { IfOk result (λ value. (d : Data) × (read text.now ≡ Some d)
+    ensures value { IfOk result (λ value. (d : Data) × (json_in text.now ≡ Some d)
         × (from_data (checked_shape desc.now) d ≡ Ok (value_view value))) }
     ensures fits { IfOk result (λ value. fits (checked_shape desc.now) (value_view value) ≡ true) }
     ensures err { IfErr result (λ e. RefusedForm (checked_shape desc.now) text.now e

@@ -36,7 +36,7 @@ impl fmt::Display for RefusalLine {
             RefusalLine::Form(fault) => write!(f, "fault {} {fault}", fault.number()),
             RefusalLine::BadHex => f.write_str("fault 2 BadHex"),
             RefusalLine::Octets(fault) => {
-                write!(f, "fault {} {fault} at {}", fault.number(), fault.at)
+                write!(f, "fault {} {} at {}", fault.number(), fault.kind, fault.at)
             }
         }
     }
