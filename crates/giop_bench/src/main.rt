@@ -14,7 +14,7 @@ use std::{env, io};
 use work::Work;
 
 const USAGE: &str = "usage: giop_bench LOOP, where LOOP is frag24, frag512, frag4096 or mux,
-or giop_bench types-(structs|longs)-(read|write),
+or giop_bench types-(structs|longs)-(read|write) or types-json-(write|again)[-10],
 or giop_bench (read|write)-VALUES-(big|little) TIMES, where VALUES is ulong, string, octets or widths";
 
 // The checksum of a loop over CDR, or none where it isn't one or fails.
