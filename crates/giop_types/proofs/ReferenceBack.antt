@@ -1,5 +1,5 @@
 -- The text of a reference that was written is read as the reference.
-use Rattle.std.proofs.Common.{◌≡◌, ℕ, true, false, List, [], ◌∷◌, ◌++◌, codes, Option, Some, option_map, option_and_then, Result, Ok, refl, sym, ap, ◌∙◌, subst}
+use Rattle.std.proofs.Common.{◌≡◌, ℕ, true, List, [], ◌∷◌, ◌++◌, codes, Some, option_map, option_and_then, Ok, refl, sym, ap, ◌∙◌}
 use Rattle.std.proofs.lemmas.List.{append-nil}
 use Rattle.std.specs.Result.{result_ok}
 use Rattle.hex.specs.Hex.{decode_of, encode_lower}
@@ -13,7 +13,7 @@ use Rattle.giop_types.specs.Tree.{Tree}
 use Rattle.giop_types.specs.Decoding.{decode_at}
 use Rattle.giop_types.specs.Fits.{are_octets, fits}
 use Rattle.giop_types.specs.Full.{is_full}
-use Rattle.giop_types.specs.Reference.{opened, reference_data, reference_shown, reference_in, encapsulated_in, content_in, digits_in}
+use Rattle.giop_types.specs.Reference.{opened, reference_data, reference_shown, encapsulated_in, digits_in}
 use Rattle.giop_types.specs.Spells.{Spells}
 use Rattle.giop_types.specs.Written.{value_out}
 use Rattle.giop_cdr.specs.Output.{number_out}
