@@ -17,7 +17,7 @@ use work::Work;
 
 const USAGE: &str = "usage: giop_bench mux
 or giop_bench (frag24|frag512|frag4096) IDS, where IDS is 1, 64 or 1024
-or giop_bench types-(structs|longs)-(read|write),
+or giop_bench types-(structs|longs)-(read|write) or types-json-(write|again)[-10],
 or giop_bench (read|write)-VALUES-(big|little) TIMES, where VALUES is ulong, string, octets or widths";
 
 // The checksum of a loop over CDR, or none where it isn't one or fails.

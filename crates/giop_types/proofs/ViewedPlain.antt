@@ -1,5 +1,5 @@
 -- What a description says has one member by default at most in each of its unions.
-use Rattle.std.proofs.Common.{◌≡◌, Bool, true, refl, subst, List, [], ◌∷◌, map, rules, Some, None, ◌&&◌, ap, ◌∙◌}
+use Rattle.std.proofs.Common.{◌≡◌, true, refl, subst, List, [], ◌∷◌, map, rules, Some, None}
 use Rattle.giop_types.specs.declared.desc.Desc.{Desc, the_lemmas}
 use Rattle.giop_types.specs.declared.desc.NamedDesc.{NamedDesc}
 use Rattle.giop_types.specs.declared.desc.CaseDesc.{CaseDesc}

@@ -1,5 +1,5 @@
 -- What is written of a value that fits is octets: numbers below 256.
-use Rattle.std.proofs.Common.{◌≡◌, ◌<◌, ◌^◌, ◌+◌, ◌%◌, ◌/◌, ℕ, zero, suc, ℤ, ◌&&◌, ◌==◌, nat_lt, not, Bool, true, false, if◌then◌else◌}
+use Rattle.std.proofs.Common.{◌≡◌, ◌^◌, ◌+◌, ◌%◌, ◌/◌, ℕ, zero, suc, ℤ, ◌&&◌, ◌==◌, nat_lt, not, Bool, true, false, if◌then◌else◌}
 use Rattle.std.proofs.Common.{List, [], ◌∷◌, ◌++◌, length, replicate, refl, arith}
 use Rattle.std.proofs.lemmas.Bool.{lt-ltb, and_parts}
 use Rattle.std.proofs.lemmas.List.Folds.{list_all-append}

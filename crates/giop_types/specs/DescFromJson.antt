@@ -1,5 +1,5 @@
 -- The description that a JSON value or a JSON text is.
-use Rattle.std.specs.Prelude.{◌≡◌, ◌⊎◌, ℕ, zero, suc, ◌^◌, ◌==◌, ℤ, nat_lt, codes, bytes_eq, Bool, if◌then◌else◌}
+use Rattle.std.specs.Prelude.{ℕ, zero, suc, ◌^◌, ◌==◌, nat_lt, codes, bytes_eq, if◌then◌else◌}
 use Rattle.std.specs.Prelude.{List, Option, Some, None, option_map, option_and_then, Result, Ok, Err}
 use Rattle.std.specs.Str.{is_utf8}
 use Rattle.serde_json.specs.Data as json
@@ -7,7 +7,7 @@ use Rattle.serde_json.specs.Find.{get, as_str, as_number, as_u64, as_array}
 use Rattle.serde_json.specs.Read.{read}
 use Rattle.giop_types.specs.declared.desc_fault.DescFault.{DescFault}
 use Rattle.giop_types.specs.declared.form_fault.FormFault.{FormFault}
-use Rattle.giop_types.specs.declared.form_fault.FormFault.TheVariants.{BadJson, BadShape, BadDesc, NoMemory}
+use Rattle.giop_types.specs.declared.form_fault.FormFault.TheVariants.{BadJson, BadShape, BadDesc}
 use Rattle.giop_types.specs.Shape.{Shape, boolean, octet, char, short, ushort, long, ulong, longlong}
 use Rattle.giop_types.specs.Shape.{ulonglong, text, octets, labels, members, choice, items, row, Fields}
 use Rattle.giop_types.specs.Shape.{no_fields, field}

@@ -3,7 +3,7 @@ use Rattle.std.specs.Prelude.{◌≡◌, Option, None, Result, Ok, Err, IsSome}
 use Rattle.std.specs.Bool.{⊤}
 use Rattle.serde_json.specs.Data.{Data}
 use Rattle.giop_types.specs.declared.form_fault.FormFault.{FormFault}
-use Rattle.giop_types.specs.declared.form_fault.FormFault.TheVariants.{BadJson, BadShape, BadDesc, Unfit, NoMemory}
+use Rattle.giop_types.specs.declared.form_fault.FormFault.TheVariants.{BadJson, BadShape, BadDesc, NoMemory}
 
 -- a part has another form, or memory is wanting
 abbrev pub IsOfForm : FormFault → Type 0
