@@ -1,5 +1,5 @@
-//! The program giopctl: it shows what files of GIOP 1.2 messages hold, and writes references and values
-//! in another form.
+//! The program giopctl: it shows what files of GIOP 1.2 messages hold, and writes references and
+//! values in another form.
 #![tactic(auto)]
 
 mod cli;
