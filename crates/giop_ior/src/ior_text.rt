@@ -18,9 +18,10 @@ use std::alloc::Global;
 /// the reference are passed over.
 ///
 /// A text that is none is refused as BadPrefix where it begins otherwise; else as BadHex where what
-/// follows is no even number of digits; else as Cdr with the first field that is refused, in reading
-/// order, at its offset from the first octet, which is the byte order: that one as Short or BadOrder
-/// at 0, the others as `view_ior` says. Where memory is wanting it is NoMemory, in place of any.
+/// follows is no even number of digits; else as Cdr with the first field that is refused, in
+/// reading order, at its offset from the first octet, which is the byte order: that one as Short or
+/// BadOrder at 0, the others as `view_ior` says. Where memory is wanting it is NoMemory, in place
+/// of any.
 pub fn ior_from_text(alloc: Global, text: &[u8]) -> Result<Ior, IorTextFault>
     // What is answered is what the text says by the grammar, and what it says is answered.
     ensures found { IfOk result (λ ior. IorText ior_layout.spells ior text.now) }

@@ -1,12 +1,12 @@
-// Laws of the text of a reference. Each function's contract is one of them; the bodies are empty, and
-// no program calls these.
+// Laws of the text of a reference. Each function's contract is one of them; the bodies are empty,
+// and no program calls these.
 ghost use Rattle.std.specs.Prelude.{◌≡◌, List, ℕ, Ok, true};
 ghost use Rattle.giop_cdr.specs.Layout.{AreOctets};
 ghost use Rattle.giop_types.specs.IorText.{IorText, ReadsTexts, ior_text_of, begun, text_written};
 ghost use Rattle.giop_ior.specs.Ior.{Reference, ior_layout};
 
-/// The grammar of the texts of references: what is read is what the text says, and the fault that is
-/// told is the one that it has. A text says one reference at most, and one that can be written.
+/// The grammar of the texts of references: what is read is what the text says, and the fault that
+/// is told is the one that it has. A text says one reference at most, and one that can be written.
 pub fn reference_texts_are_read()
     ensures exact { ReadsTexts ior_layout.spells ior_layout.refused (ior_text_of ior_layout.read) }
     ensures alone { (text : List ℕ) (one two : Reference) → IorText ior_layout.spells one text

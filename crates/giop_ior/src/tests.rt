@@ -1,5 +1,5 @@
-//! What no clause says: texts and octets worked by hand from the standard's rules, the printed names,
-//! and that each call succeeds with ample memory.
+//! What no clause says: texts and octets worked by hand from the standard's rules, the printed
+//! names, and that each call succeeds with ample memory.
 
 mod corbaloc;
 mod ior;

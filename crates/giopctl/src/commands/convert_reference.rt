@@ -19,8 +19,8 @@ use std::alloc::{AllocError, Global};
 use std::io::Write;
 
 /// Writes what the text of a reference says (CORBA 3.3 Part 2, 7.6.9), of which these are a file's
-/// octets: its type id, a line for each profile, and the text again; `Done`. Where the text is none,
-/// the line of its fault; `Refused`.
+/// octets: its type id, a line for each profile, and the text again; `Done`. Where the text is
+/// none, the line of its fault; `Refused`.
 pub fn convert_ior<W: Write>(
     alloc: Global,
     octets: &[u8],

@@ -28,8 +28,8 @@ use std::alloc::{AllocError, Global};
 use std::io::Write;
 
 /// Writes the octets of a value from offset 0 on, in lower-case hexadecimal, where a file's octets
-/// are the value in JSON; `Done`. Where they are no value of the description, the line of the fault;
-/// `Refused`.
+/// are the value in JSON; `Done`. Where they are no value of the description, the line of the
+/// fault; `Refused`.
 pub fn convert_encode<W: Write>(
     alloc: Global,
     octets: &[u8],
