@@ -151,7 +151,7 @@ kind_number-kinds (suc (suc (suc (suc (suc (suc (suc zero))))))) h = refl
 kind_number-kinds (suc (suc (suc (suc (suc (suc (suc (suc n)))))))) h = absurd (omega arith)
 
 -- each octet is below 256, and so is what is read past the end
-bounded : (octets : List ℕ) → All (λ o. o < 256) octets → (i : ℕ) → get_or octets i 0 < 256
+pub bounded : (octets : List ℕ) → All (λ o. o < 256) octets → (i : ℕ) → get_or octets i 0 < 256
 bounded octets all i = elim (cases_lt i (length octets)) as (λ _. get_or octets i 0 < 256) [
   | inl h ↦ all i 0 h
   | inr h ↦ rw (get_or_past octets i 0 h) (omega arith)

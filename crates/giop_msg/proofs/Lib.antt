@@ -2,6 +2,7 @@ pub mod FaultLemmas
 pub mod HeaderLemmas
 pub mod StreamLemmas
 pub mod FramerLemmas
+pub mod SplitLemmas
 pub mod ReadPiecesLemmas
 pub mod JoinedLemmas
 pub mod TableLemmas

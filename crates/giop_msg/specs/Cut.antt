@@ -33,8 +33,8 @@ abbrev pub message_of : Version → Kind → Order → Bool → List ℕ → Msg
 message_of version kind order more payload =
     record { version = version; order = order; more = more; kind = kind; payload = payload }
 
--- Fragments of a message of this id that continue it with these octets: each of the piece's size, its
--- header counted, but the last, which is no larger and brings an octet at least
+-- Fragments of a message of this id that continue it with these octets: each of the piece's size,
+-- its header counted, but the last, which is no larger and brings an octet at least
 abbrev pub AreFragments : Order → List ℕ → ℕ → List ℕ → List Msg → Type 0
 AreFragments order id piece octets [] = ⊥
 AreFragments order id piece octets (m ∷ []) =
@@ -45,8 +45,8 @@ AreFragments order id piece octets (m ∷ n ∷ ms) =
     × (piece - 16 < length octets)
     × AreFragments order id piece (drop (piece - 16) octets) (n ∷ ms)
 
--- the messages of a kind that joined octets are cut into: one where its version has no Fragments or it
--- is no larger than the piece; else a first one of the piece's size, and Fragments
+-- the messages of a kind that joined octets are cut into: one where its version has no Fragments or
+-- it is no larger than the piece; else a first one of the piece's size, and Fragments
 abbrev pub IsCut : Version → Kind → Order → List ℕ → ℕ → List Msg → Type 0
 IsCut version kind order octets piece [] = ⊥
 IsCut version kind order octets piece (m ∷ []) =
@@ -69,9 +69,12 @@ pub record CanCut (kind : Kind) (octets : List ℕ) (piece : ℕ) : Type 0 where
 -- what holds of messages that joined octets are cut into
 pub record CutLaws : Type 0 where
   -- their joined octets are those that were cut
-  pub undone : (version : Version) (kind : Kind) (order : Order) (octets : List ℕ) (piece : ℕ) (messages : List Msg) →
-      CanCut kind octets piece → IsCut version kind order octets piece messages → joined messages ≡ octets
+  pub undone : (version : Version) (kind : Kind) (order : Order) (octets : List ℕ) (piece : ℕ)
+      (messages : List Msg) →
+      CanCut kind octets piece → IsCut version kind order octets piece messages
+      → joined messages ≡ octets
   -- a framer reads them back
-  pub framed : (version : Version) (kind : Kind) (order : Order) (octets : List ℕ) (piece : ℕ) (messages : List Msg) →
+  pub framed : (version : Version) (kind : Kind) (order : Order) (octets : List ℕ) (piece : ℕ)
+      (messages : List Msg) →
       CanCut kind octets piece → IsCut version kind order octets piece messages →
       Msgs (2 ^ 32 - 1) (flat_map message_octets messages) messages []

@@ -87,8 +87,8 @@ octet_fault octets = first_failing (octet_tests octets)
 abbrev pub can_continue : Version → Kind → Bool
 can_continue version kind = has_fragments version && is_fragmentable kind
 
--- the tests of the fields that follow, in their order: in 1.2, with more fragments to come, a message
--- and its header are a multiple of 8 octets long (9.4.9)
+-- the tests of the fields that follow, in their order: in 1.2, with more fragments to come, a
+-- message and its header are a multiple of 8 octets long (9.4.9)
 abbrev pub field_tests : ℕ → Header → List Test
 field_tests limit h =
     test (nat_lt limit h.size) 8 TooLarge

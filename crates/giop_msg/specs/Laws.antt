@@ -17,8 +17,8 @@ use Rattle.giop_msg.specs.declared.fault.WireFault.{WireFault}
 use Rattle.giop_msg.specs.Stream.{BeginsWithFault, Msgs}
 
 pub record HeaderRoundTrip : Type 0 where
-  -- the octets of a header give the header back, and what is wrong with them its fields tell: 1.0 has
-  -- no flag for more fragments and only 1.2 has Fragments, or else a test of the fields fails
+  -- the octets of a header give the header back, and what is wrong with them its fields tell: 1.0
+  -- has no flag for more fragments and only 1.2 has Fragments, or else a test of the fields fails
   pub written : (limit : ℕ) (h : Header) → h.size < 2 ^ 32 →
       (header_of (header_octets h) ≡ h)
       × (header_fault limit (header_octets h) ≡ fault_of limit h)
@@ -29,11 +29,18 @@ pub record HeaderRoundTrip : Type 0 where
 pub record RequestIds : Type 0 where
   -- the id is what the fields up to it spell, and else the first of them that is refused is told
   pub exact : (version : Version) (kind : Kind) →
-      IsExact (Took (request_id_layout version kind).spells) (request_id_layout version kind).refused
+      IsExact (Took (request_id_layout version kind).spells)
+      (request_id_layout version kind).refused
       (request_id_layout version kind).read
   -- a message that is accepted and begins with its request id has one
   pub there : (limit : ℕ) (m : Msg) → IsMessage limit m → has_request_id m.kind ≡ true →
       begins_with_contexts m.version m.kind ≡ false → (id : ℕ) × (request_id_of m ≡ Some (Ok id))
+
+-- every stream has a split, where the limit is an unsigned long
+abbrev pub EverySplit : Type 0
+EverySplit =
+    (limit : ℕ) (stream : List ℕ) → limit < 2 ^ 32 → All (λ o. o < 256) stream →
+    (messages : List Msg) × (rest : List ℕ) × Msgs limit stream messages rest
 
 -- two splits of one stream are one
 abbrev pub OneSplit : Type 0

@@ -1,5 +1,5 @@
--- LocateRequest and LocateReply (CORBA 3.3 Part 2, 9.4.5 and 9.4.6), which begin at offset 12: the tables
--- of their fields.
+-- LocateRequest and LocateReply (CORBA 3.3 Part 2, 9.4.5 and 9.4.6), which begin at offset 12: the
+-- tables of their fields.
 use Rattle.std.specs.Prelude.{ℕ, nat_le}
 use Rattle.std.specs.Int.{w32}
 use Rattle.giop_cdr.specs.declared.fault.CdrKind.TheVariants.{BadLabel}
@@ -35,7 +35,8 @@ last_locate_status V12 = 5
 
 -- an unsigned long that is a locate status
 unfoldable pub locate_status : Version → Layout ℕ
-locate_status version = such (λ status. nat_le status (last_locate_status version)) 4 BadLabel (number w32)
+locate_status version = such
+    (λ status. nat_le status (last_locate_status version)) 4 BadLabel (number w32)
 
 -- the fields of a LocateReply before its body, in their order
 unfoldable pub locate_reply_head : Version → Layout LocateReplyHead

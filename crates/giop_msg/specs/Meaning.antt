@@ -3,8 +3,8 @@ use Rattle.std.specs.Prelude.{◌≡◌, ◌&&◌, Bool, Ok}
 use Rattle.giop_cdr.specs.Reading.{◌>>=◌}
 use Rattle.giop_cdr.specs.Layout.{Layout}
 
--- a value that a value of another layout means: those that pass a test are meant by one, which `sign`
--- gives; others can't be written
+-- a value that a value of another layout means: those that pass a test are meant by one, which
+-- `sign` gives; others can't be written
 unfoldable pub meaning : {A B : Type 0} → (B → A) → (A → B) → (A → Bool) → Layout B → Layout A
 meaning {A} {B} means sign is_meant f = record {
   spells = λ o at v octets. (y : B) × ((v ≡ means y) × f.spells o at y octets);

@@ -1,4 +1,5 @@
--- The head of a Reply (CORBA 3.3 Part 2, 9.4.3), which begins at offset 12: the tables of its fields.
+-- The head of a Reply (CORBA 3.3 Part 2, 9.4.3), which begins at offset 12: the tables of its
+-- fields.
 use Rattle.std.specs.Prelude.{ℕ, nat_le, List}
 use Rattle.std.specs.Int.{w32}
 use Rattle.giop_cdr.specs.declared.fault.CdrKind.TheVariants.{BadLabel}
@@ -21,7 +22,8 @@ last_reply_status V12 = 5
 
 -- an unsigned long that is a reply status
 unfoldable pub reply_status : Version → Layout ℕ
-reply_status version = such (λ status. nat_le status (last_reply_status version)) 4 BadLabel (number w32)
+reply_status version = such
+    (λ status. nat_le status (last_reply_status version)) 4 BadLabel (number w32)
 
 -- the fields in 1.2, in their order
 unfoldable pub reply_head_1_2 : Layout AnyReplyHead

@@ -1,4 +1,5 @@
--- The head of a Request (CORBA 3.3 Part 2, 9.4.2), which begins at offset 12: the tables of its fields.
+-- The head of a Request (CORBA 3.3 Part 2, 9.4.2), which begins at offset 12: the tables of its
+-- fields.
 use Rattle.std.specs.Prelude.{ℕ, ◌==◌, ◌||◌, Bool, List, [], if◌then◌else◌}
 use Rattle.std.specs.Int.{w8, w32}
 use Rattle.giop_cdr.specs.declared.fault.CdrKind.TheVariants.{BadLabel}
@@ -44,7 +45,14 @@ request_head_1_2 =
     field (λ head. head.target) target_layout λ target.
     field (λ head. head.operation) text λ operation.
     field (λ head. head.contexts) service_contexts λ contexts.
-    gives (record { version = V12; id = id; flags = flags; target = target; operation = operation; contexts = contexts })
+    gives (record {
+      version = V12;
+      id = id;
+      flags = flags;
+      target = target;
+      operation = operation;
+      contexts = contexts;
+    })
 
 -- the flags that response_expected means
 abbrev pub flags_expecting : Bool → ℕ
@@ -78,7 +86,14 @@ early_request_head version =
     field (λ head. head.target) object_key λ target.
     field (λ head. head.operation) text λ operation.
     field (λ _. []) principal λ _.
-    gives (record { version = version; id = id; flags = flags; target = target; operation = operation; contexts = contexts })
+    gives (record {
+      version = version;
+      id = id;
+      flags = flags;
+      target = target;
+      operation = operation;
+      contexts = contexts;
+    })
 
 -- the fields in each version
 unfoldable pub request_head : Version → Layout Head

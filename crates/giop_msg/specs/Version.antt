@@ -13,8 +13,8 @@ minor_of V12 = 2
 abbrev pub version_of : ℕ → Version
 version_of minor = if minor == 0 then V10 else if minor == 1 then V11 else V12
 
--- how many values octet 6 of a header may have: in 1.0 it is the byte order, 0 or 1; else the flags,
--- of which two bits have a meaning
+-- how many values octet 6 of a header may have: in 1.0 it is the byte order, 0 or 1; else the
+-- flags, of which two bits have a meaning
 abbrev pub flag_values : Version → ℕ
 flag_values V10 = 2
 flag_values V11 = 4

@@ -8,9 +8,10 @@ use crate::{Kind, Msg, Version};
 use giop_cdr::{OctetList, Order};
 use std::alloc::{AllocError, Global};
 
-/// Whether joined octets of a message of this kind can be cut into messages of this piece's size: the kind
-/// is Request, Reply, LocateRequest or LocateReply; the octets are 4 at least, which is a request id's, and
-/// fewer than 2^32; and the piece is a multiple of 8 and 24 at least. It takes no memory.
+/// Whether joined octets of a message of this kind can be cut into messages of this piece's size:
+/// the kind is Request, Reply, LocateRequest or LocateReply; the octets are 4 at least, which is a
+/// request id's, and fewer than 2^32; and the piece is a multiple of 8 and 24 at least. It takes no
+/// memory.
 pub fn can_cut(kind: Kind, joined: &[u8], piece: u32) -> bool
     ensures { IsTrue result ↔ CanCut kind joined.now piece }
 {
@@ -31,13 +32,14 @@ fn is_continued(kind: Kind) -> bool
     )
 }
 
-/// The messages that carry these joined octets: the first of the kind, and Fragments behind it, each with
-/// the request id, which in 1.2 is the first four of the joined octets. Each is `piece` octets long, its
-/// header counted, but the last, which is 17 to `piece` octets long. It is one message where that is no
-/// longer than `piece`, and in 1.0 and 1.1 always.
+/// The messages that carry these joined octets: the first of the kind, and Fragments behind it,
+/// each with the request id, which in 1.2 is the first four of the joined octets. Each is `piece`
+/// octets long, its header counted, but the last, which is 17 to `piece` octets long. It is one
+/// message where that is no longer than `piece`, and in 1.0 and 1.1 always.
 ///
-/// The joined octets are as for `RequestHead::view`. `can_cut` is the test of the condition. The limit that
-/// a framer has to have for them is `piece` less 12, or the number of octets for one message.
+/// The joined octets are as for `RequestHead::view`. `can_cut` is the test of the condition. The
+/// limit that a framer has to have for them is `piece` less 12, or the number of octets for one
+/// message.
 pub fn cut(
     alloc: Global,
     version: Version,
@@ -104,7 +106,8 @@ fn fragment(
     })
 }
 
-// Appends the Fragments that go on with these octets. Where memory is wanting a part of them is there.
+// Appends the Fragments that go on with these octets. Where memory is wanting a part of them is
+// there.
 fn append_fragments(
     alloc: Global,
     order: Order,

@@ -19,7 +19,8 @@ pub enum WireKind {
     TooLarge,
     /// The message size is not the one of the kind, or is too small for its request id.
     BadSize,
-    /// In 1.2 more fragments follow, and the message with its header is no multiple of 8 octets long.
+    /// In 1.2 more fragments follow, and the message with its header is no multiple of 8 octets
+    /// long.
     FragmentSize,
     /// More fragments follow a message of a kind that none may continue, or a message of 1.1.
     NotFragmentable,

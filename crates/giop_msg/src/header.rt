@@ -4,11 +4,11 @@ ghost use Rattle.giop_msg.specs.Header.{octet_fault};
 use crate::{Kind, Version, WireFault, WireKind};
 use giop_cdr::Order;
 
-/// The header of a message (9.4.1), without its magic, which is `GIOP`, and its major version, which
-/// is 1.
+/// The header of a message (9.4.1), without its magic, which is `GIOP`, and its major version,
+/// which is 1.
 ///
-/// The fields can say what no header may: in 1.0 that more fragments follow, and before 1.2 that the
-/// message is a Fragment. A `Framer` refuses the octets of such a header.
+/// The fields can say what no header may: in 1.0 that more fragments follow, and before 1.2 that
+/// the message is a Fragment. A `Framer` refuses the octets of such a header.
 #[derive(Clone, Copy, Debug, PartialEq, Eq)]
 pub struct Header {
     /// The version in which the message is laid out: octet 5, the minor number.

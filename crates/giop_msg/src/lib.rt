@@ -1,5 +1,5 @@
-//! GIOP messages of versions 1.0 to 1.2 on the wire (CORBA 3.3 Part 2, 9.4): headers, and the framer that cuts a
-//! stream of octets into messages.
+//! GIOP messages of versions 1.0 to 1.2 on the wire (CORBA 3.3 Part 2, 9.4): headers, and the
+//! framer that cuts a stream of octets into messages.
 #![tactic(auto)]
 
 mod cutting;
@@ -38,7 +38,8 @@ pub use head_laws::{
 pub use header::Header;
 pub use kind::Kind;
 pub use laws::{
-    cuts_are_undone, faults_stand, header_round_trip, one_split, request_ids, split_on,
+    cuts_are_undone, every_stream_splits, faults_stand, header_round_trip, one_split, request_ids,
+    split_on,
 };
 pub use locate_reply_head::LocateReplyHead;
 pub use locate_request::{LocateRequest, LocateRequestAt};

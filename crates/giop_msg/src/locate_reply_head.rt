@@ -27,8 +27,9 @@ pub struct LocateReplyHead {
 impl LocateReplyHead {
     /// The head that joined octets begin with, and the offset behind it. It takes no memory.
     ///
-    /// The joined octets are as for `RequestHead::view`. Refused as the first field that is refused, in
-    /// reading order: each as its own reader says, and a status that the version hasn't as BadLabel.
+    /// The joined octets are as for `RequestHead::view`. Refused as the first field that is
+    /// refused, in reading order: each as its own reader says, and a status that the version hasn't
+    /// as BadLabel.
     pub fn view<S: Octets>(
         octets: &S,
         version: Version,
@@ -37,9 +38,11 @@ impl LocateReplyHead {
         requires { length (S.octets octets.now) ≤ 2 ^ 62 }
         // What is answered is what the octets begin with, and what they begin with is answered.
         ensures found { IfOk result (λ x.
-            BeginsWith (locate_reply_head version) right_behind order (S.octets octets.now) x.0 x.1) }
+            BeginsWith (locate_reply_head version) right_behind order
+            (S.octets octets.now) x.0 x.1) }
         ensures only { (head : _) (behind : _)
-            → BeginsWith (locate_reply_head version) right_behind order (S.octets octets.now) head behind
+            → BeginsWith (locate_reply_head version) right_behind order
+            (S.octets octets.now) head behind
             → result ≡ Ok (head, behind) }
 
         // Which refusal it is.
@@ -68,8 +71,10 @@ impl LocateReplyHead {
             ((locate_reply_head self.now.version).written self.now out.old) }
         ensures err { IsErrOf result EncodeFault.Unfit
             ↔ ((locate_reply_head self.now.version).fits self.now ≡ false) }
-        ensures unfit { IsErrOf result EncodeFault.Unfit → (order : Order) (at : ℕ) (octets : List ℕ)
-            → AreOctets octets → (locate_reply_head self.now.version).spells order at self.now octets → ⊥ }
+        ensures unfit { IsErrOf result EncodeFault.Unfit
+            → (order : Order) (at : ℕ) (octets : List ℕ)
+            → AreOctets octets
+            → (locate_reply_head self.now.version).spells order at self.now octets → ⊥ }
     {
         if !self.is_writable() {
             return Err(EncodeFault::Unfit);

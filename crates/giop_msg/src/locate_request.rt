@@ -15,8 +15,8 @@ use crate::version::Version;
 use giop_cdr::{CdrFault, CdrIn, CdrKind, CdrOut, EncodeFault, Octets, Order};
 use std::alloc::{AllocError, Global};
 
-/// A client asks where an object is (9.4.5): with its target on its own, or, as a `LocateRequestAt`,
-/// where it lies. Contracts see both as one value.
+/// A client asks where an object is (9.4.5): with its target on its own, or, as a
+/// `LocateRequestAt`, where it lies. Contracts see both as one value.
 #[derive(Debug, Drop)]
 pub struct LocateRequest<T = Target> {
     /// The version in which the message is laid out.
@@ -33,9 +33,9 @@ pub type LocateRequestAt<'a, S> = LocateRequest<TargetAt<'a, S>>;
 impl LocateRequest {
     /// The LocateRequest that joined octets are, where it lies. It takes no memory.
     ///
-    /// The joined octets are as for `RequestHead::view`. Refused as the first field that is refused, in
-    /// reading order, each as its own reader says; then as Trailing at the first octet that is left
-    /// behind the target.
+    /// The joined octets are as for `RequestHead::view`. Refused as the first field that is
+    /// refused, in reading order, each as its own reader says; then as Trailing at the first octet
+    /// that is left behind the target.
     pub fn view<'a, S: Octets>(
         octets: &'a S,
         version: Version,
@@ -43,12 +43,15 @@ impl LocateRequest {
     ) -> Result<LocateRequestAt<'a, S>, CdrFault>
         requires { length (S.octets octets.now) ≤ 2 ^ 62 }
         // What is answered is what the octets are, and what they are is answered.
-        ensures found { IfOk result (AreWhole (locate_request version) order (S.octets octets.now)) }
-        ensures only { (request : _) → AreWhole (locate_request version) order (S.octets octets.now) request
+        ensures found { IfOk result (AreWhole (locate_request version) order
+            (S.octets octets.now)) }
+        ensures only { (request : _)
+            → AreWhole (locate_request version) order (S.octets octets.now) request
             → result ≡ Ok request }
 
         // Which refusal it is.
-        ensures exact { result ≡ whole_of_joined (locate_request version) order (S.octets octets.now) }
+        ensures exact { result
+            ≡ whole_of_joined (locate_request version) order (S.octets octets.now) }
     {
         let mut input = CdrIn::new(octets, order, 12);
         let request = view_request(version, &mut input)?;
@@ -61,8 +64,8 @@ impl LocateRequest {
         Ok(request)
     }
 
-    /// The same on its own. Where memory is wanting for octets that are a LocateRequest, it is NoMemory
-    /// at 12.
+    /// The same on its own. Where memory is wanting for octets that are a LocateRequest, it is
+    /// NoMemory at 12.
     pub fn decode<S: Octets>(
         alloc: Global,
         octets: &S,
@@ -70,7 +73,8 @@ impl LocateRequest {
         order: Order,
     ) -> Result<LocateRequest, CdrFault>
         requires { length (S.octets octets.now) ≤ 2 ^ 62 }
-        ensures found { IfOk result (AreWhole (locate_request version) order (S.octets octets.now)) }
+        ensures found { IfOk result (AreWhole (locate_request version) order
+            (S.octets octets.now)) }
         ensures exact { IfOk result (λ request.
             whole_of_joined (locate_request version) order (S.octets octets.now) ≡ Ok request) }
         ensures err { IfErr result (λ e.
@@ -88,8 +92,9 @@ impl LocateRequest {
         Ok(request)
     }
 
-    /// Whether octets spell the LocateRequest in its version: each text and list of the target is short
-    /// enough for its count and no null is in a text; before 1.2 the target is a key. It takes no memory.
+    /// Whether octets spell the LocateRequest in its version: each text and list of the target is
+    /// short enough for its count and no null is in a text; before 1.2 the target is a key. It
+    /// takes no memory.
     pub fn is_writable(&self) -> bool
         ensures { result ≡ (locate_request self.now.version).fits self.now }
     {
@@ -109,8 +114,10 @@ impl LocateRequest {
             ((locate_request self.now.version).written self.now out.old) }
         ensures err { IsErrOf result EncodeFault.Unfit
             ↔ ((locate_request self.now.version).fits self.now ≡ false) }
-        ensures unfit { IsErrOf result EncodeFault.Unfit → (order : Order) (at : ℕ) (octets : List ℕ)
-            → AreOctets octets → (locate_request self.now.version).spells order at self.now octets → ⊥ }
+        ensures unfit { IsErrOf result EncodeFault.Unfit
+            → (order : Order) (at : ℕ) (octets : List ℕ)
+            → AreOctets octets
+            → (locate_request self.now.version).spells order at self.now octets → ⊥ }
     {
         if !self.is_writable() {
             return Err(EncodeFault::Unfit);

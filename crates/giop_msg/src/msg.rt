@@ -37,11 +37,12 @@ impl Msg {
         }
     }
 
-    /// The request id, in the message's byte order: the unsigned long at offset 12 or, in a Request or
-    /// a Reply before 1.2, the one behind the service contexts. It takes no memory.
+    /// The request id, in the message's byte order: the unsigned long at offset 12 or, in a Request
+    /// or a Reply before 1.2, the one behind the service contexts. It takes no memory.
     ///
-    /// It is `None` for CloseConnection and MessageError, which have none. Refused as the first field up
-    /// to the id that is refused; in a message of a `Framer` that begins with its id, none is.
+    /// It is `None` for CloseConnection and MessageError, which have none. Refused as the first
+    /// field up to the id that is refused; in a message of a `Framer` that begins with its id, none
+    /// is.
     #[tactic(auto, using(crate::proofs::RequestIdLemmas::value_exact))]
     pub fn request_id(&self) -> Option<Result<u32, CdrFault>>
         requires { length self.now.payload ≤ 2 ^ 62 }

@@ -11,16 +11,16 @@ use crate::version::Version;
 use giop_cdr::{CdrFault, CdrIn, CdrKind, Octets, Order};
 use std::alloc::{AllocError, Global};
 
-/// What a Reply says before its body (9.4.3): with its contexts on their own, or, as a `ReplyHeadAt`,
-/// where they lie. Contracts see both as one value.
+/// What a Reply says before its body (9.4.3): with its contexts on their own, or, as a
+/// `ReplyHeadAt`, where they lie. Contracts see both as one value.
 #[derive(Debug, Drop)]
 pub struct ReplyHead<C = ServiceContexts> {
     /// The version in which the head is laid out.
     pub version: Version,
     /// The id of the request that is answered.
     pub id: u32,
-    /// What the body is: 0 NO_EXCEPTION, 1 USER_EXCEPTION, 2 SYSTEM_EXCEPTION, 3 LOCATION_FORWARD; and
-    /// in 1.2 alone 4 LOCATION_FORWARD_PERM, 5 NEEDS_ADDRESSING_MODE.
+    /// What the body is: 0 NO_EXCEPTION, 1 USER_EXCEPTION, 2 SYSTEM_EXCEPTION, 3 LOCATION_FORWARD;
+    /// and in 1.2 alone 4 LOCATION_FORWARD_PERM, 5 NEEDS_ADDRESSING_MODE.
     pub status: u32,
     /// The service contexts, in their order.
     pub contexts: C,
@@ -30,12 +30,13 @@ pub struct ReplyHead<C = ServiceContexts> {
 pub type ReplyHeadAt<'a, S> = ReplyHead<ServiceContextsAt<'a, S>>;
 
 impl ReplyHead {
-    /// The head that joined octets begin with, where it lies, and the offset of the body behind it. In
-    /// 1.2 that is the first multiple of 8 at or past the end of the fields, whether octets are there
-    /// or not; before 1.2 it is the end of the fields. It takes no memory.
+    /// The head that joined octets begin with, where it lies, and the offset of the body behind it.
+    /// In 1.2 that is the first multiple of 8 at or past the end of the fields, whether octets are
+    /// there or not; before 1.2 it is the end of the fields. It takes no memory.
     ///
-    /// The joined octets are as for `RequestHead::view`. Refused as the first field that is refused, in
-    /// reading order: each as its own reader says, and a status that the version hasn't as BadLabel.
+    /// The joined octets are as for `RequestHead::view`. Refused as the first field that is
+    /// refused, in reading order: each as its own reader says, and a status that the version hasn't
+    /// as BadLabel.
     pub fn view<'a, S: Octets>(
         octets: &'a S,
         version: Version,
@@ -44,9 +45,11 @@ impl ReplyHead {
         requires { length (S.octets octets.now) ≤ 2 ^ 62 }
         // What is answered is what the octets begin with, and what they begin with is answered.
         ensures found { IfOk result (λ x.
-            BeginsWith (reply_head version) (body_place version) order (S.octets octets.now) x.0 x.1) }
+            BeginsWith (reply_head version) (body_place version) order
+            (S.octets octets.now) x.0 x.1) }
         ensures only { (head : _) (body : _)
-            → BeginsWith (reply_head version) (body_place version) order (S.octets octets.now) head body
+            → BeginsWith (reply_head version) (body_place version) order
+            (S.octets octets.now) head body
             → result ≡ Ok (head, body) }
 
         // Which refusal it is.
@@ -69,17 +72,22 @@ impl ReplyHead {
         requires { length (S.octets octets.now) ≤ 2 ^ 62 }
         // What is answered is what the octets begin with, and what they begin with is answered.
         ensures found { IfOk result (λ x.
-            BeginsWith (reply_head version) (body_place version) order (S.octets octets.now) x.0 x.1) }
+            BeginsWith (reply_head version) (body_place version) order
+            (S.octets octets.now) x.0 x.1) }
         ensures only { (head : _) (body : _)
-            → BeginsWith (reply_head version) (body_place version) order (S.octets octets.now) head body
+            → BeginsWith (reply_head version) (body_place version) order
+            (S.octets octets.now) head body
             → IsAnswered result head body }
 
         // Which refusal it is.
-        ensures exact { IfOk result (λ x. head_of_joined (reply_head version) (body_place version) order
+        ensures exact { IfOk result
+            (λ x. head_of_joined (reply_head version) (body_place version) order
             (S.octets octets.now) ≡ Ok (x.0, x.1)) }
         ensures err { IfErr result (λ e.
-            (head_of_joined (reply_head version) (body_place version) order (S.octets octets.now) ≡ Err e)
-            ⊎ ((e ≡ no_memory) × IsOk (head_of_joined (reply_head version) (body_place version) order
+            (head_of_joined (reply_head version) (body_place version) order
+            (S.octets octets.now) ≡ Err e)
+            ⊎ ((e ≡ no_memory)
+            × IsOk (head_of_joined (reply_head version) (body_place version) order
             (S.octets octets.now)))) }
     {
         let (head, body) = ReplyHead::view(octets, version, order)?;

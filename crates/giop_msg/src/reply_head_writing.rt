@@ -13,8 +13,8 @@ use giop_ior::{append_contexts, are_writable_contexts};
 use std::alloc::AllocError;
 
 impl ReplyHead {
-    /// Whether octets spell the head in its version: the version has its status, and the contexts are
-    /// short enough for their counts. It takes no memory.
+    /// Whether octets spell the head in its version: the version has its status, and the contexts
+    /// are short enough for their counts. It takes no memory.
     pub fn is_writable(&self) -> bool
         ensures { result ≡ (reply_head self.now.version).fits self.now }
     {
@@ -25,8 +25,8 @@ impl ReplyHead {
         }
     }
 
-    /// Writes the head: the fields in their order. In 1.2 the body is aligned to 8 behind it, unless it
-    /// is empty.
+    /// Writes the head: the fields in their order. In 1.2 the body is aligned to 8 behind it,
+    /// unless it is empty.
     ///
     /// Refused as Unfit where `is_writable` is false, and then no octets spell the head; else as
     /// NoMemory where memory is wanting. The output is then as it was.
@@ -36,7 +36,8 @@ impl ReplyHead {
             ((reply_head self.now.version).written self.now out.old) }
         ensures err { IsErrOf result EncodeFault.Unfit
             ↔ ((reply_head self.now.version).fits self.now ≡ false) }
-        ensures unfit { IsErrOf result EncodeFault.Unfit → (order : Order) (at : ℕ) (octets : List ℕ)
+        ensures unfit { IsErrOf result EncodeFault.Unfit
+            → (order : Order) (at : ℕ) (octets : List ℕ)
             → AreOctets octets → (reply_head self.now.version).spells order at self.now octets → ⊥ }
     {
         if !self.is_writable() {
@@ -88,7 +89,8 @@ fn append_early_head(version: Version, head: &ReplyHead, out: &mut CdrOut) -> Re
 
 fn append_head(head: &ReplyHead, out: &mut CdrOut) -> Result<(), AllocError>
     requires { (reply_head head.now.version).fits head.now ≡ true }
-    ensures { Appends out.old result out.new ((reply_head head.now.version).written head.now out.old) }
+    ensures { Appends out.old result out.new
+        ((reply_head head.now.version).written head.now out.old) }
 {
     match head.version {
         Version::V10 => append_early_head(Version::V10, head, out),

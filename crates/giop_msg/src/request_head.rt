@@ -40,16 +40,17 @@ pub type RequestHeadAt<'a, S> = RequestHead<
 >;
 
 impl RequestHead {
-    /// The head that joined octets begin with, where it lies, and the offset of the body behind it. In
-    /// 1.2 that is the first multiple of 8 at or past the end of the fields, whether octets are there
-    /// or not; before 1.2 it is the end of the fields. It takes no memory.
+    /// The head that joined octets begin with, where it lies, and the offset of the body behind it.
+    /// In 1.2 that is the first multiple of 8 at or past the end of the fields, whether octets are
+    /// there or not; before 1.2 it is the end of the fields. It takes no memory.
     ///
-    /// The joined octets are those of the message from offset 12 on and then those of its fragments,
-    /// each from offset 16 on, behind its request id; the first has offset 12, and all are in the byte
-    /// order of the message. Refused as the first field that is refused, in reading order: each as its
-    /// own reader says; in 1.2 flags other than 0, 1 and 3 as BadLabel, and a disposition other than 0,
-    /// 1 and 2; before 1.2 a `response_expected` other than 0 and 1 as BadBoolean. Reserved octets may
-    /// be any, and before 1.2 so may be the principal, which isn't kept.
+    /// The joined octets are those of the message from offset 12 on and then those of its
+    /// fragments, each from offset 16 on, behind its request id; the first has offset 12, and all
+    /// are in the byte order of the message. Refused as the first field that is refused, in reading
+    /// order: each as its own reader says; in 1.2 flags other than 0, 1 and 3 as BadLabel, and a
+    /// disposition other than 0, 1 and 2; before 1.2 a `response_expected` other than 0 and 1 as
+    /// BadBoolean. Reserved octets may be any, and before 1.2 so may be the principal, which isn't
+    /// kept.
     pub fn view<'a, S: Octets>(
         octets: &'a S,
         version: Version,
@@ -58,13 +59,16 @@ impl RequestHead {
         requires { length (S.octets octets.now) ≤ 2 ^ 62 }
         // What is answered is what the octets begin with, and what they begin with is answered.
         ensures found { IfOk result (λ x.
-            BeginsWith (request_head version) (body_place version) order (S.octets octets.now) x.0 x.1) }
+            BeginsWith (request_head version) (body_place version) order
+            (S.octets octets.now) x.0 x.1) }
         ensures only { (head : _) (body : _)
-            → BeginsWith (request_head version) (body_place version) order (S.octets octets.now) head body
+            → BeginsWith (request_head version) (body_place version) order
+            (S.octets octets.now) head body
             → result ≡ Ok (head, body) }
 
         // Which refusal it is.
-        ensures exact { result ≡ head_of_joined (request_head version) (body_place version) order (S.octets octets.now) }
+        ensures exact { result ≡ head_of_joined (request_head version) (body_place version) order
+            (S.octets octets.now) }
     {
         let mut input = CdrIn::new(octets, order, 12);
         let head = view_head(version, &mut input)?;
@@ -82,18 +86,23 @@ impl RequestHead {
         requires { length (S.octets octets.now) ≤ 2 ^ 62 }
         // What is answered is what the octets begin with, and what they begin with is answered.
         ensures found { IfOk result (λ x.
-            BeginsWith (request_head version) (body_place version) order (S.octets octets.now) x.0 x.1) }
+            BeginsWith (request_head version) (body_place version) order
+            (S.octets octets.now) x.0 x.1) }
         ensures only { (head : _) (body : _)
-            → BeginsWith (request_head version) (body_place version) order (S.octets octets.now) head body
+            → BeginsWith (request_head version) (body_place version) order
+            (S.octets octets.now) head body
             → IsAnswered result head body }
 
         // Which refusal it is.
         ensures exact { IfOk result (λ x.
-            head_of_joined (request_head version) (body_place version) order (S.octets octets.now) ≡ Ok (x.0, x.1)) }
+            head_of_joined (request_head version) (body_place version) order
+            (S.octets octets.now) ≡ Ok (x.0, x.1)) }
         ensures err { IfErr result (λ e.
-            (head_of_joined (request_head version) (body_place version) order (S.octets octets.now) ≡ Err e)
+            (head_of_joined (request_head version) (body_place version) order
+            (S.octets octets.now) ≡ Err e)
             ⊎ ((e ≡ no_memory)
-            × IsOk (head_of_joined (request_head version) (body_place version) order (S.octets octets.now)))) }
+            × IsOk (head_of_joined (request_head version) (body_place version) order
+            (S.octets octets.now)))) }
     {
         let (head, body) = RequestHead::view(octets, version, order)?;
         let Ok(head) = head.to_owned(alloc) else {

@@ -15,8 +15,8 @@ use std::alloc::AllocError;
 
 impl RequestHead {
     /// Whether octets spell the head in its version: its flags are 0, 1 or 3, no null is in the
-    /// operation, and each text and list is short enough for its count; before 1.2 the flags are 0 or
-    /// 3 and the target is a key. It takes no memory.
+    /// operation, and each text and list is short enough for its count; before 1.2 the flags are 0
+    /// or 3 and the target is a key. It takes no memory.
     pub fn is_writable(&self) -> bool
         ensures { result ≡ (request_head self.now.version).fits self.now }
     {
@@ -38,8 +38,10 @@ impl RequestHead {
             ((request_head self.now.version).written self.now out.old) }
         ensures err { IsErrOf result EncodeFault.Unfit
             ↔ ((request_head self.now.version).fits self.now ≡ false) }
-        ensures unfit { IsErrOf result EncodeFault.Unfit → (order : Order) (at : ℕ) (octets : List ℕ)
-            → AreOctets octets → (request_head self.now.version).spells order at self.now octets → ⊥ }
+        ensures unfit { IsErrOf result EncodeFault.Unfit
+            → (order : Order) (at : ℕ) (octets : List ℕ)
+            → AreOctets octets
+            → (request_head self.now.version).spells order at self.now octets → ⊥ }
     {
         if !self.is_writable() {
             return Err(EncodeFault::Unfit);
@@ -110,15 +112,16 @@ fn append_head_1_2(head: &RequestHead, out: &mut CdrOut) -> Result<(), EncodeFau
     Ok(())
 }
 
-// The fields before 1.2 in their order, the principal empty. Where memory is wanting a part of them is
-// left.
+// The fields before 1.2 in their order, the principal empty. Where memory is wanting a part of them
+// is left.
 fn append_early_head(
     version: Version,
     head: &RequestHead,
     out: &mut CdrOut,
 ) -> Result<(), EncodeFault>
     requires { (early_request_head version).fits head.now ≡ true }
-    ensures { Appends out.old result out.new ((early_request_head version).written head.now out.old) }
+    ensures { Appends out.old result out.new
+        ((early_request_head version).written head.now out.old) }
 {
     append_contexts(head.contexts.as_slice(), out)?;
     out.write_ulong(head.id)?;
@@ -132,7 +135,8 @@ fn append_early_head(
 
 fn append_head(head: &RequestHead, out: &mut CdrOut) -> Result<(), EncodeFault>
     requires { (request_head head.now.version).fits head.now ≡ true }
-    ensures { Appends out.old result out.new ((request_head head.now.version).written head.now out.old) }
+    ensures { Appends out.old result out.new
+        ((request_head head.now.version).written head.now out.old) }
 {
     match head.version {
         Version::V10 => append_early_head(Version::V10, head, out),

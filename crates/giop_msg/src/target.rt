@@ -5,8 +5,8 @@ use giop_ior::{Ior, IorAt, TaggedProfile};
 use std::alloc::{AllocError, Global};
 use std::marker::Model;
 
-/// Which object a Request or a LocateRequest is for (9.4.2.1, TargetAddress): with its octets on their
-/// own or, as a `TargetAt`, where they lie. Contracts see both as one value.
+/// Which object a Request or a LocateRequest is for (9.4.2.1, TargetAddress): with its octets on
+/// their own or, as a `TargetAt`, where they lie. Contracts see both as one value.
 ///
 /// Before 1.2 it is a key, without a disposition.
 #[derive(Debug, Drop)]

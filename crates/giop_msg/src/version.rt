@@ -5,8 +5,8 @@ ghost use Rattle.std.specs.Prelude.{◌≡◌};
 pub enum Version {
     /// GIOP 1.0: octet 6 of the header is the byte order and nothing else.
     V10,
-    /// GIOP 1.1: octet 6 of the header is the flags. Messages with more fragments to come are refused
-    /// in this version.
+    /// GIOP 1.1: octet 6 of the header is the flags. Messages with more fragments to come are
+    /// refused in this version.
     V11,
     /// GIOP 1.2: a message names its target in one of three ways, and Fragments may continue it.
     V12,

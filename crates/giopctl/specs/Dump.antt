@@ -52,13 +52,16 @@ locate_reply_text end (Err e) = ended (head_fault_line e)
 -- the second line of a message of a kind, where it has one
 unfoldable pub second_text : Kind → Msg → List ℕ
 second_text Request m =
-    request_text (end_of m) (head_of_joined (request_head m.version) (body_place m.version) m.order m.payload)
+    request_text (end_of m)
+    (head_of_joined (request_head m.version) (body_place m.version) m.order m.payload)
 second_text Reply m =
-    reply_text (end_of m) (head_of_joined (reply_head m.version) (body_place m.version) m.order m.payload)
+    reply_text (end_of m)
+    (head_of_joined (reply_head m.version) (body_place m.version) m.order m.payload)
 second_text LocateRequest m =
     locate_request_text (whole_of_joined (locate_request m.version) m.order m.payload)
 second_text LocateReply m =
-    locate_reply_text (end_of m) (head_of_joined (locate_reply_head m.version) right_behind m.order m.payload)
+    locate_reply_text (end_of m)
+    (head_of_joined (locate_reply_head m.version) right_behind m.order m.payload)
 second_text _ m = []
 
 -- the lines of a message that begins at an offset of the file; a first fragment has one line alone

@@ -53,16 +53,16 @@ Examples:
   giopctl convert ior examples/printer.ior";
 
 const DUMP_HELP: &str = "\
-Each message has a line: its offset in the file, its kind, its version where that is 1.0 or 1.1, its
-byte order (BE or LE), `more` where fragments follow, its message size, and its request id where one is
-read. A Request, Reply, LocateRequest or LocateReply that no fragments follow has a second line, behind
-two spaces, and `body` tells how many octets stand behind its fields:
-  Request        response flags, the target (an object key in hexadecimal, a profile's tag, or the
-                 number of a reference's profile), the operation, the number of service contexts, body
+Each message has a line: its offset in the file, its kind, its version where that is 1.0 or 1.1,
+its byte order (BE or LE), `more` where fragments follow, its message size, and its request id
+where one is read. A Request, Reply, LocateRequest or LocateReply that no fragments follow has a
+second line, behind two spaces; `body` tells how many octets stand behind its fields:
+  Request        response flags, the target, the operation, the number of service contexts, body
   Reply          status, the number of service contexts, body
   LocateRequest  the target
   LocateReply    status, body
-  any of them    what is wrong with its fields, and where, counted from the message's first octet
+  any of them    what is wrong with its fields, and where, from the message's first octet on
+A target is an object key in hexadecimal, a profile's tag, or the number of a reference's profile.
 The last line tells how many octets are left, or what is wrong with the header that stands there.
 
 Exit statuses:

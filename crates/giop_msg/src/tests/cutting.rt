@@ -24,7 +24,8 @@ const PING_IN_TWO: [u8; 64] = [
     0, 12, 0, 0, 0, 1, 0, 0, 0, 0, 0, 0, 0, 0,
 ];
 
-// The LocateRequest in messages of 24 octets, of which the last has 17, the fewest that one may have.
+// The LocateRequest in messages of 24 octets, of which the last has 17, the fewest that one may
+// have.
 const LOCATE_IN_TWO: [u8; 41] = [
     0x47, 0x49, 0x4F, 0x50, 1, 2, 2, 3, 0, 0, 0, 12, 0, 0, 0, 6, 0, 0, 0, 0, 0, 0, 0, 1, 0x47,
     0x49, 0x4F, 0x50, 1, 2, 0, 7, 0, 0, 0, 5, 0, 0, 0, 6, 0x6B,

@@ -8,7 +8,8 @@ use std::process::Abort;
 use std::test::Fail;
 
 // A Request of 1.0 and 1.1 behind its header: id 1, a response is expected, key `6b`, `add`, no
-// principal, and the longs 2 and 5. In 1.0 the octets behind 01 are padding, in 1.1 they are reserved.
+// principal, and the longs 2 and 5. In 1.0 the octets behind 01 are padding, in 1.1 they are
+// reserved.
 const ADD: [u8; 40] = [
     0, 0, 0, 0, 0, 0, 0, 1, 1, 0, 0, 0, 0, 0, 0, 1, 0x6B, 0, 0, 0, 0, 0, 0, 4, 0x61, 0x64, 0x64, 0,
     0, 0, 0, 0, 0, 0, 0, 2, 0, 0, 0, 5,
@@ -166,7 +167,8 @@ fn a_principal_is_dropped_and_no_response_is_expected(rt: HostRuntime) -> Result
 
 #[test]
 fn reserved_octets_stand_in_1_1_alone(rt: HostRuntime) {
-    // A key of no octets that begins right behind response_expected in 1.0 would be cut short in 1.1.
+    // A key of no octets that begins right behind response_expected in 1.0 would be cut short in
+    // 1.1.
     let rows = [
         (20, bad(20, CdrKind::Short)),
         (21, bad(21, CdrKind::Short)),

@@ -7,8 +7,8 @@ use std::alloc::{AllocError, Global};
 use std::process::Abort;
 use std::test::Fail;
 
-// The joined octets of a Request with one context (9, AA), whose body is the long 7, little-endian. Pads
-// and reserved octets aren't zero.
+// The joined octets of a Request with one context (9, AA), whose body is the long 7, little-endian.
+// Pads and reserved octets aren't zero.
 const WITH_CONTEXT: [u8; 44] = [
     2, 0, 0, 0, 1, 0xEE, 0xEE, 0xEE, 0, 0, 0xEE, 0xEE, 0, 0, 0, 0, 2, 0, 0, 0, 0x61, 0, 0xEE, 0xEE,
     1, 0, 0, 0, 9, 0, 0, 0, 1, 0, 0, 0, 0xAA, 0xEE, 0xEE, 0xEE, 7, 0, 0, 0,
@@ -85,7 +85,8 @@ fn a_view_of_a_head_lies_in_the_joined_octets(rt: HostRuntime) -> Result<(), Fai
     Ok(())
 }
 
-// What each proper prefix of the ping Request lacks first, by its number of octets, the header counted.
+// What each proper prefix of the ping Request lacks first, by its number of octets, the header
+// counted.
 fn lacks(octets: usize) -> CdrFault {
     let (at, kind) = match octets {
         12..=15 => (12, CdrKind::Short),
