@@ -107,7 +107,8 @@ first_apart blocks n numbers apart =
 -- octets written into a block of a list go behind those that stand before its place
 pub written_part : (blocks : List (List ℕ)) (numbers : List ℕ) (q r : ℕ) (part : List ℕ)
     → AreWhole blocks → AreApart blocks numbers → q < length numbers → r + length part ≤ 512
-    → octets_at (set blocks (get_or numbers q 0) (take r (block blocks (get_or numbers q 0)) ++ part ++ drop (r + length part) (block blocks (get_or numbers q 0))))
+    → octets_at (set blocks (get_or numbers q 0)
+    (take r (block blocks (get_or numbers q 0)) ++ part ++ drop (r + length part) (block blocks (get_or numbers q 0))))
     numbers (512 * q + (r + length part)) ≡ octets_at blocks numbers (512 * q + r) ++ part
 written_part blocks [] q r part whole apart within room = absurd (omega arith)
 written_part blocks (n ∷ numbers) zero r part whole apart within room =
@@ -140,7 +141,8 @@ written_part blocks (n ∷ numbers) (suc q) r part whole apart within room =
 pub written_at : (blocks new : List (List ℕ)) (numbers : List ℕ) (place : ℕ) (part : List ℕ)
     → AreWhole blocks → AreApart blocks numbers → place / 512 < length numbers → place % 512 + length part ≤ 512
     → new ≡ set blocks (get_or numbers (place / 512) 0)
-    (take (place % 512) (block blocks (get_or numbers (place / 512) 0)) ++ part ++ drop (place % 512 + length part) (block blocks (get_or numbers (place / 512) 0)))
+    (take (place % 512) (block blocks (get_or numbers (place / 512) 0)) ++ part
+    ++ drop (place % 512 + length part) (block blocks (get_or numbers (place / 512) 0)))
     → octets_at new numbers (place + length part) ≡ octets_at blocks numbers place ++ part
 written_at blocks new numbers place part whole apart within room is =
     let number = get_or numbers (place / 512) 0 in

@@ -75,7 +75,8 @@ by_append from to old new over id order more (Ok done) p q are found becomes ok 
     record {
       held = second.held;
       ok = lists;
-      number = as_many from ok.between to (lists_at from.blocks old) id (lacking p (length more)) _ new are.free ok.provided (wants from old id p more are found)
+      number = as_many from ok.between to (lists_at from.blocks old) id (lacking p (length more)) _ new are.free ok.provided
+          (wants from old id p more are found)
           ok.filled.number second.held lists;
       only = ap (λ h. add_fault_by over h order) (pieces_found from.blocks old id (Some p) found) ∙ only;
       err = tt;

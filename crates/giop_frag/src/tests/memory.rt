@@ -42,8 +42,8 @@ fn put_at_last(rt: &impl Abort, gather: &mut Gather, id: u32, order: Order, octe
     }
 }
 
-// Takes the octets of an id out. Where that is refused for want of memory, all is as it was, and the
-// same call once more is accepted.
+// Takes the octets of an id out. Where that is refused for want of memory, all is as it was, and
+// the same call once more is accepted.
 fn finish_at_last(
     rt: &impl Abort,
     gather: &mut Gather,

@@ -24,7 +24,8 @@ left c =
     rw (sym c.get_mut.ensures.value ∙ ap option_copied_mut c.in-Some.is) refl in
     let written = (c.get_mut.follows.holds c.append.new.self).3 there in
     let found = sym c.get_mut.ensures.value ∙ ap option_copied_mut c.in-Some.is in
-    by_append _ _ _ _ c.args.over c.args.id c.args.order c.args.octets.now c.append.result c.in-Some.joined.now c.append.new.self c.requires.held found written.0
+    by_append _ _ _ _ c.args.over c.args.id c.args.order c.args.octets.now c.append.result c.in-Some.joined.now c.append.new.self
+    c.requires.held found written.0
     c.append.ensures.ok c.append.ensures.only c.append.ensures.err c.append.ensures.kept c.append.ensures.left
 
 pub returns-in-Some-clause-held : goal.returns-in-Some-clause-held

@@ -10,7 +10,8 @@ use Rattle.giop_frag.proofs.lists.begin_list.Goals as goal
 refused : (c : goal.After-from_residual) → Keeps c.args.pool.now c.open_list.new.pool c.args.table.now.entries c.open_list.new.table.entries
     × ((length c.args.pool.now.blocks ≤ length c.open_list.new.pool.blocks)
     × (length c.open_list.new.pool.blocks ≤ max (length c.args.pool.now.blocks)
-    (blocks_of (put (lists_at c.args.pool.now.blocks c.args.table.now.entries) c.args.id (Some (record { order = c.args.order; octets = c.args.octets.now }))))))
+    (blocks_of (put (lists_at c.args.pool.now.blocks c.args.table.now.entries) c.args.id
+    (Some (record { order = c.args.order; octets = c.args.octets.now }))))))
 refused c =
     refused_by _ _ _ _ c.args.id c.args.order c.args.octets.now c.blocks_for.result c.requires.held c.requires.absent c.open_list.ensures.provided
     c.blocks_for.ensures.value (err_part _ _ c.in_err-open_list.was c.open_list.ensures.kept)

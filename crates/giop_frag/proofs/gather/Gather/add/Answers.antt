@@ -15,7 +15,8 @@ invariant_of-self c =
     same_octets _ _ _ _ _ _ c.self.invariant c.add_to_list.ensures.held c.in_err-add_to_list.ensures.kept few
 
 -- where the call grows a list the count is right again
-counted : (c : goal.After-self-1) → IsTable c.self.inside.limit (c.self.inside.total + length c.args.octets.now) c.add_to_list.new.pool c.add_to_list.new.table.entries
+counted : (c : goal.After-self-1) → IsTable c.self.inside.limit (c.self.inside.total + length c.args.octets.now)
+    c.add_to_list.new.pool c.add_to_list.new.table.entries
 counted c =
     let asked = asked_of _ _ _ _ _ _ c.self.view_is c.is_over-over.ensures in
     joined_octets _ _ _ _ _ _ c.args.id c.args.order c.args.octets.now _ c.self.invariant c.add_to_list.ensures.held

@@ -14,7 +14,8 @@ invariant_of-self c =
     same_octets _ _ _ _ _ _ c.self.invariant c.begin_list.ensures.held c.in_err-begin_list.ensures.kept few
 
 -- where the call begins a list the count is right again
-counted : (c : goal.After-self-1) → IsTable c.self.inside.limit (c.self.inside.total + length c.args.octets.now) c.begin_list.new.pool c.begin_list.new.table.entries
+counted : (c : goal.After-self-1) → IsTable c.self.inside.limit (c.self.inside.total + length c.args.octets.now)
+    c.begin_list.new.pool c.begin_list.new.table.entries
 counted c =
     let room = sym (asked_of _ _ _ _ _ _ c.self.view_is c.is_over.ensures) ∙ c.if-is_over.false in
     let absent = ap (λ g. map.get g.lists c.args.id) c.self.view_is ∙ c.requires in

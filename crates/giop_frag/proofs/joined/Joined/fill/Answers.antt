@@ -7,7 +7,9 @@ use Rattle.giop_frag.proofs.joined.Joined.fill.Goals as goal
 
 pub write-requires-clause-apart : goal.write-requires-clause-apart
 write-requires-clause-apart c =
-    let numbers = c.take.ensures.value ∙ ap (λ p. p.numbers ++ drop (length c.args.pool.now.free - (c.blocks_for.result - c.count.result)) c.args.pool.now.free) c.self.view_is in
+    let numbers =
+    c.take.ensures.value
+    ∙ ap (λ p. p.numbers ++ drop (length c.args.pool.now.free - (c.blocks_for.result - c.count.result)) c.args.pool.now.free) c.self.view_is in
     taken_apart _ _ _ _ _ c.requires.apart (c.deref.ensures.value ∙ numbers) c.take.ensures.ok
 
 pub returns : goal.returns
