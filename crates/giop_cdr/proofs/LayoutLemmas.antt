@@ -10,23 +10,23 @@ use Rattle.giop_cdr.specs.declared.order.Order.{Order}
 use Rattle.giop_cdr.specs.declared.order.Order.TheVariants.{Big, Little}
 use Rattle.giop_cdr.specs.declared.fault.CdrFault.{CdrFault}
 use Rattle.giop_cdr.specs.declared.fault.CdrKind.{CdrKind}
-use Rattle.giop_cdr.specs.Cursor.{Cursor, num}
-use Rattle.giop_cdr.specs.Reading.{Reading, ◌>>=◌, octets_at, string_at, passes, number_at}
+use Rattle.giop_cdr.specs.Reading.Cursor.{Cursor, num}
+use Rattle.giop_cdr.specs.Reading.Values.{Reading, ◌>>=◌, octets_at, string_at, passes, number_at}
 use Rattle.giop_cdr.specs.Spelling.{Spelling, SpellsNumber, SpellsOctets, SpellsString, SpellsEach, Bounded, CountedText}
-use Rattle.giop_cdr.specs.Readers.{Took, IsExact, IsExactHere, StandsAlone, TakesOctets, RefusedOctets, RefusedString}
-use Rattle.giop_cdr.specs.Output.{Output, octets_out, string_out}
+use Rattle.giop_cdr.specs.Reading.Exactness.{Took, IsExact, IsExactHere, StandsAlone, TakesOctets, RefusedOctets, RefusedString}
+use Rattle.giop_cdr.specs.Writing.Output.{Output, octets_out, string_out}
 use Rattle.giop_cdr.specs.RoundTrip.{IsSpelled, IsReadBack, is_primitive}
 use Rattle.giop_cdr.specs.Layout.{Layout, IsLawful, AreOctets, number, signed, boolean, octets, text, bounded_octets, bounded_text, such, field, gives, reserved, chosen, sequence, tagged, is_countable, is_spellable}
-use Rattle.giop_cdr.proofs.Answers.{exact_by, bind_elim, bind_fails, ok_same}
-use Rattle.giop_cdr.proofs.FieldSpelling.{number_exact, signed_exact}
-use Rattle.giop_cdr.proofs.BooleanSpelling.{boolean_exact}
-use Rattle.giop_cdr.proofs.CountSpelling.{octets_exact}
-use Rattle.giop_cdr.proofs.TextSpelling.{string_exact}
-use Rattle.giop_cdr.proofs.SequenceSpelling.{sequence_exact}
-use Rattle.giop_cdr.proofs.Composing.{then_exact, nothing_exact, such_exact, unbounded_exact}
-use Rattle.giop_cdr.proofs.Stretches.{stands_alone}
-use Rattle.giop_cdr.proofs.RoundTripLemmas.{number_back, signed_back, boolean_back, octets_back, string_back}
-use Rattle.giop_cdr.proofs.SpelledLemmas.{read_back, spelled_of, then_spelled, known_spelled, sequence_spelled}
+use Rattle.giop_cdr.proofs.Reading.Answers.{exact_by, bind_elim, bind_fails, ok_same}
+use Rattle.giop_cdr.proofs.Spelling.FieldSpelling.{number_exact, signed_exact}
+use Rattle.giop_cdr.proofs.Spelling.BooleanSpelling.{boolean_exact}
+use Rattle.giop_cdr.proofs.Spelling.CountSpelling.{octets_exact}
+use Rattle.giop_cdr.proofs.Spelling.TextSpelling.{string_exact}
+use Rattle.giop_cdr.proofs.Spelling.SequenceSpelling.{sequence_exact}
+use Rattle.giop_cdr.proofs.Spelling.Composing.{then_exact, nothing_exact, such_exact, unbounded_exact}
+use Rattle.giop_cdr.proofs.Reading.Stretches.{stands_alone}
+use Rattle.giop_cdr.proofs.Writing.RoundTripLemmas.{number_back, signed_back, boolean_back, octets_back, string_back}
+use Rattle.giop_cdr.proofs.Spelling.SpelledLemmas.{read_back, spelled_of, then_spelled, known_spelled, sequence_spelled}
 
 pub both : (a b : Bool) → (a && b) ≡ true → (a ≡ true) × (b ≡ true)
 both true b e = (refl, e)

@@ -6,11 +6,11 @@ use Rattle.std.specs.Int.{Width, w8, w32, byte_len}
 use mir.Val.{bits}
 use Rattle.giop_cdr.specs.declared.order.Order.{Order}
 use Rattle.giop_cdr.specs.declared.fault.CdrKind.{CdrKind}
-use Rattle.giop_cdr.specs.Cursor.{Cursor}
-use Rattle.giop_cdr.specs.Reading.{Reading, ◌>>=◌, number_at, signed_at, boolean_at, octets_at, string_at, such_at, sequence_at, has_null, passes}
+use Rattle.giop_cdr.specs.Reading.Cursor.{Cursor}
+use Rattle.giop_cdr.specs.Reading.Values.{Reading, ◌>>=◌, number_at, signed_at, boolean_at, octets_at, string_at, such_at, sequence_at, has_null, passes}
 use Rattle.giop_cdr.specs.Spelling.{Spelling, SpellsNumber, SpellsSigned, SpellsBoolean, SpellsOctets, SpellsString, SpellsSequence, Then, Such, Known, Bounded}
-use Rattle.giop_cdr.specs.Readers.{Refusal, Took, IsExact, FirstRefused, NeverRefused, RefusedShort, RefusedBoolean, RefusedOctets, RefusedString, RefusedUnless, RefusedSequence}
-use Rattle.giop_cdr.specs.Output.{Output, number_out, signed_out, octets_out, string_out, sequence_out}
+use Rattle.giop_cdr.specs.Reading.Exactness.{Refusal, Took, IsExact, FirstRefused, NeverRefused, RefusedShort, RefusedBoolean, RefusedOctets, RefusedString, RefusedUnless, RefusedSequence}
+use Rattle.giop_cdr.specs.Writing.Output.{Output, number_out, signed_out, octets_out, string_out, sequence_out}
 use Rattle.giop_cdr.specs.RoundTrip.{IsSpelled}
 
 -- what can be said of a value on the wire: which octets spell it, why octets are refused, what

@@ -1,13 +1,7 @@
-pub mod Cursor
 pub mod Reading
-pub mod Outcome
 pub mod Spelling
-pub mod Readers
-pub mod Output
 pub mod Writing
 pub mod RoundTrip
 pub mod Encapsulation
 pub mod Layout
-pub mod Encapsulated
-pub mod View
 pub mod Faults

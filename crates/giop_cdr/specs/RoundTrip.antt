@@ -1,10 +1,10 @@
 -- What is written is read back (CORBA 3.3 Part 2, 9.3).
 use Rattle.std.specs.Prelude.{◌≡◌, ℕ, ◌+◌, Bool, true, false, List, ◌++◌, length, Ok}
 use Rattle.std.specs.Int.{Width, w8, w16, w32, w64}
-use Rattle.giop_cdr.specs.Cursor.{Cursor}
-use Rattle.giop_cdr.specs.Reading.{Reading}
+use Rattle.giop_cdr.specs.Reading.Cursor.{Cursor}
+use Rattle.giop_cdr.specs.Reading.Values.{Reading}
 use Rattle.giop_cdr.specs.Spelling.{Spelling}
-use Rattle.giop_cdr.specs.Output.{Output}
+use Rattle.giop_cdr.specs.Writing.Output.{Output}
 
 -- what was written of a value spells it from where the output stood; and a reader that stands there
 -- reads the value and is left with what stands behind it

@@ -3,8 +3,8 @@
 use Rattle.std.specs.Prelude.{◌≡◌, ℕ, zero, suc, ◌+◌, ℤ, Bool, true, false, if◌then◌else◌, List, [], ◌∷◌, ◌++◌, length}
 use Rattle.std.specs.Int.{Width, w32, byte_len, cast_signed}
 use Rattle.giop_cdr.specs.declared.order.Order.{Order}
-use Rattle.giop_cdr.specs.Cursor.{num, pad}
-use Rattle.giop_cdr.specs.Reading.{has_null, passes}
+use Rattle.giop_cdr.specs.Reading.Cursor.{num, pad}
+use Rattle.giop_cdr.specs.Reading.Values.{has_null, passes}
 
 -- in this order and from this offset, these octets spell this value
 abbrev pub Spelling : Type 0 → Type 1

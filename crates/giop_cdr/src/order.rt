@@ -12,8 +12,8 @@ pub enum Order {
 }
 
 impl Order {
-    ghost use Rattle.giop_cdr.specs.Encapsulation.{order_octet};
-    ghost use Rattle.giop_cdr.specs.Output.{octets_of};
+    ghost use Rattle.giop_cdr.specs.Encapsulation.Opened.{order_octet};
+    ghost use Rattle.giop_cdr.specs.Writing.Output.{octets_of};
 
     /// The octet that tells this order at the head of an encapsulation (9.3.3): 0 or 1.
     pub fn octet(self) -> u8

@@ -6,9 +6,9 @@ use Rattle.std.specs.Option.{ok_or}
 use Rattle.std.proofs.Math.Seq.{take-append_seam}
 use Rattle.std.proofs.lemmas.Bool.{false≢true}
 use Rattle.std.proofs.lemmas.List.Elements.{All-nil}
-use Rattle.giop_ior.specs.declared.address.Address.{Address}
-use Rattle.giop_ior.specs.declared.corbaloc_fault.CorbalocFault.{CorbalocFault}
-use Rattle.giop_ior.specs.declared.corbaloc_fault.CorbalocKind.TheVariants.{BadProtocol, BadHost, BadPort, BadVersion}
+use Rattle.giop_ior.specs.declared.addresses.address.Address.{Address}
+use Rattle.giop_ior.specs.declared.addresses.corbaloc_fault.CorbalocFault.{CorbalocFault}
+use Rattle.giop_ior.specs.declared.addresses.corbaloc_fault.CorbalocKind.TheVariants.{BadProtocol, BadHost, BadPort, BadVersion}
 use Rattle.giop_ior.specs.Corbaloc.{AddressText, ProtocolText, VersionPartText, VersionText, IsHost, PortPartText, PortText, is_host_octet}
 use Rattle.giop_ior.specs.CorbalocFault.{Read, fault, ◌>>=◌}
 use Rattle.giop_ior.specs.CorbalocReading.{cut, begins, is_host, host_at, port_of, minor_of, endpoint_of_parts, endpoint_at, located_of_parts, located_at, protocol_len, address_at}

@@ -6,10 +6,10 @@ use Rattle.std.proofs.lemmas.Bool.{false≢true, ltb-true, eqb-true}
 use Rattle.std.proofs.lemmas.List.Splits.{join_with_byte-slice_split, slice_split_none, slice_split_at, length-slice_split}
 use Rattle.percent_encoding.specs.Percent.{percent_decode}
 use Rattle.percent_encoding.proofs.PercentLemmas.{percent_decode-nil, percent_decode_escape, percent_decode_not_percent}
-use Rattle.giop_ior.specs.declared.address.Address.{Address}
-use Rattle.giop_ior.specs.declared.corbaloc.Corbaloc.{Corbaloc}
-use Rattle.giop_ior.specs.declared.corbaloc_fault.CorbalocFault.{CorbalocFault}
-use Rattle.giop_ior.specs.declared.corbaloc_fault.CorbalocKind.TheVariants.{BadPrefix}
+use Rattle.giop_ior.specs.declared.addresses.address.Address.{Address}
+use Rattle.giop_ior.specs.declared.addresses.corbaloc.Corbaloc.{Corbaloc}
+use Rattle.giop_ior.specs.declared.addresses.corbaloc_fault.CorbalocFault.{CorbalocFault}
+use Rattle.giop_ior.specs.declared.addresses.corbaloc_fault.CorbalocKind.TheVariants.{BadPrefix}
 use Rattle.giop_ior.specs.Corbaloc.{CorbalocText, AddressesText, AddressText, KeyPartText, KeyText, KeyOctetText, EscapeText, is_key_octet}
 use Rattle.giop_ior.specs.CorbalocFault.{Read, fault, ◌>>=◌, IsAnswered, no_memory}
 use Rattle.giop_ior.specs.CorbalocReading.{cut, begins, address_at, each_at, addresses_at, key_fault, key_unless, key_at, is_escape, wrong_key_octet, corbaloc_of_parts, corbaloc_of}

@@ -6,14 +6,14 @@ use Rattle.giop_cdr.specs.declared.order.Order.{Order}
 use Rattle.giop_cdr.specs.declared.order.Order.TheVariants.{Big, Little}
 use Rattle.giop_cdr.specs.declared.fault.CdrFault.{CdrFault}
 use Rattle.giop_cdr.specs.declared.fault.CdrKind.TheVariants.{BadOrder}
-use Rattle.giop_cdr.specs.Cursor.{Cursor}
-use Rattle.giop_cdr.specs.Encapsulation.{order_octet, content_of}
+use Rattle.giop_cdr.specs.Reading.Cursor.{Cursor}
+use Rattle.giop_cdr.specs.Encapsulation.Opened.{order_octet, content_of}
 use Rattle.giop_cdr.specs.Layout.{IsLawful, AreOctets, such, number, field, gives, chosen, sequence}
-use Rattle.giop_cdr.specs.Output.{Output, number_out}
-use Rattle.giop_cdr.specs.Readers.{TakesOctets}
-use Rattle.giop_cdr.specs.Reading.{Reading, fault, ◌>>=◌}
+use Rattle.giop_cdr.specs.Writing.Output.{Output, number_out}
+use Rattle.giop_cdr.specs.Reading.Exactness.{TakesOctets}
+use Rattle.giop_cdr.specs.Reading.Values.{Reading, fault, ◌>>=◌}
 use Rattle.giop_cdr.proofs.LayoutLemmas.{number_is, octets_is, text_is, such_is, field_is, gives_is, chosen_is, sequence_is, tagged_is, tagged_takes, unspelled}
-use Rattle.giop_ior.specs.declared.tagged_profile.TaggedComponent.{TaggedComponent}
+use Rattle.giop_ior.specs.declared.references.tagged_profile.TaggedComponent.{TaggedComponent}
 use Rattle.giop_ior.specs.Iiop.{Profile, major_version, tagged_component, no_components, components_of, iiop_layout, IiopOctets, order_of_octet, order_in, iiop_of, iiop_octets, no_memory, IsAnswered}
 
 -- ---- the table

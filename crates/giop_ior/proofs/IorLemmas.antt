@@ -2,7 +2,7 @@
 use Rattle.std.proofs.Common.{◌≡◌, ℕ, false, List, refl, ap}
 use Rattle.giop_cdr.specs.declared.order.Order.{Order}
 use Rattle.giop_cdr.specs.Layout.{IsLawful, AreOctets, field, gives}
-use Rattle.giop_cdr.specs.Readers.{TakesOctets}
+use Rattle.giop_cdr.specs.Reading.Exactness.{TakesOctets}
 use Rattle.giop_cdr.proofs.LayoutLemmas.{text_is, field_is, gives_is, sequence_is, tagged_is, tagged_takes, unspelled}
 use Rattle.giop_ior.specs.Ior.{Reference, tagged_profile, ior_layout}
 

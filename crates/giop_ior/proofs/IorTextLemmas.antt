@@ -3,9 +3,9 @@ use Rattle.std.proofs.Common.{◌≡◌, ℕ, ◌<◌, true, List, [], ◌∷◌
 use Rattle.std.proofs.lemmas.List.Elements.{All-tail}
 use Rattle.std.specs.Int.{w8}
 use Rattle.giop_cdr.specs.declared.order.Order.TheVariants.{Big}
-use Rattle.giop_cdr.specs.Encapsulation.{order_octet}
+use Rattle.giop_cdr.specs.Encapsulation.Opened.{order_octet}
 use Rattle.giop_cdr.specs.Layout.{Layout, IsLawful, AreOctets}
-use Rattle.giop_cdr.specs.Output.{number_out}
+use Rattle.giop_cdr.specs.Writing.Output.{number_out}
 use Rattle.giop_types.specs.declared.ior_text_fault.IorTextFault.{IorTextFault}
 use Rattle.giop_types.specs.declared.ior_text_fault.IorTextFault.TheVariants.{NoMemory}
 use Rattle.giop_types.specs.IorText.{IorText, ior_text_of, ReadsTexts, begun, text_written}

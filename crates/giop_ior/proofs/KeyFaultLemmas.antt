@@ -4,7 +4,7 @@ use Rattle.std.specs.Char.{is_digit}
 use Rattle.std.proofs.lemmas.Bool.{false≢true}
 use Rattle.std.proofs.lemmas.Grind.{common_steps}
 use Rattle.giop_ior.proofs.NumberLemmas.{both}
-use Rattle.giop_ior.specs.declared.corbaloc_fault.CorbalocFault.{CorbalocFault}
+use Rattle.giop_ior.specs.declared.addresses.corbaloc_fault.CorbalocFault.{CorbalocFault}
 use Rattle.giop_ior.specs.Corbaloc.{is_key_octet}
 use Rattle.giop_ior.specs.CorbalocFault.{fault}
 use Rattle.giop_ior.specs.CorbalocReading.{key_fault, key_octet_len, is_escape, wrong_key_octet}

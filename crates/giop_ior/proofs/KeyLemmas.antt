@@ -5,7 +5,7 @@ use Rattle.std.specs.List.{list_any}
 use Rattle.std.proofs.lemmas.Bool.{agree_below_at, cases_lt, lt-ltb, le-ltb}
 use Rattle.std.proofs.lemmas.Bool.Decides.{nat_tests}
 use Rattle.percent_encoding.specs.AsciiSet.{contains, should_percent_encode}
-use Rattle.giop_ior.specs.declared.key_text.TheConstants.{ESCAPED}
+use Rattle.giop_ior.specs.declared.addresses.key_text.TheConstants.{ESCAPED}
 use Rattle.giop_ior.specs.Corbaloc.{is_key_octet}
 
 -- the set and the definition keep the same ASCII octets

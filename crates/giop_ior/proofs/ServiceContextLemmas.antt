@@ -1,7 +1,7 @@
 -- The layout of service contexts is lawful.
 use Rattle.std.proofs.Common.{refl}
 use Rattle.giop_cdr.specs.Layout.{IsLawful}
-use Rattle.giop_cdr.specs.Readers.{TakesOctets}
+use Rattle.giop_cdr.specs.Reading.Exactness.{TakesOctets}
 use Rattle.giop_cdr.proofs.LayoutLemmas.{sequence_is, tagged_is, tagged_takes}
 use Rattle.giop_ior.specs.ServiceContext.{service_context, service_contexts}
 

@@ -1,7 +1,7 @@
 -- What a step of a reading says where it gave a value.
 use Rattle.std.proofs.Common.{◌≡◌, ℕ, Bool, true, false, Option, Some, None, Ok, Err, if◌then◌else◌, refl}
 use Rattle.std.specs.Option.{ok_or}
-use Rattle.giop_ior.specs.declared.corbaloc_fault.CorbalocFault.{CorbalocFault}
+use Rattle.giop_ior.specs.declared.addresses.corbaloc_fault.CorbalocFault.{CorbalocFault}
 use Rattle.giop_ior.specs.CorbalocFault.{Read, ◌>>=◌}
 
 pub if_ok : {A : Type 0} (test : Bool) (x y : A) (e : CorbalocFault)

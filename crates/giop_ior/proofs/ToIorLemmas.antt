@@ -2,8 +2,8 @@
 use Rattle.std.proofs.Common.{◌≡◌, ℕ, ◌^◌, ◌<◌, ◌==◌, Bool, true, false, List, [], ◌∷◌, Ok, refl}
 use Rattle.std.specs.List.{list_all, AllByRecursion}
 use Rattle.giop_cdr.specs.Layout.{such, number, text, octets, field, gives, chosen, sequence}
-use Rattle.giop_ior.specs.declared.address.Address.{Address}
-use Rattle.giop_ior.specs.declared.corbaloc.Corbaloc.{Corbaloc}
+use Rattle.giop_ior.specs.declared.addresses.address.Address.{Address}
+use Rattle.giop_ior.specs.declared.addresses.corbaloc.Corbaloc.{Corbaloc}
 use Rattle.giop_ior.specs.CorbalocWriting.{IsInRange}
 use Rattle.giop_ior.specs.Iiop.{major_version, tagged_component, no_components, components_of, iiop_layout, iiop_of}
 use Rattle.giop_ior.specs.ToIor.{address_profile, profile_of, are_profiles, ReadAsAddresses}

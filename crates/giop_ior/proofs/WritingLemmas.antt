@@ -9,8 +9,8 @@ use Rattle.std.proofs.lemmas.Bool.Decides.{nat_tests}
 use Rattle.std.proofs.lemmas.Grind.{common_steps}
 use Rattle.percent_encoding.specs.AsciiSet.{should_percent_encode}
 use Rattle.percent_encoding.specs.Percent.{percent_encode, percent_encode_byte, encode_byte}
-use Rattle.giop_ior.specs.declared.address.Address.{Address}
-use Rattle.giop_ior.specs.declared.key_text.TheConstants.{ESCAPED}
+use Rattle.giop_ior.specs.declared.addresses.address.Address.{Address}
+use Rattle.giop_ior.specs.declared.addresses.key_text.TheConstants.{ESCAPED}
 use Rattle.giop_ior.specs.Corbaloc.{is_key_octet}
 use Rattle.giop_ior.specs.CorbalocWriting.{address_text, comma_before, addresses_text, key_octet_text, key_text}
 use Rattle.giop_ior.proofs.KeyLemmas.{keeps}

@@ -8,8 +8,8 @@ use Rattle.std.proofs.lemmas.Bool.{eqb-true, eq-eqb, lt-ltb, ltb-true}
 use Rattle.std.proofs.lemmas.Bool.Decides.{nat_tests}
 use Rattle.std.proofs.lemmas.Fmt.{decimal_is_IsNumeral, length-decimal-le}
 use Rattle.percent_encoding.specs.Percent.{percent_encode_byte}
-use Rattle.giop_ior.specs.declared.address.Address.{Address}
-use Rattle.giop_ior.specs.declared.corbaloc.Corbaloc.{Corbaloc}
+use Rattle.giop_ior.specs.declared.addresses.address.Address.{Address}
+use Rattle.giop_ior.specs.declared.addresses.corbaloc.Corbaloc.{Corbaloc}
 use Rattle.giop_ior.specs.Corbaloc.{CorbalocText, AddressesText, AddressText, NumberText, KeyPartText, KeyText, KeyOctetText, EscapeText, VersionPartText, IsHost, is_key_octet}
 use Rattle.giop_ior.specs.CorbalocReading.{is_host, corbaloc_of}
 use Rattle.giop_ior.specs.CorbalocWriting.{address_text, addresses_text, key_octet_text, key_text, corbaloc_text, is_writable_address, is_writable, IsInRange}

@@ -4,8 +4,8 @@ use Rattle.std.specs.Prelude.{◌≡◌, ℕ, ◌≤◌, ◌+◌, ◌*◌, ◌<�
 use Rattle.std.specs.Char.{is_ascii_alphanumeric, is_digit, digit_value}
 use Rattle.std.specs.List.{list_any, list_all}
 use Rattle.std.specs.Str.Parse.{IsNumeral, digits_value}
-use Rattle.giop_ior.specs.declared.address.Address.{Address}
-use Rattle.giop_ior.specs.declared.corbaloc.Corbaloc.{Corbaloc}
+use Rattle.giop_ior.specs.declared.addresses.address.Address.{Address}
+use Rattle.giop_ior.specs.declared.addresses.corbaloc.Corbaloc.{Corbaloc}
 
 -- 1 to n decimal digits
 abbrev pub NumberText : ℕ → ℕ → List ℕ → Type 0

@@ -1,8 +1,8 @@
 -- What is wrong with a corbaloc text, and how it is told.
 use Rattle.std.specs.Prelude.{◌≡◌, ◌⊎◌, ℕ, List, codes, Result, Ok, Err, IsOk}
-use Rattle.giop_ior.specs.declared.corbaloc_fault.CorbalocFault.{CorbalocFault}
-use Rattle.giop_ior.specs.declared.corbaloc_fault.CorbalocKind.{CorbalocKind}
-use Rattle.giop_ior.specs.declared.corbaloc_fault.CorbalocKind.TheVariants.{BadPrefix, BadProtocol, BadHost, BadPort, BadVersion, BadEscape, BadChar, NoMemory}
+use Rattle.giop_ior.specs.declared.addresses.corbaloc_fault.CorbalocFault.{CorbalocFault}
+use Rattle.giop_ior.specs.declared.addresses.corbaloc_fault.CorbalocKind.{CorbalocKind}
+use Rattle.giop_ior.specs.declared.addresses.corbaloc_fault.CorbalocKind.TheVariants.{BadPrefix, BadProtocol, BadHost, BadPort, BadVersion, BadEscape, BadChar, NoMemory}
 
 -- the number of a kind of fault
 abbrev pub corbaloc_kind_number : CorbalocKind → ℕ

@@ -8,11 +8,11 @@ use Rattle.std.specs.List.{position, list_all, slice_split}
 use Rattle.std.specs.Option.{ok_or}
 use Rattle.std.specs.Str.Parse.{digits_value}
 use Rattle.percent_encoding.specs.Percent.{percent_decode}
-use Rattle.giop_ior.specs.declared.address.Address.{Address}
-use Rattle.giop_ior.specs.declared.corbaloc.Corbaloc.{Corbaloc}
-use Rattle.giop_ior.specs.declared.corbaloc_fault.CorbalocFault.{CorbalocFault}
-use Rattle.giop_ior.specs.declared.corbaloc_fault.CorbalocKind.{CorbalocKind}
-use Rattle.giop_ior.specs.declared.corbaloc_fault.CorbalocKind.TheVariants.{BadPrefix, BadProtocol, BadHost, BadPort, BadVersion, BadEscape, BadChar}
+use Rattle.giop_ior.specs.declared.addresses.address.Address.{Address}
+use Rattle.giop_ior.specs.declared.addresses.corbaloc.Corbaloc.{Corbaloc}
+use Rattle.giop_ior.specs.declared.addresses.corbaloc_fault.CorbalocFault.{CorbalocFault}
+use Rattle.giop_ior.specs.declared.addresses.corbaloc_fault.CorbalocKind.{CorbalocKind}
+use Rattle.giop_ior.specs.declared.addresses.corbaloc_fault.CorbalocKind.TheVariants.{BadPrefix, BadProtocol, BadHost, BadPort, BadVersion, BadEscape, BadChar}
 use Rattle.giop_ior.specs.Corbaloc.{is_host_octet, is_key_octet}
 use Rattle.giop_ior.specs.CorbalocFault.{Read, fault, ◌>>=◌}
 

@@ -4,8 +4,8 @@ use Rattle.std.specs.Prelude.{◌≡◌, ℕ, ◌<◌, ◌^◌, ◌==◌, ◌&&�
 use Rattle.std.specs.Fmt.{decimal}
 use Rattle.std.specs.List.{flat_map, list_all, join_with_byte, AllByRecursion}
 use Rattle.percent_encoding.specs.Percent.{percent_encode_byte}
-use Rattle.giop_ior.specs.declared.address.Address.{Address}
-use Rattle.giop_ior.specs.declared.corbaloc.Corbaloc.{Corbaloc}
+use Rattle.giop_ior.specs.declared.addresses.address.Address.{Address}
+use Rattle.giop_ior.specs.declared.addresses.corbaloc.Corbaloc.{Corbaloc}
 use Rattle.giop_ior.specs.Corbaloc.{is_key_octet}
 use Rattle.giop_ior.specs.CorbalocReading.{is_host}
 

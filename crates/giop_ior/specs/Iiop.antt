@@ -6,15 +6,15 @@ use Rattle.giop_cdr.specs.declared.order.Order.{Order}
 use Rattle.giop_cdr.specs.declared.order.Order.TheVariants.{Big, Little}
 use Rattle.giop_cdr.specs.declared.fault.CdrFault.{CdrFault}
 use Rattle.giop_cdr.specs.declared.fault.CdrKind.TheVariants.{BadLabel, BadOrder, Short, NoMemory}
-use Rattle.giop_cdr.specs.Encapsulation.{order_octet, content_of}
+use Rattle.giop_cdr.specs.Encapsulation.Opened.{order_octet, content_of}
 use Rattle.giop_cdr.specs.Layout.{Layout, number, octets, text, such, field, gives, sequence, tagged, chosen}
-use Rattle.giop_cdr.specs.Output.{Output}
-use Rattle.giop_cdr.specs.Cursor.{Cursor}
-use Rattle.giop_cdr.specs.Reading.{Reading, fault, ◌>>=◌}
-use Rattle.giop_cdr.specs.Readers.{NeverRefused}
+use Rattle.giop_cdr.specs.Writing.Output.{Output}
+use Rattle.giop_cdr.specs.Reading.Cursor.{Cursor}
+use Rattle.giop_cdr.specs.Reading.Values.{Reading, fault, ◌>>=◌}
+use Rattle.giop_cdr.specs.Reading.Exactness.{NeverRefused}
 use Rattle.giop_cdr.specs.Spelling.{Known}
-use Rattle.giop_ior.specs.declared.profile.IiopProfile.{IiopProfile}
-use Rattle.giop_ior.specs.declared.tagged_profile.TaggedComponent.{TaggedComponent}
+use Rattle.giop_ior.specs.declared.references.profile.IiopProfile.{IiopProfile}
+use Rattle.giop_ior.specs.declared.references.tagged_profile.TaggedComponent.{TaggedComponent}
 
 -- a profile as contracts see it, wherever its octets lie
 abbrev pub Profile : Type 0

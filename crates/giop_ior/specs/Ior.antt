@@ -1,8 +1,8 @@
 -- Object references on the wire (CORBA 3.3 Part 2, 7.6.2): the table of an IOR's fields.
 use Rattle.std.specs.Prelude.{ℕ, List}
 use Rattle.giop_cdr.specs.Layout.{Layout, text, field, gives, sequence, tagged}
-use Rattle.giop_ior.specs.declared.ior.Ior.{Ior}
-use Rattle.giop_ior.specs.declared.tagged_profile.TaggedProfile.{TaggedProfile}
+use Rattle.giop_ior.specs.declared.references.ior.Ior.{Ior}
+use Rattle.giop_ior.specs.declared.references.tagged_profile.TaggedProfile.{TaggedProfile}
 
 -- a reference as contracts see it, wherever its octets lie
 abbrev pub Reference : Type 0

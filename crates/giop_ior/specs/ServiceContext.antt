@@ -1,7 +1,7 @@
 -- Service contexts on the wire (CORBA 3.3 Part 2, 7.7).
 use Rattle.std.specs.Prelude.{List}
 use Rattle.giop_cdr.specs.Layout.{Layout, sequence, tagged}
-use Rattle.giop_ior.specs.declared.service_context.ServiceContext.{ServiceContext}
+use Rattle.giop_ior.specs.declared.references.service_context.ServiceContext.{ServiceContext}
 
 -- a service context: an unsigned long id and a sequence of octets
 unfoldable pub service_context : Layout ServiceContext

@@ -1,9 +1,9 @@
 -- The reference of a corbaloc (CORBA 3.3 Part 2, 7.6.10.1): an IIOP profile for each address.
 use Rattle.std.specs.Prelude.{◌≡◌, ℕ, Bool, List, [], map, Ok}
 use Rattle.std.specs.List.{list_all, AllByRecursion}
-use Rattle.giop_ior.specs.declared.address.Address.{Address}
-use Rattle.giop_ior.specs.declared.corbaloc.Corbaloc.{Corbaloc}
-use Rattle.giop_ior.specs.declared.tagged_profile.TaggedProfile.{TaggedProfile}
+use Rattle.giop_ior.specs.declared.addresses.address.Address.{Address}
+use Rattle.giop_ior.specs.declared.addresses.corbaloc.Corbaloc.{Corbaloc}
+use Rattle.giop_ior.specs.declared.references.tagged_profile.TaggedProfile.{TaggedProfile}
 use Rattle.giop_ior.specs.Iiop.{Profile, iiop_layout, iiop_octets, iiop_of}
 use Rattle.giop_ior.specs.Ior.{Reference}
 

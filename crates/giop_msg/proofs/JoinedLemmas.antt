@@ -3,12 +3,12 @@ use Rattle.std.proofs.Common.{◌≡◌, ℕ, ◌+◌, ◌<◌, ◌≤◌, ◌==
 use Rattle.std.proofs.lemmas.Bool.{eqb-true}
 use Rattle.std.proofs.lemmas.Bool.Decides.{nat_tests}
 use Rattle.giop_cdr.specs.declared.fault.CdrKind.TheVariants.{Trailing}
-use Rattle.giop_cdr.specs.Reading.{Reading, ◌>>=◌, fault}
+use Rattle.giop_cdr.specs.Reading.Values.{Reading, ◌>>=◌, fault}
 use Rattle.giop_cdr.specs.declared.order.Order.{Order}
 use Rattle.giop_cdr.specs.declared.fault.CdrFault.{CdrFault}
-use Rattle.giop_cdr.specs.Cursor.{Cursor}
+use Rattle.giop_cdr.specs.Reading.Cursor.{Cursor}
 use Rattle.giop_cdr.specs.Layout.{Layout, IsLawful}
-use Rattle.giop_cdr.proofs.Answers.{bind_elim, ok_same}
+use Rattle.giop_cdr.proofs.Reading.Answers.{bind_elim, ok_same}
 use Rattle.giop_msg.specs.Joined.{joined_from, BeginsWith, head_of_joined, AreWhole, whole_of_joined}
 
 pub head_found : {A : Type 0} (layout : Layout A) (place : ℕ → ℕ) (order : Order) (octets : List ℕ) (head : A) (after : Cursor)

@@ -1,11 +1,11 @@
 -- A meaning of a lawful layout is lawful.
 use Rattle.std.proofs.Common.{◌≡◌, Bool, true, Ok, refl, sym, ap, subst, ◌∙◌}
 use Rattle.giop_cdr.specs.declared.fault.CdrFault.{CdrFault}
-use Rattle.giop_cdr.specs.Cursor.{Cursor}
-use Rattle.giop_cdr.specs.Reading.{Reading, ◌>>=◌}
-use Rattle.giop_cdr.specs.Readers.{Took, IsExactHere}
+use Rattle.giop_cdr.specs.Reading.Cursor.{Cursor}
+use Rattle.giop_cdr.specs.Reading.Values.{Reading, ◌>>=◌}
+use Rattle.giop_cdr.specs.Reading.Exactness.{Took, IsExactHere}
 use Rattle.giop_cdr.specs.Layout.{Layout, IsLawful}
-use Rattle.giop_cdr.proofs.Answers.{exact_by, bind_elim, bind_fails, ok_same}
+use Rattle.giop_cdr.proofs.Reading.Answers.{exact_by, bind_elim, bind_fails, ok_same}
 use Rattle.giop_cdr.proofs.LayoutLemmas.{both, and_true}
 use Rattle.giop_msg.specs.Meaning.{meaning}
 

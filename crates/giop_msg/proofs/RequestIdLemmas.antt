@@ -3,9 +3,9 @@ use Rattle.std.proofs.Common.{◌≡◌, ℕ, true, false, nat_le, nat_lt, [], l
 use Rattle.std.proofs.lemmas.Bool.Decides.{nat_tests}
 use Rattle.std.specs.Int.{w32}
 use Rattle.giop_cdr.specs.declared.fault.CdrFault.{CdrFault}
-use Rattle.giop_cdr.specs.Cursor.{Cursor, num}
-use Rattle.giop_cdr.specs.Outcome.{Exactly}
-use Rattle.giop_cdr.specs.Reading.{Reading, number_at, field_at}
+use Rattle.giop_cdr.specs.Reading.Cursor.{Cursor, num}
+use Rattle.giop_cdr.specs.Reading.Outcome.{Exactly}
+use Rattle.giop_cdr.specs.Reading.Values.{Reading, number_at, field_at}
 use Rattle.giop_cdr.specs.Layout.{IsLawful, number, reserved, sequence, chosen, gives}
 use Rattle.giop_cdr.proofs.LayoutLemmas.{number_is, field_is, gives_is, reserved_is, chosen_is}
 use Rattle.giop_msg.specs.declared.kind.Kind.{Kind}

@@ -8,7 +8,7 @@ use Rattle.giop_msg.specs.declared.fault.WireKind.TheVariants.{BadMagic, BadVers
 use Rattle.giop_msg.specs.declared.kind.Kind.{Kind}
 use Rattle.giop_msg.specs.declared.kind.Kind.TheVariants.{Request, CancelRequest, CloseConnection}
 use Rattle.giop_msg.specs.declared.msg.Msg.{Msg}
-use Rattle.giop_cdr.specs.Output.{Output, number_out, signed_out, octets_out, string_out, sequence_out, items_out}
+use Rattle.giop_cdr.specs.Writing.Output.{Output, number_out, signed_out, octets_out, string_out, sequence_out, items_out}
 use Rattle.giop_cdr.specs.Layout.{number, signed, octets, text, such, field, gives, reserved, chosen, sequence, tagged}
 use Rattle.giop_msg.specs.declared.target.Target.TheVariants.{Key}
 use Rattle.giop_ior.specs.ServiceContext.{service_context, service_contexts}
@@ -16,7 +16,7 @@ use Rattle.giop_msg.specs.Target.{target_layout, target_by, disposition, key_tar
 use Rattle.giop_msg.specs.RequestHead.{Head, request_head, request_head_1_2, response_flags, reserved_octets, reserved_octet}
 use Rattle.giop_msg.specs.Fault.{fault}
 use Rattle.giop_msg.specs.declared.version.Version.TheVariants.{V12}
-use Rattle.giop_cdr.specs.Reading.{number_at, field_at}
+use Rattle.giop_cdr.specs.Reading.Values.{number_at, field_at}
 use Rattle.giop_msg.specs.Header.{header_octets, header_of, header_fault}
 use Rattle.giop_msg.specs.Msg.{message_octets, IsMessage}
 use Rattle.giop_msg.specs.RequestId.{request_id_layout, request_id_of}

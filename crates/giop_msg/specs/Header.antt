@@ -5,8 +5,8 @@ use Rattle.std.specs.Prelude.{ℕ, ◌+◌, ◌%◌, Bool, ◌&&◌, ◌==◌, n
 use Rattle.std.specs.Int.{w32}
 use Rattle.giop_cdr.specs.declared.order.Order.{Order}
 use Rattle.giop_cdr.specs.declared.order.Order.TheVariants.{Big, Little}
-use Rattle.giop_cdr.specs.Cursor.{num}
-use Rattle.giop_cdr.specs.Output.{octets_of}
+use Rattle.giop_cdr.specs.Reading.Cursor.{num}
+use Rattle.giop_cdr.specs.Writing.Output.{octets_of}
 use Rattle.giop_msg.specs.declared.kind.Kind.{Kind}
 use Rattle.giop_msg.specs.declared.kind.Kind.TheVariants.{Fragment}
 use Rattle.giop_msg.specs.declared.fault.WireFault.{WireFault}

@@ -4,8 +4,8 @@ use Rattle.std.specs.Prelude.{◌≡◌, ℕ, ◌+◌, ◌==◌, List, ◌++◌,
 use Rattle.giop_cdr.specs.declared.order.Order.{Order}
 use Rattle.giop_cdr.specs.declared.fault.CdrFault.{CdrFault}
 use Rattle.giop_cdr.specs.declared.fault.CdrKind.TheVariants.{NoMemory, Trailing}
-use Rattle.giop_cdr.specs.Cursor.{Cursor, pad}
-use Rattle.giop_cdr.specs.Reading.{◌>>=◌, fault}
+use Rattle.giop_cdr.specs.Reading.Cursor.{Cursor, pad}
+use Rattle.giop_cdr.specs.Reading.Values.{◌>>=◌, fault}
 use Rattle.giop_cdr.specs.Layout.{Layout}
 use Rattle.giop_msg.specs.declared.version.Version.{Version}
 use Rattle.giop_msg.specs.declared.version.Version.TheVariants.{V10, V11, V12}

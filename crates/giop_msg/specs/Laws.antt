@@ -7,10 +7,10 @@ use Rattle.giop_msg.specs.Kind.{has_request_id}
 use Rattle.giop_msg.specs.Msg.{IsMessage}
 use Rattle.giop_msg.specs.RequestId.{begins_with_contexts, request_id_layout, request_id_of}
 use Rattle.giop_cdr.specs.declared.order.Order.{Order}
-use Rattle.giop_cdr.specs.Output.{Output}
+use Rattle.giop_cdr.specs.Writing.Output.{Output}
 use Rattle.giop_cdr.specs.Layout.{Layout, AreOctets}
 use Rattle.giop_cdr.specs.RoundTrip.{IsReadBack}
-use Rattle.giop_cdr.specs.Readers.{IsExact, StandsAlone, Took}
+use Rattle.giop_cdr.specs.Reading.Exactness.{IsExact, StandsAlone, Took}
 use Rattle.giop_msg.specs.declared.kind.Kind.{Kind}
 use Rattle.giop_msg.specs.declared.version.Version.{Version}
 use Rattle.giop_msg.specs.declared.fault.WireFault.{WireFault}

@@ -1,6 +1,6 @@
 -- A value that the wire spells by another, as the response flags of GIOP 1.0 by a boolean.
 use Rattle.std.specs.Prelude.{◌≡◌, ◌&&◌, Bool, Ok}
-use Rattle.giop_cdr.specs.Reading.{◌>>=◌}
+use Rattle.giop_cdr.specs.Reading.Values.{◌>>=◌}
 use Rattle.giop_cdr.specs.Layout.{Layout}
 
 -- a value that a value of another layout means: those that pass a test are meant by one, which

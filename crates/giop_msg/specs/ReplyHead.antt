@@ -4,7 +4,7 @@ use Rattle.std.specs.Prelude.{ℕ, nat_le, List}
 use Rattle.std.specs.Int.{w32}
 use Rattle.giop_cdr.specs.declared.fault.CdrKind.TheVariants.{BadLabel}
 use Rattle.giop_cdr.specs.Layout.{Layout, number, such, field, gives}
-use Rattle.giop_ior.specs.declared.service_context.ServiceContext.{ServiceContext}
+use Rattle.giop_ior.specs.declared.references.service_context.ServiceContext.{ServiceContext}
 use Rattle.giop_ior.specs.ServiceContext.{service_contexts}
 use Rattle.giop_msg.specs.declared.reply_head.ReplyHead.{ReplyHead}
 use Rattle.giop_msg.specs.declared.version.Version.{Version}

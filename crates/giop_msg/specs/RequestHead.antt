@@ -4,7 +4,7 @@ use Rattle.std.specs.Prelude.{ℕ, ◌==◌, ◌||◌, Bool, List, [], if◌then
 use Rattle.std.specs.Int.{w8, w32}
 use Rattle.giop_cdr.specs.declared.fault.CdrKind.TheVariants.{BadLabel}
 use Rattle.giop_cdr.specs.Layout.{Layout, number, boolean, octets, text, such, field, gives, reserved}
-use Rattle.giop_ior.specs.declared.service_context.ServiceContext.{ServiceContext}
+use Rattle.giop_ior.specs.declared.references.service_context.ServiceContext.{ServiceContext}
 use Rattle.giop_ior.specs.ServiceContext.{service_contexts}
 use Rattle.giop_msg.specs.declared.request_head.RequestHead.{RequestHead}
 use Rattle.giop_msg.specs.declared.version.Version.{Version}

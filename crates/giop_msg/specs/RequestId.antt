@@ -2,9 +2,9 @@
 use Rattle.std.specs.Prelude.{ℕ, Bool, true, false, List, [], Result, Ok, Err, Option, Some, None, if◌then◌else◌}
 use Rattle.std.specs.Int.{w32}
 use Rattle.giop_cdr.specs.declared.fault.CdrFault.{CdrFault}
-use Rattle.giop_cdr.specs.Reading.{Reading}
+use Rattle.giop_cdr.specs.Reading.Values.{Reading}
 use Rattle.giop_cdr.specs.Layout.{Layout, number, field, gives, reserved, chosen}
-use Rattle.giop_ior.specs.declared.service_context.ServiceContext.{ServiceContext}
+use Rattle.giop_ior.specs.declared.references.service_context.ServiceContext.{ServiceContext}
 use Rattle.giop_msg.specs.declared.kind.Kind.{Kind}
 use Rattle.giop_msg.specs.declared.kind.Kind.TheVariants.{Request, Reply}
 use Rattle.giop_msg.specs.declared.msg.Msg.{Msg}

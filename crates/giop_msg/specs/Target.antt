@@ -4,7 +4,7 @@ use Rattle.std.specs.Int.{w16, w32}
 use Rattle.std.specs.Ordering.{int_eq}
 use Rattle.giop_cdr.specs.declared.fault.CdrKind.TheVariants.{BadLabel}
 use Rattle.giop_cdr.specs.Layout.{Layout, number, signed, octets, such, field, gives, chosen}
-use Rattle.giop_ior.specs.declared.tagged_profile.TaggedProfile.{TaggedProfile}
+use Rattle.giop_ior.specs.declared.references.tagged_profile.TaggedProfile.{TaggedProfile}
 use Rattle.giop_ior.specs.Ior.{tagged_profile, ior_layout}
 use Rattle.giop_ior.specs.Ior.{Reference as IorValue}
 use Rattle.giop_msg.specs.declared.target.Target.{Target}

@@ -5,11 +5,10 @@
 mod cutting;
 mod fault;
 mod framer;
-mod head_laws;
 mod header;
 mod joined;
 mod kind;
-mod laws;
+pub mod laws;
 mod locate_reply_head;
 mod locate_request;
 mod msg;
@@ -31,22 +30,14 @@ pub use cutting::{can_cut, cut};
 pub use fault::{WireFault, WireKind};
 pub use framer::Framer;
 pub use giop_ior::ServiceContext;
-pub use head_laws::{
-    locate_reply_heads_are_spelled, locate_requests_are_spelled, reply_heads_are_spelled,
-    request_heads_are_spelled,
-};
 pub use header::Header;
 pub use kind::Kind;
-pub use laws::{
-    cuts_are_undone, every_stream_splits, faults_stand, header_round_trip, one_split, request_ids,
-    split_on,
-};
 pub use locate_reply_head::LocateReplyHead;
 pub use locate_request::{LocateRequest, LocateRequestAt};
 pub use msg::Msg;
 pub use reply_head::{ReplyHead, ReplyHeadAt};
 pub use request_head::{RequestHead, RequestHeadAt};
 pub use service_contexts::{ServiceContexts, ServiceContextsAt};
-pub use stream::{Reading, read_pieces};
+pub use stream::{StreamRead, read_pieces};
 pub use target::{ProfileAt, Target, TargetAt};
 pub use version::Version;

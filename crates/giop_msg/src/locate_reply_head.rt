@@ -1,10 +1,10 @@
-#![tactic(auto, unfolding(crate::specs::Locate::locate_reply_head, crate::specs::Locate::locate_status, giop_cdr::specs::Layout::field, giop_cdr::specs::Layout::such, giop_cdr::specs::Layout::number, giop_cdr::specs::Layout::gives, giop_cdr::specs::Reading::such_at))]
+#![tactic(auto, unfolding(crate::specs::Locate::locate_reply_head, crate::specs::Locate::locate_status, giop_cdr::specs::Layout::field, giop_cdr::specs::Layout::such, giop_cdr::specs::Layout::number, giop_cdr::specs::Layout::gives, giop_cdr::specs::Reading::Values::such_at))]
 
 ghost use Rattle.std.specs.Prelude.{◌≡◌, ◌≤◌, ◌^◌, ◌↔◌, length, false, true, ℕ, List, Ok, IfOk, IsErrOf};
 ghost use Rattle.giop_cdr.specs.declared.order.Order.{Order};
 ghost use Rattle.giop_cdr.specs.Layout.{AreOctets};
-ghost use Rattle.giop_cdr.specs.Outcome.{Exactly};
-ghost use Rattle.giop_cdr.specs.Writing.{Writes, Appends};
+ghost use Rattle.giop_cdr.specs.Reading.Outcome.{Exactly};
+ghost use Rattle.giop_cdr.specs.Writing.Outcome.{Writes, Appends};
 ghost use Rattle.giop_msg.specs.Joined.{BeginsWith, head_of_joined, right_behind};
 ghost use Rattle.giop_msg.specs.Locate.{last_locate_status, locate_reply_head, locate_status};
 
@@ -127,7 +127,7 @@ fn read_head<S: Octets>(version: Version, input: &mut CdrIn<S>) -> Result<Locate
 }
 
 // The fields in their order. Where memory is wanting a part of them is left.
-#[tactic(auto, unfolding(crate::specs::Locate::locate_reply_head, crate::specs::Locate::locate_status, giop_cdr::specs::Layout::field, giop_cdr::specs::Layout::such, giop_cdr::specs::Layout::number, giop_cdr::specs::Layout::gives), using(giop_cdr::proofs::WriterLemmas::grows_then, giop_cdr::proofs::WriterLemmas::grows_not))]
+#[tactic(auto, unfolding(crate::specs::Locate::locate_reply_head, crate::specs::Locate::locate_status, giop_cdr::specs::Layout::field, giop_cdr::specs::Layout::such, giop_cdr::specs::Layout::number, giop_cdr::specs::Layout::gives), using(giop_cdr::proofs::Writing::WriterLemmas::grows_then, giop_cdr::proofs::Writing::WriterLemmas::grows_not))]
 fn append_head(head: &LocateReplyHead, out: &mut CdrOut) -> Result<(), AllocError>
     requires { (locate_reply_head head.now.version).fits head.now ≡ true }
     ensures { Appends out.old result out.new

@@ -3,8 +3,8 @@
 ghost use Rattle.std.specs.Prelude.{◌≡◌, ◌≤◌, ◌^◌, ◌⊎◌, ◌↔◌, length, false, true, ℕ, List, Ok, Err, IfOk, IfErr, IsOk, IsErrOf};
 ghost use Rattle.giop_cdr.specs.declared.order.Order.{Order};
 ghost use Rattle.giop_cdr.specs.Layout.{AreOctets};
-ghost use Rattle.giop_cdr.specs.Outcome.{Exactly};
-ghost use Rattle.giop_cdr.specs.Writing.{Writes, Appends};
+ghost use Rattle.giop_cdr.specs.Reading.Outcome.{Exactly};
+ghost use Rattle.giop_cdr.specs.Writing.Outcome.{Writes, Appends};
 ghost use Rattle.giop_msg.specs.Joined.{AreWhole, no_memory, whole_of_joined};
 ghost use Rattle.giop_msg.specs.Locate.{located, locate_request};
 
@@ -172,7 +172,7 @@ fn view_request<'a, S: Octets>(
     })
 }
 
-#[tactic(auto, unfolding(crate::specs::Locate::located), using(giop_cdr::proofs::WriterLemmas::grows_then, giop_cdr::proofs::WriterLemmas::grows_not))]
+#[tactic(auto, unfolding(crate::specs::Locate::located), using(giop_cdr::proofs::Writing::WriterLemmas::grows_then, giop_cdr::proofs::Writing::WriterLemmas::grows_not))]
 fn append_located(version: Version, target: &Target, out: &mut CdrOut) -> Result<(), EncodeFault>
     requires { (located version).fits target.now ≡ true }
     ensures { Appends out.old result out.new ((located version).written target.now out.old) }
@@ -185,7 +185,7 @@ fn append_located(version: Version, target: &Target, out: &mut CdrOut) -> Result
 }
 
 // The fields in their order. Where memory is wanting a part of them is left.
-#[tactic(auto, unfolding(crate::specs::Locate::locate_request, giop_cdr::specs::Layout::field, giop_cdr::specs::Layout::number, giop_cdr::specs::Layout::gives), using(giop_cdr::proofs::WriterLemmas::grows_then, giop_cdr::proofs::WriterLemmas::grows_not))]
+#[tactic(auto, unfolding(crate::specs::Locate::locate_request, giop_cdr::specs::Layout::field, giop_cdr::specs::Layout::number, giop_cdr::specs::Layout::gives), using(giop_cdr::proofs::Writing::WriterLemmas::grows_then, giop_cdr::proofs::Writing::WriterLemmas::grows_not))]
 fn append_request(request: &LocateRequest, out: &mut CdrOut) -> Result<(), EncodeFault>
     requires { (locate_request request.now.version).fits request.now ≡ true }
     ensures { Appends out.old result out.new

@@ -1,7 +1,7 @@
-#![tactic(auto, unfolding(crate::specs::RequestId::request_id_layout, crate::specs::RequestId::id_behind_contexts, crate::specs::RequestId::passed_contexts, giop_ior::specs::ServiceContext::service_contexts, giop_ior::specs::ServiceContext::service_context, giop_cdr::specs::Layout::chosen, giop_cdr::specs::Layout::field, giop_cdr::specs::Layout::number, giop_cdr::specs::Layout::octets, giop_cdr::specs::Layout::reserved, giop_cdr::specs::Layout::gives, giop_cdr::specs::Layout::sequence, giop_cdr::specs::Layout::tagged, giop_cdr::specs::View::tagged_at))]
+#![tactic(auto, unfolding(crate::specs::RequestId::request_id_layout, crate::specs::RequestId::id_behind_contexts, crate::specs::RequestId::passed_contexts, giop_ior::specs::ServiceContext::service_contexts, giop_ior::specs::ServiceContext::service_context, giop_cdr::specs::Layout::chosen, giop_cdr::specs::Layout::field, giop_cdr::specs::Layout::number, giop_cdr::specs::Layout::octets, giop_cdr::specs::Layout::reserved, giop_cdr::specs::Layout::gives, giop_cdr::specs::Layout::sequence, giop_cdr::specs::Layout::tagged, giop_cdr::specs::Reading::View::tagged_at))]
 
 ghost use Rattle.std.specs.Prelude.{◌≡◌};
-ghost use Rattle.giop_cdr.specs.Outcome.{Exactly};
+ghost use Rattle.giop_cdr.specs.Reading.Outcome.{Exactly};
 ghost use Rattle.giop_msg.specs.RequestId.{begins_with_contexts, id_behind_contexts, request_id_layout};
 
 use crate::{Kind, ServiceContext, Version};

@@ -16,7 +16,7 @@ pub struct ServiceContexts {
 
 impl Model for ServiceContexts {
     ghost use Rattle.std.specs.Prelude.{List};
-    ghost use Rattle.giop_ior.specs.declared.service_context.ServiceContext.{ServiceContext};
+    ghost use Rattle.giop_ior.specs.declared.references.service_context.ServiceContext.{ServiceContext};
 
     ghost Value = { List ServiceContext };
 

@@ -10,7 +10,7 @@ use std::alloc::Global;
 
 /// What a stream holds.
 #[derive(Debug, Drop)]
-pub struct Reading {
+pub struct StreamRead {
     /// Its messages, in order.
     pub messages: Vec<Msg>,
     /// What is wrong with the octets after these, if anything is.
@@ -26,7 +26,7 @@ pub fn read_pieces(
     alloc: Global,
     message_limit: u32,
     pieces: &[&[u8]],
-) -> Result<Reading, WireFault>
+) -> Result<StreamRead, WireFault>
     ensures split { IfOk result (λ r. Msgs message_limit (flat_map (λ p. p.now) pieces.now)
         r.messages.items r.framer.octets) }
     ensures fault { IfOk result (λ r. (e : WireFault) →
@@ -40,7 +40,7 @@ pub fn read_pieces(
         framer.feed(piece)?;
         fault = take_up_to_fault(&mut framer, &mut messages)?;
     }
-    Ok(Reading {
+    Ok(StreamRead {
         messages,
         fault,
         framer,

@@ -37,7 +37,7 @@ pub struct ProfileAt<'a, S: Octets> {
 }
 
 impl<'a, S: Octets> Model for ProfileAt<'a, S> {
-    ghost use Rattle.giop_ior.specs.declared.tagged_profile.TaggedProfile.{TaggedProfile};
+    ghost use Rattle.giop_ior.specs.declared.references.tagged_profile.TaggedProfile.{TaggedProfile};
 
     ghost Value = { TaggedProfile };
 

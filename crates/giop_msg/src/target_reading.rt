@@ -1,7 +1,7 @@
-#![tactic(auto, unfolding(crate::specs::Target::target_layout, crate::specs::Target::target_by, crate::specs::Target::disposition, crate::specs::Target::key_target, crate::specs::Target::profile_target, crate::specs::Target::reference_target, crate::specs::Target::object_key, crate::specs::Meaning::meaning, giop_ior::specs::Ior::tagged_profile, giop_cdr::specs::Layout::chosen, giop_cdr::specs::Layout::field, giop_cdr::specs::Layout::such, giop_cdr::specs::Layout::number, giop_cdr::specs::Layout::signed, giop_cdr::specs::Layout::octets, giop_cdr::specs::Layout::gives, giop_cdr::specs::Layout::tagged, giop_cdr::specs::Reading::such_at))]
+#![tactic(auto, unfolding(crate::specs::Target::target_layout, crate::specs::Target::target_by, crate::specs::Target::disposition, crate::specs::Target::key_target, crate::specs::Target::profile_target, crate::specs::Target::reference_target, crate::specs::Target::object_key, crate::specs::Meaning::meaning, giop_ior::specs::Ior::tagged_profile, giop_cdr::specs::Layout::chosen, giop_cdr::specs::Layout::field, giop_cdr::specs::Layout::such, giop_cdr::specs::Layout::number, giop_cdr::specs::Layout::signed, giop_cdr::specs::Layout::octets, giop_cdr::specs::Layout::gives, giop_cdr::specs::Layout::tagged, giop_cdr::specs::Reading::Values::such_at))]
 
 ghost use Rattle.std.specs.Prelude.{◌≡◌};
-ghost use Rattle.giop_cdr.specs.Outcome.{Exactly};
+ghost use Rattle.giop_cdr.specs.Reading.Outcome.{Exactly};
 ghost use Rattle.giop_ior.specs.Ior.{tagged_profile};
 ghost use Rattle.giop_msg.specs.Target.{disposition, key_target, object_key, profile_target, reference_target, target_layout};
 

@@ -8,15 +8,15 @@ use Rattle.hex.specs.declared.error.FromHexError.{FromHexError}
 use Rattle.hex.specs.Hex.{decode_of, encode_lower}
 use Rattle.giop_cdr.specs.declared.order.Order.TheVariants.{Big}
 use Rattle.giop_cdr.specs.declared.fault.CdrFault.{CdrFault}
-use Rattle.giop_cdr.specs.Cursor.{Cursor}
-use Rattle.giop_cdr.specs.Encapsulated.{Encapsulates, RefusedInside, inside_at}
+use Rattle.giop_cdr.specs.Reading.Cursor.{Cursor}
+use Rattle.giop_cdr.specs.Encapsulation.OfLayout.{Encapsulates, RefusedInside, inside_at}
 use Rattle.giop_cdr.specs.Layout.{AreOctets}
-use Rattle.giop_cdr.specs.Output.{Output}
-use Rattle.giop_cdr.specs.Reading.{Reading}
+use Rattle.giop_cdr.specs.Writing.Output.{Output}
+use Rattle.giop_cdr.specs.Reading.Values.{Reading}
 use Rattle.giop_cdr.specs.RoundTrip.{IsSpelled}
-use Rattle.giop_cdr.specs.Readers.{Refusal, Took, IsExact}
+use Rattle.giop_cdr.specs.Reading.Exactness.{Refusal, Took, IsExact}
 use Rattle.giop_cdr.specs.Spelling.{Spelling}
-use Rattle.giop_cdr.proofs.EncapsulatedLemmas.{inside_exact}
+use Rattle.giop_cdr.proofs.Encapsulation.EncapsulatedLemmas.{inside_exact}
 use Rattle.giop_types.specs.declared.ior_text_fault.IorTextFault.{IorTextFault}
 use Rattle.giop_types.specs.declared.ior_text_fault.IorTextFault.TheVariants.{BadPrefix, BadHex, Cdr, NoMemory}
 use Rattle.giop_types.specs.IorText.{IsPrefix, is_prefix, PrefixedText, OctetsText, IorText, RefusedText, octets_or_fault, octets_of, nowhere, value_or_fault, encapsulated, ior_text_of, ReadsTexts, begun, prefixed}

@@ -5,11 +5,11 @@ use Rattle.std.specs.Char.{to_ascii_lowercase, is_digit, digit_value}
 use Rattle.hex.specs.declared.error.FromHexError.{FromHexError}
 use Rattle.hex.specs.Hex.{decode_of, encode_lower}
 use Rattle.giop_cdr.specs.declared.order.Order.TheVariants.{Big}
-use Rattle.giop_cdr.specs.Cursor.{Cursor}
-use Rattle.giop_cdr.specs.Encapsulated.{Encapsulates, RefusedInside, inside_at}
-use Rattle.giop_cdr.specs.Output.{Output}
-use Rattle.giop_cdr.specs.Reading.{Reading}
-use Rattle.giop_cdr.specs.Readers.{Refusal}
+use Rattle.giop_cdr.specs.Reading.Cursor.{Cursor}
+use Rattle.giop_cdr.specs.Encapsulation.OfLayout.{Encapsulates, RefusedInside, inside_at}
+use Rattle.giop_cdr.specs.Writing.Output.{Output}
+use Rattle.giop_cdr.specs.Reading.Values.{Reading}
+use Rattle.giop_cdr.specs.Reading.Exactness.{Refusal}
 use Rattle.giop_cdr.specs.Spelling.{Spelling}
 use Rattle.giop_types.specs.declared.ior_text_fault.IorTextFault.{IorTextFault}
 use Rattle.giop_types.specs.declared.ior_text_fault.IorTextFault.TheVariants.{BadPrefix, BadHex, Cdr, NoMemory}

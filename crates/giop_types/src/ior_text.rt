@@ -2,8 +2,8 @@
 //! which are an encapsulation.
 ghost use Rattle.std.specs.Prelude.{◌≡◌, true, false, IfOk, MatchOption, MatchResult, Ok, Err, drop, take};
 ghost use Rattle.std.specs.String.{string_bytes};
-ghost use Rattle.giop_cdr.specs.Cursor.{Cursor};
-ghost use Rattle.giop_cdr.specs.Encapsulation.{content_of, opened_of};
+ghost use Rattle.giop_cdr.specs.Reading.Cursor.{Cursor};
+ghost use Rattle.giop_cdr.specs.Encapsulation.Opened.{content_of, opened_of};
 ghost use Rattle.giop_types.specs.IorText.{is_prefix, octets_of, prefixed};
 ghost use Rattle.giop_types.specs.IorTextFault.{AnswersOrWants};
 

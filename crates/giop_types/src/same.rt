@@ -1,13 +1,13 @@
 //! Whether two values are the same.
 ghost use Rattle.std.specs.Prelude.{◌≡◌, map};
-ghost use Rattle.giop_types.specs.Same.{same_tree, same_trees};
-ghost use Rattle.giop_types.specs.Views.{value_view, member_view, trees_of};
+ghost use Rattle.giop_types.specs.Values.Same.{same_tree, same_trees};
+ghost use Rattle.giop_types.specs.Values.Views.{value_view, member_view, trees_of};
 
 use crate::value::Value;
 
 /// Whether two values are of the same variant, with the same parts.
 #[cycle(same)]
-#[tactic(auto, unfolding(crate::specs::Same::same_tree))]
+#[tactic(auto, unfolding(crate::specs::Values::Same::same_tree))]
 pub fn is_same(one: &Value, other: &Value) -> bool
     ensures { result ≡ same_tree (value_view one.now) (value_view other.now) }
 {
@@ -40,7 +40,7 @@ pub fn is_same(one: &Value, other: &Value) -> bool
 
 // Whether two lists have as many values, each the same.
 #[cycle(same)]
-#[tactic(auto, unfolding(crate::specs::Same::same_tree))]
+#[tactic(auto, unfolding(crate::specs::Values::Same::same_tree))]
 fn are_same(one: &[Value], other: &[Value]) -> bool
     ensures { result ≡ same_trees (trees_of (map value_view one.now)) (trees_of (map value_view other.now)) }
 {
@@ -57,7 +57,7 @@ fn are_same(one: &[Value], other: &[Value]) -> bool
 
 // Whether two unions have the same member, or none.
 #[cycle(same)]
-#[tactic(auto, unfolding(crate::specs::Same::same_tree))]
+#[tactic(auto, unfolding(crate::specs::Values::Same::same_tree))]
 fn is_same_member(one: &Option<Box<Value>>, other: &Option<Box<Value>>) -> bool
     ensures { result ≡ same_trees (trees_of (member_view one.now)) (trees_of (member_view other.now)) }
 {

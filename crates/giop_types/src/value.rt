@@ -47,8 +47,8 @@ pub enum Value {
 
 /// Two values are equal where they are the same: of the same variants, with the same parts.
 impl PartialEq for Value {
-    ghost use Rattle.giop_types.specs.Same.{same_value};
-    ghost use Rattle.giop_types.specs.SameLaws.{same_partial};
+    ghost use Rattle.giop_types.specs.Values.Same.{same_value};
+    ghost use Rattle.giop_types.specs.Values.SameLaws.{same_partial};
 
     ghost eq = { same_value };
 
@@ -60,7 +60,7 @@ impl PartialEq for Value {
 }
 
 impl Eq for Value {
-    ghost use Rattle.giop_types.specs.SameLaws.{same_equivalence};
+    ghost use Rattle.giop_types.specs.Values.SameLaws.{same_equivalence};
 
     ghost laws = { same_equivalence };
 }

@@ -1,5 +1,5 @@
 ghost use Rattle.std.specs.Prelude.{◌≡◌, ◌==◌, ◌++◌, [], ◌∷◌, length, map, OnOk, OnErr};
-ghost use Rattle.giop_types.specs.Views.{value_view};
+ghost use Rattle.giop_types.specs.Values.Views.{value_view};
 
 use crate::value::Value;
 use std::alloc::{AllocError, Global};
@@ -15,14 +15,14 @@ pub struct ValueList {
 impl Model for ValueList {
     ghost use Rattle.std.specs.Prelude.{List, map};
     ghost use Rattle.std.specs.Coded.{coded_list};
-    ghost use Rattle.giop_types.specs.Tree.{Tree};
-    ghost use Rattle.giop_types.specs.TreeCode.{coded_tree};
+    ghost use Rattle.giop_types.specs.Values.Tree.{Tree};
+    ghost use Rattle.giop_types.specs.Values.TreeCode.{coded_tree};
 
     ghost Value = { List Tree };
 
     ghost coded = { coded_list coded_tree };
 
-    ghost use Rattle.giop_types.specs.Views.{value_view};
+    ghost use Rattle.giop_types.specs.Values.Views.{value_view};
 
     ghost view = { λ l. map value_view l.values.items };
 }

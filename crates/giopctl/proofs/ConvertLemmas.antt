@@ -4,7 +4,7 @@ use Rattle.std.proofs.lemmas.Grind.{common_steps, flat_map-append}
 use Rattle.std.proofs.lemmas.List.{append-nil}
 use Rattle.std.specs.Io.KnownBytes.{Appends}
 use Rattle.std.specs.List.{flat_map}
-use Rattle.giop_ior.specs.declared.tagged_profile.TaggedProfile.{TaggedProfile}
+use Rattle.giop_ior.specs.declared.references.tagged_profile.TaggedProfile.{TaggedProfile}
 use Rattle.giop_ior.specs.Ior.{ior_layout}
 use Rattle.giop_ior.proofs.IorTextLemmas.{iors_read}
 use Rattle.giop_types.specs.declared.ior_text_fault.IorTextFault.{IorTextFault}
@@ -14,9 +14,9 @@ use Rattle.giopctl.specs.declared.failure.Failure.{Failure}
 use Rattle.giopctl.specs.declared.status.Status.{Status}
 use Rattle.giopctl.specs.declared.status.Status.TheVariants.{Refused}
 use Rattle.giop_cdr.specs.declared.order.Order.{Order}
-use Rattle.giop_types.specs.declared.form_fault.FormFault.{FormFault}
-use Rattle.giop_types.specs.declared.form_fault.FormFault.TheVariants as form
-use Rattle.giop_types.specs.Shape.{Shape}
+use Rattle.giop_types.specs.declared.json.form_fault.FormFault.{FormFault}
+use Rattle.giop_types.specs.declared.json.form_fault.FormFault.TheVariants as form
+use Rattle.giop_types.specs.Descriptions.Shape.{Shape}
 use Rattle.giopctl.specs.declared.lines.refusal.RefusalLine.TheVariants as refusal
 use Rattle.giopctl.specs.Convert.{unended, Tells, line_of_profile, profile_lines, ior_refusal, ConvertsIor, RefusedForm, ConvertsEncode}
 use Rattle.giopctl.specs.Dump.{ended}

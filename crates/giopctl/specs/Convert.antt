@@ -11,30 +11,30 @@ use Rattle.giop_cdr.specs.declared.encode_fault.EncodeFault.TheVariants.{Unfit}
 use Rattle.giop_cdr.specs.declared.fault.CdrFault.{CdrFault}
 use Rattle.giop_cdr.specs.declared.fault.CdrKind.TheVariants.{Trailing}
 use Rattle.giop_cdr.specs.declared.order.Order.{Order}
-use Rattle.giop_cdr.specs.Cursor.{Cursor}
-use Rattle.giop_cdr.specs.Output.{Output}
-use Rattle.giop_cdr.specs.Reading.{fault}
-use Rattle.giop_ior.specs.declared.corbaloc.Corbaloc.{Corbaloc}
-use Rattle.giop_ior.specs.declared.corbaloc_fault.CorbalocFault.{CorbalocFault}
-use Rattle.giop_ior.specs.declared.tagged_profile.TaggedProfile.{TaggedProfile}
+use Rattle.giop_cdr.specs.Reading.Cursor.{Cursor}
+use Rattle.giop_cdr.specs.Writing.Output.{Output}
+use Rattle.giop_cdr.specs.Reading.Values.{fault}
+use Rattle.giop_ior.specs.declared.addresses.corbaloc.Corbaloc.{Corbaloc}
+use Rattle.giop_ior.specs.declared.addresses.corbaloc_fault.CorbalocFault.{CorbalocFault}
+use Rattle.giop_ior.specs.declared.references.tagged_profile.TaggedProfile.{TaggedProfile}
 use Rattle.giop_ior.specs.Corbaloc.{CorbalocText}
 use Rattle.giop_ior.specs.CorbalocReading.{corbaloc_of}
 use Rattle.giop_ior.specs.CorbalocWriting.{corbaloc_text}
 use Rattle.giop_ior.specs.Iiop.{Profile, iiop_of}
 use Rattle.giop_ior.specs.Ior.{Reference, ior_layout}
 use Rattle.giop_ior.specs.ToIor.{ior_of, are_profiles}
-use Rattle.giop_types.specs.DescFromJson.{json_in}
-use Rattle.giop_types.specs.declared.form_fault.FormFault.{FormFault}
-use Rattle.giop_types.specs.declared.form_fault.FormFault.TheVariants.{BadJson}
+use Rattle.giop_types.specs.JsonForms.DescFromJson.{json_in}
+use Rattle.giop_types.specs.declared.json.form_fault.FormFault.{FormFault}
+use Rattle.giop_types.specs.declared.json.form_fault.FormFault.TheVariants.{BadJson}
 use Rattle.giop_types.specs.declared.ior_text_fault.IorTextFault.{IorTextFault}
 use Rattle.giop_types.specs.declared.ior_text_fault.IorTextFault.TheVariants.{BadPrefix, BadHex, Cdr, NoMemory}
-use Rattle.giop_types.specs.Decoding.{decode_at}
-use Rattle.giop_types.specs.FromJson.{from_data}
+use Rattle.giop_types.specs.Coding.Decoding.{decode_at}
+use Rattle.giop_types.specs.JsonForms.FromJson.{from_data}
 use Rattle.giop_types.specs.IorText.{IorText, RefusedText, text_written}
-use Rattle.giop_types.specs.Shape.{Shape}
-use Rattle.giop_types.specs.ToJson.{to_data}
-use Rattle.giop_types.specs.Tree.{Tree}
-use Rattle.giop_types.specs.Written.{value_out}
+use Rattle.giop_types.specs.Descriptions.Shape.{Shape}
+use Rattle.giop_types.specs.JsonForms.ToJson.{to_data}
+use Rattle.giop_types.specs.Values.Tree.{Tree}
+use Rattle.giop_types.specs.Coding.Written.{value_out}
 use Rattle.giopctl.specs.declared.lines.refusal.RefusalLine.{RefusalLine}
 use Rattle.giopctl.specs.declared.lines.refusal.RefusalLine.TheVariants as refusal
 use Rattle.giopctl.specs.declared.commands.described.Way.{Way}

@@ -2,10 +2,10 @@
 use Rattle.std.specs.Prelude.{ℕ, List, ◌++◌, codes, length}
 use Rattle.std.specs.Fmt.{decimal}
 use Rattle.giop_cdr.specs.Faults.{cdr_kind_number, cdr_kind_name, encode_fault_number, encode_fault_name}
-use Rattle.giop_ior.specs.declared.tagged_profile.TaggedProfile.{TaggedProfile}
+use Rattle.giop_ior.specs.declared.references.tagged_profile.TaggedProfile.{TaggedProfile}
 use Rattle.giop_ior.specs.CorbalocFault.{corbaloc_kind_number, corbaloc_kind_name}
 use Rattle.giop_ior.specs.Iiop.{Profile}
-use Rattle.giop_types.specs.FormFault.{form_fault_number, form_fault_name}
+use Rattle.giop_types.specs.JsonForms.FormFault.{form_fault_number, form_fault_name}
 use Rattle.giop_types.specs.IorTextFault.{ior_text_fault_number, ior_text_fault_name}
 use Rattle.giopctl.specs.declared.lines.refusal.RefusalLine.{RefusalLine}
 use Rattle.giopctl.specs.declared.lines.refusal.RefusalLine.TheVariants.{IorText, Corbaloc, Reference, Form, BadHex, Octets}

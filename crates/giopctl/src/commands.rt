@@ -6,7 +6,7 @@ mod convert_value;
 mod described;
 mod dump;
 mod dump_heads;
-mod dump_lines;
+mod dump_messages;
 
 pub use convert_reference::{convert_corbaloc, convert_ior};
 pub use described::{Way, convert_value};

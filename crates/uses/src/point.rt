@@ -1,7 +1,7 @@
 ghost use Rattle.std.specs.Prelude.{◌≡◌};
-ghost use Rattle.giop_cdr.specs.Outcome.{Reads};
-ghost use Rattle.giop_cdr.specs.Writing.{Writes};
-ghost use Rattle.giop_cdr.specs.Readers.{IsExact, StandsAlone, Took};
+ghost use Rattle.giop_cdr.specs.Reading.Outcome.{Reads};
+ghost use Rattle.giop_cdr.specs.Writing.Outcome.{Writes};
+ghost use Rattle.giop_cdr.specs.Reading.Exactness.{IsExact, StandsAlone, Took};
 ghost use Rattle.uses.specs.Point.{point};
 
 use giop_cdr::{CdrFault, CdrIn, CdrOut, Octets};
@@ -30,7 +30,7 @@ pub fn read_point<S: Octets>(input: &mut CdrIn<S>) -> Result<Point, CdrFault>
 }
 
 /// Writes a point behind what was written. Where memory is wanting the output is as it was.
-#[tactic(auto, unfolding(crate::specs::Point::point, giop_cdr::specs::Layout::field, giop_cdr::specs::Layout::signed, giop_cdr::specs::Layout::gives), using(giop_cdr::proofs::WriterLemmas::grows_then, giop_cdr::proofs::WriterLemmas::grows_not))]
+#[tactic(auto, unfolding(crate::specs::Point::point, giop_cdr::specs::Layout::field, giop_cdr::specs::Layout::signed, giop_cdr::specs::Layout::gives), using(giop_cdr::proofs::Writing::WriterLemmas::grows_then, giop_cdr::proofs::Writing::WriterLemmas::grows_not))]
 pub fn write_point(value: &Point, out: &mut CdrOut) -> Result<(), AllocError>
     ensures { Writes out.old result out.new (point.written value.now out.old) }
 {

@@ -2,16 +2,16 @@
 ghost use Rattle.std.specs.Prelude.{◌≡◌, map, option_and_then, IfOk, IfErr};
 ghost use Rattle.serde_json.specs.Find.{as_array};
 ghost use Rattle.serde_json.specs.View.{view, items_view};
-ghost use Rattle.giop_types.specs.declared.form_fault.FormFault.TheVariants.{BadDesc};
-ghost use Rattle.giop_types.specs.Checked.{desc_fault};
-ghost use Rattle.giop_types.specs.CheckedShape.{checked_shape};
-ghost use Rattle.giop_types.specs.DescFromJson.{ulong_in, bound_in, list_in, pair_in, triple_in, named_shape, text_in, octets_in, enum_in, member_in, struct_in, bound_beside, sequence_in, length_beside, array_in, case_in, default_beside, cases_beside, union_in, composed_in, desc_in, json_in, judged, desc_told};
-ghost use Rattle.giop_types.specs.FromJson.{Shows, Reads, octets_shown, label_shown};
-ghost use Rattle.giop_types.specs.Views.{desc_view, named_view, case_view, fallback_view};
+ghost use Rattle.giop_types.specs.declared.json.form_fault.FormFault.TheVariants.{BadDesc};
+ghost use Rattle.giop_types.specs.Descriptions.Checked.{desc_fault};
+ghost use Rattle.giop_types.specs.Descriptions.CheckedShape.{checked_shape};
+ghost use Rattle.giop_types.specs.JsonForms.DescFromJson.{ulong_in, bound_in, list_in, pair_in, triple_in, named_shape, text_in, octets_in, enum_in, member_in, struct_in, bound_beside, sequence_in, length_beside, array_in, case_in, default_beside, cases_beside, union_in, composed_in, desc_in, json_in, judged, desc_told};
+ghost use Rattle.giop_types.specs.JsonForms.FromJson.{Shows, Reads, octets_shown, label_shown};
+ghost use Rattle.giop_types.specs.Values.Views.{desc_view, named_view, case_view, fallback_view};
 
-use crate::checked_desc::CheckedDesc;
-use crate::desc::{CaseDesc, Desc, NamedDesc};
-use crate::form_fault::FormFault;
+use crate::description::checked_desc::CheckedDesc;
+use crate::description::desc::{CaseDesc, Desc, NamedDesc};
+use crate::json::form_fault::FormFault;
 use crate::json::from_json::is_object_of;
 use crate::json::parse::parse;
 use crate::json::read_leaves::{label_of, octets_of};
@@ -48,7 +48,7 @@ pub fn checked(desc: Desc) -> Result<CheckedDesc, FormFault>
 
 /// A description, of which so many may stand within one another.
 #[cycle(desc_of)]
-#[tactic(auto, unfolding(crate::specs::DescFromJson::desc_in))]
+#[tactic(auto, unfolding(crate::specs::JsonForms::DescFromJson::desc_in))]
 pub fn desc_of(alloc: Global, json: &Json, levels: u32) -> Result<Desc, FormFault>
     ensures { Shows desc_view result (desc_in levels (view json.now)) }
 {
@@ -175,7 +175,7 @@ fn list_of(json: &Json) -> Result<&[Json], FormFault>
 }
 
 // The two items of a list.
-#[tactic(auto, using(crate::proofs::ParseLemmas::short_pair, crate::proofs::ParseLemmas::long_pair))]
+#[tactic(auto, using(crate::proofs::JsonForms::ParseLemmas::short_pair, crate::proofs::JsonForms::ParseLemmas::long_pair))]
 fn pair_of(json: &Json) -> Result<(&Json, &Json), FormFault>
     ensures { Shows (λ pair. (view pair.0.now, view pair.1.now)) result
         (option_and_then pair_in (as_array (view json.now))) }
@@ -188,7 +188,7 @@ fn pair_of(json: &Json) -> Result<(&Json, &Json), FormFault>
 }
 
 // The three items of a list.
-#[tactic(auto, using(crate::proofs::ParseLemmas::short_triple, crate::proofs::ParseLemmas::long_triple))]
+#[tactic(auto, using(crate::proofs::JsonForms::ParseLemmas::short_triple, crate::proofs::JsonForms::ParseLemmas::long_triple))]
 fn triple_of(json: &Json) -> Result<(&Json, &Json, &Json), FormFault>
     ensures { Shows (λ three. (view three.0.now, view three.1.now, view three.2.now)) result
         (option_and_then triple_in (as_array (view json.now))) }

@@ -1,25 +1,25 @@
 //! Values read from JSON.
 ghost use Rattle.std.specs.Prelude.{◌≡◌, map, option_and_then, IfOk, IfErr};
-ghost use Rattle.giop_types.specs.declared.form_fault.FormFault.TheVariants.{NoMemory};
-ghost use Rattle.giop_types.specs.CheckedShape.{checked_shape};
-ghost use Rattle.giop_types.specs.FromJson.{Shows, ShowsCase, Reads, shown, members_shown, fields_shown, branches_shown, fallback_shown, items_shown, is_object_of, union_parts, from_data};
-ghost use Rattle.giop_types.specs.JsonText.{text_of};
-ghost use Rattle.giop_types.specs.Outcome.{one_or_none};
-ghost use Rattle.giop_types.specs.Tree.{choice_of};
-ghost use Rattle.giop_types.specs.Views.{desc_view, named_view, case_view, fallback_view, value_view, trees_of, fields_of, branches_of};
+ghost use Rattle.giop_types.specs.declared.json.form_fault.FormFault.TheVariants.{NoMemory};
+ghost use Rattle.giop_types.specs.Descriptions.CheckedShape.{checked_shape};
+ghost use Rattle.giop_types.specs.JsonForms.FromJson.{Shows, ShowsCase, Reads, shown, members_shown, fields_shown, branches_shown, fallback_shown, items_shown, is_object_of, union_parts, from_data};
+ghost use Rattle.giop_types.specs.JsonForms.JsonText.{text_of};
+ghost use Rattle.giop_types.specs.Coding.Outcome.{one_or_none};
+ghost use Rattle.giop_types.specs.Values.Tree.{choice_of};
+ghost use Rattle.giop_types.specs.Values.Views.{desc_view, named_view, case_view, fallback_view, value_view, trees_of, fields_of, branches_of};
 ghost use Rattle.serde_json.specs.Find.{get, as_array};
 ghost use Rattle.serde_json.specs.View.{view, items_view};
 
-use crate::checked_desc::CheckedDesc;
-use crate::desc::{CaseDesc, Desc, NamedDesc};
-use crate::fitting::fits;
-use crate::form_fault::FormFault;
+use crate::codec::fitting::fits;
+use crate::codec::reading::has_label;
+use crate::description::checked_desc::CheckedDesc;
+use crate::description::desc::{CaseDesc, Desc, NamedDesc};
+use crate::json::form_fault::FormFault;
 use crate::json::read_leaves::{
     char_of, hex_of, label_of, number_of, octets_of, ordinal_of, ordinal_value,
 };
 use crate::json::reference::{is_reference, reference_of};
 use crate::json::texts::text_of;
-use crate::reading::has_label;
 use crate::value::Value;
 use serde_json::Value as Json;
 use std::alloc::Global;
@@ -40,7 +40,7 @@ pub fn value_from_json(alloc: Global, desc: &CheckedDesc, json: &Json) -> Result
 
 /// The value that a JSON value shows, whether it fits or not.
 #[cycle(show)]
-#[tactic(auto, unfolding(crate::specs::FromJson::shown))]
+#[tactic(auto, unfolding(crate::specs::JsonForms::FromJson::shown))]
 pub fn show(alloc: Global, desc: &Desc, json: &Json) -> Result<Value, FormFault>
     ensures { Shows value_view result (shown (desc_view desc.now) (view json.now)) }
 {
@@ -174,7 +174,7 @@ fn union_parts(json: &Json) -> Result<(&Json, &Json), FormFault>
 }
 
 // A union's value: its discriminant, and its member where it has one.
-#[tactic(auto, using(crate::proofs::ViewLemmas::chosen_view, crate::proofs::ViewLemmas::bare_view))]
+#[tactic(auto, using(crate::proofs::Values::ViewLemmas::chosen_view, crate::proofs::Values::ViewLemmas::bare_view))]
 fn chosen(alloc: Global, label: &i128, member: Option<Value>) -> Result<Value, FormFault>
     ensures ok { IfOk result (λ value. value_view value ≡ choice_of label.now (trees_of (one_or_none member))) }
     ensures err { IfErr result (λ e. e ≡ NoMemory) }

@@ -1,16 +1,16 @@
 //! Interfaces read from JSON.
 ghost use Rattle.std.specs.Prelude.{◌≡◌, IfOk, IfErr, length, true};
-ghost use Rattle.giop_types.specs.DescFromJson.{json_in};
-ghost use Rattle.giop_types.specs.InterfaceFaults.{IsOfForm, IsOfPart, MakesOf};
+ghost use Rattle.giop_types.specs.JsonForms.DescFromJson.{json_in};
+ghost use Rattle.giop_types.specs.JsonForms.InterfaceFaults.{IsOfForm, IsOfPart, MakesOf};
 
-use crate::desc::NamedDesc;
-use crate::form_fault::FormFault;
-use crate::interface::{Interface, Operation};
+use crate::description::desc::NamedDesc;
+use crate::description::name_check::has_doubled_member;
 use crate::json::desc_json::{LEVELS, checked, members_of};
+use crate::json::form_fault::FormFault;
+use crate::json::interface::{Interface, Operation};
+use crate::json::parameters::{Parameter, Parameters};
 use crate::json::parse::parse;
 use crate::json::texts::octets_in;
-use crate::name_check::has_doubled_member;
-use crate::parameters::{Parameter, Parameters};
 use giop_cdr::OctetList;
 use serde_json::{Map, Value as Json};
 use std::alloc::Global;

@@ -1,10 +1,10 @@
 //! The leaves of values as JSON: names, numbers and discriminants.
 ghost use Rattle.std.specs.Prelude.{◌≡◌, IfOk};
 ghost use Rattle.serde_json.specs.View.{view};
-ghost use Rattle.giop_types.specs.ToJson.{text_data, name_data, whole_data, label_data};
-ghost use Rattle.giop_types.specs.Views.{desc_view};
+ghost use Rattle.giop_types.specs.JsonForms.ToJson.{text_data, name_data, whole_data, label_data};
+ghost use Rattle.giop_types.specs.Values.Views.{desc_view};
 
-use crate::desc::Desc;
+use crate::description::desc::Desc;
 use crate::json::texts::text_of;
 use giop_cdr::OctetList;
 use serde_json::{Number, Value as Json};

@@ -1,8 +1,8 @@
 //! JSON texts.
-ghost use Rattle.giop_types.specs.DescFromJson.{json_in};
-ghost use Rattle.giop_types.specs.Parse.{Parses};
+ghost use Rattle.giop_types.specs.JsonForms.DescFromJson.{json_in};
+ghost use Rattle.giop_types.specs.JsonForms.Parse.{Parses};
 
-use crate::form_fault::FormFault;
+use crate::json::form_fault::FormFault;
 use serde_json::Value as Json;
 use std::alloc::Global;
 

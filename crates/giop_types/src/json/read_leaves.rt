@@ -1,11 +1,11 @@
 //! The leaves of values read from JSON: numbers, texts, names and discriminants.
 ghost use Rattle.std.specs.Prelude.{◌≡◌, IfOk, option_map};
-ghost use Rattle.giop_types.specs.FromJson.{Shows, natural_tree, number_tree, whole, octets_shown, char_shown, hex_shown, ordinal_in, ordinal_shown, ordinal_tree, label_shown};
-ghost use Rattle.giop_types.specs.Views.{desc_view, value_view};
+ghost use Rattle.giop_types.specs.JsonForms.FromJson.{Shows, natural_tree, number_tree, whole, octets_shown, char_shown, hex_shown, ordinal_in, ordinal_shown, ordinal_tree, label_shown};
+ghost use Rattle.giop_types.specs.Values.Views.{desc_view, value_view};
 ghost use Rattle.serde_json.specs.View.{view};
 
-use crate::desc::Desc;
-use crate::form_fault::FormFault;
+use crate::description::desc::Desc;
+use crate::json::form_fault::FormFault;
 use crate::json::texts::{octets_in, text_of};
 use crate::value::Value;
 use giop_cdr::OctetList;

@@ -1,22 +1,22 @@
 //! Object references: their description (CORBA 3.3 Part 2, 7.6.2) and their text (7.6.9).
 ghost use Rattle.std.specs.Prelude.{◌≡◌, map, option_map, IfOk};
 ghost use Rattle.std.specs.Result.{result_ok};
-ghost use Rattle.giop_cdr.specs.Encapsulation.{content_of};
-ghost use Rattle.giop_types.specs.Decoding.{decode_at};
-ghost use Rattle.giop_types.specs.FromJson.{Shows};
+ghost use Rattle.giop_cdr.specs.Encapsulation.Opened.{content_of};
+ghost use Rattle.giop_types.specs.Coding.Decoding.{decode_at};
+ghost use Rattle.giop_types.specs.JsonForms.FromJson.{Shows};
 ghost use Rattle.giop_types.specs.IorText.{encapsulated};
-ghost use Rattle.giop_types.specs.Reference.{reference_shape, is_profile, are_profiles, is_reference, reference_data, reference_shown};
-ghost use Rattle.giop_types.specs.Checked.{same_name};
-ghost use Rattle.giop_types.specs.Shape.{members, field, no_fields};
-ghost use Rattle.giop_types.specs.Views.{desc_view, named_view, fields_of, value_view};
+ghost use Rattle.giop_types.specs.JsonForms.Reference.{reference_shape, is_profile, are_profiles, is_reference, reference_data, reference_shown};
+ghost use Rattle.giop_types.specs.Descriptions.Checked.{same_name};
+ghost use Rattle.giop_types.specs.Descriptions.Shape.{members, field, no_fields};
+ghost use Rattle.giop_types.specs.Values.Views.{desc_view, named_view, fields_of, value_view};
 ghost use Rattle.serde_json.specs.View.{view};
 
-use crate::append::append;
-use crate::decoder::value_of;
-use crate::desc::{Desc, NamedDesc};
-use crate::form_fault::FormFault;
+use crate::codec::append::append;
+use crate::codec::decoder::value_of;
+use crate::description::desc::{Desc, NamedDesc};
 use crate::ior_text::{ior_octets_from_text, ior_octets_to_text, open_octets};
 use crate::ior_text_fault::IorTextFault;
+use crate::json::form_fault::FormFault;
 use crate::value::Value;
 use giop_cdr::{CdrIn, CdrKind, CdrOut, EncodeFault, OctetList, Order, SliceOctets};
 use serde_json::Value as Json;
@@ -135,7 +135,7 @@ pub fn reference_of(alloc: Global, desc: &Desc, json: &Json) -> Result<Value, Fo
 }
 
 // The value of an encapsulation, whatever stands behind it.
-#[tactic(auto, unfolding(crate::specs::IorText::encapsulated, giop_cdr::specs::Encapsulated::inside_at))]
+#[tactic(auto, unfolding(crate::specs::IorText::encapsulated, giop_cdr::specs::Encapsulation::OfLayout::inside_at))]
 fn encapsulated(alloc: Global, desc: &Desc, octets: &[u8]) -> Result<Value, FormFault>
     ensures { Shows value_view result (result_ok (encapsulated (decode_at (desc_view desc.now)) octets.now)) }
 {

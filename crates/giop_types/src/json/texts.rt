@@ -1,6 +1,6 @@
 //! Texts of JSON that stand for octets: the characters U+0000 to U+00FF are the octets 0 to 255.
 ghost use Rattle.std.specs.Prelude.{◌≡◌, IfOk, option_map, string_bytes};
-ghost use Rattle.giop_types.specs.JsonText.{text_of, octets_in};
+ghost use Rattle.giop_types.specs.JsonForms.JsonText.{text_of, octets_in};
 
 use giop_cdr::OctetList;
 use std::alloc::{AllocError, Global};

@@ -2,21 +2,21 @@
 ghost use Rattle.std.specs.Prelude.{◌≡◌, ◌⊎◌, map, option_map, false, Ok, IfOk, IfErr, IsErrOf};
 ghost use Rattle.serde_json.specs.Data.{array, object, no_members};
 ghost use Rattle.serde_json.specs.View.{view, items_of};
-ghost use Rattle.giop_types.specs.declared.form_fault.FormFault.TheVariants.{Unfit, NoMemory};
-ghost use Rattle.giop_types.specs.CheckedShape.{checked_shape};
-ghost use Rattle.giop_types.specs.Fits.{fits};
-ghost use Rattle.giop_types.specs.FromJson.{from_data};
-ghost use Rattle.giop_types.specs.ToJson.{to_data, fields_data, choice_data, selected, selected_data};
-ghost use Rattle.giop_types.specs.Views.{desc_view, named_view, case_view, fallback_view, value_view, member_view, fields_of, branches_of};
+ghost use Rattle.giop_types.specs.declared.json.form_fault.FormFault.TheVariants.{Unfit, NoMemory};
+ghost use Rattle.giop_types.specs.Descriptions.CheckedShape.{checked_shape};
+ghost use Rattle.giop_types.specs.Values.Fits.{fits};
+ghost use Rattle.giop_types.specs.JsonForms.FromJson.{from_data};
+ghost use Rattle.giop_types.specs.JsonForms.ToJson.{to_data, fields_data, choice_data, selected, selected_data};
+ghost use Rattle.giop_types.specs.Values.Views.{desc_view, named_view, case_view, fallback_view, value_view, member_view, fields_of, branches_of};
 
-use crate::checked_desc::CheckedDesc;
-use crate::desc::{CaseDesc, Desc, NamedDesc};
-use crate::fitting::fits;
-use crate::form_fault::FormFault;
+use crate::codec::fitting::fits;
+use crate::codec::reading::has_label;
+use crate::description::checked_desc::CheckedDesc;
+use crate::description::desc::{CaseDesc, Desc, NamedDesc};
+use crate::json::form_fault::FormFault;
 use crate::json::leaves::{label_json, name_json, text_json};
 use crate::json::reference::{is_reference, reference_json};
 use crate::json::texts::text_of;
-use crate::reading::has_label;
 use crate::value::Value;
 use serde_json::{Map, Value as Json};
 use std::alloc::{AllocError, Global};
@@ -39,7 +39,7 @@ pub fn value_to_json(alloc: Global, desc: &CheckedDesc, value: &Value) -> Result
 
 /// A value as JSON; null where it is of another kind than its description.
 #[cycle(to_json)]
-#[tactic(auto, unfolding(crate::specs::ToJson::to_data))]
+#[tactic(auto, unfolding(crate::specs::JsonForms::ToJson::to_data))]
 pub fn to_json(alloc: Global, value: &Value, desc: &Desc) -> Result<Json, AllocError>
     ensures { IfOk result (λ json. view json ≡ to_data (desc_view desc.now) (value_view value.now)) }
 {

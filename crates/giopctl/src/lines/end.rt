@@ -35,7 +35,13 @@ impl fmt::Display for HeadFaultLine {
 
     fn fmt<W: fmt::Write>(&self, f: &mut fmt::Formatter<W>) -> fmt::Result {
         let fault = self.0;
-        write!(f, "  fault {} {} at {}", fault.number(), fault.kind, fault.at)
+        write!(
+            f,
+            "  fault {} {} at {}",
+            fault.number(),
+            fault.kind,
+            fault.at
+        )
     }
 }
 

@@ -1,5 +1,5 @@
 use Rattle.std.proofs.Common.{sym, ◌∙◌, arith}
-use Rattle.giop_types.proofs.SameLemmas.{are_same, pair_differs, pair_same, pairs_end, lengths_differ}
+use Rattle.giop_types.proofs.Values.SameLemmas.{are_same, pair_differs, pair_same, pairs_end, lengths_differ}
 use Rattle.giop_types.proofs.same.+same.Goals as goal
 
 pub are_same-returns-then-one-other : goal.are_same-returns-then-one-other

@@ -1,6 +1,6 @@
 use Rattle.std.proofs.Common.{◌≡◌, map, drop, length}
-use Rattle.giop_types.specs.Same.{same_trees}
-use Rattle.giop_types.specs.Views.{value_view, trees_of}
+use Rattle.giop_types.specs.Values.Same.{same_trees}
+use Rattle.giop_types.specs.Values.Views.{value_view, trees_of}
 use Rattle.giop_types.proofs.same.+same.Given as goal
 
 abbrev pub invariant-are_same-loop-i : goal.invariant-are_same-loop-i

@@ -1,9 +1,9 @@
 use Rattle.std.proofs.Common.{◌≡◌, ◌+◌, ◌*◌, map, drop}
 use Rattle.serde_json.specs.View.{items_view}
-use Rattle.giop_types.specs.DescFromJson.{desc_in, case_in, member_in}
-use Rattle.giop_types.specs.FromJson.{items_shown}
-use Rattle.giop_types.specs.Views.{desc_view, named_view, case_view}
-use Rattle.giop_types.proofs.PartLoops.{with_front}
+use Rattle.giop_types.specs.JsonForms.DescFromJson.{desc_in, case_in, member_in}
+use Rattle.giop_types.specs.JsonForms.FromJson.{items_shown}
+use Rattle.giop_types.specs.Values.Views.{desc_view, named_view, case_view}
+use Rattle.giop_types.proofs.Coding.PartLoops.{with_front}
 use Rattle.giop_types.proofs.json.desc_json.+desc_of.Given as goal
 
 abbrev pub decreases-desc_of : goal.decreases-desc_of

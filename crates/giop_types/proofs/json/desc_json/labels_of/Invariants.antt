@@ -1,8 +1,8 @@
 use Rattle.std.proofs.Common.{◌≡◌, drop}
 use Rattle.serde_json.specs.View.{items_view}
-use Rattle.giop_types.specs.FromJson.{items_shown, label_shown}
-use Rattle.giop_types.specs.Views.{desc_view}
-use Rattle.giop_types.proofs.PartLoops.{with_front}
+use Rattle.giop_types.specs.JsonForms.FromJson.{items_shown, label_shown}
+use Rattle.giop_types.specs.Values.Views.{desc_view}
+use Rattle.giop_types.proofs.Coding.PartLoops.{with_front}
 use Rattle.giop_types.proofs.json.desc_json.labels_of.Given as goal
 
 abbrev pub invariant-loop-label : goal.invariant-loop-label

@@ -1,7 +1,7 @@
 use Rattle.std.proofs.Common.{◌≡◌, drop}
 use Rattle.serde_json.specs.View.{items_view}
-use Rattle.giop_types.specs.FromJson.{items_shown, octets_shown}
-use Rattle.giop_types.proofs.PartLoops.{with_front}
+use Rattle.giop_types.specs.JsonForms.FromJson.{items_shown, octets_shown}
+use Rattle.giop_types.proofs.Coding.PartLoops.{with_front}
 use Rattle.giop_types.proofs.json.desc_json.names_of.Given as goal
 
 abbrev pub invariant-loop-name : goal.invariant-loop-name

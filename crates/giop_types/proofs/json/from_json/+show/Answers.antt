@@ -1,19 +1,19 @@
 use Rattle.std.proofs.Common.{◌≡◌, ◌++◌, ◌∷◌, [], map, length, true, false, Some, sym, ap, ◌∙◌, arith, refl, inl, to_z, of_z}
 use Rattle.std.specs.Int.{w128}
 use Rattle.std.proofs.lemmas.Int.{to_z-of_z}
-use Rattle.giop_types.specs.Outcome.{one_or_none}
+use Rattle.giop_types.specs.Coding.Outcome.{one_or_none}
 use Rattle.std.proofs.lemmas.Grind.{common_steps}
 use Rattle.std.proofs.lemmas.Result.{err_from_is_err_and}
 use Rattle.serde_json.specs.View.{view}
-use Rattle.giop_types.specs.Decoding.{is_label}
-use Rattle.giop_types.specs.Tree.{items_of, row_of}
-use Rattle.giop_types.specs.FromJson.{fields_shown, one_shown, is_object_of, label_shown, fallback_shown}
-use Rattle.giop_types.specs.Views.{desc_view, named_view, fallback_view, value_view, fields_of, trees_of}
-use Rattle.giop_types.proofs.FitLemmas.{items_view, row_view}
-use Rattle.giop_types.proofs.MemberLoops.{one_more}
-use Rattle.giop_types.proofs.PartLoops.{part_made, part_missing, parts_made}
-use Rattle.giop_types.proofs.FromJsonLemmas.{members-each, field_count_is, case_shown, case_passed, no_case, items_form, row_form}
-use Rattle.giop_types.proofs.FromJsonLemmas.{refused_along, no_form, default_shown, null_shown, case_absent, choice_shows}
+use Rattle.giop_types.specs.Coding.Decoding.{is_label}
+use Rattle.giop_types.specs.Values.Tree.{items_of, row_of}
+use Rattle.giop_types.specs.JsonForms.FromJson.{fields_shown, one_shown, is_object_of, label_shown, fallback_shown}
+use Rattle.giop_types.specs.Values.Views.{desc_view, named_view, fallback_view, value_view, fields_of, trees_of}
+use Rattle.giop_types.proofs.Values.FitLemmas.{items_view, row_view}
+use Rattle.giop_types.proofs.Coding.MemberLoops.{one_more}
+use Rattle.giop_types.proofs.Coding.PartLoops.{part_made, part_missing, parts_made}
+use Rattle.giop_types.proofs.JsonForms.FromJsonLemmas.{members-each, field_count_is, case_shown, case_passed, no_case, items_form, row_form}
+use Rattle.giop_types.proofs.JsonForms.FromJsonLemmas.{refused_along, no_form, default_shown, null_shown, case_absent, choice_shows}
 use Rattle.giop_types.proofs.json.from_json.+show.Goals as goal
 
 pub show-returns-in_err-show_items-in-Items : goal.show-returns-in_err-show_items-in-Items

@@ -1,10 +1,10 @@
 use Rattle.std.proofs.Common.{◌≡◌, map, drop, List, Option}
 use Rattle.serde_json.specs.Data.{Data}
 use Rattle.serde_json.specs.View.{view, items_view}
-use Rattle.giop_types.specs.Tree.{Tree}
-use Rattle.giop_types.specs.FromJson.{shown, fields_shown, branches_shown, items_shown}
-use Rattle.giop_types.specs.Views.{desc_view, named_view, case_view, value_view, fields_of, branches_of}
-use Rattle.giop_types.proofs.PartLoops.{with_front}
+use Rattle.giop_types.specs.Values.Tree.{Tree}
+use Rattle.giop_types.specs.JsonForms.FromJson.{shown, fields_shown, branches_shown, items_shown}
+use Rattle.giop_types.specs.Values.Views.{desc_view, named_view, case_view, value_view, fields_of, branches_of}
+use Rattle.giop_types.proofs.Coding.PartLoops.{with_front}
 use Rattle.giop_types.proofs.json.from_json.+show.Given as goal
 
 abbrev pub invariant-show_fields-loop-member : goal.invariant-show_fields-loop-member

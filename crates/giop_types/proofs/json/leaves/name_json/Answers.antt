@@ -1,6 +1,6 @@
 use Rattle.std.proofs.Common.{◌≤◌, length, arith}
 use Rattle.std.proofs.lemmas.Option.{slice_get_past}
-use Rattle.giop_types.proofs.ToJsonLemmas.{view-Null}
+use Rattle.giop_types.proofs.JsonForms.ToJsonLemmas.{view-Null}
 use Rattle.giop_types.proofs.json.leaves.name_json.Goals as goal
 
 pub returns-else-ordinal-names : goal.returns-else-ordinal-names

@@ -1,6 +1,6 @@
 use Rattle.std.proofs.Common.{◌≡◌, Bool, true, false, refl, inl}
 use Rattle.std.specs.Bool.{IsTrue}
-use Rattle.giop_types.proofs.ParseLemmas.{parsed, unparsed}
+use Rattle.giop_types.proofs.JsonForms.ParseLemmas.{parsed, unparsed}
 use Rattle.giop_types.proofs.json.parse.parse.Goals as goal
 
 not_true : (b : Bool) → b ≡ false → IsTrue b → ⊥

@@ -1,7 +1,7 @@
 use Rattle.std.proofs.Common.{◌≡◌, bytes_eq, true, false, ap, sym, ◌∙◌, arith}
-use Rattle.giop_types.specs.JsonText.{text_of}
-use Rattle.giop_types.specs.FromJson.{ordinal_in}
-use Rattle.giop_types.proofs.FromJsonLemmas.{ordinal_found, ordinal_passed, ordinal_absent}
+use Rattle.giop_types.specs.JsonForms.JsonText.{text_of}
+use Rattle.giop_types.specs.JsonForms.FromJson.{ordinal_in}
+use Rattle.giop_types.proofs.JsonForms.FromJsonLemmas.{ordinal_found, ordinal_passed, ordinal_absent}
 use Rattle.giop_types.proofs.json.read_leaves.ordinal_in.Goals as goal
 
 pub returns-then-eq : goal.returns-then-eq

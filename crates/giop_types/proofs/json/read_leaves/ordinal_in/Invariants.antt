@@ -1,5 +1,5 @@
 use Rattle.std.proofs.Common.{◌≡◌, ◌+◌, drop}
-use Rattle.giop_types.specs.FromJson.{ordinal_in}
+use Rattle.giop_types.specs.JsonForms.FromJson.{ordinal_in}
 use Rattle.giop_types.proofs.json.read_leaves.ordinal_in.Given as goal
 
 abbrev pub invariant-loop-i : goal.invariant-loop-i

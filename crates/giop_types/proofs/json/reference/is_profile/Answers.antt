@@ -1,7 +1,7 @@
 use Rattle.std.proofs.Common.{length, sym, ap, arith, codes}
-use Rattle.giop_types.specs.Reference.{is_ulong, are_any_octets}
-use Rattle.giop_types.proofs.ViewLemmas.{view-Members}
-use Rattle.giop_types.proofs.ReferenceLemmas.{not_two}
+use Rattle.giop_types.specs.JsonForms.Reference.{is_ulong, are_any_octets}
+use Rattle.giop_types.proofs.Values.ViewLemmas.{view-Members}
+use Rattle.giop_types.proofs.JsonForms.ReferenceLemmas.{not_two}
 use Rattle.giop_types.proofs.json.reference.is_profile.Goals as goal
 
 pub returns-in_default-as_slice : goal.returns-in_default-as_slice

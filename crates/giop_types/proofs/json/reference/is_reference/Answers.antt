@@ -1,6 +1,6 @@
 use Rattle.std.proofs.Common.{sym, arith, codes}
-use Rattle.giop_types.specs.Reference.{is_any_text, are_profiles}
-use Rattle.giop_types.proofs.ReferenceLemmas.{not_two}
+use Rattle.giop_types.specs.JsonForms.Reference.{is_any_text, are_profiles}
+use Rattle.giop_types.proofs.JsonForms.ReferenceLemmas.{not_two}
 use Rattle.giop_types.proofs.json.reference.is_reference.Goals as goal
 
 pub returns-in_default : goal.returns-in_default

@@ -1,9 +1,9 @@
 use Rattle.std.proofs.Common.{◌∙◌, ap, w8}
-use Rattle.giop_cdr.specs.Output.{number_out}
+use Rattle.giop_cdr.specs.Writing.Output.{number_out}
 use Rattle.giop_types.specs.IorText.{prefixed}
-use Rattle.giop_types.specs.Views.{desc_view, value_view}
-use Rattle.giop_types.specs.Written.{value_out}
-use Rattle.giop_types.proofs.ReferenceLemmas.{text_shown}
+use Rattle.giop_types.specs.Values.Views.{desc_view, value_view}
+use Rattle.giop_types.specs.Coding.Written.{value_out}
+use Rattle.giop_types.proofs.JsonForms.ReferenceLemmas.{text_shown}
 use Rattle.giop_types.proofs.json.reference.reference_json.Goals as goal
 
 pub returns : goal.returns

@@ -2,9 +2,9 @@ use Rattle.std.proofs.Common.{◌≡◌, ◌≤◌, ◌^◌, ◌++◌, ◌∷◌
 use Rattle.std.proofs.lemmas.Iterator.{YieldsList-from_chars}
 use Rattle.std.proofs.lemmas.Iterator.Consumers.{YieldsList-turn, YieldsList-end}
 use Rattle.std.proofs.lemmas.List.{length_push}
-use Rattle.giop_types.specs.JsonText.{octets_of_chars}
-use Rattle.giop_types.proofs.PartLoops.{part_made, part_missing, parts_made}
-use Rattle.giop_types.proofs.JsonTextLemmas.{octets_of_chars-each, low_char, high_char}
+use Rattle.giop_types.specs.JsonForms.JsonText.{octets_of_chars}
+use Rattle.giop_types.proofs.Coding.PartLoops.{part_made, part_missing, parts_made}
+use Rattle.giop_types.proofs.JsonForms.JsonTextLemmas.{octets_of_chars-each, low_char, high_char}
 use Rattle.giop_types.proofs.json.texts.octets_in.Goals as goal
 
 pub returns-in_default : goal.returns-in_default

@@ -1,6 +1,6 @@
 use Rattle.std.proofs.Common.{◌≡◌, ◌++◌, option_map, length, drop}
 use Rattle.std.specs.Str.{chars}
-use Rattle.giop_types.specs.JsonText.{octets_of_chars}
+use Rattle.giop_types.specs.JsonForms.JsonText.{octets_of_chars}
 use Rattle.giop_types.proofs.json.texts.octets_in.Given as goal
 
 abbrev pub invariant-loop-c : goal.invariant-loop-c

@@ -3,11 +3,11 @@ use Rattle.std.proofs.lemmas.Grind.{common_steps}
 use Rattle.serde_json.specs.Data.{array, object}
 use Rattle.serde_json.specs.View.{view, items_of, members_view}
 use Rattle.serde_json.proofs.Views.{view-Array, view-Object}
-use Rattle.giop_types.specs.JsonText.{text_of}
-use Rattle.giop_types.specs.ToJson.{to_data}
-use Rattle.giop_types.specs.Views.{desc_view, value_view}
-use Rattle.giop_types.proofs.ToJsonLemmas.{members_data, reference_written, items_data, row_data, union_written, fields_put, fields_end}
-use Rattle.giop_types.proofs.ToJsonLemmas.{list_goes_on, list_ends}
+use Rattle.giop_types.specs.JsonForms.JsonText.{text_of}
+use Rattle.giop_types.specs.JsonForms.ToJson.{to_data}
+use Rattle.giop_types.specs.Values.Views.{desc_view, value_view}
+use Rattle.giop_types.proofs.JsonForms.ToJsonLemmas.{members_data, reference_written, items_data, row_data, union_written, fields_put, fields_end}
+use Rattle.giop_types.proofs.JsonForms.ToJsonLemmas.{list_goes_on, list_ends}
 use Rattle.giop_types.proofs.json.to_json.+to_json.Goals as goal
 
 pub to_json-returns-then-is_reference : goal.to_json-returns-then-is_reference

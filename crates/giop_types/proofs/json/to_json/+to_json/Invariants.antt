@@ -1,8 +1,8 @@
 use Rattle.std.proofs.Common.{◌≡◌, ◌++◌, map, drop}
 use Rattle.serde_json.specs.Data.{no_members}
 use Rattle.serde_json.specs.View.{view, members_view}
-use Rattle.giop_types.specs.ToJson.{to_data, fields_data}
-use Rattle.giop_types.specs.Views.{desc_view, named_view, value_view, fields_of}
+use Rattle.giop_types.specs.JsonForms.ToJson.{to_data, fields_data}
+use Rattle.giop_types.specs.Values.Views.{desc_view, named_view, value_view, fields_of}
 use Rattle.giop_types.proofs.json.to_json.+to_json.Given as goal
 
 abbrev pub invariant-items_json-loop-value : goal.invariant-items_json-loop-value

@@ -1,7 +1,7 @@
 use Rattle.std.proofs.Common.{◌≡◌, sym, ◌∙◌}
-use Rattle.giop_types.specs.Decoding.{is_label}
-use Rattle.giop_types.specs.Views.{fallback_view}
-use Rattle.giop_types.proofs.ToJsonLemmas.{case_selected, case_passed, by_default, none_selected}
+use Rattle.giop_types.specs.Coding.Decoding.{is_label}
+use Rattle.giop_types.specs.Values.Views.{fallback_view}
+use Rattle.giop_types.proofs.JsonForms.ToJsonLemmas.{case_selected, case_passed, by_default, none_selected}
 use Rattle.giop_types.proofs.json.to_json.selected.Goals as goal
 
 pub returns-then-has_label : goal.returns-then-has_label

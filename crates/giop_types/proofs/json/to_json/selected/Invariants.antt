@@ -1,6 +1,6 @@
 use Rattle.std.proofs.Common.{◌≡◌, map, drop}
-use Rattle.giop_types.specs.ToJson.{selected}
-use Rattle.giop_types.specs.Views.{case_view, fallback_view, branches_of}
+use Rattle.giop_types.specs.JsonForms.ToJson.{selected}
+use Rattle.giop_types.specs.Values.Views.{case_view, fallback_view, branches_of}
 use Rattle.giop_types.proofs.json.to_json.selected.Given as goal
 
 abbrev pub invariant-loop-case : goal.invariant-loop-case

@@ -1,6 +1,6 @@
 use Rattle.std.proofs.Common.{sym}
-use Rattle.giop_types.specs.Views.{value_view}
-use Rattle.giop_types.proofs.JsonBack.{back_by_checked}
+use Rattle.giop_types.specs.Values.Views.{value_view}
+use Rattle.giop_types.proofs.JsonForms.JsonBack.{back_by_checked}
 use Rattle.giop_types.proofs.json.to_json.value_to_json.Goals as goal
 
 pub returns-clause-back : goal.returns-clause-back

@@ -1,4 +1,4 @@
-use Rattle.giop_types.specs.CheckedShape.{checked_shape}
+use Rattle.giop_types.specs.Descriptions.CheckedShape.{checked_shape}
 use Rattle.giopctl.proofs.ConvertLemmas.{form_told}
 use Rattle.giopctl.proofs.commands.convert_value.convert_encode.Goals as goal
 

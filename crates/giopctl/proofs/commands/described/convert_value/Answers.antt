@@ -1,5 +1,5 @@
 use Rattle.std.proofs.Common.{inl}
-use Rattle.giop_types.specs.CheckedShape.{checked_shape}
+use Rattle.giop_types.specs.Descriptions.CheckedShape.{checked_shape}
 use Rattle.giopctl.proofs.ConvertLemmas.{by_description}
 use Rattle.giopctl.proofs.commands.described.convert_value.Goals as goal
 

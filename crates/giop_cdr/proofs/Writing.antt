@@ -1,0 +1,4 @@
+-- What the writers' answers rest on.
+pub mod WrittenNumbers
+pub mod RoundTripLemmas
+pub mod WriterLemmas

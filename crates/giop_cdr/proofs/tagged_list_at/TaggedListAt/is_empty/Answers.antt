@@ -1,6 +1,0 @@
-use Rattle.giop_cdr.specs.View.{tagged_at}
-use Rattle.giop_cdr.proofs.ViewLemmas.{length-lying}
-use Rattle.giop_cdr.proofs.tagged_list_at.TaggedListAt.is_empty.Goals as goal
-
-pub returns : goal.returns
-returns g c = rw (← c.self.view_is) (rw (length-lying (tagged_at g.I.Tagged.made) c.self.inside.count c.self.inside.items c.self.invariant))

@@ -1,0 +1,89 @@
+// Octets of a store that lie one after the other, by index. Nothing here knows of offsets.
+ghost use Rattle.std.specs.Prelude.{◌≡◌, ◌+◌, ◌<◌, ◌≤◌, ◌^◌, length, take, drop, IfOk};
+ghost use Rattle.giop_cdr.specs.Reading.Values.{has_null, is_text};
+
+use crate::octets::Octets;
+use std::alloc::{AllocError, Global};
+
+/// The N octets from an index on.
+#[inline(always)]
+pub fn field_of<S: Octets, const N: usize>(source: &S, from: usize) -> [u8; N]
+    requires some { 0 < N }
+    requires within { from + N ≤ length (S.octets source.now) }
+    requires small { from + N < 2 ^ 64 }
+    ensures { result ≡ take N (drop from (S.octets source.now)) }
+{
+    let run = source.run(from);
+    if N <= run.len() {
+        let mut octets = [0; N];
+        octets.copy_from_slice(&run[..N]);
+        return octets;
+    }
+    scattered_field(source, from)
+}
+
+// The same, where these octets don't lie together.
+#[cold]
+#[inline(never)]
+fn scattered_field<S: Octets, const N: usize>(source: &S, from: usize) -> [u8; N]
+    requires within { from + N ≤ length (S.octets source.now) }
+    requires small { from + N < 2 ^ 64 }
+    ensures { result ≡ take N (drop from (S.octets source.now)) }
+{
+    let mut octets = [0; N];
+    for i in 0..N {
+        octets[i] = source.at(from + i);
+    }
+    octets
+}
+
+/// A copy of the octets from an index on, run by run.
+pub fn copy_of<S: Octets>(
+    alloc: Global,
+    source: &S,
+    from: usize,
+    count: usize,
+) -> Result<Vec<u8>, AllocError>
+    requires within { from + count ≤ length (S.octets source.now) }
+    requires small { from + count < 2 ^ 64 }
+    ensures { IfOk result (λ v. v.items ≡ take count (drop from (S.octets source.now))) }
+{
+    let mut octets = Vec::with_capacity(alloc, count)?;
+    'runs: while octets.len() < count {
+        let run = source.run(from + octets.len());
+        let part = run.len().min(count - octets.len());
+        octets.extend_from_slice(&run[..part])?;
+    }
+    Ok(octets)
+}
+
+/// Whether one of the octets from an index on is a null.
+pub fn null_among<S: Octets>(source: &S, from: usize, count: usize) -> bool
+    requires within { from + count ≤ length (S.octets source.now) }
+    requires small { from + count < 2 ^ 64 }
+    ensures { result ≡ has_null (take count (drop from (S.octets source.now))) }
+{
+    let mut done = 0;
+    'runs: while done < count {
+        let run = source.run(from + done);
+        let part = run.len().min(count - done);
+        if run[..part].contains(&0) {
+            return true;
+        }
+        done += part;
+    }
+    false
+}
+
+/// Whether the octets from an index on are those that a string's length counts.
+pub fn text_lies_at<S: Octets>(source: &S, from: usize, count: usize) -> bool
+    requires within { from + count ≤ length (S.octets source.now) }
+    requires small { from + count < 2 ^ 64 }
+    ensures { result ≡ is_text (take count (drop from (S.octets source.now))) }
+{
+    if count == 0 {
+        return true;
+    }
+    let last = count - 1;
+    source.at(from + last) == 0 && !null_among(source, from, last)
+}

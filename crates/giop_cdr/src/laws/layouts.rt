@@ -1,0 +1,20 @@
+// Laws of layouts. Each function's contract is one of them; the bodies are empty, and no program calls
+// these.
+ghost use Rattle.std.specs.Prelude.{◌≡◌, ℕ, true};
+ghost use Rattle.std.specs.Int.{Width, w32};
+ghost use Rattle.giop_cdr.specs.declared.order.Order.{Order};
+ghost use Rattle.giop_cdr.specs.Encapsulation.OfLayout.{encapsulation};
+ghost use Rattle.giop_cdr.specs.Layout.{IsLawful, number, signed, boolean, octets, text, bounded_octets, bounded_text};
+ghost use Rattle.giop_cdr.specs.RoundTrip.{is_primitive};
+
+/// The layouts of which messages are made are lawful: what is read is what is spelled, and else the
+/// first refused field is told; what is written of a value that fits is read back; and whatever
+/// octets spell fits.
+pub fn primitives_are_lawful()
+    ensures numbers { (w : Width) → is_primitive w ≡ true → IsLawful (number w) }
+    ensures signed { (w : Width) → is_primitive w ≡ true → IsLawful (signed w) }
+    ensures booleans { IsLawful boolean }
+    ensures octets { (bound : ℕ) → IsLawful (bounded_octets bound) × IsLawful octets }
+    ensures encapsulated { (order : Order) → IsLawful (encapsulation order (λ n. true) (number w32)) }
+    ensures texts { (bound : ℕ) → IsLawful (bounded_text bound) × IsLawful text }
+{}

@@ -1,0 +1,72 @@
+// Octets at the end of a list. Room for all of a call is made before anything changes, so a call
+// that fails leaves the list as it was.
+ghost use Rattle.std.specs.Prelude.{◌≡◌, ◌+◌, ◌<◌, ◌≤◌, ◌^◌, ◌++◌, length, take, drop, replicate, OnOk, OnErr};
+ghost use Rattle.std.specs.Vec.{vec_len, vec_capacity};
+ghost use Rattle.giop_cdr.specs.Reading.Cursor.{pad};
+
+use std::alloc::AllocError;
+
+/// Zeros, and room for some octets behind them.
+pub fn push_zeros(octets: &mut Vec<u8>, count: usize, behind: usize) -> Result<(), AllocError>
+    requires few { count ≤ 8 }
+    requires short { behind ≤ 8 }
+    ensures ok { OnOk result (octets.new.items ≡ octets.old.items ++ replicate count 0) }
+    ensures room { OnOk result (vec_len octets.new + behind ≤ vec_capacity octets.new) }
+    ensures capacity { vec_capacity octets.old ≤ vec_capacity octets.new }
+    ensures err { OnErr result (octets.new.items ≡ octets.old.items) }
+    ensures succeeds { OnErr result (vec_capacity octets.old < vec_len octets.old + (count + behind)) }
+{
+    octets.reserve(count + behind)?;
+    octets.extend_from_slice(&[0; 8][..count])
+}
+
+/// Zeros up to a multiple of N from an offset on, and N octets.
+#[inline(always)]
+pub fn push_field<const N: usize>(
+    octets: &mut Vec<u8>,
+    at: usize,
+    field: [u8; N],
+) -> Result<(), AllocError>
+    requires some { 0 < N }
+    requires few { N ≤ 8 }
+    ensures ok { OnOk result (octets.new.items ≡ octets.old.items ++ (replicate (pad N at) 0 ++ field.entry)) }
+    ensures capacity { vec_capacity octets.old ≤ vec_capacity octets.new }
+    ensures err { OnErr result (octets.new.items ≡ octets.old.items) }
+    ensures succeeds { OnErr result (vec_capacity octets.old < vec_len octets.old + (pad N at + N)) }
+{
+    let pad = (N - at % N) % N;
+    if pad != 0 {
+        push_zeros(octets, pad, N)?;
+    }
+    octets.extend_from_slice(&field)
+}
+
+/// An aligned count, and what it counts in two parts. Inlined, since one of the parts is known to
+/// the callers: none or one octet.
+#[inline(always)]
+pub fn push_counted(
+    octets: &mut Vec<u8>,
+    at: usize,
+    count: [u8; 4],
+    content: &[u8],
+    tail: &[u8],
+) -> Result<(), AllocError>
+    requires content { length content.now < 2 ^ 32 }
+    requires tail { length tail.now ≤ 8 }
+    ensures ok { OnOk result (octets.new.items
+        ≡ octets.old.items ++ (replicate (pad 4 at) 0 ++ count) ++ (content.now ++ tail.now)) }
+    ensures err { OnErr result (octets.new.items ≡ octets.old.items) }
+{
+    octets.reserve(16 + content.len() + tail.len())?;
+    push_field(octets, at, count)?;
+    octets.extend_from_slice(content)?;
+    octets.extend_from_slice(tail)
+}
+
+/// Four octets in the place of those at an index.
+pub fn fill(octets: &mut [u8], at: usize, field: [u8; 4])
+    requires { at + 4 ≤ length octets.old }
+    ensures { octets.new ≡ take at octets.old ++ (field ++ drop (at + 4) octets.old) }
+{
+    octets[at..at + 4].copy_from_slice(&field);
+}

@@ -1,6 +1,0 @@
-use Rattle.giop_cdr.proofs.LayoutLemmas.{back_of}
-use Rattle.giop_ior.proofs.IorLemmas.{ior_is}
-use Rattle.giop_ior.proofs.ior_laws.written_references_are_read_back.Goals as goal
-
-pub returns : goal.returns
-returns c = back_of ior_is

@@ -1,0 +1,10 @@
+//! Corbaloc addresses.
+pub mod address;
+pub mod address_reading;
+pub mod corbaloc;
+pub mod corbaloc_fault;
+pub mod corbaloc_reading;
+pub mod corbaloc_writing;
+pub mod cuts;
+pub mod key_text;
+pub mod to_ior;

@@ -1,6 +1,0 @@
-use Rattle.giop_msg.proofs.ReplyHeadLemmas.{reply_head_is}
-use Rattle.giop_msg.proofs.TableLemmas.{table_of}
-use Rattle.giop_msg.proofs.head_laws.reply_heads_are_spelled.Goals as goal
-
-pub returns : goal.returns
-returns c = λ version. table_of (reply_head_is version)

@@ -1,5 +1,0 @@
-use Rattle.giop_msg.proofs.CutLemmas.{CutLaws-hold}
-use Rattle.giop_msg.proofs.laws.cuts_are_undone.Goals as goal
-
-pub returns : goal.returns
-returns c = CutLaws-hold

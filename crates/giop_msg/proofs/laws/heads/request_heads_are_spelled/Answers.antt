@@ -1,0 +1,6 @@
+use Rattle.giop_msg.proofs.RequestHeadLemmas.{request_head_is}
+use Rattle.giop_msg.proofs.TableLemmas.{table_of}
+use Rattle.giop_msg.proofs.laws.heads.request_heads_are_spelled.Goals as goal
+
+pub returns : goal.returns
+returns c = λ version. table_of (request_head_is version)

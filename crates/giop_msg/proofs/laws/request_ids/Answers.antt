@@ -1,5 +1,0 @@
-use Rattle.giop_msg.proofs.RequestIdLemmas.{request_id_there}
-use Rattle.giop_msg.proofs.laws.request_ids.Goals as goal
-
-pub returns : goal.returns
-returns c = request_id_there

@@ -1,0 +1,6 @@
+-- What the check of a description rests on.
+pub mod NameLemmas
+pub mod LabelLemmas
+pub mod CheckLemmas
+pub mod DoubledLemmas
+pub mod NodeLemmas

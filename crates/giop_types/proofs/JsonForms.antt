@@ -1,0 +1,12 @@
+-- What the JSON forms rest on.
+pub mod JsonTextLemmas
+pub mod ToJsonLemmas
+pub mod FromJsonLemmas
+pub mod JsonLeavesBack
+pub mod JsonObjects
+pub mod JsonBack
+pub mod ReferenceLemmas
+pub mod JsonFloatLemmas
+pub mod ViewedPlain
+pub mod ReferenceBack
+pub mod ParseLemmas

@@ -1,0 +1,5 @@
+-- Views, leaves, and values that fit.
+pub mod ViewLemmas
+pub mod LeavesLemmas
+pub mod FitLemmas
+pub mod SameLemmas

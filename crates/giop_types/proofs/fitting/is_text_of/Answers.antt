@@ -1,6 +1,0 @@
-use Rattle.std.proofs.Common.{◌∙◌, sym}
-use Rattle.giop_types.proofs.FitLemmas.{text_judged}
-use Rattle.giop_types.proofs.fitting.is_text_of.Goals as goal
-
-pub returns-then-text : goal.returns-then-text
-returns-then-text c = c.is_counted.ensures ∙ text_judged c.args.bound c.args.text.now c.type_inv.text (sym c.contains.ensures.value ∙ c.if-contains.false) c.if-text.true

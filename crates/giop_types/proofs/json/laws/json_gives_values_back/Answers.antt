@@ -1,5 +1,0 @@
-use Rattle.giop_types.proofs.JsonBack.{back_from_json}
-use Rattle.giop_types.proofs.json.laws.json_gives_values_back.Goals as goal
-
-pub returns : goal.returns
-returns c = back_from_json

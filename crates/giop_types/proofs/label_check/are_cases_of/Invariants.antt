@@ -1,7 +1,0 @@
-use Rattle.std.proofs.Common.{◌≡◌, drop}
-use Rattle.giop_types.specs.Views.{desc_view}
-use Rattle.giop_types.proofs.LabelLemmas.{cases_of}
-use Rattle.giop_types.proofs.label_check.are_cases_of.Given as goal
-
-abbrev pub invariant-loop-case : goal.invariant-loop-case
-invariant-loop-case l = cases_of (desc_view l.disc) (drop l.case-index l.cases) ≡ cases_of (desc_view l.disc) l.cases

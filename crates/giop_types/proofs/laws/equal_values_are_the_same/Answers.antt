@@ -1,6 +1,0 @@
-use Rattle.giop_types.specs.SameLaws.{same_decides}
-use Rattle.giop_types.specs.Views.{value_view}
-use Rattle.giop_types.proofs.laws.equal_values_are_the_same.Goals as goal
-
-pub returns : goal.returns
-returns c = λ one other. same_decides (value_view one) (value_view other)

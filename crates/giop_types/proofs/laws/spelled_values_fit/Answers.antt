@@ -1,5 +1,0 @@
-use Rattle.giop_types.proofs.SpelledFits.{shape_fits}
-use Rattle.giop_types.proofs.laws.spelled_values_fit.Goals as goal
-
-pub returns : goal.returns
-returns c = λ shape order at tree octets all spelled. shape_fits shape order at tree octets all spelled

@@ -1,5 +1,0 @@
-use Rattle.giop_types.proofs.LeavesLemmas.{shape_within}
-use Rattle.giop_types.proofs.laws.values_are_bounded.Goals as goal
-
-pub returns : goal.returns
-returns c = shape_within

@@ -1,7 +1,0 @@
--- What a checked description says.
-use Rattle.giop_types.specs.declared.checked_desc.CheckedDesc.{CheckedDesc}
-use Rattle.giop_types.specs.Shape.{Shape}
-use Rattle.giop_types.specs.Views.{desc_view}
-
-abbrev pub checked_shape : CheckedDesc → Shape
-checked_shape checked = desc_view checked.desc

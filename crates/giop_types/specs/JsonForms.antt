@@ -1,0 +1,10 @@
+-- Descriptions and values in JSON, and the text of a reference.
+pub mod JsonText
+pub mod ToJson
+pub mod FormFault
+pub mod FromJson
+pub mod DescFromJson
+pub mod InterfaceFaults
+pub mod Plain
+pub mod Parse
+pub mod Reference

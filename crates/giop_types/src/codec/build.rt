@@ -1,0 +1,212 @@
+//! Reading a value in one pass, as long as memory is there.
+ghost use Rattle.std.specs.Prelude.{◌≡◌, ◌≤◌, ◌/◌, min, length, map, [], IfOk};
+ghost use Rattle.std.specs.Vec.{vec_capacity};
+ghost use Rattle.giop_cdr.specs.Reading.Values.{items_at};
+ghost use Rattle.giop_cdr.specs.Reading.Outcome.{Follows};
+ghost use Rattle.giop_types.specs.Coding.Decoding.{decode_at, fields_at, branches_at, bounded_at, row_at};
+ghost use Rattle.giop_types.specs.Coding.Outcome.{FollowsCase, MakesChoice, one_or_none};
+ghost use Rattle.giop_types.specs.Values.Views.{desc_view, named_view, case_view, fallback_view, value_view, fields_of, branches_of};
+
+use crate::codec::reading::{has_label, read_label, read_ordinal, row_length};
+use crate::description::desc::{CaseDesc, Desc, NamedDesc};
+use crate::value::Value;
+use giop_cdr::{CdrFault, CdrIn, CdrKind, OctetList, Octets};
+use std::alloc::{AllocError, Global};
+
+/// A value.
+#[cycle(build)]
+#[tactic(auto, unfolding(crate::specs::Coding::Decoding::decode_at))]
+pub fn build<S: Octets>(alloc: Global, desc: &Desc, input: &mut CdrIn<S>) -> Result<Value, CdrFault>
+    ensures { Follows value_view result input.new (decode_at (desc_view desc.now) input.old) }
+{
+    match desc {
+        Desc::Boolean => Ok(Value::Boolean(input.read_boolean()?)),
+        Desc::Octet => Ok(Value::Octet(input.read_octet()?)),
+        Desc::Char => Ok(Value::Char(input.read_char()?)),
+        Desc::Short => Ok(Value::Short(input.read_short()?)),
+        Desc::UShort => Ok(Value::UShort(input.read_ushort()?)),
+        Desc::Long => Ok(Value::Long(input.read_long()?)),
+        Desc::ULong => Ok(Value::ULong(input.read_ulong()?)),
+        Desc::LongLong => Ok(Value::LongLong(input.read_longlong()?)),
+        Desc::ULongLong => Ok(Value::ULongLong(input.read_ulonglong()?)),
+        Desc::Text(bound) => Ok(Value::Text(OctetList::from(input.read_string(alloc, *bound)?))),
+        Desc::Octets(bound) => Ok(Value::Octets(OctetList::from(input.read_octets(
+            alloc, *bound,
+        )?))),
+        Desc::Labels(names) => Ok(Value::Label(read_ordinal(names.len(), input)?)),
+        Desc::Members(members) => Ok(Value::Members(build_members(alloc, members, input)?)),
+        Desc::Choice {
+            disc,
+            cases,
+            fallback,
+        } => {
+            let label = read_label(disc, input)?;
+            if let Some(member) = build_case(alloc, &label, cases, input)? {
+                return choice(alloc, &label, Some(member), input);
+            }
+            let member = build_fallback(alloc, fallback, input)?;
+            choice(alloc, &label, member, input)
+        }
+        Desc::Items(item, bound) => Ok(Value::Items(build_items(alloc, item, *bound, input)?)),
+        Desc::Row(item, n) => Ok(Value::Row(build_row(alloc, item, *n, input)?)),
+    }
+}
+
+// Want of memory, told here.
+fn wanting<S: Octets>(input: &CdrIn<S>) -> CdrFault
+    ensures { result.kind ≡ CdrKind.NoMemory }
+{
+    CdrFault {
+        at: input.position(),
+        kind: CdrKind::NoMemory,
+    }
+}
+
+// A union's value: its discriminant, and its member where it has one.
+#[tactic(auto, using(crate::proofs::Values::ViewLemmas::chosen_view, crate::proofs::Values::ViewLemmas::bare_view))]
+fn choice<S: Octets>(
+    alloc: Global,
+    label: &i128,
+    member: Option<Value>,
+    input: &CdrIn<S>,
+) -> Result<Value, CdrFault>
+    ensures { MakesChoice label.now (one_or_none member) result }
+{
+    let Some(member) = member else {
+        return Ok(Value::Choice {
+            disc: *label,
+            member: None,
+        });
+    };
+    match Box::new(alloc, member) {
+        Ok(member) => Ok(Value::Choice {
+            disc: *label,
+            member: Some(member),
+        }),
+        Err(_) => Err(wanting(input)),
+    }
+}
+
+// The values of the members of a struct.
+#[cycle(build)]
+fn build_members<S: Octets>(
+    alloc: Global,
+    members: &[NamedDesc],
+    input: &mut CdrIn<S>,
+) -> Result<Vec<Value>, CdrFault>
+    ensures { Follows (λ values. map value_view values.items) result input.new
+        (fields_at (fields_of (map named_view members.now)) input.old) }
+{
+    let wanting = wanting(input);
+    let Ok(mut values) = Vec::with_capacity(alloc, members.len()) else {
+        return Err(wanting);
+    };
+    for member in members {
+        let value = build(alloc, &member.desc, input)?;
+        if values.push(value).is_err() {
+            return Err(wanting);
+        }
+    }
+    Ok(values)
+}
+
+// The value of the member that the label selects by a case, where one does.
+#[cycle(build)]
+fn build_case<S: Octets>(
+    alloc: Global,
+    label: &i128,
+    cases: &[CaseDesc],
+    input: &mut CdrIn<S>,
+) -> Result<Option<Value>, CdrFault>
+    ensures { (other : _) → FollowsCase result input.old input.new
+        (branches_at (branches_of (map case_view cases.now)) other label.now input.old) (other input.old) }
+{
+    for case in cases {
+        if has_label(&case.labels, label) {
+            let value = build(alloc, &case.desc, input)?;
+            return Ok(Some(value));
+        }
+    }
+    Ok(None)
+}
+
+// The value of the member that is there by default, where there is one.
+#[cycle(build)]
+fn build_fallback<S: Octets>(
+    alloc: Global,
+    fallback: &Option<Box<NamedDesc>>,
+    input: &mut CdrIn<S>,
+) -> Result<Option<Value>, CdrFault>
+    ensures { Follows one_or_none result input.new (fields_at (fallback_view fallback.now) input.old) }
+{
+    match fallback {
+        Some(member) => Ok(Some(build(alloc, &member.desc, input)?)),
+        None => Ok(None),
+    }
+}
+
+#[cycle(build)]
+#[tactic(auto, unfolding(crate::specs::Coding::Decoding::bounded_at, giop_cdr::specs::Reading::Values::octet_count_at))]
+fn build_items<S: Octets>(
+    alloc: Global,
+    item: &Desc,
+    bound: u32,
+    input: &mut CdrIn<S>,
+) -> Result<Vec<Value>, CdrFault>
+    ensures { Follows (λ values. map value_view values.items) result input.new
+        (bounded_at (decode_at (desc_view item.now)) bound input.old) }
+{
+    let count = input.read_bounded_count(bound)?;
+    build_counted(alloc, item, count, input)
+}
+
+#[cycle(build)]
+#[tactic(auto, unfolding(crate::specs::Coding::Decoding::row_at))]
+fn build_row<S: Octets>(
+    alloc: Global,
+    item: &Desc,
+    n: u32,
+    input: &mut CdrIn<S>,
+) -> Result<Vec<Value>, CdrFault>
+    ensures { Follows (λ values. map value_view values.items) result input.new
+        (row_at (decode_at (desc_view item.now)) n input.old) }
+{
+    let count = row_length(n, input)?;
+    build_counted(alloc, item, count, input)
+}
+
+// Room for values of which so many are claimed: for one in eight octets that are left at most,
+// since a value takes many more octets in memory than on the wire. The rest is made as they come.
+fn room<S: Octets>(alloc: Global, count: usize, input: &CdrIn<S>) -> Result<Vec<Value>, AllocError>
+    requires { count ≤ length input.now.rest }
+    ensures none { IfOk result (λ values. values.items ≡ []) }
+    ensures room { IfOk result (λ values.
+        vec_capacity values ≡ min count (length input.now.rest / 8)) }
+{
+    Vec::with_capacity(alloc, count.min(input.remaining() / 8))
+}
+
+// As many values.
+#[cycle(build)]
+fn build_counted<S: Octets>(
+    alloc: Global,
+    item: &Desc,
+    count: usize,
+    input: &mut CdrIn<S>,
+) -> Result<Vec<Value>, CdrFault>
+    requires { count ≤ length input.old.rest }
+    ensures { Follows (λ values. map value_view values.items) result input.new
+        (items_at (decode_at (desc_view item.now)) count input.old) }
+{
+    let wanting = wanting(input);
+    let Ok(mut values) = room(alloc, count, input) else {
+        return Err(wanting);
+    };
+    for _ in 0..count {
+        let value = build(alloc, item, input)?;
+        if values.push(value).is_err() {
+            return Err(wanting);
+        }
+    }
+    Ok(values)
+}

@@ -1,0 +1,73 @@
+ghost use Rattle.std.specs.Prelude.{◌≡◌, ◌+◌, ◌≤◌, length, IfOk};
+ghost use Rattle.giop_cdr.specs.Reading.Exactness.{Took};
+ghost use Rattle.giop_types.specs.Coding.Decoding.{decode_at};
+ghost use Rattle.giop_types.specs.Descriptions.CheckedShape.{checked_shape};
+ghost use Rattle.giop_types.specs.Values.Leaves.{leaves};
+ghost use Rattle.giop_types.specs.Coding.Outcome.{Decodes, IsDecoded};
+ghost use Rattle.giop_types.specs.Coding.Spells.{Spells};
+ghost use Rattle.giop_types.specs.Values.Views.{desc_view, value_view};
+
+use crate::codec::build::build;
+use crate::codec::skip::skip;
+use crate::description::checked_desc::CheckedDesc;
+use crate::description::desc::Desc;
+use crate::value::Value;
+use giop_cdr::{CdrFault, CdrIn, CdrKind, Octets};
+use std::alloc::Global;
+
+/// A value of this description (9.3.2), which `input` stands at.
+///
+/// The first field in reading order that isn't spelled is refused, as giop_cdr's reader of its kind
+/// refuses it; besides, as BadLabel at its place where it is the ordinal of no name, as BoundPassed
+/// at the place of a count that is above the bound, and as BadCount where the reader stands at an
+/// array of more values than octets are left. As NoMemory, where the reader stands, if nothing else
+/// is refused and memory is wanting. The reader then stays where it was.
+pub fn decode<S: Octets>(
+    alloc: Global,
+    input: &mut CdrIn<S>,
+    desc: &CheckedDesc,
+) -> Result<Value, CdrFault>
+    // What is answered is what is spelled there, and what is spelled there is answered.
+    ensures found { IfOk result (λ value.
+        Took (Spells (checked_shape desc.now)) input.old (value_view value) input.new) }
+    ensures only { (tree : _) (after : _) → Took (Spells (checked_shape desc.now)) input.old tree after
+        → IsDecoded result input.new tree after }
+
+    // It has no more leaves than octets were read.
+    ensures bounded { IfOk result (λ value.
+        leaves (value_view value) + length input.new.rest ≤ length input.old.rest) }
+
+    // Which refusal it is.
+    ensures value { Decodes input.old result input.new (decode_at (checked_shape desc.now) input.old) }
+{
+    value_of(alloc, desc.desc(), input)
+}
+
+/// The value, in one pass where all goes well. Memory comes last: where it is wanting, a second pass
+/// without memory looks for a fault.
+pub fn value_of<S: Octets>(
+    alloc: Global,
+    desc: &Desc,
+    input: &mut CdrIn<S>,
+) -> Result<Value, CdrFault>
+    ensures { Decodes input.old result input.new (decode_at (desc_view desc.now) input.old) }
+{
+    let mut ahead = input.fork();
+    let fault = match build(alloc, desc, &mut ahead) {
+        Ok(value) => {
+            *input = ahead;
+            return Ok(value);
+        }
+        Err(fault) => fault,
+    };
+    match fault.kind {
+        CdrKind::NoMemory => {
+            skip(desc, &mut input.fork())?;
+            Err(CdrFault {
+                at: input.position(),
+                ..fault
+            })
+        }
+        _ => Err(fault),
+    }
+}

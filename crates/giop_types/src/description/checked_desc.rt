@@ -1,0 +1,47 @@
+//! Descriptions that were checked.
+ghost use Rattle.std.specs.Prelude.{◌≡◌, true, IfOk, IfErr, None};
+ghost use Rattle.giop_types.specs.Descriptions.Checked.{desc_fault};
+ghost use Rattle.giop_types.specs.Descriptions.Full.{is_full};
+ghost use Rattle.giop_types.specs.Values.Views.{desc_view};
+
+use crate::description::check::check_desc;
+use crate::description::desc::Desc;
+use crate::description::desc_fault::DescFault;
+
+/// A description that was checked: nothing of it is empty, no name or label stands twice, each
+/// union's labels are values of its discriminant, and it is nested no more than 32 deep. So each of
+/// its values takes an octet or more.
+#[derive(Debug, Drop)]
+pub struct CheckedDesc {
+    desc: Desc,
+    pub ghost checked: { desc_fault 1 (desc_view desc) ≡ None },
+}
+
+impl CheckedDesc {
+    ghost use Rattle.giop_types.specs.Descriptions.CheckedShape.{checked_shape};
+
+    /// Checks a description. Refused, and dropped, with the fault of the first node in reading order
+    /// that has one, the node itself before its parts: of a union the discriminant, then the cases
+    /// in their order, then the default. Of one node the first fault of these is told: TooDeep,
+    /// Empty, BadDiscriminant, Doubled.
+    ///
+    /// It takes no memory, and looks 33 nodes deep at most; to drop a description takes as much stack
+    /// as it is deep. The time grows with the square of the names, or of the labels, of one node.
+    pub fn check(desc: Desc) -> Result<CheckedDesc, DescFault>
+        ensures ok { IfOk result (λ checked.
+            (desc_fault 1 (desc_view desc) ≡ None) × (checked_shape checked ≡ desc_view desc)) }
+        ensures err { IfErr result (λ fault. desc_fault 1 (desc_view desc) ≡ Some fault) }
+    {
+        check_desc(&desc, 1)?;
+        Ok(CheckedDesc { desc })
+    }
+
+    /// The description.
+    pub fn desc(&self) -> &Desc
+        ensures same { desc_view result.now ≡ checked_shape self.now }
+        ensures checked { desc_fault 1 (desc_view result.now) ≡ None }
+        ensures full { is_full (desc_view result.now) ≡ true }
+    {
+        &self.desc
+    }
+}

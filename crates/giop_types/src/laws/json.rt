@@ -1,0 +1,43 @@
+// Laws of values as JSON. The body of the first is empty, that of the second makes the very calls, and
+// no program calls these.
+ghost use Rattle.std.specs.Prelude.{◌≡◌, ◌↔◌, true, false, None, Ok, IfOk, IsErrOf};
+ghost use Rattle.giop_types.specs.declared.json.form_fault.FormFault.TheVariants.{Unfit};
+ghost use Rattle.giop_types.specs.Descriptions.Checked.{desc_fault};
+ghost use Rattle.giop_types.specs.Descriptions.CheckedShape.{checked_shape};
+ghost use Rattle.giop_types.specs.JsonForms.Plain.{is_plain};
+ghost use Rattle.giop_types.specs.Values.Fits.{fits};
+ghost use Rattle.giop_types.specs.JsonForms.FromJson.{from_data, ReadsBack};
+ghost use Rattle.giop_types.specs.Descriptions.Shape.{Shape};
+ghost use Rattle.giop_types.specs.JsonForms.ToJson.{to_data};
+ghost use Rattle.giop_types.specs.Values.Tree.{Tree};
+ghost use Rattle.giop_types.specs.Values.Views.{value_view};
+
+use crate::description::checked_desc::CheckedDesc;
+use crate::json::form_fault::FormFault;
+use crate::json::{value_from_json, value_to_json};
+use crate::value::Value;
+use std::alloc::Global;
+
+/// The JSON value that a fitting value is written as is read as that value, references included: of
+/// every description without a fault, of which each union has one member by default at most (as in
+/// each `Desc`).
+pub fn json_gives_values_back()
+    ensures { (shape : Shape) → desc_fault 1 shape ≡ None → is_plain shape ≡ true
+        → (tree : Tree) → fits shape tree ≡ true → from_data shape (to_data shape tree) ≡ Ok tree }
+{}
+
+/// Writes a value as JSON and reads that again. Refused as Unfit where the value isn't of the
+/// description, or as NoMemory. What `value_from_json` answers of what `value_to_json` wrote is the
+/// value, or that memory is wanting: it refuses nothing else.
+pub fn written_and_read_as_json(
+    alloc: Global,
+    desc: &CheckedDesc,
+    value: &Value,
+) -> Result<Result<Value, FormFault>, FormFault>
+    ensures back { IfOk result (λ read. ReadsBack (value_view value.now) read) }
+    ensures err { IsErrOf result Unfit
+        ↔ (fits (checked_shape desc.now) (value_view value.now) ≡ false) }
+{
+    let json = value_to_json(alloc, desc, value)?;
+    Ok(value_from_json(alloc, desc, &json))
+}
