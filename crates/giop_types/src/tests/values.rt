@@ -1,5 +1,6 @@
 use super::samples::{checked, pair};
-use crate::{Value, ValueList, encoded_and_decoded};
+use crate::laws::encoded_and_decoded;
+use crate::{Value, ValueList};
 use giop_cdr::{EncodeFault, Order};
 use std::test::Fail;
 
