@@ -1,5 +1,5 @@
-//! Values by their description: a sequence of 100,000 structs of an octet, a long long, a string of 16
-//! octets, an unsigned short and a boolean, and a sequence of 100,000 longs, read and written.
+//! Values by their description: a sequence of 100,000 structs of an octet, a long long, a string of
+//! 16 octets, an unsigned short and a boolean, and a sequence of 100,000 longs, read and written.
 //! `bench/types/twin.rs` does the same in plain Rust. And 10,000 and 100,000 such structs as JSON,
 //! written, and written and read again, which have no twin.
 use crate::work::mixed;

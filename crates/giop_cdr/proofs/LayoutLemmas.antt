@@ -148,7 +148,8 @@ text_is = record {
   fitting = λ o at v octets all s. (string_counts o at v octets all s, tt);
 }
 
-within : (bound : ℕ) (P : Spelling (List ℕ)) (v : List ℕ) (out done : Output) → passes bound (length v) ≡ false → IsSpelled P v out done → IsSpelled (Bounded bound P) v out done
+within : (bound : ℕ) (P : Spelling (List ℕ)) (v : List ℕ) (out done : Output) → passes bound (length v) ≡ false → IsSpelled P v out done
+    → IsSpelled (Bounded bound P) v out done
 within bound P v out done short s = record { part = s.part; octets = s.octets; order = s.order; at = s.at; spells = (s.spells, short) }
 
 pub bounded_octets_is : (bound : ℕ) → IsLawful (bounded_octets bound)
@@ -321,11 +322,13 @@ pub alone_of : {A : Type 0} {f : Layout A} → IsLawful f → StandsAlone f.spel
 alone_of {A} {f} one = stands_alone f.spells f.refused f.read one.exact
 
 -- what is written of a value that fits is read back, with what stands behind it left
-pub back_of : {A : Type 0} {f : Layout A} → IsLawful f → (v : A) (out : Output) → f.fits v ≡ true → f.holds v → IsReadBack f.spells f.read v out (f.written v out)
+pub back_of : {A : Type 0} {f : Layout A} → IsLawful f → (v : A) (out : Output) → f.fits v ≡ true → f.holds v
+    → IsReadBack f.spells f.read v out (f.written v out)
 back_of {A} {f} one v out fits holds = read_back f.spells f.refused f.read one.exact v out (f.written v out) (one.written v out fits holds)
 
 -- whatever octets spell fits: where a value doesn't fit, none do
-pub unspelled : {A : Type 0} {f : Layout A} → IsLawful f → (v : A) → f.fits v ≡ false → (o : Order) (at : ℕ) (octets : List ℕ) → AreOctets octets → f.spells o at v octets → ⊥
+pub unspelled : {A : Type 0} {f : Layout A} → IsLawful f → (v : A) → f.fits v ≡ false → (o : Order) (at : ℕ) (octets : List ℕ) → AreOctets octets
+    → f.spells o at v octets → ⊥
 unspelled one v unfit o at octets all s =
     let fits = (one.fitting o at v octets all s).0 in
     absurd cc

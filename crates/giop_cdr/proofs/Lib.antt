@@ -3,3 +3,4 @@ pub mod Spelling
 pub mod Encapsulation
 pub mod Writing
 pub mod LayoutLemmas
+pub mod EndingLemmas

@@ -1,5 +1,5 @@
--- Layouts: a value on the wire, defined once (CORBA 3.3 Part 2, 9.3). A message is a table of fields,
--- each by its layout, in their order; all that is said of it follows from that table.
+-- Layouts: a value on the wire, defined once (CORBA 3.3 Part 2, 9.3). A message is a table of
+-- fields, each by its layout, in their order; all that is said of it follows from that table.
 use Rattle.std.specs.Prelude.{◌≡◌, ℕ, ℤ, ◌+◌, ◌<◌, ◌^◌, ◌&&◌, Bool, true, false, not, nat_lt, if◌then◌else◌, List, length, All, Ok, FitsSigned, ⊤}
 use Rattle.std.specs.List.{list_all, AllByRecursion}
 use Rattle.std.specs.Int.{Width, w8, w32, byte_len}
@@ -32,8 +32,10 @@ AreOctets octets = All (λ octet. octet < 256) octets
 -- what is written of a value that fits spells it; and whatever octets spell fits
 pub record IsLawful {A : Type 0} (f : Layout A) : Type 0 where
   pub exact : IsExact (Took f.spells) f.refused f.read
-  pub written : (v : A) (out : Output) → f.fits v ≡ true → f.holds v → IsSpelled f.spells v out (f.written v out)
-  pub fitting : (o : Order) (at : ℕ) (v : A) (octets : List ℕ) → AreOctets octets → f.spells o at v octets → (f.fits v ≡ true) × f.holds v
+  pub written : (v : A) (out : Output) → f.fits v ≡ true → f.holds v
+      → IsSpelled f.spells v out (f.written v out)
+  pub fitting : (o : Order) (at : ℕ) (v : A) (octets : List ℕ) → AreOctets octets
+      → f.spells o at v octets → (f.fits v ≡ true) × f.holds v
 
 -- ---- values
 
@@ -184,7 +186,8 @@ sequence f = record {
   holds = λ vs. AllByRecursion f.holds vs;
 }
 
--- an unsigned long and a sequence of octets: a service context, a tagged profile, a tagged component
+-- an unsigned long and a sequence of octets: a service context, a tagged profile, a tagged
+-- component
 unfoldable pub tagged : {A : Type 0} → (A → ℕ) → (A → List ℕ) → (ℕ → List ℕ → A) → Layout A
 tagged tag_of octets_of make =
     field tag_of (number w32) λ tag.

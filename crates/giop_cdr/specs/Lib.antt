@@ -4,4 +4,5 @@ pub mod Writing
 pub mod RoundTrip
 pub mod Encapsulation
 pub mod Layout
+pub mod Ending
 pub mod Faults

@@ -8,7 +8,8 @@ use Rattle.giop_cdr.specs.Writing.Output.{Output}
 
 -- what was written of a value spells it from where the output stood; and a reader that stands there
 -- reads the value and is left with what stands behind it
-pub record IsReadBack {A : Type 0} (P : Spelling A) (read : Cursor → Reading A) (v : A) (out done : Output) : Type 0 where
+pub record IsReadBack {A : Type 0} (P : Spelling A) (read : Cursor → Reading A) (v : A)
+    (out done : Output) : Type 0 where
   pub part : List ℕ
   pub octets : done.octets ≡ out.octets ++ part
   pub order : done.order ≡ out.order

@@ -12,7 +12,8 @@ Spelling A = Order → ℕ → A → List ℕ → Type 0
 
 -- a value of n octets: the fewest octets up to a multiple of n, whatever they are, and those n
 -- octets
-pub record SpellsField {A : Type 0} (n : ℕ) (meaning : Order → List ℕ → A) (o : Order) (at : ℕ) (v : A) (b : List ℕ) : Type 0 where
+pub record SpellsField {A : Type 0} (n : ℕ) (meaning : Order → List ℕ → A) (o : Order) (at : ℕ)
+    (v : A) (b : List ℕ) : Type 0 where
   pub pads : List ℕ
   pub octets : List ℕ
   pub padded : length pads ≡ pad n at
@@ -33,7 +34,8 @@ abbrev pub SpellsBoolean : Spelling Bool
 SpellsBoolean o at v b = b ≡ (if v then 1 else 0) ∷ []
 
 -- one value and then another, whose spelling may rest on the first value
-pub record Then {A B : Type 0} (P : Spelling A) (Q : A → Spelling B) (o : Order) (at : ℕ) (v : B) (b : List ℕ) : Type 0 where
+pub record Then {A B : Type 0} (P : Spelling A) (Q : A → Spelling B) (o : Order) (at : ℕ) (v : B)
+    (b : List ℕ) : Type 0 where
   pub first : A
   pub front : List ℕ
   pub back : List ℕ
@@ -74,7 +76,8 @@ Bounded bound P o at v b = P o at v b × (passes bound (length v) ≡ false)
 abbrev pub SpellsEach : {A : Type 0} → Spelling A → Spelling (List A)
 SpellsEach P o at [] b = b ≡ []
 SpellsEach P o at (v ∷ vs) b =
-    (front : List ℕ) × (back : List ℕ) × (b ≡ front ++ back) × P o at v front × SpellsEach P o (at + length front) vs back
+    (front : List ℕ) × (back : List ℕ) × (b ≡ front ++ back) × P o at v front
+    × SpellsEach P o (at + length front) vs back
 
 -- as many values as were counted
 abbrev pub CountedItems : {A : Type 0} → Spelling A → ℕ → Spelling (List A)

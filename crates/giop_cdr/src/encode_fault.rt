@@ -7,8 +7,8 @@ use std::fmt;
 /// Why a value wasn't written. The output is then as it was.
 #[derive(Clone, Copy, Debug, PartialEq, Eq)]
 pub enum EncodeFault {
-    /// No octets spell the value: a number of its own rule, a null in a text, or a text or a list that
-    /// is too long for its count.
+    /// No octets spell the value: a number of its own rule, a null in a text, or a text or a list
+    /// that is too long for its count.
     Unfit,
     /// Memory ran out, for a value that fits.
     NoMemory,

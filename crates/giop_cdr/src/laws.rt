@@ -1,5 +1,5 @@
-//! Laws of the definitions that contracts cite. Each function's contract is one of them; the bodies are
-//! empty, and no program calls them.
+//! Laws of the definitions that contracts cite. Each function's contract is one of them; the bodies
+//! are empty, and no program calls them.
 mod layouts;
 mod primitives;
 

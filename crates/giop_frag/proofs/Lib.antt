@@ -1,6 +1,7 @@
 pub mod TotalLemmas
 pub mod RunLemmas
 mod BlockLemmas
+mod ChunkLemmas
 mod FillLemmas
 mod PlacedLemmas
 mod HeldLemmas

@@ -1,5 +1,6 @@
 pub mod Gathered
 pub mod Faults
 pub mod Blocks
+pub mod Chunks
 pub mod Placed
 pub mod Runs

@@ -1,14 +1,13 @@
-ghost use Rattle.std.specs.Prelude.{◌≡◌, ◌≤◌, ◌+◌, ◌++◌, IfOk, length, take, drop};
+ghost use Rattle.std.specs.Prelude.{◌≡◌, ◌≤◌, ◌+◌, ◌++◌, length, take, drop};
 ghost use Rattle.std.specs.List.{slice_range};
 ghost use Rattle.giop_frag.specs.Blocks.{blank};
 
-use std::alloc::{AllocError, Global};
 use std::marker::Model;
 
-/// A block: 512 octets on the heap, which never move.
+/// A block: 512 octets.
 #[derive(Drop)]
 pub struct Block {
-    octets: Box<[u8; 512]>,
+    octets: [u8; 512],
 }
 
 impl Model for Block {
@@ -16,19 +15,18 @@ impl Model for Block {
 
     ghost Value = { List ℕ };
 
-    ghost view = { λ b. b.octets.value };
+    ghost view = { λ b. b.octets };
 
-    ghost invariant = { λ b. length b.octets.value ≡ 512 };
+    ghost invariant = { λ b. length b.octets ≡ 512 };
 }
 
 impl Block {
     /// A block without meaning.
-    pub fn new(alloc: Global) -> Result<Block, AllocError>
-        ensures { IfOk result (λ block. block ≡ blank) }
+    #[inline(always)]
+    pub fn new() -> Block
+        ensures { result ≡ blank }
     {
-        Ok(Block {
-            octets: Box::new(alloc, [0; 512])?,
-        })
+        Block { octets: [0; 512] }
     }
 
     /// Writes octets from an index on.

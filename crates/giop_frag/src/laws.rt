@@ -75,6 +75,7 @@ pub fn blocks_stay_within()
     ensures need { (m : Lists) → blocks_of m ≤ total_of m / 512 + map.len m }
     ensures kept { (limit ids blocks : ℕ) (m : Lists) → total_of m ≤ limit → map.len m ≤ ids
         → blocks ≤ limit / 512 + ids → blocks_after blocks m ≤ limit / 512 + ids }
-    ensures refused { (fault : GatherFault) (old new : ℕ) (m : Lists) → IsBlocksAfter fault old m new
+    ensures refused { (fault : GatherFault) (old new : ℕ) (m : Lists)
+        → IsBlocksAfter fault old m new
         → (old ≤ new) × (new ≤ blocks_after old m) × (fault ≢ NoMemory → new ≡ old) }
 {}

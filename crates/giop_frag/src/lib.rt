@@ -3,7 +3,9 @@
 #![tactic(auto)]
 
 mod block;
+mod blocks;
 mod chain;
+mod chunk;
 mod fault;
 mod gather;
 mod joined;

@@ -3,7 +3,7 @@ ghost use Rattle.std.specs.List.{slice_range};
 ghost use Rattle.giop_frag.specs.Blocks.{AreApart, AreWhole, AreWritten, block, made, octets_at};
 ghost use Rattle.giop_frag.specs.Placed.{IsProvided};
 
-use crate::block::Block;
+use crate::blocks::Blocks;
 use std::alloc::{AllocError, Global};
 use std::marker::Model;
 
@@ -11,8 +11,7 @@ use std::marker::Model;
 /// let go.
 #[derive(Drop)]
 pub struct Pool {
-    alloc: Global,
-    blocks: Vec<Block>,
+    blocks: Blocks,
     // It has room for the number of each block, so to give blocks back takes no memory.
     free: Vec<usize>,
 }
@@ -24,11 +23,11 @@ impl Model for Pool {
 
     ghost coded = { pooled_code };
 
-    ghost view = { λ p. record { blocks = p.blocks.items; free = p.free.items } };
+    ghost view = { λ p. record { blocks = p.blocks; free = p.free.items } };
 
     ghost use Rattle.std.specs.Prelude.{vec_capacity};
 
-    ghost invariant = { λ p. IsRoomy p.blocks.items p.free.items (vec_capacity p.free) };
+    ghost invariant = { λ p. IsRoomy p.blocks p.free.items (vec_capacity p.free) };
 }
 
 impl Pool {
@@ -37,8 +36,7 @@ impl Pool {
         ensures { result ≡ record { blocks = []; free = [] } }
     {
         Pool {
-            alloc,
-            blocks: Vec::new(alloc),
+            blocks: Blocks::new(alloc),
             free: Vec::new(alloc),
         }
     }
@@ -65,7 +63,7 @@ impl Pool {
         requires within { to ≤ 512 }
         ensures { result.now ≡ slice_range (block self.now.blocks number) from to }
     {
-        self.blocks[number].part(from, to)
+        self.blocks.part(number, from, to)
     }
 
     /// Makes blocks until so many are free. Where memory is wanting, those that were made stay.
@@ -132,9 +130,8 @@ impl Pool {
         ensures err { OnErr result (self.new ≡ self.old) }
     {
         let number = self.blocks.len();
-        let block = Block::new(self.alloc)?;
         self.free.reserve(number - self.free.len() + 1)?;
-        self.blocks.push(block).map_err(|_| AllocError)?;
+        self.blocks.push()?;
         self.free.push(number).unwrap();
         Ok(())
     }
@@ -150,6 +147,6 @@ impl Pool {
                   (take from old ++ octets.now ++ drop (from + length octets.now) old);
             } }
     {
-        self.blocks[number].write(from, octets);
+        self.blocks.write(number, from, octets);
     }
 }

@@ -2,3 +2,5 @@ mod blocks;
 mod gathering;
 mod limits;
 mod memory;
+mod pieces;
+mod random;

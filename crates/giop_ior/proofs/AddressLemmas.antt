@@ -162,7 +162,8 @@ protocol_found text n is = go (begins (58 ∷ []) text) (begins (codes "iiop:") 
     go : (p q : Bool) → begins (58 ∷ []) text ≡ p → begins (codes "iiop:") text ≡ q
         → ◌≡◌ {A = Option ℕ} (if p then Some 1 else if q then Some 5 else None) (Some n) → (front : List ℕ) × ProtocolText front × (text ≡ front ++ drop n text)
     go true q one two h = let same : 1 ≡ n = cc in (58 ∷ [], inl refl, subst (λ k. text ≡ 58 ∷ [] ++ drop k text) same (begins_found (58 ∷ []) text one))
-    go false true one two h = let same : 5 ≡ n = cc in (codes "iiop:", inr refl, subst (λ k. text ≡ codes "iiop:" ++ drop k text) same (begins_found (codes "iiop:") text two))
+    go false true one two h =
+        let same : 5 ≡ n = cc in (codes "iiop:", inr refl, subst (λ k. text ≡ codes "iiop:" ++ drop k text) same (begins_found (codes "iiop:") text two))
     go false false one two h = absurd (cc)
 
 protocol_only : (front back : List ℕ) → ProtocolText front → (protocol_len (front ++ back) ≡ Some (length front)) × (drop (length front) (front ++ back) ≡ back)
@@ -214,4 +215,5 @@ address_lacks octet text a outside colon at_sign digit dot iiop is =
     of_version : VersionPartText a.major a.minor is.version → Lacks octet is.version
     of_version (inl none) = rw none.0 (All-nil (λ x. (x == octet) ≡ false))
     of_version (inr some) =
-        rw some.1 (lacks_both octet some.0 (64 ∷ []) (version_lacks octet a.major a.minor some.0 digit dot some.2) (lacks_literal octet (64 ∷ []) (rw at_sign refl)))
+        rw some.1 (lacks_both octet some.0 (64 ∷ []) (version_lacks octet a.major a.minor some.0 digit dot some.2)
+        (lacks_literal octet (64 ∷ []) (rw at_sign refl)))

@@ -34,7 +34,8 @@ each_found at one (two ∷ more) addresses is =
     subst (λ u. AddressesText u (join_with_byte 44 (one ∷ two ∷ more))) (ok_is rest.2)
     (onto a.0 rest.0 one (join_with_byte 44 (two ∷ more)) (address_found at one a.0 a.1) back)
   where
-    onto : (a : Address) (rest : List Address) (first back : List ℕ) → AddressText a first → AddressesText rest back → AddressesText (a ∷ rest) (first ++ 44 ∷ back)
+    onto : (a : Address) (rest : List Address) (first back : List ℕ) → AddressText a first → AddressesText rest back
+        → AddressesText (a ∷ rest) (first ++ 44 ∷ back)
     onto a [] first back here there = absurd there
     onto a (b ∷ rest) first back here there = (first, back, sym (append_assoc first (44 ∷ []) back), here, there)
 
@@ -73,7 +74,8 @@ addresses_lack_slash : (text : List ℕ) (addresses : List Address) → Addresse
 addresses_lack_slash text [] is = absurd is
 addresses_lack_slash text (a ∷ []) is = lacks_slash text a is
 addresses_lack_slash text (a ∷ b ∷ more) is =
-    rw is.2 (lacks_both 47 (is.0 ++ 44 ∷ []) is.1 (lacks_both 47 is.0 (44 ∷ []) (lacks_slash is.0 a is.3) (lacks_literal 47 (44 ∷ []) refl)) (addresses_lack_slash is.1 (b ∷ more) is.4))
+    rw is.2 (lacks_both 47 (is.0 ++ 44 ∷ []) is.1 (lacks_both 47 is.0 (44 ∷ []) (lacks_slash is.0 a is.3) (lacks_literal 47 (44 ∷ []) refl))
+    (addresses_lack_slash is.1 (b ∷ more) is.4))
 
 -- ---- the key
 
@@ -116,7 +118,8 @@ key_only : (at : ℕ) (text key : List ℕ) → KeyText key text → (key_fault 
 key_only at text [] is = rw is (refl, percent_decode-nil)
 key_only at text (octet ∷ key) is = go (λ k. key_only k is.1 key is.4) is.3
   where
-    go : ((k : ℕ) → (key_fault k is.1 ≡ None) × (percent_decode is.1 ≡ key)) → KeyOctetText octet is.0 → (key_fault at text ≡ None) × (percent_decode text ≡ octet ∷ key)
+    go : ((k : ℕ) → (key_fault k is.1 ≡ None) × (percent_decode is.1 ≡ key)) → KeyOctetText octet is.0
+        → (key_fault at text ≡ None) × (percent_decode text ≡ octet ∷ key)
     go behind (inl kept) =
         let whole : text ≡ octet ∷ is.1 = is.2 ∙ ap (λ u. u ++ is.1) kept.0 in
         let step = kept_goes_on at (octet ∷ is.1) (omega arith) kept.1 in
@@ -127,7 +130,8 @@ key_only at text (octet ∷ key) is = go (λ k. key_only k is.1 key is.4) is.3
         let tests : is_escape 37 escaped.high escaped.low ≡ true = rw (escaped.is_high, escaped.is_low) refl in
         let step = escape_goes_on at (37 ∷ escaped.high ∷ escaped.low ∷ is.1) refl tests in
         let rest = behind (at + 3) in
-        let decoded = percent_decode_escape 37 escaped.high escaped.low is.1 refl (ltb-true (digit_value escaped.high) 16 escaped.is_high) (ltb-true (digit_value escaped.low) 16 escaped.is_low) in
+        let decoded = percent_decode_escape 37 escaped.high escaped.low is.1 refl (ltb-true (digit_value escaped.high) 16 escaped.is_high)
+        (ltb-true (digit_value escaped.low) 16 escaped.is_low) in
         rw whole (step.1 ∙ rest.0, decoded ∙ ap (λ u. u ∷ percent_decode is.1) (sym escaped.value) ∙ ap (λ u. octet ∷ u) rest.1)
 
 -- ---- the whole text
@@ -142,7 +146,13 @@ unfolding key_at
 whole_found None text body c begins parted is =
     let list = step_ok (addresses_at 9 body) _ c is in
     let own : CorbalocText (record { addresses = list.0; key = [] }) text =
-    record { front = body; back = []; parts = begins ∙ sym (append-nil (codes "corbaloc:" ++ body)); listed = addresses_found 9 body list.0 list.1; keyed = inl (refl, refl) } in
+    record {
+      front = body;
+      back = [];
+      parts = begins ∙ sym (append-nil (codes "corbaloc:" ++ body));
+      listed = addresses_found 9 body list.0 list.1;
+      keyed = inl (refl, refl);
+    } in
     subst (λ u. CorbalocText u text) (ok_is list.2) own
 whole_found (Some p) text body c begins parted is =
     let there = cut_some 47 body p.0 p.1 parted in
@@ -178,10 +188,13 @@ corbaloc_only text c is = go is.keyed
 
     go : KeyPartText c.key is.back → corbaloc_of text ≡ Ok c
     go (inl none) =
-        let whole : text ≡ codes "corbaloc:" ++ is.front = is.parts ∙ ap (λ u. codes "corbaloc:" ++ is.front ++ u) none.0 ∙ append-nil (codes "corbaloc:" ++ is.front) in
-        rw (whole, cut_lacks 47 is.front lacks, addresses_only 9 is.front c.addresses is.listed) (ap (λ u. Ok (record { addresses = c.addresses; key = u })) (sym none.1))
+        let whole : text ≡ codes "corbaloc:"
+        ++ is.front = is.parts ∙ ap (λ u. codes "corbaloc:" ++ is.front ++ u) none.0 ∙ append-nil (codes "corbaloc:" ++ is.front) in
+        rw (whole, cut_lacks 47 is.front lacks, addresses_only 9 is.front c.addresses is.listed)
+        (ap (λ u. Ok (record { addresses = c.addresses; key = u })) (sym none.1))
     go (inr some) =
-        let whole : text ≡ codes "corbaloc:" ++ (is.front ++ 47 ∷ some.0) = is.parts ∙ ap (λ u. codes "corbaloc:" ++ is.front ++ u) some.1 ∙ simp append_assoc in
+        let whole : text ≡ codes "corbaloc:"
+        ++ (is.front ++ 47 ∷ some.0) = is.parts ∙ ap (λ u. codes "corbaloc:" ++ is.front ++ u) some.1 ∙ simp append_assoc in
         let key = key_only (9 + length is.front + 1) some.0 c.key some.2 in
         rw (whole, cut_is 47 is.front some.0 lacks, addresses_only 9 is.front c.addresses is.listed, key.0, key.1) refl
 

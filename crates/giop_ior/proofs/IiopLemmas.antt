@@ -97,7 +97,8 @@ order_found : (contents : List ℕ) (order : Order) → order_in contents ≡ Ok
 order_found [] order is = absurd (cc)
 order_found (x ∷ xs) order is = go (x == 0) (x == 1) refl refl (rw (some_length x xs) at is)
   where
-    go : (p q : Bool) → (x == 0) ≡ p → (x == 1) ≡ q → ◌≡◌ {A = Result Order CdrFault} (if p then Ok Big else if q then Ok Little else Err (fault 0 BadOrder)) (Ok order)
+    go : (p q : Bool) → (x == 0) ≡ p → (x == 1) ≡ q
+        → ◌≡◌ {A = Result Order CdrFault} (if p then Ok Big else if q then Ok Little else Err (fault 0 BadOrder)) (Ok order)
         → x ∷ xs ≡ order_octet order ∷ xs
     go true q zero one h = ap (λ u. u ∷ xs) (eqb-true x 0 zero ∙ ap order_octet (answer_is h))
     go false true zero one h = ap (λ u. u ∷ xs) (eqb-true x 1 one ∙ ap order_octet (answer_is h))

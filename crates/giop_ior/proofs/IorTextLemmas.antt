@@ -1,20 +1,20 @@
 -- A reference as text: its grammar is that of giop_types, over the table of a reference.
-use Rattle.std.proofs.Common.{◌≡◌, ℕ, ◌<◌, true, List, [], ◌∷◌, ◌++◌, Result, Ok, Err, IfOk, ◌⊎◌, inl, inr, refl, sym, ap, subst, ◌∙◌}
-use Rattle.std.proofs.lemmas.List.Elements.{All-tail}
+use Rattle.std.proofs.Common.{◌≡◌, ℕ, ◌<◌, true, List, [], ◌∷◌, ◌++◌, Ok, Err, IfOk, inl, inr, refl, subst, lit<}
+use Rattle.std.proofs.lemmas.List.Elements.{All-cons, All-nil, All-tail}
 use Rattle.std.specs.Int.{w8}
 use Rattle.giop_cdr.specs.declared.order.Order.TheVariants.{Big}
 use Rattle.giop_cdr.specs.Encapsulation.Opened.{order_octet}
 use Rattle.giop_cdr.specs.Layout.{Layout, IsLawful, AreOctets}
 use Rattle.giop_cdr.specs.Writing.Output.{number_out}
-use Rattle.giop_types.specs.declared.ior_text_fault.IorTextFault.{IorTextFault}
-use Rattle.giop_types.specs.declared.ior_text_fault.IorTextFault.TheVariants.{NoMemory}
 use Rattle.giop_types.specs.IorText.{IorText, ior_text_of, ReadsTexts, begun, text_written}
 use Rattle.giop_types.specs.IorTextFault.{TextReading, AnswersOrWants, IsAnswered}
 use Rattle.giop_cdr.proofs.LayoutLemmas.{octets_of_whole}
 use Rattle.giop_types.proofs.HexLemmas.{are_octets_said}
 use Rattle.giop_types.proofs.IorTextLemmas.{texts_read, value_written}
 use Rattle.giop_ior.specs.Ior.{Reference, ior_layout}
+use Rattle.giop_ior.specs.Written.{IsOfOctets}
 use Rattle.giop_ior.proofs.IorLemmas.{ior_is}
+use Rattle.giop_ior.proofs.OctetLemmas.{reference_keeps}
 
 -- behind the order octet of what is written big-endian
 pub begins : number_out w8 0 (record { order = Big; at = 0; octets = [] }) ≡ begun
@@ -54,6 +54,8 @@ text_writable text (Err e) is = tt
 
 -- ---- what is written is read back
 
-pub text_says : (ior : Reference) → ior_layout.fits ior ≡ true → ior_layout.holds ior → AreOctets (ior_layout.written ior begun).octets
+pub text_says : (ior : Reference) → ior_layout.fits ior ≡ true → ior_layout.holds ior → IsOfOctets ior
     → IorText ior_layout.spells ior (text_written ior_layout.written ior)
-text_says ior fits held all = value_written ior_layout.spells ior (ior_layout.written ior begun) (ior_is.written ior begun fits held) all
+text_says ior fits held are =
+    let all = reference_keeps ior are begun (All-cons (λ octet. octet < 256) 0 [] (lit< tt) (All-nil (λ octet. octet < 256))) in
+    value_written ior_layout.spells ior (ior_layout.written ior begun) (ior_is.written ior begun fits held) all

@@ -10,6 +10,7 @@ pub mod GrammarLemmas
 pub mod WritingLemmas
 pub mod WrittenLemmas
 pub mod IorLemmas
+mod OctetLemmas
 pub mod IiopLemmas
 pub mod ToIorLemmas
 pub mod IorTextLemmas

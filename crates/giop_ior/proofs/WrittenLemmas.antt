@@ -51,7 +51,8 @@ address_written a minor port fits =
       is_port = inr (decimal a.port, refl, (number_written 5 a.port (omega arith) (omega arith) (omega arith), omega arith));
     }
 
-addresses_written : (one : Address) (more : List Address) → AllByRecursion (λ a. a.minor < 256) (one ∷ more) → AllByRecursion (λ a. a.port < 2 ^ 16) (one ∷ more)
+addresses_written : (one : Address) (more : List Address) → AllByRecursion (λ a. a.minor < 256) (one ∷ more)
+    → AllByRecursion (λ a. a.port < 2 ^ 16) (one ∷ more)
     → list_all is_writable_address (one ∷ more) ≡ true → AddressesText (one ∷ more) (addresses_text (one ∷ more))
 addresses_written one [] minors ports fit =
     address_written one minors.0 ports.0 (both (is_writable_address one) true fit).0

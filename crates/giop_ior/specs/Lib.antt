@@ -4,6 +4,7 @@ pub mod CorbalocReading
 pub mod AddressAt
 pub mod CorbalocWriting
 pub mod Ior
+pub mod Written
 pub mod Iiop
 pub mod ToIor
 pub mod ServiceContext

@@ -57,7 +57,8 @@ abbrev head : Version → Kind → Order → Bool → ℕ → Header
 head version kind order more size = record { version = version; order = order; more = more; kind = kind; size = size }
 
 -- one that no fragments follow
-whole_sound : (limit : ℕ) (version : Version) (kind : Kind) (order : Order) (size : ℕ) → is_continued kind ≡ true → nat_lt limit size ≡ false → nat_le 4 size ≡ true
+whole_sound : (limit : ℕ) (version : Version) (kind : Kind) (order : Order) (size : ℕ) → is_continued kind ≡ true → nat_lt limit size ≡ false
+    → nat_le 4 size ≡ true
     → fault_of limit (head version kind order false size) ≡ None
 whole_sound limit version Request order size is small room = rw (small, room) refl
 whole_sound limit version Reply order size is small room = rw (small, room) refl
@@ -84,7 +85,8 @@ more_sound : (limit : ℕ) (order : Order) (size : ℕ) → nat_lt limit size �
     → fault_of limit (head V12 Fragment order true size) ≡ None
 more_sound limit order size small room even = rw (small, room, even) refl
 
-last_sound : (limit : ℕ) (order : Order) (size : ℕ) → nat_lt limit size ≡ false → nat_le 4 size ≡ true → fault_of limit (head V12 Fragment order false size) ≡ None
+last_sound : (limit : ℕ) (order : Order) (size : ℕ) → nat_lt limit size ≡ false → nat_le 4 size ≡ true
+    → fault_of limit (head V12 Fragment order false size) ≡ None
 last_sound limit order size small room = rw (small, room) refl
 
 not_above : (size : ℕ) → size < 2 ^ 32 → nat_lt (2 ^ 32 - 1) size ≡ false
@@ -106,21 +108,25 @@ whole_is_message version kind order octets is room small =
     is_message (message_of version kind order false octets) small
     (whole_sound (2 ^ 32 - 1) version kind order (length octets) is (not_above (length octets) small) (has_room (length octets) room))
 
-first_is_message : (kind : Kind) (order : Order) (octets : List ℕ) (piece : ℕ) → is_continued kind ≡ true → length octets + 12 ≡ piece → piece < 2 ^ 32 → 24 ≤ piece → piece % 8 ≡ 0
+first_is_message : (kind : Kind) (order : Order) (octets : List ℕ) (piece : ℕ) → is_continued kind ≡ true → length octets + 12 ≡ piece → piece < 2 ^ 32
+    → 24 ≤ piece → piece % 8 ≡ 0
     → IsMessage (2 ^ 32 - 1) (message_of V12 kind order true octets)
 first_is_message kind order octets piece is same small large even =
     let below : length octets < 2 ^ 32 = omega arith in
     is_message (message_of V12 kind order true octets) below
-    (first_sound (2 ^ 32 - 1) kind order (length octets) is (not_above (length octets) below) (has_room (length octets) (omega arith)) (is_even (length octets) piece same even))
+    (first_sound (2 ^ 32 - 1) kind order (length octets) is (not_above (length octets) below) (has_room (length octets) (omega arith))
+    (is_even (length octets) piece same even))
 
 more_is_message : (order : Order) (payload : List ℕ) (piece : ℕ) → length payload + 12 ≡ piece → piece < 2 ^ 32 → 24 ≤ piece → piece % 8 ≡ 0
     → IsMessage (2 ^ 32 - 1) (message_of V12 Fragment order true payload)
 more_is_message order payload piece same small large even =
     let below : length payload < 2 ^ 32 = omega arith in
     is_message (message_of V12 Fragment order true payload) below
-    (more_sound (2 ^ 32 - 1) order (length payload) (not_above (length payload) below) (has_room (length payload) (omega arith)) (is_even (length payload) piece same even))
+    (more_sound (2 ^ 32 - 1) order (length payload) (not_above (length payload) below) (has_room (length payload) (omega arith))
+    (is_even (length payload) piece same even))
 
-last_is_message : (order : Order) (payload : List ℕ) → 4 ≤ length payload → length payload < 2 ^ 32 → IsMessage (2 ^ 32 - 1) (message_of V12 Fragment order false payload)
+last_is_message : (order : Order) (payload : List ℕ) → 4 ≤ length payload → length payload < 2 ^ 32
+    → IsMessage (2 ^ 32 - 1) (message_of V12 Fragment order false payload)
 last_is_message order payload room small =
     is_message (message_of V12 Fragment order false payload) small
     (last_sound (2 ^ 32 - 1) order (length payload) (not_above (length payload) small) (has_room (length payload) room))

@@ -108,7 +108,14 @@ ulong_of-ulong_octets Little n h = from_le_bytes-to_le_bytes_4 n h
 pub header_of-header_octets : (h : Header) → h.size < 2 ^ 32 → header_of (header_octets h) ≡ h
 unfolding header_of header_octets
 header_of-header_octets h sized =
-    rw (version_of-minor_of h.version, order_of-flags h.order h.more, more_of-flags h.order h.more, kinds-kind_number h.kind, ulong_of-ulong_octets h.order h.size sized) refl
+    rw (
+      version_of-minor_of h.version,
+      order_of-flags h.order h.more,
+      more_of-flags h.order h.more,
+      kinds-kind_number h.kind,
+      ulong_of-ulong_octets h.order
+          h.size sized,
+    ) refl
 
 length-ulong_octets : (order : Order) (n : ℕ) → length (ulong_octets order n) ≡ 4
 length-ulong_octets Big n = refl

@@ -13,4 +13,5 @@ pub mod RequestHeadLemmas
 pub mod ReplyHeadLemmas
 pub mod LocateLemmas
 pub mod RequestIdLemmas
+pub mod WholeMessages
 mod StandardFacts

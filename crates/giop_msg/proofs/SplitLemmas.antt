@@ -45,7 +45,8 @@ Split limit stream = (messages : List Msg) × (rest : List ℕ) × Msgs limit st
 ends : (limit : ℕ) (stream : List ℕ) → (BeginsWithMessage limit stream → ⊥) → Split limit stream
 ends limit stream none = ([], stream, record { whole = refl; each = All-nil (IsMessage limit); partial = none })
 
-goes_on : (limit : ℕ) (stream : List ℕ) (m : Msg) (more : List ℕ) → IsMessage limit m → stream ≡ message_octets m ++ more → Split limit more → Split limit stream
+goes_on : (limit : ℕ) (stream : List ℕ) (m : Msg) (more : List ℕ) → IsMessage limit m → stream ≡ message_octets m ++ more → Split limit more
+    → Split limit stream
 goes_on limit stream m more is e (messages, rest, split) = (
   m ∷ messages,
   rest,

@@ -31,7 +31,8 @@ pub header_fault-message_octets : (limit : ℕ) (m : Msg) (more : List ℕ) → 
 header_fault-message_octets limit m more is = rw (take-message_octets m more) is.sound
 
 same_fields : (m n : Msg) → head_of m ≡ head_of n → m.payload ≡ n.payload → m ≡ n
-same_fields m n heads payload = λ i. let h : Header = heads i in record { version = h.version; order = h.order; more = h.more; kind = h.kind; payload = payload i }
+same_fields m n heads payload =
+    λ i. let h : Header = heads i in record { version = h.version; order = h.order; more = h.more; kind = h.kind; payload = payload i }
 
 same_front : (xs ys more left : List ℕ) → length xs ≡ length ys → xs ++ more ≡ ys ++ left → (xs ≡ ys) × (more ≡ left)
 same_front xs ys more left same e = (

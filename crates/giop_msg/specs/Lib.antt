@@ -13,3 +13,4 @@ pub mod RequestHead
 pub mod ReplyHead
 pub mod Locate
 pub mod Cut
+pub mod Messages

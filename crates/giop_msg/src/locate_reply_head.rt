@@ -114,7 +114,10 @@ fn read_status<S: Octets>(version: Version, input: &mut CdrIn<S>) -> Result<u32,
 }
 
 // The fields in their order.
-fn read_head<S: Octets>(version: Version, input: &mut CdrIn<S>) -> Result<LocateReplyHead, CdrFault>
+pub(crate) fn read_head<S: Octets>(
+    version: Version,
+    input: &mut CdrIn<S>,
+) -> Result<LocateReplyHead, CdrFault>
     ensures { Exactly result input.new ((locate_reply_head version).read input.old) }
 {
     let id = input.read_ulong()?;
@@ -128,7 +131,7 @@ fn read_head<S: Octets>(version: Version, input: &mut CdrIn<S>) -> Result<Locate
 
 // The fields in their order. Where memory is wanting a part of them is left.
 #[tactic(auto, unfolding(crate::specs::Locate::locate_reply_head, crate::specs::Locate::locate_status, giop_cdr::specs::Layout::field, giop_cdr::specs::Layout::such, giop_cdr::specs::Layout::number, giop_cdr::specs::Layout::gives), using(giop_cdr::proofs::Writing::WriterLemmas::grows_then, giop_cdr::proofs::Writing::WriterLemmas::grows_not))]
-fn append_head(head: &LocateReplyHead, out: &mut CdrOut) -> Result<(), AllocError>
+pub(crate) fn append_head(head: &LocateReplyHead, out: &mut CdrOut) -> Result<(), AllocError>
     requires { (locate_reply_head head.now.version).fits head.now ≡ true }
     ensures { Appends out.old result out.new
         ((locate_reply_head head.now.version).written head.now out.old) }

@@ -7,6 +7,7 @@ ghost use Rattle.giop_cdr.specs.Reading.Outcome.{Exactly};
 ghost use Rattle.giop_cdr.specs.Writing.Outcome.{Writes, Appends};
 ghost use Rattle.giop_msg.specs.Joined.{AreWhole, no_memory, whole_of_joined};
 ghost use Rattle.giop_msg.specs.Locate.{located, locate_request};
+ghost use Rattle.giop_msg.specs.Messages.Outcome.{IsTold, joined_into};
 
 use crate::target::{Target, TargetAt};
 use crate::target_reading::{view_object_key, view_target};
@@ -73,8 +74,14 @@ impl LocateRequest {
         order: Order,
     ) -> Result<LocateRequest, CdrFault>
         requires { length (S.octets octets.now) ≤ 2 ^ 62 }
+        // What is answered is what the octets are, and what they are is answered.
         ensures found { IfOk result (AreWhole (locate_request version) order
             (S.octets octets.now)) }
+        ensures only { (request : _)
+            → AreWhole (locate_request version) order (S.octets octets.now) request
+            → IsTold result request }
+
+        // Which refusal it is.
         ensures exact { IfOk result (λ request.
             whole_of_joined (locate_request version) order (S.octets octets.now) ≡ Ok request) }
         ensures err { IfErr result (λ e.
@@ -128,6 +135,31 @@ impl LocateRequest {
             return Err(EncodeFault::NoMemory);
         }
         Ok(())
+    }
+
+    /// The joined octets of the LocateRequest, in an order: the fields in their order.
+    ///
+    /// Refused as Unfit where `is_writable` is false, and then no octets spell it; else as NoMemory
+    /// where memory is wanting.
+    #[tactic(auto, using(crate::proofs::LocateLemmas::request_unspelled))]
+    pub fn encode(&self, alloc: Global, order: Order) -> Result<Vec<u8>, EncodeFault>
+        ensures value { IfOk result (λ octets. octets.items
+            ≡ ((locate_request self.now.version).written self.now (joined_into order)).octets) }
+        ensures err { IsErrOf result EncodeFault.Unfit
+            ↔ ((locate_request self.now.version).fits self.now ≡ false) }
+        ensures unfit { IsErrOf result EncodeFault.Unfit
+            → (order : Order) (at : ℕ) (octets : List ℕ)
+            → AreOctets octets
+            → (locate_request self.now.version).spells order at self.now octets → ⊥ }
+    {
+        if !self.is_writable() {
+            return Err(EncodeFault::Unfit);
+        }
+        let mut out = CdrOut::new(alloc, order, 12);
+        if append_request(self, &mut out).is_err() {
+            return Err(EncodeFault::NoMemory);
+        }
+        Ok(out.into_bytes())
     }
 }
 

@@ -173,8 +173,8 @@ fn view_early_head<'a, S: Octets>(
     })
 }
 
-// The fields of a head in their order.
-fn view_head<'a, S: Octets>(
+/// The fields of a head in their order.
+pub fn view_head<'a, S: Octets>(
     version: Version,
     input: &mut CdrIn<'a, S>,
 ) -> Result<ReplyHeadAt<'a, S>, CdrFault>

@@ -220,7 +220,7 @@ fn view_early_head<'a, S: Octets>(
 }
 
 // The fields of a head in their order.
-fn view_head<'a, S: Octets>(
+pub(crate) fn view_head<'a, S: Octets>(
     version: Version,
     input: &mut CdrIn<'a, S>,
 ) -> Result<RequestHeadAt<'a, S>, CdrFault>

@@ -133,7 +133,7 @@ fn append_early_head(
     Ok(())
 }
 
-fn append_head(head: &RequestHead, out: &mut CdrOut) -> Result<(), EncodeFault>
+pub(crate) fn append_head(head: &RequestHead, out: &mut CdrOut) -> Result<(), EncodeFault>
     requires { (request_head head.now.version).fits head.now ≡ true }
     ensures { Appends out.old result out.new
         ((request_head head.now.version).written head.now out.old) }

@@ -9,6 +9,8 @@ mod cutting;
 mod framer;
 mod header;
 mod heads;
+mod messages;
+mod replies;
 mod request_head;
 mod request_id;
 

@@ -1,5 +1,5 @@
 -- Hexadecimal digits: what the crate that decodes them answers, as the grammar of octets says it.
-use Rattle.std.proofs.Common.{◌≡◌, ℕ, zero, suc, ◌+◌, ◌*◌, ◌%◌, ◌<◌, Bool, true, false, if◌then◌else◌, List, [], ◌∷◌, ◌++◌, length, Option, Some, None, Result, Ok, Err, refl, sym, ap, ◌∙◌, subst, arith}
+use Rattle.std.proofs.Common.{◌≡◌, ℕ, zero, suc, ◌+◌, ◌*◌, ◌<◌, Bool, true, false, if◌then◌else◌, List, [], ◌∷◌, length, Some, None, Result, Ok, Err, refl, sym, ap, ◌∙◌, subst, arith}
 use Rattle.std.proofs.lemmas.Bool.{ltb-true}
 use Rattle.std.proofs.lemmas.Bool.Decides.{nat_tests}
 use Rattle.std.proofs.lemmas.List.Elements.{All-cons, All-head, All-nil, All-tail}
@@ -29,7 +29,8 @@ pairs_read [] text i is = rw is refl
 pairs_read (o ∷ octets) text i is =
     let d = is.3 in
     let pair = pair_read d.high d.low i d.is_high d.is_low in
-    rw (is.2, d.parts) (decode_pairs-ok_pair i d.high d.low _ is.1 pair ∙ ap (cons_byte (16 * digit_value d.high + digit_value d.low)) (pairs_read octets is.1 (i + 2) is.4)
+    rw (is.2, d.parts) (decode_pairs-ok_pair i d.high d.low _ is.1 pair
+    ∙ ap (cons_byte (16 * digit_value d.high + digit_value d.low)) (pairs_read octets is.1 (i + 2) is.4)
     ∙ ap (λ (x : ℕ). Ok (x ∷ octets)) (sym d.value))
 
 two_each : (octets text : List ℕ) → OctetsText octets text → length text ≡ 2 * length octets
@@ -76,7 +77,8 @@ pairs_found octets (d ∷ []) i is = absurd (cc)
 pairs_found octets (h ∷ l ∷ text) i is =
     let one = step (pair_value h l i) _ octets is in
     let more = step (decode_pairs (i + 2) text) _ octets one.2 in
-    subst (λ (u : List ℕ). OctetsText u (h ∷ l ∷ text)) (answer_is more.2) (h ∷ l ∷ [], text, refl, pair_found h l i one.0 one.1, pairs_found more.0 text (i + 2) more.1)
+    subst (λ (u : List ℕ). OctetsText u (h ∷ l ∷ text)) (answer_is more.2)
+    (h ∷ l ∷ [], text, refl, pair_found h l i one.0 one.1, pairs_found more.0 text (i + 2) more.1)
 
 pub octets_found : (octets text : List ℕ) → decode_of text ≡ Ok octets → OctetsText octets text
 octets_found octets text is =

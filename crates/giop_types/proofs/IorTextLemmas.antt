@@ -1,5 +1,5 @@
 -- The texts of references are read as the grammar says, whatever the value that is encapsulated.
-use Rattle.std.proofs.Common.{◌≡◌, ◌≢◌, ◌⊎◌, inl, inr, ℕ, ◌+◌, ◌<◌, ◌≤◌, Bool, true, false, if◌then◌else◌, List, [], ◌∷◌, ◌++◌, length, take, drop, map, codes, Result, Ok, Err, refl, sym, ap, ◌∙◌, subst, arith}
+use Rattle.std.proofs.Common.{◌≡◌, ◌⊎◌, inl, inr, ℕ, Bool, true, false, List, [], ◌∷◌, ◌++◌, length, take, drop, map, codes, Result, Ok, Err, refl, sym, ap, ◌∙◌, subst}
 use Rattle.std.proofs.lemmas.List.{take-append-drop, length-map, append-nil}
 use Rattle.std.proofs.Math.Seq.{take-append_seam, drop-append_seam}
 use Rattle.std.proofs.lemmas.Slice.Eq.{bytes_eq-Decides}
@@ -9,7 +9,7 @@ use Rattle.hex.specs.Hex.{decode_of, encode_lower}
 use Rattle.giop_cdr.specs.declared.order.Order.TheVariants.{Big}
 use Rattle.giop_cdr.specs.declared.fault.CdrFault.{CdrFault}
 use Rattle.giop_cdr.specs.Reading.Cursor.{Cursor}
-use Rattle.giop_cdr.specs.Encapsulation.OfLayout.{Encapsulates, RefusedInside, inside_at}
+use Rattle.giop_cdr.specs.Encapsulation.OfLayout.{inside_at}
 use Rattle.giop_cdr.specs.Layout.{AreOctets}
 use Rattle.giop_cdr.specs.Writing.Output.{Output}
 use Rattle.giop_cdr.specs.Reading.Values.{Reading}
@@ -19,7 +19,7 @@ use Rattle.giop_cdr.specs.Spelling.{Spelling}
 use Rattle.giop_cdr.proofs.Encapsulation.EncapsulatedLemmas.{inside_exact}
 use Rattle.giop_types.specs.declared.ior_text_fault.IorTextFault.{IorTextFault}
 use Rattle.giop_types.specs.declared.ior_text_fault.IorTextFault.TheVariants.{BadPrefix, BadHex, Cdr, NoMemory}
-use Rattle.giop_types.specs.IorText.{IsPrefix, is_prefix, PrefixedText, OctetsText, IorText, RefusedText, octets_or_fault, octets_of, nowhere, value_or_fault, encapsulated, ior_text_of, ReadsTexts, begun, prefixed}
+use Rattle.giop_types.specs.IorText.{IsPrefix, is_prefix, PrefixedText, IorText, RefusedText, octets_or_fault, octets_of, nowhere, value_or_fault, encapsulated, ior_text_of, ReadsTexts, begun, prefixed}
 use Rattle.giop_types.specs.IorTextFault.{TextReading, ◌>>=◌}
 use Rattle.giop_types.proofs.HexLemmas.{octets_read, octets_found, digits_say}
 
@@ -119,7 +119,8 @@ octets_refuses text none = elim (begins_or_not text) [
   | begins_not other same ↦ same
 ]
 
-hex_refused : (text front digits : List ℕ) → text ≡ front ++ digits → IsPrefix front → ((octets : List ℕ) → PrefixedText octets text → ⊥) → octets_of text ≡ Err BadHex
+hex_refused : (text front digits : List ℕ) → text ≡ front ++ digits → IsPrefix front → ((octets : List ℕ) → PrefixedText octets text → ⊥)
+    → octets_of text ≡ Err BadHex
 hex_refused text front digits parts prefix none = go (decode_of digits) refl
   where
     go : (r : Result (List ℕ) FromHexError) → decode_of digits ≡ r → octets_of text ≡ Err BadHex

@@ -1,4 +1,5 @@
--- Values in CDR: what octets spell, what reading answers, and what is written (CORBA 3.3 Part 2, 9.3).
+-- Values in CDR: what octets spell, what reading answers, and what is written (CORBA 3.3 Part 2,
+-- 9.3).
 pub mod Decoding
 pub mod Spells
 pub mod Refusals

@@ -1,5 +1,5 @@
--- The text of a reference (CORBA 3.3 Part 2, 7.6.9): its grammar, from the parts up to the whole, then
--- its reading, which fixes the faults, and its writing. Texts are octets.
+-- The text of a reference (CORBA 3.3 Part 2, 7.6.9): its grammar, from the parts up to the whole,
+-- then its reading, which fixes the faults, and its writing. Texts are octets.
 use Rattle.std.specs.Prelude.{◌≡◌, ℕ, ◌+◌, ◌*◌, Bool, true, if◌then◌else◌, List, [], ◌∷◌, ◌++◌, take, drop, map, codes, bytes_eq, Result, Ok, Err}
 use Rattle.std.specs.Char.{to_ascii_lowercase, is_digit, digit_value}
 use Rattle.hex.specs.declared.error.FromHexError.{FromHexError}
@@ -51,8 +51,8 @@ pub record IorText {A : Type 0} (P : Spelling A) (v : A) (text : List ℕ) : Typ
   pub says : PrefixedText octets text
   pub holds : Encapsulates P octets v
 
--- why a text is none: it has no prefix; or what stands behind that is no octets; or these octets are
--- no encapsulation of a value, told at an offset that counts from the first of them
+-- why a text is none: it has no prefix; or what stands behind that is no octets; or these octets
+-- are no encapsulation of a value, told at an offset that counts from the first of them
 abbrev pub RefusedText : Refusal → List ℕ → IorTextFault → Type 0
 RefusedText R text BadPrefix = (front digits : List ℕ) → text ≡ front ++ digits → IsPrefix front → ⊥
 RefusedText R text BadHex =
@@ -64,9 +64,11 @@ RefusedText R text NoMemory = ⊥
 
 -- ---- reading
 
+-- whether four characters are `IOR:` in any case
 abbrev pub is_prefix : List ℕ → Bool
 is_prefix text = bytes_eq (map to_ascii_lowercase text) (codes "ior:")
 
+-- the octets of hexadecimal digits: whatever is wrong with them is BadHex
 abbrev pub octets_or_fault : Result (List ℕ) FromHexError → TextReading (List ℕ)
 octets_or_fault (Ok octets) = Ok octets
 octets_or_fault (Err e) = Err BadHex
@@ -80,6 +82,7 @@ octets_of text =
 abbrev pub nowhere : Cursor
 nowhere = record { order = Big; at = 0; rest = [] }
 
+-- the value that was read, wherever reading ended: a fault of the octets is told as that
 abbrev pub value_or_fault : {A : Type 0} → Reading A → TextReading A
 value_or_fault (Ok v) = Ok v.0
 value_or_fault (Err e) = Err (Cdr e)
@@ -92,8 +95,10 @@ encapsulated read octets = value_or_fault (inside_at read 0 octets nowhere)
 unfoldable pub ior_text_of : {A : Type 0} → (Cursor → Reading A) → List ℕ → TextReading A
 ior_text_of read text = octets_of text >>= encapsulated read
 
--- reading answers a value exactly where the text says it, and a fault exactly where it is refused so
-pub record ReadsTexts {A : Type 0} (P : Spelling A) (R : Refusal) (read : List ℕ → TextReading A) : Type 0 where
+-- reading answers a value exactly where the text says it, and a fault exactly where it is refused
+-- so
+pub record ReadsTexts {A : Type 0} (P : Spelling A) (R : Refusal)
+    (read : List ℕ → TextReading A) : Type 0 where
   pub found : (text : List ℕ) (v : A) → read text ≡ Ok v → IorText P v text
   pub only : (text : List ℕ) (v : A) → IorText P v text → read text ≡ Ok v
   pub refused : (text : List ℕ) (e : IorTextFault) → read text ≡ Err e → RefusedText R text e

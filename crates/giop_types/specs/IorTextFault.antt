@@ -27,7 +27,8 @@ abbrev pub ◌>>=◌ : {A B : Type 0} → TextReading A → (A → TextReading B
 Ok x >>= f = f x
 Err e >>= f = Err e
 
--- a call answers what reading gives, unless memory is wanting; view is what contracts see of a value
+-- a call answers what reading gives, unless memory is wanting; view is what contracts see of a
+-- value
 abbrev pub AnswersOrWants : {X A : Type 0} → (X → A) → TextReading X → TextReading A → Type 0
 AnswersOrWants view (Ok x) reading = reading ≡ Ok (view x)
 AnswersOrWants view (Err e) reading = (reading ≡ Err e) ⊎ (e ≡ NoMemory)

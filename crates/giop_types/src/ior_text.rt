@@ -12,11 +12,12 @@ use giop_cdr::{CdrFault, CdrKind, Order};
 use hex::FromHexError;
 use std::alloc::{AllocError, Global};
 
-/// The octets that the text of a reference says: behind `IOR:`, in any case, each is two hexadecimal
-/// digits in either case, the high one first. Whether they are a reference is not looked at.
+/// The octets that the text of a reference says: behind `IOR:`, in any case, each is two
+/// hexadecimal digits in either case, the high one first. Whether they are a reference is not
+/// looked at.
 ///
-/// Refused as BadPrefix where the text begins otherwise, else as BadHex where the digits are none or
-/// their number is odd; and as NoMemory where memory is wanting, in place of either.
+/// Refused as BadPrefix where the text begins otherwise, else as BadHex where the digits are none
+/// or their number is odd; and as NoMemory where memory is wanting, in place of either.
 #[tactic(auto, unfolding(crate::specs::IorText::octets_of))]
 pub fn ior_octets_from_text(alloc: Global, text: &[u8]) -> Result<Vec<u8>, IorTextFault>
     ensures { AnswersOrWants (λ octets. octets.items) result (octets_of text.now) }

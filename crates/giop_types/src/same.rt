@@ -38,11 +38,12 @@ pub fn is_same(one: &Value, other: &Value) -> bool
     }
 }
 
-// Whether two lists have as many values, each the same.
+/// Whether two lists have as many values, each the same.
 #[cycle(same)]
 #[tactic(auto, unfolding(crate::specs::Values::Same::same_tree))]
-fn are_same(one: &[Value], other: &[Value]) -> bool
-    ensures { result ≡ same_trees (trees_of (map value_view one.now)) (trees_of (map value_view other.now)) }
+pub fn are_same(one: &[Value], other: &[Value]) -> bool
+    ensures { result ≡ same_trees (trees_of (map value_view one.now))
+        (trees_of (map value_view other.now)) }
 {
     if one.len() != other.len() {
         return false;
@@ -59,7 +60,8 @@ fn are_same(one: &[Value], other: &[Value]) -> bool
 #[cycle(same)]
 #[tactic(auto, unfolding(crate::specs::Values::Same::same_tree))]
 fn is_same_member(one: &Option<Box<Value>>, other: &Option<Box<Value>>) -> bool
-    ensures { result ≡ same_trees (trees_of (member_view one.now)) (trees_of (member_view other.now)) }
+    ensures { result ≡ same_trees (trees_of (member_view one.now))
+        (trees_of (member_view other.now)) }
 {
     match (one, other) {
         (Some(one), Some(other)) => is_same(one, other),

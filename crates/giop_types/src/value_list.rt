@@ -1,12 +1,13 @@
 ghost use Rattle.std.specs.Prelude.{◌≡◌, ◌==◌, ◌++◌, [], ◌∷◌, length, map, OnOk, OnErr};
 ghost use Rattle.giop_types.specs.Values.Views.{value_view};
 
+use crate::same::are_same;
 use crate::value::Value;
 use std::alloc::{AllocError, Global};
 use std::marker::Model;
 
-/// The values of a body, one after the other: a `Vec<Value>` that contracts see as the plain list of
-/// what they are.
+/// The values of a body, one after the other: a `Vec<Value>` that contracts see as the plain list
+/// of what they are.
 #[derive(Debug, Drop)]
 pub struct ValueList {
     values: Vec<Value>,
@@ -83,4 +84,25 @@ impl From<Vec<Value>> for ValueList {
     fn from(values: Vec<Value>) -> ValueList {
         ValueList { values }
     }
+}
+
+/// Two lists are equal where they are as long and their values are equal one by one.
+impl PartialEq for ValueList {
+    ghost use Rattle.giop_types.specs.Values.Same.{same_list};
+    ghost use Rattle.giop_types.specs.Values.SameLaws.{same_list_partial};
+
+    ghost eq = { same_list };
+
+    ghost laws = { same_list_partial };
+
+    #[tactic(auto, using(crate::proofs::Values::SameLemmas::one_by_one))]
+    fn eq(&self, other: &ValueList) -> bool {
+        are_same(&self.values, &other.values)
+    }
+}
+
+impl Eq for ValueList {
+    ghost use Rattle.giop_types.specs.Values.SameLaws.{same_list_equivalence};
+
+    ghost laws = { same_list_equivalence };
 }

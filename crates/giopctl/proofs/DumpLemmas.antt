@@ -51,8 +51,10 @@ messages_text-more at [] m = grind (arith, common_steps)
 messages_text-more at (x ∷ ms) m =
     let place : at + length (message_octets x) + length (flat_map message_octets ms) ≡ at + length (message_octets x ++ flat_map message_octets ms) =
     omega (arith, length-append (message_octets x) (flat_map message_octets ms)) in
-    ap (λ u. message_text at x ++ u) (messages_text-more (at + length (message_octets x)) ms m ∙ ap (λ n. messages_text (at + length (message_octets x)) ms ++ message_text n m) place)
-    ∙ sym (append_assoc (message_text at x) (messages_text (at + length (message_octets x)) ms) (message_text (at + length (message_octets x ++ flat_map message_octets ms)) m))
+    ap (λ u. message_text at x ++ u)
+    (messages_text-more (at + length (message_octets x)) ms m ∙ ap (λ n. messages_text (at + length (message_octets x)) ms ++ message_text n m) place)
+    ∙ sym (append_assoc (message_text at x) (messages_text (at + length (message_octets x)) ms)
+    (message_text (at + length (message_octets x ++ flat_map message_octets ms)) m))
 
 -- so much of the octets was shown: these messages; after them stand the unread octets and those
 -- that are not fed yet
@@ -84,7 +86,8 @@ shows_message {limit} {octets} {start} {now} {left} {at} {messages} old new next
       each = All-append (IsMessage limit) messages (m ∷ []) shown.each (All-cons (IsMessage limit) m [] is (All-nil (IsMessage limit)));
       place = omega (arith, shown.place, ap length (octets-more messages m), length-append before (message_octets m), length-message_octets m);
       text =
-          subst (Appends start next) (ap (λ n. messages_text 0 messages ++ message_text n m) (shown.place ∙ sym (zero-add _)) ∙ sym (messages_text-more 0 messages m))
+          subst (Appends start next)
+          (ap (λ n. messages_text 0 messages ++ message_text n m) (shown.place ∙ sym (zero-add _)) ∙ sym (messages_text-more 0 messages m))
           (Appends-append start now next (messages_text 0 messages) (message_text at m) shown.text more);
     }
 
@@ -273,7 +276,8 @@ of_rest unread next (Err e) shown same end waits text status = tt
 of_rest {limit} {all} {left} {start} {now} {at} unread next (Ok s) shown same end waits text status =
     known_rest limit start now at all left unread next s shown.known same end waits text status
 
-known_fault : (limit : ℕ) (start now : Option (List ℕ)) (at : ℕ) (all left : Option (List ℕ)) (unread : Unread) (next : Option (List ℕ)) (e : WireFault) (s : Status)
+known_fault : (limit : ℕ) (start now : Option (List ℕ)) (at : ℕ) (all left : Option (List ℕ)) (unread : Unread) (next : Option (List ℕ)) (e : WireFault)
+    (s : Status)
     → Known limit all left start now unread.octets at → unread.limit ≡ limit → IsRefusal unread e
     → Appends now next (ended (fault_line at e)) → (s ≡ Refused) × (e.kind ≢ NoMemory)
     → DumpsKnown limit all start next s
@@ -284,7 +288,8 @@ known_fault limit start now at (Some octets) (Some left) unread next e s shown s
     ends_at_fault unread left next e (Ok s) shown.1 same refusal text status
 
 -- at a fault the fault is
-pub of_fault : {limit : ℕ} {all left start now : Option (List ℕ)} {at : ℕ} (unread : Unread) (next : Option (List ℕ)) (e : WireFault) (r : Result Status Failure)
+pub of_fault : {limit : ℕ} {all left start now : Option (List ℕ)} {at : ℕ} (unread : Unread) (next : Option (List ℕ)) (e : WireFault)
+    (r : Result Status Failure)
     → ShownOf limit all left start now unread.octets at → unread.limit ≡ limit → IsRefusal unread e
     → OnOk r (Appends now next (ended (fault_line at e))) → IfOk r (λ s. (s ≡ Refused) × (e.kind ≢ NoMemory))
     → IfOk r (DumpsKnown limit all start next)

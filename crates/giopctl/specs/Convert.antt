@@ -1,6 +1,6 @@
--- The whole text of `convert`, and what a run of it does: by the status that it answers, what its input
--- was and how the writer's contents grew.
-use Rattle.std.specs.Prelude.{◌≡◌, ◌≢◌, ◌⊎◌, ℕ, ◌-◌, ◌==◌, ◌&&◌, Bool, if◌then◌else◌, List, [], ◌∷◌, ◌++◌, length, take, slice_index, Option, Some, None, Result, Ok, Err, codes}
+-- The whole text of `convert`, and what a run of it does: by the status that it answers, what its
+-- input was and how the writer's contents grew.
+use Rattle.std.specs.Prelude.{◌≡◌, ◌≢◌, ◌⊎◌, ℕ, ◌-◌, ◌==◌, ◌&&◌, Bool, if◌then◌else◌, List, [], ◌++◌, length, take, slice_index, Option, Some, None, Result, Ok, Err}
 use Rattle.std.specs.List.{flat_map}
 use Rattle.std.specs.Io.KnownBytes.{Appends}
 use Rattle.hex.specs.declared.error.FromHexError.{FromHexError}
@@ -23,11 +23,11 @@ use Rattle.giop_ior.specs.CorbalocWriting.{corbaloc_text}
 use Rattle.giop_ior.specs.Iiop.{Profile, iiop_of}
 use Rattle.giop_ior.specs.Ior.{Reference, ior_layout}
 use Rattle.giop_ior.specs.ToIor.{ior_of, are_profiles}
-use Rattle.giop_types.specs.JsonForms.DescFromJson.{json_in}
+use Rattle.giop_types.specs.JsonForms.DescFromJson.{json_in, desc_told}
 use Rattle.giop_types.specs.declared.json.form_fault.FormFault.{FormFault}
 use Rattle.giop_types.specs.declared.json.form_fault.FormFault.TheVariants.{BadJson}
 use Rattle.giop_types.specs.declared.ior_text_fault.IorTextFault.{IorTextFault}
-use Rattle.giop_types.specs.declared.ior_text_fault.IorTextFault.TheVariants.{BadPrefix, BadHex, Cdr, NoMemory}
+use Rattle.giop_types.specs.declared.ior_text_fault.IorTextFault.TheVariants.{Cdr}
 use Rattle.giop_types.specs.Coding.Decoding.{decode_at}
 use Rattle.giop_types.specs.JsonForms.FromJson.{from_data}
 use Rattle.giop_types.specs.IorText.{IorText, RefusedText, text_written}
@@ -40,7 +40,7 @@ use Rattle.giopctl.specs.declared.lines.refusal.RefusalLine.TheVariants as refus
 use Rattle.giopctl.specs.declared.commands.described.Way.{Way}
 use Rattle.giopctl.specs.declared.commands.described.Way.TheVariants.{Encode, Decode}
 use Rattle.giopctl.specs.declared.status.Status.{Status}
-use Rattle.giopctl.specs.declared.status.Status.TheVariants.{Done, Refused, Usage, InputOutput, Memory}
+use Rattle.giopctl.specs.declared.status.Status.TheVariants.{Done, Refused}
 use Rattle.giopctl.specs.ConvertLines.{refusal_line, type_line, iiop_line, profile_line}
 use Rattle.giopctl.specs.Dump.{ended}
 
@@ -63,9 +63,11 @@ abbrev pub viewed_line : TaggedProfile → Result Profile CdrFault → List ℕ
 viewed_line p (Ok view) = iiop_line view
 viewed_line p (Err e) = profile_line p
 
+-- the line of a profile by its tag
 abbrev pub line_of_profile : TaggedProfile → List ℕ
 line_of_profile p = if p.tag == 0 then viewed_line p (iiop_of p.octets) else profile_line p
 
+-- a line for each profile
 abbrev pub profile_lines : List TaggedProfile → List ℕ
 profile_lines profiles = flat_map (λ p. ended (line_of_profile p)) profiles
 
@@ -131,7 +133,8 @@ RefusedForm shape text e =
     ⊎ ((d : Data) × (json_in text ≡ Some d) × (from_data shape d ≡ Err e))
 
 -- `convert encode` of a file's octets
-abbrev pub ConvertsEncode : Shape → Order → List ℕ → Option (List ℕ) → Option (List ℕ) → Status → Type 0
+abbrev pub ConvertsEncode : Shape → Order → List ℕ → Option (List ℕ) → Option (List ℕ) → Status
+    → Type 0
 ConvertsEncode shape order octets old new Done =
     (d : Data) × (tree : Tree) × (json_in (unended octets) ≡ Some d) × (from_data shape d ≡ Ok tree)
     × Appends old new (ended (encode_lower (value_octets shape order tree)))
@@ -152,7 +155,8 @@ RefusedOctets shape order octets e =
     × (after.rest ≢ []) × (e ≡ fault after.at Trailing))
 
 -- `convert decode` of a file's octets
-abbrev pub ConvertsDecode : Shape → Order → List ℕ → Option (List ℕ) → Option (List ℕ) → Status → Type 0
+abbrev pub ConvertsDecode : Shape → Order → List ℕ → Option (List ℕ) → Option (List ℕ) → Status
+    → Type 0
 ConvertsDecode shape order octets old new Done =
     (said : List ℕ) × (tree : Tree) × (after : Cursor) × (decode_of (unended octets) ≡ Ok said)
     × (decode_at shape (reader_of order said) ≡ Ok (tree, after)) × (after.rest ≡ [])
@@ -165,12 +169,18 @@ ConvertsDecode shape order octets old new _ = ⊥
 
 -- ---- values by the text of a description
 
-abbrev pub ConvertsBy : Way → Shape → Order → List ℕ → Option (List ℕ) → Option (List ℕ) → Status → Type 0
+-- converting a value one of the two ways, by a description
+abbrev pub ConvertsBy : Way → Shape → Order → List ℕ → Option (List ℕ) → Option (List ℕ) → Status
+    → Type 0
 ConvertsBy Encode = ConvertsEncode
 ConvertsBy Decode = ConvertsDecode
 
--- `convert encode` or `convert decode`, by some description, or its text was refused
-abbrev pub ConvertsValue : Way → Order → List ℕ → Option (List ℕ) → Option (List ℕ) → Status → Type 0
-ConvertsValue way order octets old new status =
-    ((shape : Shape) × ConvertsBy way shape order octets old new status)
-    ⊎ ((status ≡ Refused) × ((e : FormFault) × Tells old new (refusal.Form e)))
+-- `convert encode` or `convert decode`, by the description that a text is; where it is none, its
+-- fault is told, and no other
+abbrev pub ConvertsValue : Way → Order → List ℕ → List ℕ → Option (List ℕ) → Option (List ℕ)
+    → Status → Type 0
+ConvertsValue way order description octets old new status =
+    ((shape : Shape) × (desc_told (json_in description) ≡ Ok shape)
+    × ConvertsBy way shape order octets old new status)
+    ⊎ ((status ≡ Refused) × ((e : FormFault) × (desc_told (json_in description) ≡ Err e)
+    × Tells old new (refusal.Form e)))

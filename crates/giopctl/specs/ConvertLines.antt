@@ -23,7 +23,8 @@ placed_text number name at =
 -- a refusal, with its place where it has one
 abbrev pub refusal_line : RefusalLine → List ℕ
 refusal_line (IorText e) = fault_text (ior_text_fault_number e) (ior_text_fault_name e)
-refusal_line (Corbaloc e) = placed_text (corbaloc_kind_number e.kind) (corbaloc_kind_name e.kind) e.at
+refusal_line (Corbaloc e) =
+    placed_text (corbaloc_kind_number e.kind) (corbaloc_kind_name e.kind) e.at
 refusal_line (Reference e) = fault_text (encode_fault_number e) (encode_fault_name e)
 refusal_line (Form e) = fault_text (form_fault_number e) (form_fault_name e)
 refusal_line BadHex = codes "fault 2 BadHex"

@@ -90,7 +90,8 @@ dump_text limit messages rest =
     ++ ended (end_line (length (flat_map message_octets messages)) rest (rest_fault limit rest))
 
 -- the octets are these messages and a rest, and the writer's contents grew by their text
-pub record Prints (limit : ℕ) (octets : List ℕ) (old new : Option (List ℕ)) (messages : List Msg) (rest : List ℕ) : Type 0 where
+pub record Prints (limit : ℕ) (octets : List ℕ) (old new : Option (List ℕ)) (messages : List Msg)
+    (rest : List ℕ) : Type 0 where
   pub split : Msgs limit octets messages rest
   pub text : Appends old new (dump_text limit messages rest)
 
@@ -99,7 +100,8 @@ pub record Prints (limit : ℕ) (octets : List ℕ) (old new : Option (List ℕ)
 abbrev pub Dumps : ℕ → List ℕ → Option (List ℕ) → Option (List ℕ) → Status → Type 0
 Dumps limit octets old new Done = (messages : List Msg) × Prints limit octets old new messages []
 Dumps limit octets old new Refused =
-    (messages : List Msg) × (rest : List ℕ) × Prints limit octets old new messages rest × (rest ≢ [])
+    (messages : List Msg) × (rest : List ℕ) × Prints limit octets old new messages rest
+    × (rest ≢ [])
 Dumps limit octets old new Usage = ⊥
 Dumps limit octets old new InputOutput = ⊤
 Dumps limit octets old new Memory = ⊤

@@ -87,8 +87,8 @@ Examples:
 
 const IOR_HELP: &str = "\
 The file holds IOR: and hexadecimal digits. The first line is the type id, the last one the text
-again; between them each profile has a line: one of tag 0 its version, host, port, object key and the
-number of its components, any other its tag and its octets.
+again; between them each profile has a line: one of tag 0 its version, host, port, object key and
+the number of its components, any other its tag and its octets.
 
 Example:
   giopctl convert ior examples/printer.ior";
@@ -108,14 +108,14 @@ Example:
   giopctl convert encode examples/point.json --desc examples/point.desc.json --little";
 
 const DECODE_HELP: &str = "\
-The file holds octets in hexadecimal, from offset 0 on, and the file of --desc the description of the
-value that they are. The line is the value in JSON.
+The file holds octets in hexadecimal, from offset 0 on, and the file of --desc the description of
+the value that they are. The line is the value in JSON.
 
 Example:
   giopctl convert decode examples/point.hex --desc examples/point.desc.json";
 
-/// What the words ask for, of which the first is the program's name. There is no task where they are
-/// refused or ask for help or the version: then the error has the text to print.
+/// What the words ask for, of which the first is the program's name. There is no task where they
+/// are refused or ask for help or the version: then the error has the text to print.
 pub fn task_of<'a>(alloc: Global, words: &'a [String]) -> Result<Option<Task<'a>>, Error> {
     let matches = giopctl(alloc)?.try_get_matches_from(words)?;
     if let Some(dump) = matches.subcommand_matches("dump") {

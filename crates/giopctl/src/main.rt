@@ -1,5 +1,5 @@
-//! The program giopctl: it shows what files of GIOP messages hold, and writes references and values in
-//! another form.
+//! The program giopctl: it shows what files of GIOP messages hold, and writes references and values
+//! in another form.
 #![tactic(auto)]
 
 mod cli;

@@ -22,7 +22,8 @@ pub fn arguments(rt: &impl Eprint, error: &io::Error) -> Status
     }
 }
 
-/// The words of the command line ask for help or the version, or for nothing that the program knows.
+/// The words of the command line ask for help or the version, or for nothing that the program
+/// knows.
 pub fn usage(rt: &(impl Print + Eprint), error: &clap::Error) -> Status
     ensures { (result ≡ usage_status (kind_of error.now)) ⊎ (result ≡ Status.InputOutput) }
 {

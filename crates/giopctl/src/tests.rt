@@ -3,6 +3,7 @@
 mod convert;
 mod dump;
 mod failing;
+mod octets;
 mod reading;
 mod recorded;
 mod words;

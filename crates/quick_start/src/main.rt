@@ -1,5 +1,5 @@
-//! Prints the id and the operation of each Request on the standard input: Jettyapron as a library, in
-//! one page.
+//! Prints the id and the operation of each Request on the standard input: Jettyapron as a library,
+//! in one page.
 #![tactic(auto)]
 
 use anyhow::Result;

@@ -1,4 +1,5 @@
-//! How the crates are called: small callers, each with its contract, that the pages CALLING.md show.
+//! How the crates are called: small callers, each with its contract, that the pages CALLING.md
+//! show.
 #![tactic(auto)]
 
 mod gathered;

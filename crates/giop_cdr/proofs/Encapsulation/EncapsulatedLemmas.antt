@@ -44,7 +44,8 @@ Inside P octets behind v d = Encapsulates P octets v × (d ≡ behind)
 -- octets that begin with a byte order
 ordered_exact : {A : Type 0} (P : Spelling A) (R : Refusal) (read : Cursor → Reading A) → IsExact (Took P) R read
     → (o : Order) (octets : List ℕ) (at : ℕ) (behind : Cursor)
-    → IsExactHere (Inside P (order_octet o ∷ octets) behind) (RefusedInside R at (order_octet o ∷ octets)) (read (content_of o octets) >>= λ v. Ok (v.0, behind))
+    → IsExactHere (Inside P (order_octet o ∷ octets) behind) (RefusedInside R at (order_octet o ∷ octets))
+    (read (content_of o octets) >>= λ v. Ok (v.0, behind))
 ordered_exact {A} P R read exact o octets at behind = record {
   found = λ v d h. bind_elim (Inside P (order_octet o ∷ octets) behind v d) (read (content_of o octets)) (λ x. Ok (x.0, behind)) (v, d)
       (λ x is f.
@@ -82,7 +83,8 @@ ordered_exact {A} P R read exact o octets at behind = record {
 }
 
 -- octets that an encapsulation has, of which the first stands at an offset
-pub inside_exact : {A : Type 0} (P : Spelling A) (R : Refusal) (read : Cursor → Reading A) → IsExact (Took P) R read → (at : ℕ) (octets : List ℕ) (behind : Cursor)
+pub inside_exact : {A : Type 0} (P : Spelling A) (R : Refusal) (read : Cursor → Reading A) → IsExact (Took P) R read
+    → (at : ℕ) (octets : List ℕ) (behind : Cursor)
     → IsExactHere (Inside P octets behind) (RefusedInside R at octets) (inside_at read at octets behind)
 unfolding inside_at
 inside_exact P R read exact at [] behind = record {
@@ -114,7 +116,8 @@ inside_exact P R read exact at (suc (suc k) ∷ octets) behind = record {
 
 encapsulation_written : {A : Type 0} (order : Order) (is_short : A → Bool) (f : Layout A) → IsShortTest order is_short f → IsLawful f
     → (v : A) (out : Output) → (f.fits v ≡ true) × (is_short v ≡ true) → f.holds v
-    → IsSpelled (Then SpellsOctets (λ octets o at w b. Encapsulates f.spells octets w × (b ≡ []))) v out (closed (place_opened out) (f.written v (opened order out)))
+    → IsSpelled (Then SpellsOctets (λ octets o at w b. Encapsulates f.spells octets w × (b ≡ []))) v out
+    (closed (place_opened out) (f.written v (opened order out)))
 unfolding opened
 encapsulation_written {A} order is_short f short one v out fits holds =
     let now : Output = f.written v (opened order out) in
@@ -135,7 +138,16 @@ encapsulation_written {A} order is_short f short one v out fits holds =
         back = [];
         whole = sym (append-nil b.part);
         spells_front = b.spells;
-        spells_back = (record { order = order; front = s.part; rest = []; whole = ap (λ (l : List ℕ). order_octet order ∷ l) (sym (append-nil s.part)); spells = s.spells }, refl);
+        spells_back = (
+          record {
+            order = order;
+            front = s.part;
+            rest = [];
+            whole = ap (λ (l : List ℕ). order_octet order ∷ l) (sym (append-nil s.part));
+            spells = s.spells;
+          },
+          refl,
+        );
       };
     })
 
@@ -144,7 +156,8 @@ pub encapsulation_is : {A : Type 0} (order : Order) (is_short : A → Bool) {f :
 unfolding encapsulation
 encapsulation_is {A} order is_short {f} short one = record {
   exact = λ c. exact_by (InTurn (Took SpellsOctets) (λ octets d v e. Encapsulates f.spells octets v × (e ≡ d)) c) _ _ _ _
-      (λ v e m. ended_to SpellsOctets (Encapsulates f.spells) c v e m) (λ v e t. ended_from SpellsOctets (Encapsulates f.spells) c v e t) (λ e why. why) (λ e why. why)
+      (λ v e m. ended_to SpellsOctets (Encapsulates f.spells) c v e m) (λ v e t. ended_from SpellsOctets (Encapsulates f.spells) c v e t) (λ e why. why)
+      (λ e why. why)
       (follow_exact (Took SpellsOctets) (RefusedOctets 0) (λ octets d v e. Encapsulates f.spells octets v × (e ≡ d))
       (λ octets d. RefusedInside f.refused (place 4 c + 4) octets) c (octets_at 0 c) (λ octets d. inside_at f.read (place 4 c + 4) octets d)
       (any_octets c) (λ octets d t. inside_exact f.spells f.refused f.read one.exact (place 4 c + 4) octets d));
@@ -154,7 +167,8 @@ encapsulation_is {A} order is_short {f} short one = record {
       let parts = octets_of_whole octets s.front s.back s.whole all in
       let counted = octets_of_whole s.front s.spells_front.front s.spells_front.back s.spells_front.whole parts.0 in
       let inside : AreOctets (order_octet e.order ∷ (e.front ++ e.rest)) = subst AreOctets (s.spells_front.spells_back.1 ∙ e.whole) counted.1 in
-      let content = octets_of_whole (e.front ++ e.rest) e.front e.rest refl (All-tail (λ octet. octet < 256) (order_octet e.order) (e.front ++ e.rest) inside) in
+      let content =
+      octets_of_whole (e.front ++ e.rest) e.front e.rest refl (All-tail (λ octet. octet < 256) (order_octet e.order) (e.front ++ e.rest) inside) in
       let fits = one.fitting e.order 1 v e.front content.0 e.spells in
       let small : length s.first < 2 ^ 32 = ltb-true _ _ (octets_count o at s.first s.front parts.0 s.spells_front) in
       let long : length s.first ≡ suc (length (e.front ++ e.rest)) = ap length e.whole in

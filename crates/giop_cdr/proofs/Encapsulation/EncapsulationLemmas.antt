@@ -77,16 +77,22 @@ opening_exact c d [] = record {
 }
 opening_exact c d (zero ∷ octets) = record {
   found = λ v e h.
-      let same : (content_of Big octets, d) ≡ (v, e) = ok_same (content_of Big octets, d) (v, e) h in
-      (record { order = Big; content = octets; whole = refl; value = ap (λ (p : Cursor × Cursor). p.0) (sym same) }, ap (λ (p : Cursor × Cursor). p.1) (sym same));
+      let same : (content_of Big octets, d) ≡ (v, e) = ok_same (content_of Big octets, d) (v, e) h in (
+        record { order = Big; content = octets; whole = refl; value = ap (λ (p : Cursor × Cursor). p.0) (sym same) },
+        ap (λ (p : Cursor × Cursor). p.1)
+            (sym same),
+      );
   only = λ v e m. opens_to c d (zero ∷ octets) v e m;
   refused = λ e h. absurd cc;
   refuses = λ e why. elim why [ inl r ↦ absurd cc | inr r ↦ absurd (omega (arith, r.0)) ];
 }
 opening_exact c d (suc zero ∷ octets) = record {
   found = λ v e h.
-      let same : (content_of Little octets, d) ≡ (v, e) = ok_same (content_of Little octets, d) (v, e) h in
-      (record { order = Little; content = octets; whole = refl; value = ap (λ (p : Cursor × Cursor). p.0) (sym same) }, ap (λ (p : Cursor × Cursor). p.1) (sym same));
+      let same : (content_of Little octets, d) ≡ (v, e) = ok_same (content_of Little octets, d) (v, e) h in (
+        record { order = Little; content = octets; whole = refl; value = ap (λ (p : Cursor × Cursor). p.0) (sym same) },
+        ap (λ (p : Cursor × Cursor). p.1)
+            (sym same),
+      );
   only = λ v e m. opens_to c d (suc zero ∷ octets) v e m;
   refused = λ e h. absurd cc;
   refuses = λ e why. elim why [ inl r ↦ absurd cc | inr r ↦ absurd (omega (arith, r.0)) ];
@@ -152,6 +158,7 @@ encapsulation_back order out now content grown fits =
       spells_front = back.spells;
       spells_back = (record { order = order; content = content; whole = refl; value = refl }, refl);
     } in
-    subst (λ (done : Output). IsReadBack SpellsEncapsulation encapsulation_at (content_of order content) out done) (sym (closed_is_octets order out now content grown))
+    subst (λ (done : Output). IsReadBack SpellsEncapsulation encapsulation_at (content_of order content) out done)
+    (sym (closed_is_octets order out now content grown))
     (spelled_is_read_back SpellsEncapsulation RefusedEncapsulation encapsulation_at encapsulation_exact (content_of order content) out (octets_out inside out)
     back.part back.octets back.order back.at spelled)

@@ -18,7 +18,8 @@ bind_fails P (Ok x) f e k l h = l x refl h
 bind_fails P (Err d) f e k l h = k cc
 
 -- two steps
-pub follow_exact : {A B : Type 0} (M : Stretch A) (R : Refusal) (N : A → Stretch B) (S : A → Refusal) (c : Cursor) (read : Reading A) (next : A → Cursor → Reading B)
+pub follow_exact : {A B : Type 0} (M : Stretch A) (R : Refusal) (N : A → Stretch B) (S : A → Refusal) (c : Cursor) (read : Reading A)
+    (next : A → Cursor → Reading B)
     → IsExactHere (M c) (R c) read → ((x : A) (d : Cursor) → M c x d → IsExactHere (N x d) (S x d) (next x d))
     → IsExactHere (InTurn M N c) (FirstRefused M R S c) (read >>= λ x. next x.0 x.1)
 follow_exact M R N S c read next one two = record {

@@ -9,7 +9,8 @@ use Rattle.giop_cdr.specs.Reading.Values.{Reading, ◌>>=◌, past, items_at}
 abbrev pub with_front : {A : Type 0} → List A → Reading (List A) → Reading (List A)
 with_front front read = read >>= λ x. Ok (front ++ x.0, x.1)
 
-pub regroup : {A : Type 0} (front : List A) (v : A) (read : Reading (List A)) → with_front front (read >>= λ x. Ok (v ∷ x.0, x.1)) ≡ with_front (front ++ v ∷ []) read
+pub regroup : {A : Type 0} (front : List A) (v : A) (read : Reading (List A))
+    → with_front front (read >>= λ x. Ok (v ∷ x.0, x.1)) ≡ with_front (front ++ v ∷ []) read
 regroup {A} front v (Ok x) = ap (λ (vs : List A). Ok (vs, x.1)) (simp append_assoc)
 regroup front v (Err e) = refl
 

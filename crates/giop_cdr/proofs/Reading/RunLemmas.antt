@@ -1,6 +1,6 @@
 -- Copies of what lies together, made from the front.
 use Rattle.std.proofs.Common.{◌≡◌, ℕ, ◌+◌, ◌-◌, ◌<◌, ◌≤◌, ◌==◌, Bool, true, false, not, ◌&&◌, ◌||◌, List, [], ◌∷◌, ◌++◌, length, get_or, set, take, drop, refl, ap, ◌∙◌, sym, add-one, length-take, arith}
-use Rattle.std.proofs.Math.Seq.{take-suc-set, take-suc, take-add}
+use Rattle.std.proofs.Math.Seq.{take-suc-set, take-suc, take-add, take-length}
 use Rattle.std.proofs.lemmas.List.{drop-drop, drop-take, take-take, length-take-le, get_or-take}
 use Rattle.std.proofs.lemmas.List.Folds.{list_any-append}
 use Rattle.giop_cdr.specs.Reading.Values.{has_null, is_text}
@@ -58,7 +58,8 @@ is_text-take octets count last e within =
     ∙ rw (get_or-take count octets last 0 (omega arith), take-take last count octets (omega arith)) refl
 
 -- a run of a part of a store, no longer than the part
-pub run_of_part : (l run : List ℕ) (from count i part : ℕ) → run ≡ take (length run) (drop (from + i) l) → i < length (take count (drop from l)) → part ≤ length run → part ≤ count - i
+pub run_of_part : (l run : List ℕ) (from count i part : ℕ) → run ≡ take (length run) (drop (from + i) l) → i < length (take count (drop from l))
+    → part ≤ length run → part ≤ count - i
     → take part run ≡ take (length (take part run)) (drop i (take count (drop from l)))
 run_of_part l run from count i part begins within short fits =
     let inside : i ≤ count = omega (arith, length-take count (drop from l)) in
@@ -67,3 +68,7 @@ run_of_part l run from count i part begins within short fits =
     = ap (λ (n : ℕ). drop i (take n (drop from l))) split ∙ rw (drop-take i (count - i) (drop from l), drop-drop i from l) refl in
     let here : take part run ≡ take part (drop (from + i) l) = ap (take part) begins ∙ take-take part (length run) (drop (from + i) l) short in
     rw (length-take-le part run short, rest) (here ∙ sym (take-take part (count - i) (drop (from + i) l) fits))
+
+-- all octets of a list are the list
+pub take_all : (octets : List ℕ) → take (length octets) octets ≡ octets
+take_all octets = take-length octets

@@ -57,7 +57,8 @@ pub none_lie : {A : Type 0} (item : Cursor → Reading A) (c : Cursor) → value
 unfolding items_at
 none_lie item c = refl
 
-length-behind : {A : Type 0} (v : A) (r : Reading (List A)) (n : ℕ) → (IsOk r → length (values_in r) ≡ n) → IsOk (behind v r) → length (values_in (behind v r)) ≡ suc n
+length-behind : {A : Type 0} (v : A) (r : Reading (List A)) (n : ℕ) → (IsOk r → length (values_in r) ≡ n) → IsOk (behind v r)
+    → length (values_in (behind v r)) ≡ suc n
 length-behind v (Ok x) n long is = ap suc (long refl)
 length-behind v (Err e) n long is = absurd cc
 
@@ -71,7 +72,8 @@ length-from_first item n (Ok x) long is = length-behind x.0 (items_at item n x.1
 length-from_first item n (Err e) long is = absurd cc
 
 -- they are as many as were counted
-pub length-lying : {A : Type 0} (item : Cursor → Reading A) (count : ℕ) (c : Cursor) → IsOk (items_at item count c) → length (values_in (items_at item count c)) ≡ count
+pub length-lying : {A : Type 0} (item : Cursor → Reading A) (count : ℕ) (c : Cursor) → IsOk (items_at item count c)
+    → length (values_in (items_at item count c)) ≡ count
 unfolding items_at
 length-lying item zero c is = refl
 length-lying item (suc n) c is = length-from_first item n (item c) (λ d. length-lying item n d) is

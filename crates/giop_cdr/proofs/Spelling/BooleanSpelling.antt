@@ -92,7 +92,8 @@ boolean_refused_from c e why = elim why [
 
 pub boolean_exact : IsExact (Took SpellsBoolean) RefusedBoolean boolean_at
 unfolding boolean_at
-boolean_exact c = exact_by (InTurn (Took (SpellsNumber w8)) Tested c) (Took SpellsBoolean c) (FirstRefused (Took (SpellsNumber w8)) (RefusedShort 1) (Untested c) c)
+boolean_exact c =
+    exact_by (InTurn (Took (SpellsNumber w8)) Tested c) (Took SpellsBoolean c) (FirstRefused (Took (SpellsNumber w8)) (RefusedShort 1) (Untested c) c)
     (RefusedBoolean c) (boolean_at c) (boolean_to c) (boolean_from c) (boolean_refused_to c) (boolean_refused_from c)
     (follow_exact (Took (SpellsNumber w8)) (RefusedShort 1) Tested (Untested c) c (number_at w8 c)
     (λ n d. if ltb 1 n then Err (fault (place 1 c) BadBoolean) else Ok (n == 1, d)) (number_exact w8 c)

@@ -15,7 +15,8 @@ pub then_exact : {A B : Type 0} (P : Spelling A) (Q : A → Spelling B) (R : Ref
     (read : Cursor → Reading A) (next : A → Cursor → Reading B)
     → IsExact (Took P) R read → ((x : A) → IsExact (Took (Q x)) (S x) (next x))
     → IsExact (Took (Then P Q)) (FirstRefused (Took P) R S) (λ c. read c >>= λ x. next x.0 x.1)
-then_exact P Q R S read next one two c = exact_by (InTurn (Took P) (λ x. Took (Q x)) c) (Took (Then P Q) c) (FirstRefused (Took P) R S c) (FirstRefused (Took P) R S c)
+then_exact P Q R S read next one two c =
+    exact_by (InTurn (Took P) (λ x. Took (Q x)) c) (Took (Then P Q) c) (FirstRefused (Took P) R S c) (FirstRefused (Took P) R S c)
     (read c >>= λ x. next x.0 x.1) (then_from_follow P Q c) (follow_from_then P Q c) (λ e why. why) (λ e why. why)
     (follow_exact (Took P) R (λ x. Took (Q x)) S c (read c) next (one c) (λ x d t. two x d))
 
@@ -85,7 +86,8 @@ such_exact test n kind P R read exact c =
     (λ x d t. guard_exact (not (test x)) (fault (place n c) kind) (λ v e. (v ≡ x) × (e ≡ d)) (λ _. ⊥) (Ok (x, d)) (known_exact x d)))
 
 -- the same reader, written in another way
-pub exact_as : {A : Type 0} (M : Stretch A) (R : Refusal) (read again : Cursor → Reading A) → ((c : Cursor) → again c ≡ read c) → IsExact M R read → IsExact M R again
+pub exact_as : {A : Type 0} (M : Stretch A) (R : Refusal) (read again : Cursor → Reading A) → ((c : Cursor) → again c ≡ read c) → IsExact M R read
+    → IsExact M R again
 exact_as M R read again same exact c = subst (λ (r : Reading _). IsExactHere (M c) (R c) r) (sym (same c)) (exact c)
 
 no_bound_to : (P : Spelling (List ℕ)) (c : Cursor) (v : List ℕ) (d : Cursor) → Took (Bounded 0 P) c v d → Took P c v d

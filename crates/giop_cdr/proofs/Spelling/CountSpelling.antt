@@ -46,7 +46,8 @@ refused_from c e why = elim why [
 
 pub count_exact : IsExact Counts RefusedCount count_at
 unfolding count_at
-count_exact c = exact_by (InTurn (Took (SpellsNumber w32)) not_above c) (Counts c) (FirstRefused (Took (SpellsNumber w32)) (RefusedShort 4) (above c) c) (RefusedCount c)
+count_exact c =
+    exact_by (InTurn (Took (SpellsNumber w32)) not_above c) (Counts c) (FirstRefused (Took (SpellsNumber w32)) (RefusedShort 4) (above c) c) (RefusedCount c)
     (count_at c) (counts_to c) (counts_from c) (refused_to c) (refused_from c)
     (follow_exact (Took (SpellsNumber w32)) (RefusedShort 4) not_above (above c) c (number_at w32 c)
     (λ n d. if ltb (length d.rest) n then Err (fault (place 4 c) BadCount) else Ok (n, d)) (number_exact w32 c)
@@ -112,7 +113,9 @@ octets_refused_from bound c e why = elim why [
 
 pub octets_exact : (bound : ℕ) → IsExact (Took (Bounded bound SpellsOctets)) (RefusedOctets bound) (octets_at bound)
 unfolding octets_at
-octets_exact bound c = exact_by (InTurn Counts (within bound) c) (Took (Bounded bound SpellsOctets) c) (FirstRefused Counts RefusedCount (passed bound c) c) (RefusedOctets bound c)
+octets_exact bound c =
+    exact_by (InTurn Counts (within bound) c) (Took (Bounded bound SpellsOctets) c) (FirstRefused Counts RefusedCount (passed bound c) c)
+    (RefusedOctets bound c)
     (octets_at bound c) (octets_to bound c) (octets_from bound c) (octets_refused_to bound c) (octets_refused_from bound c)
     (follow_exact Counts RefusedCount (within bound) (passed bound c) c (count_at c)
     (λ n d. if passes bound n then Err (fault (place 4 c) BoundPassed) else Ok (take n d.rest, skip n d)) (count_exact c)

@@ -98,7 +98,8 @@ items_exact P R item exact (suc n) c = exact_by (InTurn (Took P) (Behind P n) c)
 
 -- ---- sequences
 
-pub each_is_long : {A : Type 0} (P : Spelling A) → TakesOctets P → (o : Order) (at : ℕ) (vs : List A) (b : List ℕ) → SpellsEach P o at vs b → length vs ≤ length b
+pub each_is_long : {A : Type 0} (P : Spelling A) → TakesOctets P → (o : Order) (at : ℕ) (vs : List A) (b : List ℕ) → SpellsEach P o at vs b
+    → length vs ≤ length b
 each_is_long P takes o at [] b e = omega arith
 each_is_long P takes o at (v ∷ vs) b e =
     let first : 0 < length e.0 = takes o at v e.0 e.3 in

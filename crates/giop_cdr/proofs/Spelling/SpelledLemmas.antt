@@ -59,7 +59,14 @@ items_spelled P item Fits each (v ∷ vs) out fit =
       octets = two.octets ∙ (ap (λ (octets : List ℕ). octets ++ two.part) one.octets ∙ append_assoc out.octets one.part two.part);
       order = two.order ∙ one.order;
       at = omega (arith, one.at, two.at, length-append one.part two.part);
-      spells = (one.part, two.part, refl, one.spells, moved (SpellsEach P) out.order mid.order (out.at + length one.part) mid.at vs two.part one.order one.at two.spells);
+      spells = (
+        one.part,
+        two.part,
+        refl,
+        one.spells,
+        moved (SpellsEach P) out.order mid.order
+            (out.at + length one.part) mid.at vs two.part one.order one.at two.spells,
+      );
     }
 
 -- a sequence
@@ -70,5 +77,6 @@ unfolding sequence_out
 sequence_spelled P item Fits each vs out few fit =
     let count = spelled_of (SpellsNumber w32) _ (length vs) out (number_out w32 (length vs) out) (number_back w32 (length vs) out refl few) in
     let items = items_spelled P item Fits each vs (number_out w32 (length vs) out) fit in
-    then_spelled (SpellsNumber w32) (CountedItems P) (length vs) vs out (number_out w32 (length vs) out) (items_out item vs (number_out w32 (length vs) out)) count
+    then_spelled (SpellsNumber w32) (CountedItems P) (length vs) vs out (number_out w32 (length vs) out)
+    (items_out item vs (number_out w32 (length vs) out)) count
     (record { part = items.part; octets = items.octets; order = items.order; at = items.at; spells = (refl, items.spells) })

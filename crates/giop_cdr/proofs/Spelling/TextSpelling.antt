@@ -142,7 +142,9 @@ string_refused_from bound c e why = elim why [
 
 pub string_exact : (bound : ℕ) → IsExact (Took (Bounded bound SpellsString)) (RefusedString bound) (string_at bound)
 unfolding string_at
-string_exact bound c = exact_by (InTurn Counts (within bound) c) (Took (Bounded bound SpellsString) c) (FirstRefused Counts RefusedCount (no_text bound c) c) (RefusedString bound c)
+string_exact bound c =
+    exact_by (InTurn Counts (within bound) c) (Took (Bounded bound SpellsString) c) (FirstRefused Counts RefusedCount (no_text bound c) c)
+    (RefusedString bound c)
     (string_at bound c) (string_to bound c) (string_from bound c) (string_refused_to bound c) (string_refused_from bound c)
     (follow_exact Counts RefusedCount (within bound) (no_text bound c) c (count_at c)
     (λ n d. if not (is_text (take n d.rest)) then Err (fault (place 4 c) BadString)

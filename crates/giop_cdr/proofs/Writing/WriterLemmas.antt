@@ -37,6 +37,7 @@ item_written {A} item xs i x out done there is so_far =
     sym (ap (λ (rest : List A). items_out item rest out) split) ∙ so_far
 
 -- the loop is done
-pub items_written : {A : Type 0} (item : A → Output → Output) (xs : List A) (i : ℕ) (out done : Output) → length xs ≤ i → items_out item (drop i xs) out ≡ done → out ≡ done
+pub items_written : {A : Type 0} (item : A → Output → Output) (xs : List A) (i : ℕ) (out done : Output) → length xs ≤ i → items_out item (drop i xs) out ≡ done
+    → out ≡ done
 unfolding items_out
 items_written {A} item xs i out done all so_far = sym (ap (λ (rest : List A). items_out item rest out) (drop_all i xs all)) ∙ so_far

@@ -63,7 +63,8 @@ cast_unsigned-fits w64 (pos n) is fits = omega (arith, fits.sfits)
 cast_unsigned-fits w64 (negsuc n) is fits = omega arith
 cast_unsigned-fits w128 z is fits = absurd cc
 
-pub spells_written_signed : (w : Width) (z : ℤ) (o : Order) (at : ℕ) → is_primitive w ≡ true → FitsSigned w z → SpellsSigned w o at z (written o at w (cast_unsigned w z))
+pub spells_written_signed : (w : Width) (z : ℤ) (o : Order) (at : ℕ) → is_primitive w ≡ true → FitsSigned w z
+    → SpellsSigned w o at z (written o at w (cast_unsigned w z))
 spells_written_signed w z o at is fits = record {
   pads = replicate (pad (byte_len w) at) 0;
   octets = octets_of o w (cast_unsigned w z);

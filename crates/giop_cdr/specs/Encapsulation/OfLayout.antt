@@ -28,7 +28,8 @@ RefusedInside R at octets e =
     ⊎ ((1 < slice_index octets 0) × (e ≡ fault at BadOrder))
     ⊎ ((content : Cursor) × Opens octets content × R content e)
 
--- the value in octets of which the first stands at an offset, and where the reader of outside goes on
+-- the value in octets of which the first stands at an offset, and where the reader of outside goes
+-- on
 unfoldable pub inside_at : {A : Type 0} → (Cursor → Reading A) → ℕ → List ℕ → Cursor → Reading A
 inside_at read at octets behind = do
   content ← opened_of at octets behind
@@ -39,7 +40,8 @@ inside_at read at octets behind = do
 unfoldable pub encapsulation : {A : Type 0} → Order → (A → Bool) → Layout A → Layout A
 encapsulation order is_short f = record {
   spells = Then SpellsOctets (λ octets o at v b. Encapsulates f.spells octets v × (b ≡ []));
-  refused = λ c. FirstRefused (Took SpellsOctets) (RefusedOctets 0) (λ octets d. RefusedInside f.refused (place 4 c + 4) octets) c;
+  refused = λ c. FirstRefused (Took SpellsOctets) (RefusedOctets 0)
+      (λ octets d. RefusedInside f.refused (place 4 c + 4) octets) c;
   read = λ c. octets_at 0 c >>= λ octets. inside_at f.read (place 4 c + 4) octets.0 octets.1;
   written = λ v out. closed (place_opened out) (f.written v (opened order out));
   fits = λ v. f.fits v && is_short v;
@@ -48,7 +50,10 @@ encapsulation order is_short f = record {
 
 -- the test of what is short enough: so is what is written, and so is whatever is spelled in octets
 -- that an unsigned long counts
-pub record IsShortTest {A : Type 0} (order : Order) (is_short : A → Bool) (f : Layout A) : Type 0 where
+pub record IsShortTest {A : Type 0} (order : Order) (is_short : A → Bool)
+    (f : Layout A) : Type 0 where
   pub written : (v : A) (out : Output) → f.fits v ≡ true → f.holds v → is_short v ≡ true
-      → length (f.written v (opened order out)).octets < length (opened order out).octets + (2 ^ 32 - 1)
-  pub spelled : (o : Order) (v : A) (octets : List ℕ) → AreOctets octets → f.spells o 1 v octets → length octets + 1 < 2 ^ 32 → is_short v ≡ true
+      → length (f.written v (opened order out)).octets
+      < length (opened order out).octets + (2 ^ 32 - 1)
+  pub spelled : (o : Order) (v : A) (octets : List ℕ) → AreOctets octets → f.spells o 1 v octets
+      → length octets + 1 < 2 ^ 32 → is_short v ≡ true

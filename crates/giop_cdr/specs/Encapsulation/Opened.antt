@@ -60,11 +60,19 @@ RefusedEncapsulation c e = FirstRefused (Took SpellsOctets) (RefusedOctets 0)
 -- hold
 unfoldable pub opened : Order → Output → Output
 opened order out =
-    record { order = order; at = 1; octets = out.octets ++ (aligned 4 out (replicate 4 0) ++ order_octet order ∷ []) }
+    record {
+      order = order;
+      at = 1;
+      octets = out.octets ++ (aligned 4 out (replicate 4 0) ++ order_octet order ∷ []);
+    }
 
 unfoldable pub place_opened : Output → Place
 place_opened out =
-    record { len = length out.octets + (pad 4 out.at + 4); order = out.order; at = out.at + (pad 4 out.at + 4) }
+    record {
+      len = length out.octets + (pad 4 out.at + 4);
+      order = out.order;
+      at = out.at + (pad 4 out.at + 4);
+    }
 
 -- the length is known, and the outer order and alignment hold again
 unfoldable pub closed : Place → Output → Output
@@ -72,5 +80,6 @@ closed p out =
     record {
       order = p.order;
       at = p.at + (length out.octets - p.len);
-      octets = take (p.len - 4) out.octets ++ (octets_of p.order w32 (length out.octets - p.len) ++ drop p.len out.octets);
+      octets = take (p.len - 4) out.octets
+          ++ (octets_of p.order w32 (length out.octets - p.len) ++ drop p.len out.octets);
     }

@@ -1,4 +1,5 @@
--- Where a reader stands, and where a value begins (CORBA 3.3 Part 2, 9.3.1: byte order and alignment).
+-- Where a reader stands, and where a value begins (CORBA 3.3 Part 2, 9.3.1: byte order and
+-- alignment).
 use Rattle.std.specs.Prelude.{ℕ, ◌+◌, ◌-◌, ◌%◌, ◌==◌, ◌||◌, Bool, List, take, drop}
 use Rattle.std.specs.Int.{Width, from_be_bytes, from_le_bytes}
 use Rattle.giop_cdr.specs.declared.order.Order.{Order}

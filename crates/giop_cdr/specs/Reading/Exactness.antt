@@ -27,7 +27,8 @@ abbrev pub Refusal : Type 1
 Refusal = Cursor → CdrFault → Type 0
 
 -- an answer is a value exactly where it lies there, and a fault exactly where it is refused so
-pub record IsExactHere {A : Type 0} (M : A → Cursor → Type 0) (R : CdrFault → Type 0) (answer : Reading A) : Type 0 where
+pub record IsExactHere {A : Type 0} (M : A → Cursor → Type 0) (R : CdrFault → Type 0)
+    (answer : Reading A) : Type 0 where
   pub found : (v : A) (d : Cursor) → answer ≡ Ok (v, d) → M v d
   pub only : (v : A) (d : Cursor) → M v d → answer ≡ Ok (v, d)
   pub refused : (e : CdrFault) → answer ≡ Err e → R e
@@ -39,21 +40,24 @@ IsExact M R read = (c : Cursor) → IsExactHere (M c) (R c) (read c)
 
 -- no spelling of a value begins another spelling, of this value or of another
 abbrev pub StandsAlone : {A : Type 0} → Spelling A → Type 0
-StandsAlone {A} P = (o : Order) (at : ℕ) (v w : A) (a b x y : List ℕ) → P o at v a → P o at w b → a ++ x ≡ b ++ y → (v ≡ w) × (a ≡ b)
+StandsAlone {A} P = (o : Order) (at : ℕ) (v w : A) (a b x y : List ℕ) → P o at v a → P o at w b
+    → a ++ x ≡ b ++ y → (v ≡ w) × (a ≡ b)
 
 -- every spelling has an octet: so a count above what remains can't be met
 abbrev pub TakesOctets : {A : Type 0} → Spelling A → Type 0
 TakesOctets {A} P = (o : Order) (at : ℕ) (v : A) (b : List ℕ) → P o at v b → 0 < length b
 
 -- one value and then another
-pub record InTurn {A B : Type 0} (M : Stretch A) (N : A → Stretch B) (c : Cursor) (v : B) (e : Cursor) : Type 0 where
+pub record InTurn {A B : Type 0} (M : Stretch A) (N : A → Stretch B) (c : Cursor) (v : B)
+    (e : Cursor) : Type 0 where
   pub first : A
   pub middle : Cursor
   pub front : M c first middle
   pub back : N first middle v e
 
 -- the first value lies there, and what follows is refused
-pub record RefusedBehind {A : Type 0} (M : Stretch A) (S : A → Refusal) (c : Cursor) (e : CdrFault) : Type 0 where
+pub record RefusedBehind {A : Type 0} (M : Stretch A) (S : A → Refusal) (c : Cursor)
+    (e : CdrFault) : Type 0 where
   pub first : A
   pub middle : Cursor
   pub front : M c first middle
@@ -74,7 +78,8 @@ RefusedShort n c e = (length c.rest < pad n c.at + n) × (e ≡ fault (place n c
 -- an octet is there that is no boolean
 abbrev pub RefusedBoolean : Refusal
 RefusedBoolean c e =
-    FirstRefused (Took (SpellsNumber w8)) (RefusedShort 1) (λ n d f. (1 < n) × (f ≡ fault (place 1 c) BadBoolean)) c e
+    FirstRefused (Took (SpellsNumber w8)) (RefusedShort 1)
+    (λ n d f. (1 < n) × (f ≡ fault (place 1 c) BadBoolean)) c e
 
 -- no value is there, or one that fails a test
 abbrev pub RefusedUnless : {A : Type 0} → (A → Bool) → ℕ → CdrKind → Stretch A → Refusal → Refusal
@@ -88,18 +93,21 @@ Counts c n d = Took (SpellsNumber w32) c n d × (n ≤ length d.rest)
 -- no count is there, or more are counted than octets follow
 abbrev pub RefusedCount : Refusal
 RefusedCount c e =
-    FirstRefused (Took (SpellsNumber w32)) (RefusedShort 4) (λ n d f. (length d.rest < n) × (f ≡ fault (place 4 c) BadCount)) c e
+    FirstRefused (Took (SpellsNumber w32)) (RefusedShort 4)
+    (λ n d f. (length d.rest < n) × (f ≡ fault (place 4 c) BadCount)) c e
 
 -- the count of octets is refused, or is above the bound
 abbrev pub RefusedOctets : ℕ → Refusal
 RefusedOctets bound c e =
-    FirstRefused Counts RefusedCount (λ n d f. (passes bound n ≡ true) × (f ≡ fault (place 4 c) BoundPassed)) c e
+    FirstRefused Counts RefusedCount
+    (λ n d f. (passes bound n ≡ true) × (f ≡ fault (place 4 c) BoundPassed)) c e
 
 -- the length of a string is refused, or the octets are none, or are above the bound
 abbrev pub RefusedString : ℕ → Refusal
 RefusedString bound c e = FirstRefused Counts RefusedCount
     (λ n d f. ((is_text (take n d.rest) ≡ false) × (f ≡ fault (place 4 c) BadString))
-    ⊎ ((is_text (take n d.rest) ≡ true) × (passes bound (n - 1) ≡ true) × (f ≡ fault (place 4 c) BoundPassed)))
+    ⊎ ((is_text (take n d.rest) ≡ true) × (passes bound (n - 1) ≡ true)
+    × (f ≡ fault (place 4 c) BoundPassed)))
     c e
 
 -- the first of n values that is refused, while those before it lie there

@@ -21,15 +21,18 @@ Reads old (Ok x) new reading = reading ≡ Ok (x, new)
 Reads old (Err e) new reading = (reading ≡ Err e) × (new ≡ old)
 
 -- the same of a call whose value contracts see by a view
-abbrev pub ReadsAs : {X A : Type 0} → (X → A) → Cursor → Result X CdrFault → Cursor → Reading A → Type 0
+abbrev pub ReadsAs : {X A : Type 0} → (X → A) → Cursor → Result X CdrFault → Cursor → Reading A
+    → Type 0
 ReadsAs view old (Ok x) new reading = reading ≡ Ok (view x, new)
 ReadsAs view old (Err e) new reading = (reading ≡ Err e) × (new ≡ old)
 
 -- the same of a call that takes memory, which may want where nothing is refused; view is what
 -- contracts see of the value
-abbrev pub Allocates : {X A : Type 0} → (X → A) → Cursor → Result X CdrFault → Cursor → Reading A → Type 0
+abbrev pub Allocates : {X A : Type 0} → (X → A) → Cursor → Result X CdrFault → Cursor → Reading A
+    → Type 0
 Allocates view old (Ok x) new reading = reading ≡ Ok (view x, new)
-Allocates view old (Err e) new reading = ((reading ≡ Err e) ⊎ ((e.kind ≡ NoMemory) × IsOk reading)) × (new ≡ old)
+Allocates view old (Err e) new reading =
+    ((reading ≡ Err e) ⊎ ((e.kind ≡ NoMemory) × IsOk reading)) × (new ≡ old)
 
 -- a call that passes over a value, without memory: the cursor behind it, or the fault
 abbrev pub Passes : {X A : Type 0} → Cursor → Result X CdrFault → Cursor → Reading A → Type 0

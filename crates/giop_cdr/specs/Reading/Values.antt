@@ -59,7 +59,8 @@ passes bound n = not (bound == 0) && nat_lt bound n
 unfoldable pub octets_at : ℕ → Cursor → Reading (List ℕ)
 octets_at bound c = do
   n ← count_at c
-  if passes bound n.0 then Err (fault (place 4 c) BoundPassed) else Ok (take n.0 n.1.rest, skip n.0 n.1)
+  if passes bound n.0 then Err (fault (place 4 c) BoundPassed)
+      else Ok (take n.0 n.1.rest, skip n.0 n.1)
 
 -- whether a null is among octets
 abbrev pub has_null : List ℕ → Bool
@@ -68,7 +69,8 @@ has_null octets = list_any (λ octet. octet == 0) octets
 -- whether counted octets are a string's: one null, at the end, or no octet at all
 abbrev pub is_text : List ℕ → Bool
 is_text [] = true
-is_text (b ∷ bs) = (slice_index (b ∷ bs) (length bs) == 0) && not (has_null (take (length bs) (b ∷ bs)))
+is_text (b ∷ bs) =
+    (slice_index (b ∷ bs) (length bs) == 0) && not (has_null (take (length bs) (b ∷ bs)))
 
 -- a string: a length that counts its null, the octets, the null; a length of 0 is the empty string
 unfoldable pub string_at : ℕ → Cursor → Reading (List ℕ)
@@ -98,7 +100,8 @@ past (Ok x) = Ok x.1
 past (Err e) = Err e
 
 -- a value that passes a test, or else a fault at its place, which is aligned to n
-unfoldable pub such_at : {A : Type 0} → (A → Bool) → ℕ → CdrKind → (Cursor → Reading A) → Cursor → Reading A
+unfoldable pub such_at : {A : Type 0} → (A → Bool) → ℕ → CdrKind → (Cursor → Reading A) → Cursor
+    → Reading A
 such_at test n kind read c = do
   x ← read c
   if not (test x.0) then Err (fault (place n c) kind) else Ok x

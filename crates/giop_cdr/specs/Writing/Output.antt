@@ -32,7 +32,8 @@ octets_of Little w n = to_le_bytes w n
 
 -- some octets more
 abbrev pub append : Output → List ℕ → Output
-append out octets = record { order = out.order; at = out.at + length octets; octets = out.octets ++ octets }
+append out octets =
+    record { order = out.order; at = out.at + length octets; octets = out.octets ++ octets }
 
 -- as few zeros as lead to a multiple of n, and then octets
 abbrev pub aligned : ℕ → Output → List ℕ → List ℕ

@@ -10,7 +10,8 @@ impl<'a> CdrIn<'a, SliceOctets<'a>> {
     /// memory.
     #[tactic(auto, using(crate::proofs::Reading::CountSteps::octets_counted, crate::proofs::Reading::CountSteps::octets_uncounted))]
     pub fn octets_slice(&mut self, bound: u32) -> Result<&'a [u8], CdrFault>
-        ensures { ReadsAs (λ octets. octets.now) self.old result self.new (octets_at bound self.old) }
+        ensures { ReadsAs (λ octets. octets.now) self.old result self.new
+            (octets_at bound self.old) }
     {
         let mut ahead = self.fork();
         let count = ahead.read_bounded_count(bound)?;

@@ -10,8 +10,8 @@ use crate::octets::{Octets, SliceOctets};
 use std::alloc::{AllocError, Global};
 use std::marker::Model;
 
-/// Octets where they lie in a store: the view of a field, which takes no memory. Contracts see it as
-/// the plain list of its octets, as they see an `OctetList`.
+/// Octets where they lie in a store: the view of a field, which takes no memory. Contracts see it
+/// as the plain list of its octets, as they see an `OctetList`.
 #[derive(Drop)]
 pub struct OctetsAt<'a, S: Octets> {
     source: &'a S,
@@ -27,7 +27,8 @@ impl<'a, S: Octets> Model for OctetsAt<'a, S> {
 
     ghost view = { λ o. take o.count (drop o.from (S.octets o.source.now)) };
 
-    ghost invariant = { λ o. (o.from + o.count ≤ length (S.octets o.source.now)) × (o.from + o.count ≤ 2 ^ 62) };
+    ghost invariant = { λ o. (o.from + o.count ≤ length (S.octets o.source.now))
+        × (o.from + o.count ≤ 2 ^ 62) };
 }
 
 impl<'a, S: Octets> OctetsAt<'a, S> {
@@ -106,5 +107,13 @@ impl<'a, S: Octets> CdrIn<'a, S> {
         ahead.advance(length);
         *self = ahead;
         Ok(text)
+    }
+
+    /// All octets that are left, where they lie and so without memory.
+    #[tactic(auto, using(crate::proofs::Reading::RunLemmas::take_all))]
+    pub fn view_remainder(&self) -> OctetsAt<'a, S>
+        ensures { result ≡ self.now.rest }
+    {
+        self.here(self.remaining())
     }
 }

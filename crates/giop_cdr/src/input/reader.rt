@@ -35,9 +35,14 @@ impl<'a, S: Octets> Model for CdrIn<'a, S> {
 
     ghost Value = { Cursor };
 
-    ghost view = { λ r. record { order = r.order; at = r.at; rest = window r.index r.end (S.octets r.source.now) } };
+    ghost view = { λ r. record {
+      order = r.order;
+      at = r.at;
+      rest = window r.index r.end (S.octets r.source.now);
+    } };
 
-    ghost invariant = { λ r. (r.index ≤ r.end) × (r.end ≤ length (S.octets r.source.now)) × (r.end ≤ 2 ^ 62) × (r.at + (r.end - r.index) ≤ 2 ^ 62 + 2 ^ 32) };
+    ghost invariant = { λ r. (r.index ≤ r.end) × (r.end ≤ length (S.octets r.source.now))
+        × (r.end ≤ 2 ^ 62) × (r.at + (r.end - r.index) ≤ 2 ^ 62 + 2 ^ 32) };
 }
 
 impl<'a, S: Octets> CdrIn<'a, S> {
@@ -143,6 +148,19 @@ impl<'a, S: Octets> CdrIn<'a, S> {
         self.at + (N - self.at % N) % N
     }
 
+    /// Goes on to the next multiple of 8, and stays where it is on one: there the body of a message
+    /// stands in GIOP 1.2 (9.4.2). Where the octets end before it, none are left.
+    pub fn align_to_8(&mut self)
+        ensures { self.new ≡ skip (pad 8 self.old.at) self.old }
+    {
+        let pad = (8 - self.at % 8) % 8;
+        if pad <= self.remaining() {
+            return self.advance(pad);
+        }
+        self.at += pad;
+        self.index = self.end;
+    }
+
     // Passes over octets that are there.
     #[inline(always)]
     pub(crate) fn advance(&mut self, count: usize)
@@ -201,7 +219,8 @@ impl<'a, S: Octets> CdrIn<'a, S> {
     // offset.
     fn content(&self, count: usize, at: usize) -> Result<CdrIn<'a, S>, CdrFault>
         requires { count ≤ length self.now.rest }
-        ensures { Exactly result (skip count self.now) (opened_of at (take count self.now.rest) (skip count self.now)) }
+        ensures { Exactly result (skip count self.now)
+            (opened_of at (take count self.now.rest) (skip count self.now)) }
     {
         if count == 0 {
             return Err(CdrFault {

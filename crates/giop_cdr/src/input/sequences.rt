@@ -43,8 +43,8 @@ impl<'a, S: Octets> CdrIn<'a, S> {
 
     /// The count of a sequence within its bound, where 0 is none.
     ///
-    /// Refused at the offset of the count: as `read_count` refuses it, and as BoundPassed where it is
-    /// above the bound. The reader then stays where it was.
+    /// Refused at the offset of the count: as `read_count` refuses it, and as BoundPassed where it
+    /// is above the bound. The reader then stays where it was.
     #[tactic(auto, unfolding(crate::specs::Reading::Values::octet_count_at))]
     pub fn read_bounded_count(&mut self, bound: u32) -> Result<usize, CdrFault>
         ensures value { Reads self.old result self.new (octet_count_at bound self.old) }
@@ -100,7 +100,8 @@ impl<'a, S: Octets> CdrIn<'a, S> {
     /// reader stays where it was. No memory is asked for a length that is refused.
     #[tactic(auto, using(crate::proofs::Reading::CountSteps::octets_counted, crate::proofs::Reading::CountSteps::octets_there, crate::proofs::Reading::CountSteps::octets_uncounted))]
     pub fn read_octets(&mut self, alloc: Global, bound: u32) -> Result<Vec<u8>, CdrFault>
-        ensures value { Allocates (λ v. v.items) self.old result self.new (octets_at bound self.old) }
+        ensures value { Allocates (λ v. v.items) self.old result self.new
+            (octets_at bound self.old) }
         ensures countable { IfOk result (λ v. length v.items < 2 ^ 32) }
         ensures place { IfErr result (λ e. e.at ≡ place 4 self.old) }
     {
@@ -141,7 +142,8 @@ impl<'a, S: Octets> CdrIn<'a, S> {
     /// where it was. No memory is asked for a length that is refused.
     #[tactic(auto, using(crate::proofs::Reading::CountSteps::text_counted, crate::proofs::Reading::CountSteps::text_there, crate::proofs::Reading::CountSteps::text_uncounted))]
     pub fn read_string(&mut self, alloc: Global, bound: u32) -> Result<Vec<u8>, CdrFault>
-        ensures value { Allocates (λ v. v.items) self.old result self.new (string_at bound self.old) }
+        ensures value { Allocates (λ v. v.items) self.old result self.new
+            (string_at bound self.old) }
         ensures countable { IfOk result (λ v. length v.items + 1 < 2 ^ 32) }
         ensures text { IfOk result (λ v. has_null v.items ≡ false) }
         ensures place { IfErr result (λ e. e.at ≡ place 4 self.old) }

@@ -20,8 +20,8 @@ pub struct TaggedAt<'a, S: Octets> {
     pub octets: OctetsAt<'a, S>,
 }
 
-/// The values of a sequence where they lie: a list that takes no memory. Contracts see it as the plain
-/// list of its values.
+/// The values of a sequence where they lie: a list that takes no memory. Contracts see it as the
+/// plain list of its values.
 #[derive(Drop)]
 pub struct TaggedListAt<'a, S: Octets, I: Tagged> {
     // The reader that stands at the first of them.
@@ -106,7 +106,8 @@ impl<'a, S: Octets, I: Tagged> TaggedListAt<'a, S, I> {
 fn view_tagged<'a, S: Octets, I: Tagged>(
     input: &mut CdrIn<'a, S>,
 ) -> Result<TaggedAt<'a, S>, CdrFault>
-    ensures { ReadsAs (λ x. I.made x.tag x.octets) input.old result input.new (tagged_at I.made input.old) }
+    ensures { ReadsAs (λ x. I.made x.tag x.octets) input.old result input.new
+        (tagged_at I.made input.old) }
 {
     let mut ahead = input.fork();
     let tag = ahead.read_ulong()?;

@@ -1,5 +1,5 @@
-// Laws of layouts. Each function's contract is one of them; the bodies are empty, and no program calls
-// these.
+// Laws of layouts. Each function's contract is one of them; the bodies are empty, and no program
+// calls these.
 ghost use Rattle.std.specs.Prelude.{◌≡◌, ℕ, true};
 ghost use Rattle.std.specs.Int.{Width, w32};
 ghost use Rattle.giop_cdr.specs.declared.order.Order.{Order};
@@ -15,6 +15,7 @@ pub fn primitives_are_lawful()
     ensures signed { (w : Width) → is_primitive w ≡ true → IsLawful (signed w) }
     ensures booleans { IsLawful boolean }
     ensures octets { (bound : ℕ) → IsLawful (bounded_octets bound) × IsLawful octets }
-    ensures encapsulated { (order : Order) → IsLawful (encapsulation order (λ n. true) (number w32)) }
+    ensures encapsulated { (order : Order)
+        → IsLawful (encapsulation order (λ n. true) (number w32)) }
     ensures texts { (bound : ℕ) → IsLawful (bounded_text bound) × IsLawful text }
 {}

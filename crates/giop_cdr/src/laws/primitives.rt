@@ -1,5 +1,5 @@
-// Laws of the definitions that the readers' contracts cite. Each function's contract is one of them; the
-// bodies are empty, and no program calls these.
+// Laws of the definitions that the readers' contracts cite. Each function's contract is one of
+// them; the bodies are empty, and no program calls these.
 ghost use Rattle.std.specs.Prelude.{◌≡◌, ℕ, ℤ, ◌+◌, ◌%◌, ◌<◌, ◌≤◌, ◌^◌, ◌++◌, ◌∷◌, Bool, List, length, true, false, if◌then◌else◌};
 ghost use Rattle.std.specs.Int.{Width, w8, byte_len};
 ghost use Rattle.std.specs.Prelude.{FitsSigned};
@@ -19,25 +19,29 @@ pub fn padding_is_least()
     ensures least { (n at k : ℕ) → is_alignment n ≡ true → (at + k) % n ≡ 0 → pad n at ≤ k }
 {}
 
-/// Numbers of every width, in both orders: what `read_` answers is what is spelled, and where nothing
-/// is spelled the octets are too few. No spelling of a number begins another.
+/// Numbers of every width, in both orders: what `read_` answers is what is spelled, and where
+/// nothing is spelled the octets are too few. No spelling of a number begins another.
 pub fn numbers_are_spelled()
-    ensures unsigned { (w : Width) → IsExact (Took (SpellsNumber w)) (RefusedShort (byte_len w)) (number_at w) }
-    ensures signed { (w : Width) → IsExact (Took (SpellsSigned w)) (RefusedShort (byte_len w)) (signed_at w) }
+    ensures unsigned { (w : Width)
+        → IsExact (Took (SpellsNumber w)) (RefusedShort (byte_len w)) (number_at w) }
+    ensures signed { (w : Width)
+        → IsExact (Took (SpellsSigned w)) (RefusedShort (byte_len w)) (signed_at w) }
     ensures alone { (w : Width) → StandsAlone (SpellsNumber w) }
 {}
 
 /// Sequences of octets, under every bound: what `read_octets` answers is what is spelled, and where
 /// nothing is spelled the first refused field is answered. No spelling begins another.
 pub fn octets_are_spelled()
-    ensures exact { (bound : ℕ) → IsExact (Took (Bounded bound SpellsOctets)) (RefusedOctets bound) (octets_at bound) }
+    ensures exact { (bound : ℕ)
+        → IsExact (Took (Bounded bound SpellsOctets)) (RefusedOctets bound) (octets_at bound) }
     ensures alone { StandsAlone SpellsOctets }
 {}
 
 /// Strings, under every bound: what `read_string` answers is what is spelled, and where nothing is
 /// spelled the first refused field is answered. No spelling begins another.
 pub fn strings_are_spelled()
-    ensures exact { (bound : ℕ) → IsExact (Took (Bounded bound SpellsString)) (RefusedString bound) (string_at bound) }
+    ensures exact { (bound : ℕ)
+        → IsExact (Took (Bounded bound SpellsString)) (RefusedString bound) (string_at bound) }
     ensures alone { StandsAlone SpellsString }
 {}
 
@@ -59,7 +63,8 @@ pub fn written_values_are_read_back()
         → IsReadBack (SpellsSigned w) (signed_at w) z out (signed_out w z out) }
     ensures octets { (octets : List ℕ) (out : Output) → length octets < 2 ^ 32
         → IsReadBack SpellsOctets (octets_at 0) octets out (octets_out octets out) }
-    ensures strings { (text : List ℕ) (out : Output) → has_null text ≡ false → length text + 1 < 2 ^ 32
+    ensures strings { (text : List ℕ) (out : Output) → has_null text ≡ false
+        → length text + 1 < 2 ^ 32
         → IsReadBack SpellsString (string_at 0) text out (string_out text out) }
 {}
 
@@ -74,5 +79,6 @@ pub fn encapsulations_are_opened_again()
     ensures exact { IsExact (Took SpellsEncapsulation) RefusedEncapsulation encapsulation_at }
     ensures back { (order : Order) (out now : Output) (content : List ℕ)
         → now.octets ≡ (opened order out).octets ++ content → length content + 1 < 2 ^ 32
-        → IsReadBack SpellsEncapsulation encapsulation_at (content_of order content) out (closed (place_opened out) now) }
+        → IsReadBack SpellsEncapsulation encapsulation_at (content_of order content) out
+        (closed (place_opened out) now) }
 {}

@@ -14,7 +14,8 @@ pub fn push_zeros(octets: &mut Vec<u8>, count: usize, behind: usize) -> Result<(
     ensures room { OnOk result (vec_len octets.new + behind ≤ vec_capacity octets.new) }
     ensures capacity { vec_capacity octets.old ≤ vec_capacity octets.new }
     ensures err { OnErr result (octets.new.items ≡ octets.old.items) }
-    ensures succeeds { OnErr result (vec_capacity octets.old < vec_len octets.old + (count + behind)) }
+    ensures succeeds { OnErr result
+        (vec_capacity octets.old < vec_len octets.old + (count + behind)) }
 {
     octets.reserve(count + behind)?;
     octets.extend_from_slice(&[0; 8][..count])
@@ -29,10 +30,12 @@ pub fn push_field<const N: usize>(
 ) -> Result<(), AllocError>
     requires some { 0 < N }
     requires few { N ≤ 8 }
-    ensures ok { OnOk result (octets.new.items ≡ octets.old.items ++ (replicate (pad N at) 0 ++ field.entry)) }
+    ensures ok { OnOk result
+        (octets.new.items ≡ octets.old.items ++ (replicate (pad N at) 0 ++ field.entry)) }
     ensures capacity { vec_capacity octets.old ≤ vec_capacity octets.new }
     ensures err { OnErr result (octets.new.items ≡ octets.old.items) }
-    ensures succeeds { OnErr result (vec_capacity octets.old < vec_len octets.old + (pad N at + N)) }
+    ensures succeeds { OnErr result
+        (vec_capacity octets.old < vec_len octets.old + (pad N at + N)) }
 {
     let pad = (N - at % N) % N;
     if pad != 0 {

@@ -13,7 +13,8 @@ impl CdrOut {
     /// A boolean, as an octet (9.3.1.5): 1 for true, 0 for false.
     #[inline(always)]
     pub fn write_boolean(&mut self, value: bool) -> Result<(), AllocError>
-        ensures { Writes self.old result self.new (number_out w8 (if value then 1 else 0) self.old) }
+        ensures { Writes self.old result self.new
+            (number_out w8 (if value then 1 else 0) self.old) }
     {
         self.write_octet(u8::from(value))
     }

@@ -30,7 +30,11 @@ impl Model for CdrOut {
 
     ghost Value = { Output };
 
-    ghost view = { λ w. record { order = w.order; at = w.start + (length w.octets.items - w.base); octets = w.octets.items } };
+    ghost view = { λ w. record {
+      order = w.order;
+      at = w.start + (length w.octets.items - w.base);
+      octets = w.octets.items;
+    } };
 
     ghost invariant = { λ w. (w.base ≤ length w.octets.items) × (w.start ≤ 2 ^ 32) };
 }
@@ -88,6 +92,13 @@ impl CdrOut {
     {
         let pad = (n - self.position() % n) % n;
         push_zeros(&mut self.octets, pad, 0)
+    }
+
+    /// Octets as they are, behind no padding.
+    pub fn append_octets(&mut self, octets: &[u8]) -> Result<(), AllocError>
+        ensures { Writes self.old result self.new (append self.old octets.now) }
+    {
+        self.octets.extend_from_slice(octets)
     }
 
     /// Where the output stands now.
@@ -148,7 +159,8 @@ impl CdrOut {
     /// was there, or longer, and by fewer than 2^32 octets, as a length has to be. It can't tell
     /// that `mark` is of this output and the latest one that isn't ended: that is the caller's.
     pub fn can_end(&self, mark: &Mark) -> bool
-        ensures { IsTrue result ↔ ((mark.now.len ≤ length self.now.octets) × (length self.now.octets - mark.now.len < 2 ^ 32)) }
+        ensures { IsTrue result
+            ↔ ((mark.now.len ≤ length self.now.octets) × (length self.now.octets - mark.now.len < 2 ^ 32)) }
     {
         mark.len <= self.octets.len() && self.octets.len() - mark.len < 1 << 32
     }
@@ -178,7 +190,8 @@ impl CdrOut {
     pub(crate) fn append_field<const N: usize>(&mut self, field: [u8; N]) -> Result<(), AllocError>
         requires some { 0 < N }
         requires few { N ≤ 8 }
-        ensures { Writes self.old result self.new (append self.old (aligned N self.old field.entry)) }
+        ensures { Writes self.old result self.new
+            (append self.old (aligned N self.old field.entry)) }
     {
         let at = self.position();
         push_field(&mut self.octets, at, field)

@@ -1,9 +1,9 @@
 // Laws of the text of a reference. Each function's contract is one of them; the bodies are empty,
 // and no program calls these.
 ghost use Rattle.std.specs.Prelude.{◌≡◌, List, ℕ, Ok, true};
-ghost use Rattle.giop_cdr.specs.Layout.{AreOctets};
-ghost use Rattle.giop_types.specs.IorText.{IorText, ReadsTexts, ior_text_of, begun, text_written};
+ghost use Rattle.giop_types.specs.IorText.{IorText, ReadsTexts, ior_text_of, text_written};
 ghost use Rattle.giop_ior.specs.Ior.{Reference, ior_layout};
+ghost use Rattle.giop_ior.specs.Written.{IsOfOctets};
 
 /// The grammar of the texts of references: what is read is what the text says, and the fault that
 /// is told is the one that it has. A text says one reference at most, and one that can be written.
@@ -15,13 +15,13 @@ pub fn reference_texts_are_read()
         → ior_layout.fits ior ≡ true }
 {}
 
-/// The text that `ior_to_text` writes says the reference, and is read back: of octets, which are
-/// numbers below 256.
+/// The text that `ior_to_text` writes says the reference, and is read back, where its type_id and
+/// its profiles are octets: numbers below 256.
 pub fn written_reference_texts_are_read_back()
     ensures written { (ior : Reference) → ior_layout.fits ior ≡ true → ior_layout.holds ior
-        → AreOctets (ior_layout.written ior begun).octets
+        → IsOfOctets ior
         → IorText ior_layout.spells ior (text_written ior_layout.written ior) }
     ensures again { (ior : Reference) → ior_layout.fits ior ≡ true → ior_layout.holds ior
-        → AreOctets (ior_layout.written ior begun).octets
+        → IsOfOctets ior
         → ior_text_of ior_layout.read (text_written ior_layout.written ior) ≡ Ok ior }
 {}

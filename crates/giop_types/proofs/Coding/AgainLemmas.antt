@@ -15,7 +15,8 @@ use Rattle.giop_types.specs.Coding.Outcome.{Decodes, GivesBack}
 use Rattle.giop_types.specs.Coding.Spells.{Spells}
 use Rattle.giop_types.specs.Values.Views.{value_view}
 
-answer : (old new after : Cursor) (r : Result (Tree × Cursor) CdrFault) (t : Tree) (result : Result Value CdrFault) → r ≡ Ok (t, after) → Decodes old result new r → GivesBack t result
+answer : (old new after : Cursor) (r : Result (Tree × Cursor) CdrFault) (t : Tree) (result : Result Value CdrFault) → r ≡ Ok (t, after)
+    → Decodes old result new r → GivesBack t result
 answer old new after r t (Ok v) read h = ap (λ (p : Tree × Cursor). p.0) (ok_same (value_view v, new) (t, after) (sym h ∙ read))
 answer old new after r t (Err e) read h = elim h.0 [
   | inl refused ↦ absurd cc

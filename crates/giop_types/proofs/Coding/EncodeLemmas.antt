@@ -96,7 +96,8 @@ unfolding value_out
 choice_written d cs f label m out =
     ap (λ s. value_out s (value_view (value.Choice label m)) out) (view-Choice d cs f)
     ∙ ap (λ t. value_out (choice (desc_view d.value) (branches_of (map case_view cs.items)) (fallback_view f)) t out) (choice_view label m)
-    ∙ ap (λ ts. branches_out (branches_of (map case_view cs.items)) (fields_out (fallback_view f)) label ts (label_out (desc_view d.value) label out)) (list_back (member_view m))
+    ∙ ap (λ ts. branches_out (branches_of (map case_view cs.items)) (fields_out (fallback_view f)) label ts (label_out (desc_view d.value) label out))
+    (list_back (member_view m))
 
 -- items and arrays as their parts are judged
 pub items_fits : (d : Item) (bound : ℕ) (vs : Values) → (is_counted bound (length vs.items) && list_all (fits (desc_view d.value)) (map value_view vs.items))
@@ -141,7 +142,8 @@ unfolding value_out
 fields_on ms vs i m v out new total lt many is has step so_far =
     ap (fields_out (fields_of (map named_view (drop (i + 1) ms))) (map value_view (drop (i + 1) vs))) step
     ∙ sym (ap (λ fs. fields_out fs (map value_view (drop i vs)) out) (fields_left ms i m lt is)
-    ∙ ap (λ us. fields_out (field m.name (desc_view m.desc) (fields_of (map named_view (drop (i + 1) ms)))) (map value_view us) out) (left_is vs i v (omega arith) has)) ∙ so_far
+    ∙ ap (λ us. fields_out (field m.name (desc_view m.desc) (fields_of (map named_view (drop (i + 1) ms)))) (map value_view us) out)
+    (left_is vs i v (omega arith) has)) ∙ so_far
 
 pub fields_done : (ms : List NamedDesc) (vs : List Value) (i : ℕ) (out total : Output) → length ms ≤ i
     → fields_out (fields_of (map named_view (drop i ms))) (map value_view (drop i vs)) out ≡ total → out ≡ total
@@ -151,13 +153,15 @@ fields_done ms vs i out total le so_far =
 
 -- ---- the member of a union
 
-pub case_written : (bs : List CaseDesc) (i : ℕ) (b : CaseDesc) (label : ℤ) (more : List Tree → Output → Output) (ts : List Tree) (out : Output) → i < length bs → b ≡ get_or bs i b
+pub case_written : (bs : List CaseDesc) (i : ℕ) (b : CaseDesc) (label : ℤ) (more : List Tree → Output → Output) (ts : List Tree) (out : Output) → i < length bs
+    → b ≡ get_or bs i b
     → is_label label b.labels.items ≡ true
     → branches_out (branches_of (map case_view (drop i bs))) more label ts out ≡ one_out (value_out (desc_view b.desc)) ts out
 unfolding value_out
 case_written bs i b label more ts out lt is found = rw (branches_left bs i b lt is, found) refl
 
-pub case_left : (bs : List CaseDesc) (i : ℕ) (b : CaseDesc) (label : ℤ) (more : List Tree → Output → Output) (ts : List Tree) (out : Output) → i < length bs → b ≡ get_or bs i b
+pub case_left : (bs : List CaseDesc) (i : ℕ) (b : CaseDesc) (label : ℤ) (more : List Tree → Output → Output) (ts : List Tree) (out : Output) → i < length bs
+    → b ≡ get_or bs i b
     → is_label label b.labels.items ≡ false
     → branches_out (branches_of (map case_view (drop i bs))) more label ts out ≡ branches_out (branches_of (map case_view (drop (i + 1) bs))) more label ts out
 unfolding value_out
@@ -169,7 +173,8 @@ unfolding value_out
 cases_done bs i label more ts out le = rw (drop_of_length-le bs le) refl
 
 -- a case with the label is written, or fails
-pub case_put : (bs : List CaseDesc) (i : ℕ) (b : CaseDesc) (label : ℤ) (v : Tree) (other : List Tree → Bool) (more : List Tree → Output → Output) (old new : Output)
+pub case_put : (bs : List CaseDesc) (i : ℕ) (b : CaseDesc) (label : ℤ) (v : Tree) (other : List Tree → Bool) (more : List Tree → Output → Output)
+    (old new : Output)
     (fit : Bool) (done : Output) → i < length bs → b ≡ get_or bs i b → is_label label b.labels.items ≡ true
     → branches_fit (branches_of (map case_view (drop i bs))) other label (v ∷ []) ≡ fit
     → branches_out (branches_of (map case_view (drop i bs))) more label (v ∷ []) old ≡ done
@@ -187,10 +192,13 @@ pub case_refused : (bs : List CaseDesc) (i : ℕ) (b : CaseDesc) (label : ℤ) (
 case_refused bs i b label v other fit lt is found fitting fails = sym fitting ∙ case_fits bs i b label other (v ∷ []) lt is found ∙ fails
 
 -- over the same cases
-pub case_over : {xs ys : List CaseDesc} → xs ≡ ys → (other : List Tree → Bool) (more : List Tree → Output → Output) (label : ℤ) (ts : List Tree) (old new : Output)
+pub case_over : {xs ys : List CaseDesc} → xs ≡ ys
+    → (other : List Tree → Bool) (more : List Tree → Output → Output) (label : ℤ) (ts : List Tree) (old new : Output)
     (r : Result Bool EncodeFault)
-    → AppendsCase (branches_fit (branches_of (map case_view xs)) other label ts) (other ts) old r new (branches_out (branches_of (map case_view xs)) more label ts old) (more ts old)
-    → AppendsCase (branches_fit (branches_of (map case_view ys)) other label ts) (other ts) old r new (branches_out (branches_of (map case_view ys)) more label ts old) (more ts old)
+    → AppendsCase (branches_fit (branches_of (map case_view xs)) other label ts) (other ts) old r new
+    (branches_out (branches_of (map case_view xs)) more label ts old) (more ts old)
+    → AppendsCase (branches_fit (branches_of (map case_view ys)) other label ts) (other ts) old r new
+    (branches_out (branches_of (map case_view ys)) more label ts old) (more ts old)
 case_over same other more label ts old new r =
     subst (λ (bs : List CaseDesc). AppendsCase (branches_fit (branches_of (map case_view bs)) other label ts) (other ts) old r new
     (branches_out (branches_of (map case_view bs)) more label ts old) (more ts old)) same
@@ -201,15 +209,18 @@ pub choice_by_case : (X : Type 0) (x : X) (a b other found : Bool) (old mid new 
 choice_by_case X x a b other true old mid new done more fit grows is h = (ap (λ c. c && b) fit ∙ h.0, h.1, grows_then old mid new grows h.2)
 choice_by_case X x a b other false old mid new done more fit grows is h = absurd cc
 
-pub choice_by_default : {X : Type 0} (a b other found : Bool) (old mid there new done : Output) (more : Output → Output) (r : Result X EncodeFault) → a ≡ true → Grows old mid
-    → found ≡ false → AppendsCase b other mid (Ok found) there done (more mid) → AppendsFitting other there r new (more there) → AppendsFitting (a && b) old r new done
+pub choice_by_default : {X : Type 0} (a b other found : Bool) (old mid there new done : Output) (more : Output → Output) (r : Result X EncodeFault) → a ≡ true
+    → Grows old mid
+    → found ≡ false → AppendsCase b other mid (Ok found) there done (more mid) → AppendsFitting other there r new (more there)
+    → AppendsFitting (a && b) old r new done
 choice_by_default a b other true old mid there new done more r fit grows is h put = absurd cc
 choice_by_default a b other false old mid there new done more r fit grows is h put =
     puts_as (a && other) (a && b) old new (more there) done r (ap (λ c. a && c) (sym h.0)) (ap more h.2 ∙ sym h.1)
     (puts_then a other old there new (more there) r fit (subst (λ (o : Output). Grows old o) (sym h.2) grows) put)
 
 -- the member that is there by default
-pub default_written : (n : Box NamedDesc Global) (v : Tree) (out : Output) → fields_out (fallback_view (Some n)) (v ∷ []) out ≡ value_out (desc_view n.value.desc) v out
+pub default_written : (n : Box NamedDesc Global) (v : Tree) (out : Output)
+    → fields_out (fallback_view (Some n)) (v ∷ []) out ≡ value_out (desc_view n.value.desc) v out
 unfolding value_out
 default_written n v out = rw (view-Named n.value) refl
 
@@ -218,7 +229,8 @@ unfolding value_out
 nothing_written m out = refl
 
 -- what is written of a value that fits is read back
-pub encoded_back : (s : Shape) (t : Tree) (out new : Output) → is_full s ≡ true → fits s t ≡ true → new ≡ value_out s t out → IsReadBack (Spells s) (decode_at s) t out new
+pub encoded_back : (s : Shape) (t : Tree) (out new : Output) → is_full s ≡ true → fits s t ≡ true → new ≡ value_out s t out
+    → IsReadBack (Spells s) (decode_at s) t out new
 encoded_back s t out new full fit is =
     subst (λ (done : Output). IsReadBack (Spells s) (decode_at s) t out done) (sym is)
     (read_back (Spells s) (RefusedShape s) (decode_at s) (shape_exact s full) t out (value_out s t out) (shape_spelled s t out fit))

@@ -53,7 +53,8 @@ members_skip_on ms i m c d total lt is h so_far =
     (past_next (λ t ts. t ∷ ts) (fields_at (fields_of (map named_view (drop (i + 1) ms)))) d (decode_at (desc_view m.desc) c) h) in
     sym one ∙ so_far
 
-pub members_skip_end : (ms : List NamedDesc) (i : ℕ) (m : NamedDesc) (c : Cursor) (e : CdrFault) (total : Reading (List Tree)) → i < length ms → m ≡ get_or ms i m
+pub members_skip_end : (ms : List NamedDesc) (i : ℕ) (m : NamedDesc) (c : Cursor) (e : CdrFault) (total : Reading (List Tree)) → i < length ms
+    → m ≡ get_or ms i m
     → decode_at (desc_view m.desc) c ≡ Err e → past (fields_at (fields_of (map named_view (drop i ms))) c) ≡ past total → total ≡ Err e
 unfolding decode_at
 members_skip_end ms i m c e total lt is h so_far =
@@ -81,7 +82,8 @@ unfolding decode_at
 case_found bs i b label other c lt is found = rw (branches_left bs i b lt is, found) refl
 
 -- a case without the label is passed by
-pub case_passed : (bs : List CaseDesc) (i : ℕ) (b : CaseDesc) (label : ℤ) (other : Cursor → Reading (List Tree)) (c : Cursor) → i < length bs → b ≡ get_or bs i b
+pub case_passed : (bs : List CaseDesc) (i : ℕ) (b : CaseDesc) (label : ℤ) (other : Cursor → Reading (List Tree)) (c : Cursor) → i < length bs
+    → b ≡ get_or bs i b
     → is_label label b.labels.items ≡ false
     → branches_at (branches_of (map case_view (drop i bs))) other label c ≡ branches_at (branches_of (map case_view (drop (i + 1) bs))) other label c
 unfolding decode_at
@@ -114,7 +116,8 @@ skips_one (Err e) new r h = rw h refl
 
 -- a union whose label no case has is read by default
 pub choice_by_default : (disc : Shape) (bs : Branches) (fallback : Fields) (c m e : Cursor) (label : ℤ) → label_at disc c ≡ Ok (label, m)
-    → branches_at bs (fields_at fallback) label m ≡ fields_at fallback m → past (fields_at fallback m) ≡ Ok e → past (decode_at (choice disc bs fallback) c) ≡ Ok e
+    → branches_at bs (fields_at fallback) label m ≡ fields_at fallback m → past (fields_at fallback m) ≡ Ok e
+    → past (decode_at (choice disc bs fallback) c) ≡ Ok e
 unfolding decode_at
 choice_by_default disc bs fallback c m e label h default read =
     rw (h, default) (past_as (λ ts. choice_of label (trees_of ts)) (fields_at fallback m) ∙ read)

@@ -37,7 +37,8 @@ label_exact long = signed_exact w32
 label_exact ulong = as_exact pos (SpellsNumber w32) (RefusedShort 4) (number_at w32) (number_exact w32)
 label_exact longlong = signed_exact w64
 label_exact ulonglong = as_exact pos (SpellsNumber w64) (RefusedShort 8) (number_at w64) (number_exact w64)
-label_exact (labels names) = as_exact pos (SpellsOrdinal (length names)) (RefusedOrdinal (length names)) (ordinal_at (length names)) (ordinal_exact (length names))
+label_exact (labels names) =
+    as_exact pos (SpellsOrdinal (length names)) (RefusedOrdinal (length names)) (ordinal_at (length names)) (ordinal_exact (length names))
 label_exact octet = none_exact
 label_exact (text bound) = none_exact
 label_exact (octets bound) = none_exact
@@ -61,7 +62,8 @@ mutual
   shape_exact ulonglong h = as_exact ulonglong_of (SpellsNumber w64) (RefusedShort 8) (number_at w64) (number_exact w64)
   shape_exact (text bound) h = as_exact text_of (Bounded bound SpellsString) (RefusedString bound) (string_at bound) (string_exact bound)
   shape_exact (octets bound) h = as_exact octets_of (Bounded bound SpellsOctets) (RefusedOctets bound) (octets_at bound) (octets_exact bound)
-  shape_exact (labels names) h = as_exact label_of (SpellsOrdinal (length names)) (RefusedOrdinal (length names)) (ordinal_at (length names)) (ordinal_exact (length names))
+  shape_exact (labels names) h =
+      as_exact label_of (SpellsOrdinal (length names)) (RefusedOrdinal (length names)) (ordinal_at (length names)) (ordinal_exact (length names))
   shape_exact (members fs) h = as_exact (λ ts. members_of (trees_of ts)) (SpellsFields fs) (RefusedFields fs) (fields_at fs)
       (fields_exact fs (and_parts (has_fields fs) (are_full fs) h).1)
   shape_exact (choice disc bs other) h =
@@ -74,7 +76,8 @@ mutual
       (λ label. as_exact (λ ts. choice_of label (trees_of ts)) (SpellsBranches bs (SpellsFields other) label) (RefusedBranches bs (RefusedFields other) label)
       (branches_at bs (fields_at other) label)
       (branches_exact bs full.0 other (fields_exact other full.1) label))
-  shape_exact (items s bound) h = as_exact (λ ts. items_of (trees_of ts)) (SpellsBounded bound (Spells s)) (RefusedBounded bound (Took (Spells s)) (RefusedShape s))
+  shape_exact (items s bound) h =
+      as_exact (λ ts. items_of (trees_of ts)) (SpellsBounded bound (Spells s)) (RefusedBounded bound (Took (Spells s)) (RefusedShape s))
       (bounded_at (decode_at s) bound) (bounded_exact bound (Spells s) (RefusedShape s) (decode_at s) (shape_exact s h) (shape_takes s h))
   shape_exact (row s n) h =
       let parts = and_parts (nat_lt 0 n) (is_full s) h in
@@ -90,7 +93,8 @@ mutual
       (λ t. as_exact (λ ts. t ∷ ts) (SpellsFields fs) (RefusedFields fs) (fields_at fs) (fields_exact fs parts.1))
 
   pub branches_exact : (bs : Branches) → all_full bs ≡ true → (other : Fields) → IsExact (Took (SpellsFields other)) (RefusedFields other) (fields_at other)
-      → (label : ℤ) → IsExact (Took (SpellsBranches bs (SpellsFields other) label)) (RefusedBranches bs (RefusedFields other) label) (branches_at bs (fields_at other) label)
+      → (label : ℤ) → IsExact (Took (SpellsBranches bs (SpellsFields other) label)) (RefusedBranches bs (RefusedFields other) label)
+      (branches_at bs (fields_at other) label)
   branches_exact no_branches h other exact label = exact
   branches_exact (branch ls name s bs) h other exact label =
       let parts = and_parts (is_full s) (all_full bs) h in

@@ -84,7 +84,8 @@ ordinal_fits names o at v b all s = and_from (is_unsigned 32 v) (nat_lt v names)
 unpassed : (b : Bool) → b ≡ false → not b ≡ true
 unpassed b h = ap not h
 
-text_fits : (bound n : ℕ) (o : Order) (at : ℕ) (v : List ℕ) (b : List ℕ) → n < 2 ^ 32 → are_octets b ≡ true → passes bound (length v) ≡ false → CountedText n o at v b → is_text_of bound v ≡ true
+text_fits : (bound n : ℕ) (o : Order) (at : ℕ) (v : List ℕ) (b : List ℕ) → n < 2 ^ 32 → are_octets b ≡ true → passes bound (length v) ≡ false
+    → CountedText n o at v b → is_text_of bound v ≡ true
 text_fits bound zero o at v b few all within s =
     let within' : passes bound 0 ≡ false = rw s.0 at within in
     rw s.0 (unpassed (passes bound 0) within')
@@ -114,7 +115,8 @@ each_fits P test fit o at (v ∷ vs) b all s =
     let halves = parted b s.0 s.1 s.2 all in
     and_from (test v) (list_all test vs) (fit o at v s.0 halves.0 s.3) (each_fits P test fit o (at + length s.0) vs s.1 halves.1 s.4)
 
-bounded_fits : (bound : ℕ) (P : Spelling Tree) (test : Tree → Bool) → Fitting P test → Fitting (SpellsBounded bound P) (λ ts. is_counted bound (length ts) && list_all test ts)
+bounded_fits : (bound : ℕ) (P : Spelling Tree) (test : Tree → Bool) → Fitting P test
+    → Fitting (SpellsBounded bound P) (λ ts. is_counted bound (length ts) && list_all test ts)
 bounded_fits bound P test fit o at vs b all s =
     let halves = parted b s.front s.back s.whole all in
     let n = s.spells_front in
@@ -162,7 +164,8 @@ label_fits (choice disc bs other) = λ o at v b all s. absurd s
 label_fits (items t bound) = λ o at v b all s. absurd s
 label_fits (row t n) = λ o at v b all s. absurd s
 
-chosen_fits : (b : Bool) (P Q : Spelling (List Tree)) (one other : List Tree → Bool) → Fitting P one → Fitting Q other → Fitting (Chosen b P Q) (λ ts. if b then one ts else other ts)
+chosen_fits : (b : Bool) (P Q : Spelling (List Tree)) (one other : List Tree → Bool) → Fitting P one → Fitting Q other
+    → Fitting (Chosen b P Q) (λ ts. if b then one ts else other ts)
 chosen_fits true P Q one other here there = here
 chosen_fits false P Q one other here there = there
 

@@ -31,6 +31,7 @@ use Rattle.giop_types.specs.Values.Fits.{list_of, is_unsigned, are_octets, fits_
 use Rattle.giop_types.specs.Values.Fits.{is_one, fits, fields_fit, branches_fit}
 use Rattle.giop_types.specs.Coding.Written.{label_out, one_out, value_out, fields_out, branches_out}
 use Rattle.giop_types.proofs.Coding.Takes.{and_parts}
+use Rattle.std.proofs.lemmas.Bool.{false≢true}
 
 -- the values of a list, and the list of the values
 listed : (ts : Trees) → trees_of (list_of ts) ≡ ts
@@ -40,7 +41,8 @@ listed (tree t ts) = ap (tree t) (listed ts)
 as_spelled : {A B : Type 0} (f : A → B) (P : Spelling A) (x : A) (out done : Output) → IsSpelled P x out done → IsSpelled (As f P) (f x) out done
 as_spelled f P x out done s = then_spelled P (λ v. Known (f v)) x (f x) out done done s (known_spelled (f x) done)
 
-such_spelled : {A : Type 0} (test : A → Bool) (P : Spelling A) (v : A) (out done : Output) → test v ≡ true → IsSpelled P v out done → IsSpelled (Such test P) v out done
+such_spelled : {A : Type 0} (test : A → Bool) (P : Spelling A) (v : A) (out done : Output) → test v ≡ true → IsSpelled P v out done
+    → IsSpelled (Such test P) v out done
 such_spelled test P v out done is s = record { part = s.part; octets = s.octets; order = s.order; at = s.at; spells = (s.spells, is) }
 
 number_spelled : (w : Width) (n : ℕ) (out : Output) → is_primitive w ≡ true → n < 2 ^ bits w → IsSpelled (SpellsNumber w) n out (number_out w n out)
@@ -50,7 +52,8 @@ signed_spelled : (w : Width) (z : ℤ) (out : Output) → is_primitive w ≡ tru
 signed_spelled w z out p fit = spelled_of (SpellsSigned w) (signed_at w) z out (signed_out w z out) (signed_back w z out p fit)
 
 -- a bound on what is spelled is kept
-bounded_spelled : (bound : ℕ) (P : Spelling (List ℕ)) (v : List ℕ) (out done : Output) → passes bound (length v) ≡ false → IsSpelled P v out done → IsSpelled (Bounded bound P) v out done
+bounded_spelled : (bound : ℕ) (P : Spelling (List ℕ)) (v : List ℕ) (out done : Output) → passes bound (length v) ≡ false → IsSpelled P v out done
+    → IsSpelled (Bounded bound P) v out done
 bounded_spelled bound P v out done is s = record { part = s.part; octets = s.octets; order = s.order; at = s.at; spells = (s.spells, is) }
 
 text_spelled : (bound : ℕ) (t : List ℕ) (out : Output) → is_text_of bound t ≡ true → IsSpelled (Bounded bound SpellsString) t out (string_out t out)
@@ -59,7 +62,8 @@ text_spelled bound t out fit =
     let parts = and_parts (not (has_null t)) (nat_lt (length t + 1) (2 ^ 32) && not (passes bound (length t))) text.1 in
     let more = and_parts (nat_lt (length t + 1) (2 ^ 32)) (not (passes bound (length t))) parts.1 in
     bounded_spelled bound SpellsString t out (string_out t out) (not-true (passes bound (length t)) more.1)
-    (spelled_of SpellsString (string_at 0) t out (string_out t out) (string_back t out (not-true (has_null t) parts.0) (ltb-true (length t + 1) (2 ^ 32) more.0)))
+    (spelled_of SpellsString (string_at 0) t out (string_out t out)
+    (string_back t out (not-true (has_null t) parts.0) (ltb-true (length t + 1) (2 ^ 32) more.0)))
 
 octets_spelled : (bound : ℕ) (t : List ℕ) (out : Output) → is_octets_of bound t ≡ true → IsSpelled (Bounded bound SpellsOctets) t out (octets_out t out)
 octets_spelled bound t out fit =
@@ -114,7 +118,8 @@ ordinal_label names (pos n) out h =
     let lt : n < min names (2 ^ 32) = ltb-true n (min names (2 ^ 32)) (and_parts (int_le (pos 0) (pos n)) (int_lt (pos n) (pos (min names (2 ^ 32)))) h).1 in
     let same : cast_unsigned w32 (pos n) ≡ n = omega (arith, ints) in
     rw same (as_spelled pos (SpellsOrdinal names) n out (number_out w32 n out)
-    (such_spelled (λ ordinal. nat_lt ordinal names) (SpellsNumber w32) n out (number_out w32 n out) (lt-ltb n names (omega arith)) (number_spelled w32 n out refl (omega arith))))
+    (such_spelled (λ ordinal. nat_lt ordinal names) (SpellsNumber w32) n out (number_out w32 n out) (lt-ltb n names (omega arith))
+    (number_spelled w32 n out refl (omega arith))))
 
 pub label_spelled : (s : Shape) (z : ℤ) (out : Output) → fits_label s z ≡ true → IsSpelled (SpellsLabel s) z out (label_out s z out)
 unfolding SpellsLabel label_out
@@ -127,13 +132,13 @@ label_spelled ulong z out h = natural_spelled w32 4294967295 refl (omega arith) 
 label_spelled longlong z out h = signed_spelled w64 z out refl (signed_fits w64 9223372036854775807 (omega arith) z h)
 label_spelled ulonglong z out h = natural_spelled w64 18446744073709551615 refl (omega arith) (λ n le. omega (arith, ints)) z out h
 label_spelled (labels names) z out h = ordinal_label (length names) z out h
-label_spelled octet z out h = absurd cc
-label_spelled (text bound) z out h = absurd cc
-label_spelled (octets bound) z out h = absurd cc
-label_spelled (members fs) z out h = absurd cc
-label_spelled (choice disc bs other) z out h = absurd cc
-label_spelled (items t bound) z out h = absurd cc
-label_spelled (row t n) z out h = absurd cc
+label_spelled octet z out h = absurd (false≢true h)
+label_spelled (text bound) z out h = absurd (false≢true h)
+label_spelled (octets bound) z out h = absurd (false≢true h)
+label_spelled (members fs) z out h = absurd (false≢true h)
+label_spelled (choice disc bs other) z out h = absurd (false≢true h)
+label_spelled (items t bound) z out h = absurd (false≢true h)
+label_spelled (row t n) z out h = absurd (false≢true h)
 
 -- the only value of a list
 one_spelled : (P : Spelling Tree) (item : Tree → Output → Output) (test : Tree → Bool)
@@ -141,8 +146,8 @@ one_spelled : (P : Spelling Tree) (item : Tree → Output → Output) (test : Tr
     → (ts : Trees) (out : Output) → is_one test (list_of ts) ≡ true
     → IsSpelled (As (λ t. t ∷ []) P) (list_of ts) out (one_out item (list_of ts) out)
 one_spelled P item test each (tree t no_trees) out fit = as_spelled (λ t. t ∷ []) P t out (item t out) (each t out fit)
-one_spelled P item test each (tree t (tree u us)) out fit = absurd cc
-one_spelled P item test each no_trees out fit = absurd cc
+one_spelled P item test each (tree t (tree u us)) out fit = absurd (false≢true fit)
+one_spelled P item test each no_trees out fit = absurd (false≢true fit)
 
 -- one spelling or another, as one value is written or another
 chosen_spelled : (b : Bool) (P Q : Spelling (List Tree)) (ts : List Tree) (out : Output) (one other : Output)
@@ -165,7 +170,8 @@ if_out false f g ts out = refl
 
 bounded_items : (bound : ℕ) (P : Spelling Tree) (item : Tree → Output → Output) (Fits : Tree → Type 0)
     → ((v : Tree) (out : Output) → Fits v → IsSpelled P v out (item v out))
-    → (vs : List Tree) (out : Output) → is_counted bound (length vs) ≡ true → AllByRecursion Fits vs → IsSpelled (SpellsBounded bound P) vs out (sequence_out item vs out)
+    → (vs : List Tree) (out : Output) → is_counted bound (length vs) ≡ true → AllByRecursion Fits vs
+    → IsSpelled (SpellsBounded bound P) vs out (sequence_out item vs out)
 unfolding sequence_out
 bounded_items bound P item Fits each vs out counted fit =
     let parts = and_parts (nat_lt (length vs) (2 ^ 32)) (not (passes bound (length vs))) counted in
@@ -173,7 +179,8 @@ bounded_items bound P item Fits each vs out counted fit =
     let done : Output = items_out item vs mid in
     let items = items_spelled P item Fits each vs mid fit in
     then_spelled (Such (λ n. not (passes bound n)) (SpellsNumber w32)) (CountedItems P) (length vs) vs out mid done
-    (such_spelled (λ n. not (passes bound n)) (SpellsNumber w32) (length vs) out mid parts.1 (number_spelled w32 (length vs) out refl (ltb-true (length vs) (2 ^ 32) parts.0)))
+    (such_spelled (λ n. not (passes bound n)) (SpellsNumber w32) (length vs) out mid parts.1
+    (number_spelled w32 (length vs) out refl (ltb-true (length vs) (2 ^ 32) parts.0)))
     (record { part = items.part; octets = items.octets; order = items.order; at = items.at; spells = (refl, items.spells) })
 
 mutual
@@ -182,65 +189,76 @@ mutual
   pub shape_spelled : (s : Shape) (t : Tree) (out : Output) → fits s t ≡ true → IsSpelled (Spells s) t out (value_out s t out)
   shape_spelled boolean (boolean_of b) out f = as_spelled boolean_of SpellsBoolean b out (number_out w8 (if b then 1 else 0) out)
       (spelled_of SpellsBoolean boolean_at b out (number_out w8 (if b then 1 else 0) out) (boolean_back b out))
-  shape_spelled boolean _ out f = absurd cc
-  shape_spelled octet (octet_of n) out f = as_spelled octet_of (SpellsNumber w8) n out (number_out w8 n out) (number_spelled w8 n out refl (ltb-true n (2 ^ 8) f))
-  shape_spelled octet _ out f = absurd cc
+  shape_spelled boolean _ out f = absurd (false≢true f)
+  shape_spelled octet (octet_of n) out f =
+      as_spelled octet_of (SpellsNumber w8) n out (number_out w8 n out) (number_spelled w8 n out refl (ltb-true n (2 ^ 8) f))
+  shape_spelled octet _ out f = absurd (false≢true f)
   shape_spelled char (char_of n) out f = as_spelled char_of (SpellsNumber w8) n out (number_out w8 n out) (number_spelled w8 n out refl (ltb-true n (2 ^ 8) f))
-  shape_spelled char _ out f = absurd cc
-  shape_spelled short (short_of z) out f = as_spelled short_of (SpellsSigned w16) z out (signed_out w16 z out) (signed_spelled w16 z out refl (signed_fits w16 32767 (omega arith) z f))
-  shape_spelled short _ out f = absurd cc
-  shape_spelled ushort (ushort_of n) out f = as_spelled ushort_of (SpellsNumber w16) n out (number_out w16 n out) (number_spelled w16 n out refl (ltb-true n (2 ^ 16) f))
-  shape_spelled ushort _ out f = absurd cc
-  shape_spelled long (long_of z) out f = as_spelled long_of (SpellsSigned w32) z out (signed_out w32 z out) (signed_spelled w32 z out refl (signed_fits w32 2147483647 (omega arith) z f))
-  shape_spelled long _ out f = absurd cc
-  shape_spelled ulong (ulong_of n) out f = as_spelled ulong_of (SpellsNumber w32) n out (number_out w32 n out) (number_spelled w32 n out refl (ltb-true n (2 ^ 32) f))
-  shape_spelled ulong _ out f = absurd cc
-  shape_spelled longlong (longlong_of z) out f = as_spelled longlong_of (SpellsSigned w64) z out (signed_out w64 z out) (signed_spelled w64 z out refl (signed_fits w64 9223372036854775807 (omega arith) z f))
-  shape_spelled longlong _ out f = absurd cc
-  shape_spelled ulonglong (ulonglong_of n) out f = as_spelled ulonglong_of (SpellsNumber w64) n out (number_out w64 n out) (number_spelled w64 n out refl (ltb-true n (2 ^ 64) f))
-  shape_spelled ulonglong _ out f = absurd cc
+  shape_spelled char _ out f = absurd (false≢true f)
+  shape_spelled short (short_of z) out f =
+      as_spelled short_of (SpellsSigned w16) z out (signed_out w16 z out) (signed_spelled w16 z out refl (signed_fits w16 32767 (omega arith) z f))
+  shape_spelled short _ out f = absurd (false≢true f)
+  shape_spelled ushort (ushort_of n) out f =
+      as_spelled ushort_of (SpellsNumber w16) n out (number_out w16 n out) (number_spelled w16 n out refl (ltb-true n (2 ^ 16) f))
+  shape_spelled ushort _ out f = absurd (false≢true f)
+  shape_spelled long (long_of z) out f =
+      as_spelled long_of (SpellsSigned w32) z out (signed_out w32 z out) (signed_spelled w32 z out refl (signed_fits w32 2147483647 (omega arith) z f))
+  shape_spelled long _ out f = absurd (false≢true f)
+  shape_spelled ulong (ulong_of n) out f =
+      as_spelled ulong_of (SpellsNumber w32) n out (number_out w32 n out) (number_spelled w32 n out refl (ltb-true n (2 ^ 32) f))
+  shape_spelled ulong _ out f = absurd (false≢true f)
+  shape_spelled longlong (longlong_of z) out f = as_spelled longlong_of (SpellsSigned w64) z out (signed_out w64 z out)
+      (signed_spelled w64 z out refl (signed_fits w64 9223372036854775807 (omega arith) z f))
+  shape_spelled longlong _ out f = absurd (false≢true f)
+  shape_spelled ulonglong (ulonglong_of n) out f =
+      as_spelled ulonglong_of (SpellsNumber w64) n out (number_out w64 n out) (number_spelled w64 n out refl (ltb-true n (2 ^ 64) f))
+  shape_spelled ulonglong _ out f = absurd (false≢true f)
   shape_spelled (text bound) (text_of t) out f = as_spelled text_of (Bounded bound SpellsString) t out (string_out t out) (text_spelled bound t out f)
-  shape_spelled (text bound) _ out f = absurd cc
+  shape_spelled (text bound) _ out f = absurd (false≢true f)
   shape_spelled (octets bound) (octets_of t) out f = as_spelled octets_of (Bounded bound SpellsOctets) t out (octets_out t out) (octets_spelled bound t out f)
-  shape_spelled (octets bound) _ out f = absurd cc
+  shape_spelled (octets bound) _ out f = absurd (false≢true f)
   shape_spelled (labels names) (label_of n) out f =
       let parts = and_parts (is_unsigned 32 n) (nat_lt n (length names)) f in
       as_spelled label_of (SpellsOrdinal (length names)) n out (number_out w32 n out)
       (such_spelled (λ ordinal. nat_lt ordinal (length names)) (SpellsNumber w32) n out (number_out w32 n out) parts.1
       (number_spelled w32 n out refl (ltb-true n (2 ^ 32) parts.0)))
-  shape_spelled (labels names) _ out f = absurd cc
-  shape_spelled (members fs) (members_of ts) out f = subst (λ us. IsSpelled (Spells (members fs)) (members_of us) out (fields_out fs (list_of ts) out)) (listed ts)
+  shape_spelled (labels names) _ out f = absurd (false≢true f)
+  shape_spelled (members fs) (members_of ts) out f =
+      subst (λ us. IsSpelled (Spells (members fs)) (members_of us) out (fields_out fs (list_of ts) out)) (listed ts)
       (as_spelled (λ us. members_of (trees_of us)) (SpellsFields fs) (list_of ts) out (fields_out fs (list_of ts) out) (fields_spelled fs ts out f))
-  shape_spelled (members fs) _ out f = absurd cc
+  shape_spelled (members fs) _ out f = absurd (false≢true f)
   shape_spelled (choice disc bs other) (choice_of label ts) out f =
       let parts = and_parts (fits_label disc label) (branches_fit bs (fields_fit other) label (list_of ts)) f in
       let mid : Output = label_out disc label out in
       let done : Output = branches_out bs (fields_out other) label (list_of ts) mid in
       subst (λ us. IsSpelled (Spells (choice disc bs other)) (choice_of label us) out done) (listed ts)
-      (then_spelled (SpellsLabel disc) (λ l. As (λ us. choice_of l (trees_of us)) (SpellsBranches bs (SpellsFields other) l)) label (choice_of label (trees_of (list_of ts)))
+      (then_spelled (SpellsLabel disc) (λ l. As (λ us. choice_of l (trees_of us)) (SpellsBranches bs (SpellsFields other) l)) label
+      (choice_of label (trees_of (list_of ts)))
       out mid done (label_spelled disc label out parts.0)
       (as_spelled (λ us. choice_of label (trees_of us)) (SpellsBranches bs (SpellsFields other) label) (list_of ts) mid done
       (branches_spelled bs other label ts mid (λ g. fields_spelled other ts mid g) parts.1)))
-  shape_spelled (choice disc bs other) _ out f = absurd cc
+  shape_spelled (choice disc bs other) _ out f = absurd (false≢true f)
   shape_spelled (items s bound) (items_of ts) out f =
       let parts = and_parts (is_counted bound (length (list_of ts))) (list_all (fits s) (list_of ts)) f in
       subst (λ us. IsSpelled (Spells (items s bound)) (items_of us) out (sequence_out (value_out s) (list_of ts) out)) (listed ts)
       (as_spelled (λ us. items_of (trees_of us)) (SpellsBounded bound (Spells s)) (list_of ts) out (sequence_out (value_out s) (list_of ts) out)
-      (bounded_items bound (Spells s) (value_out s) (λ t. fits s t ≡ true) (λ t o g. shape_spelled s t o g) (list_of ts) out parts.0 (all_fit s (list_of ts) parts.1)))
-  shape_spelled (items s bound) _ out f = absurd cc
+      (bounded_items bound (Spells s) (value_out s) (λ t. fits s t ≡ true) (λ t o g. shape_spelled s t o g) (list_of ts) out parts.0
+      (all_fit s (list_of ts) parts.1)))
+  shape_spelled (items s bound) _ out f = absurd (false≢true f)
   shape_spelled (row s n) (row_of ts) out f =
       let parts = and_parts (length (list_of ts) == n) (list_all (fits s) (list_of ts)) f in
-      let each = items_spelled (Spells s) (value_out s) (λ t. fits s t ≡ true) (λ t o g. shape_spelled s t o g) (list_of ts) out (all_fit s (list_of ts) parts.1) in
+      let each =
+      items_spelled (Spells s) (value_out s) (λ t. fits s t ≡ true) (λ t o g. shape_spelled s t o g) (list_of ts) out (all_fit s (list_of ts) parts.1) in
       subst (λ us. IsSpelled (Spells (row s n)) (row_of us) out (items_out (value_out s) (list_of ts) out)) (listed ts)
       (as_spelled (λ us. row_of (trees_of us)) (CountedItems (Spells s) n) (list_of ts) out (items_out (value_out s) (list_of ts) out)
       (record { part = each.part; octets = each.octets; order = each.order; at = each.at; spells = (eqb-true (length (list_of ts)) n parts.0, each.spells) }))
-  shape_spelled (row s n) _ out f = absurd cc
+  shape_spelled (row s n) _ out f = absurd (false≢true f)
 
   pub fields_spelled : (fs : Fields) (ts : Trees) (out : Output) → fields_fit fs (list_of ts) ≡ true
       → IsSpelled (SpellsFields fs) (list_of ts) out (fields_out fs (list_of ts) out)
   fields_spelled no_fields no_trees out f = known_spelled [] out
-  fields_spelled no_fields (tree t ts) out f = absurd cc
-  fields_spelled (field name s fs) no_trees out f = absurd cc
+  fields_spelled no_fields (tree t ts) out f = absurd (false≢true f)
+  fields_spelled (field name s fs) no_trees out f = absurd (false≢true f)
   fields_spelled (field name s fs) (tree t ts) out f =
       let parts = and_parts (fits s t) (fields_fit fs (list_of ts)) f in
       let mid : Output = value_out s t out in

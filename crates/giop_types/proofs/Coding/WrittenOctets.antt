@@ -20,6 +20,7 @@ use Rattle.giop_types.specs.Values.Tree.{choice_of, items_of, row_of}
 use Rattle.giop_types.specs.Coding.Decoding.{is_label}
 use Rattle.giop_types.specs.Values.Fits.{list_of, is_unsigned, are_octets, fits_label, is_counted, is_one, fits, fields_fit, branches_fit}
 use Rattle.giop_types.specs.Coding.Written.{label_out, one_out, value_out, fields_out, branches_out}
+use Rattle.std.proofs.lemmas.Bool.{false≢true}
 
 -- an output of octets stays one
 abbrev Keeps : (Output → Output) → Type 0
@@ -51,7 +52,8 @@ number_bytes Little w n = low_bytes 0 (byte_len w) n
 number_keeps : (w : Width) (n : ℕ) → Keeps (number_out w n)
 unfolding number_out
 number_keeps w n out all =
-    joined out.octets _ all (joined (replicate (pad (byte_len w) out.at) 0) (number_octets out.order w n) (zeros (pad (byte_len w) out.at)) (number_bytes out.order w n))
+    joined out.octets _ all
+    (joined (replicate (pad (byte_len w) out.at) 0) (number_octets out.order w n) (zeros (pad (byte_len w) out.at)) (number_bytes out.order w n))
 
 signed_keeps : (w : Width) (z : ℤ) → Keeps (signed_out w z)
 unfolding signed_out
@@ -100,9 +102,9 @@ sequence_keeps item test each ts fit out all = items_keep item test each ts fit 
 
 one_keeps : (item : Tree → Output → Output) (test : Tree → Bool) → ((t : Tree) → test t ≡ true → Keeps (item t))
     → (ts : List Tree) → is_one test ts ≡ true → Keeps (one_out item ts)
-one_keeps item test each [] fit = absurd cc
+one_keeps item test each [] fit = absurd (false≢true fit)
 one_keeps item test each (t ∷ []) fit = each t fit
-one_keeps item test each (t ∷ u ∷ us) fit = absurd cc
+one_keeps item test each (t ∷ u ∷ us) fit = absurd (false≢true fit)
 
 chosen_keeps : (b fit unfit : Bool) (one other : Output → Output) → (if b then fit else unfit) ≡ true → (fit ≡ true → Keeps one) → (unfit ≡ true → Keeps other)
     → Keeps (if b then one else other)
@@ -114,47 +116,49 @@ mutual
 
   pub value_keeps : (s : Shape) (t : Tree) → fits s t ≡ true → Keeps (value_out s t)
   value_keeps boolean (boolean_of b) fit = number_keeps w8 (if b then 1 else 0)
-  value_keeps boolean _ fit = absurd cc
+  value_keeps boolean _ fit = absurd (false≢true fit)
   value_keeps octet (octet_of n) fit = number_keeps w8 n
-  value_keeps octet _ fit = absurd cc
+  value_keeps octet _ fit = absurd (false≢true fit)
   value_keeps char (char_of n) fit = number_keeps w8 n
-  value_keeps char _ fit = absurd cc
+  value_keeps char _ fit = absurd (false≢true fit)
   value_keeps short (short_of z) fit = signed_keeps w16 z
-  value_keeps short _ fit = absurd cc
+  value_keeps short _ fit = absurd (false≢true fit)
   value_keeps ushort (ushort_of n) fit = number_keeps w16 n
-  value_keeps ushort _ fit = absurd cc
+  value_keeps ushort _ fit = absurd (false≢true fit)
   value_keeps long (long_of z) fit = signed_keeps w32 z
-  value_keeps long _ fit = absurd cc
+  value_keeps long _ fit = absurd (false≢true fit)
   value_keeps ulong (ulong_of n) fit = number_keeps w32 n
-  value_keeps ulong _ fit = absurd cc
+  value_keeps ulong _ fit = absurd (false≢true fit)
   value_keeps longlong (longlong_of z) fit = signed_keeps w64 z
-  value_keeps longlong _ fit = absurd cc
+  value_keeps longlong _ fit = absurd (false≢true fit)
   value_keeps ulonglong (ulonglong_of n) fit = number_keeps w64 n
-  value_keeps ulonglong _ fit = absurd cc
+  value_keeps ulonglong _ fit = absurd (false≢true fit)
   value_keeps (text bound) (text_of t) fit =
       string_keeps t (and_parts (are_octets t) (not (has_null t) && (nat_lt (length t + 1) (2 ^ 32) && not (passes bound (length t)))) fit).0
-  value_keeps (text bound) _ fit = absurd cc
+  value_keeps (text bound) _ fit = absurd (false≢true fit)
   value_keeps (octets bound) (octets_of t) fit = octets_keep t (and_parts (are_octets t) (is_counted bound (length t)) fit).0
-  value_keeps (octets bound) _ fit = absurd cc
+  value_keeps (octets bound) _ fit = absurd (false≢true fit)
   value_keeps (labels names) (label_of n) fit = number_keeps w32 n
-  value_keeps (labels names) _ fit = absurd cc
+  value_keeps (labels names) _ fit = absurd (false≢true fit)
   value_keeps (members fs) (members_of ts) fit = fields_keep fs (list_of ts) fit
-  value_keeps (members fs) _ fit = absurd cc
+  value_keeps (members fs) _ fit = absurd (false≢true fit)
   value_keeps (choice disc bs other) (choice_of label ts) fit =
       let parts = and_parts (fits_label disc label) (branches_fit bs (fields_fit other) label (list_of ts)) fit in
-      λ out all. branches_keep bs other label (list_of ts) (λ h. fields_keep other (list_of ts) h) parts.1 (label_out disc label out) (label_keeps disc label out all)
-  value_keeps (choice disc bs other) _ fit = absurd cc
+      λ out all. branches_keep bs other label (list_of ts) (λ h. fields_keep other (list_of ts) h) parts.1 (label_out disc label out)
+      (label_keeps disc label out all)
+  value_keeps (choice disc bs other) _ fit = absurd (false≢true fit)
   value_keeps (items s bound) (items_of ts) fit =
-      sequence_keeps (value_out s) (fits s) (λ t h. value_keeps s t h) (list_of ts) (and_parts (is_counted bound (length (list_of ts))) (list_all (fits s) (list_of ts)) fit).1
-  value_keeps (items s bound) _ fit = absurd cc
+      sequence_keeps (value_out s) (fits s) (λ t h. value_keeps s t h) (list_of ts)
+      (and_parts (is_counted bound (length (list_of ts))) (list_all (fits s) (list_of ts)) fit).1
+  value_keeps (items s bound) _ fit = absurd (false≢true fit)
   value_keeps (row s n) (row_of ts) fit =
       items_keep (value_out s) (fits s) (λ t h. value_keeps s t h) (list_of ts) (and_parts (length (list_of ts) == n) (list_all (fits s) (list_of ts)) fit).1
-  value_keeps (row s n) _ fit = absurd cc
+  value_keeps (row s n) _ fit = absurd (false≢true fit)
 
   fields_keep : (fs : Fields) (ts : List Tree) → fields_fit fs ts ≡ true → Keeps (fields_out fs ts)
   fields_keep no_fields [] fit = λ out all. all
-  fields_keep no_fields (t ∷ ts) fit = absurd cc
-  fields_keep (field name s fs) [] fit = absurd cc
+  fields_keep no_fields (t ∷ ts) fit = absurd (false≢true fit)
+  fields_keep (field name s fs) [] fit = absurd (false≢true fit)
   fields_keep (field name s fs) (t ∷ ts) fit =
       let parts = and_parts (fits s t) (fields_fit fs ts) fit in
       λ out all. fields_keep fs ts parts.1 (value_out s t out) (value_keeps s t parts.0 out all)

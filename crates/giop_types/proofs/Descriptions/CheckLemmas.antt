@@ -81,7 +81,8 @@ fault_absent false e h = refl
 node_parts : (depth : ℕ) (s : Shape) → node_fault depth s ≡ None → (is_empty s ≡ false) × (has_bad_discriminant s ≡ false)
 node_parts depth s h =
     let own = none_parts (fault_if (nat_lt 32 depth) TooDeep) (own_fault s) h in
-    let rest = none_parts (fault_if (is_empty s) Empty) (option_or (fault_if (has_bad_discriminant s) BadDiscriminant) (fault_if (has_doubles s) Doubled)) own.1 in
+    let rest =
+    none_parts (fault_if (is_empty s) Empty) (option_or (fault_if (has_bad_discriminant s) BadDiscriminant) (fault_if (has_doubles s) Doubled)) own.1 in
     let label = none_parts (fault_if (has_bad_discriminant s) BadDiscriminant) (fault_if (has_doubles s) Doubled) rest.1 in
     (fault_absent (is_empty s) Empty rest.0, fault_absent (has_bad_discriminant s) BadDiscriminant label.0)
 

@@ -37,11 +37,13 @@ apart_tested equal (x ∷ xs) h =
     (list_any_none (λ y. equal y x) xs (λ k d lt. h zero (suc k) d (omega arith) (omega arith)))
     (apart_tested equal xs (λ i j d lt bound. h (suc i) (suc j) d (omega arith) (omega arith)))
 
-doubled_apart : {X : Type 0} (equal : X → X → Bool) → ((x y : X) → Decides (equal x y) (x ≡ y)) → (xs : List X) → has_doubled equal xs ≡ false → AllPairs (λ x y. x ≢ y) xs
+doubled_apart : {X : Type 0} (equal : X → X → Bool) → ((x y : X) → Decides (equal x y) (x ≡ y)) → (xs : List X) → has_doubled equal xs ≡ false
+    → AllPairs (λ x y. x ≢ y) xs
 doubled_apart equal decides xs h i j d lt bound same =
     both_ways (equal _ _) (tested_apart equal xs h i j d lt bound) ((decides _ _).1 (sym same))
 
-apart_doubled : {X : Type 0} (equal : X → X → Bool) → ((x y : X) → Decides (equal x y) (x ≡ y)) → (xs : List X) → AllPairs (λ x y. x ≢ y) xs → has_doubled equal xs ≡ false
+apart_doubled : {X : Type 0} (equal : X → X → Bool) → ((x y : X) → Decides (equal x y) (x ≡ y)) → (xs : List X) → AllPairs (λ x y. x ≢ y) xs
+    → has_doubled equal xs ≡ false
 apart_doubled equal decides xs h =
     apart_tested equal xs (λ i j d lt bound. false_from_ne_true (equal _ _) (λ e. h i j d lt bound (sym ((decides _ _).0 e))))
 

@@ -112,7 +112,8 @@ node_sound n h =
 sound_node : (n : Node) → IsSound n → node_fault n.depth n.shape ≡ None
 sound_node n s =
     ap (λ b. option_or (fault_if b TooDeep) (own_fault n.shape)) (le-ltb 32 n.depth s.shallow)
-    ∙ ap (λ b. option_or (fault_if b Empty) (option_or (fault_if (has_bad_discriminant n.shape) BadDiscriminant) (fault_if (has_doubles n.shape) Doubled))) s.filled
+    ∙ ap (λ b. option_or (fault_if b Empty)
+    (option_or (fault_if (has_bad_discriminant n.shape) BadDiscriminant) (fault_if (has_doubles n.shape) Doubled))) s.filled
     ∙ ap (λ b. option_or (fault_if b BadDiscriminant) (fault_if (has_doubles n.shape) Doubled)) s.discriminated
     ∙ ap (λ b. fault_if b Doubled) (apart_doubles n.shape s.names_apart s.labels_apart)
 

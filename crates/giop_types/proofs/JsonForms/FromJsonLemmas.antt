@@ -34,17 +34,20 @@ use Rattle.giop_types.proofs.Coding.MemberLoops.{left_is, branches_left}
 
 -- ---- the ordinal of a name
 
-ordinal_step : (s : List ℕ) (names : List (List ℕ)) (i : ℕ) (name : List ℕ) (b : Bool) → i < length names → name ≡ get_or names i name → bytes_eq (text_of name) s ≡ b
+ordinal_step : (s : List ℕ) (names : List (List ℕ)) (i : ℕ) (name : List ℕ) (b : Bool) → i < length names → name ≡ get_or names i name
+    → bytes_eq (text_of name) s ≡ b
     → ordinal_in s (drop i names) ≡ (if b then 0 else ordinal_in s (drop (i + 1) names) + 1)
 ordinal_step s names i name b lt is test = rw (left_is names i name lt is, test) refl
 
-pub ordinal_found : (s : List ℕ) (names : List (List ℕ)) (i : ℕ) (name : List ℕ) (total : ℕ) → i < length names → name ≡ get_or names i name → bytes_eq (text_of name) s ≡ true
+pub ordinal_found : (s : List ℕ) (names : List (List ℕ)) (i : ℕ) (name : List ℕ) (total : ℕ) → i < length names → name ≡ get_or names i name
+    → bytes_eq (text_of name) s ≡ true
     → i + ordinal_in s (drop i names) ≡ total → i ≡ total
 ordinal_found s names i name total lt is test so_far =
     let step = ordinal_step s names i name true lt is test in
     omega arith
 
-pub ordinal_passed : (s : List ℕ) (names : List (List ℕ)) (i : ℕ) (name : List ℕ) (total : ℕ) → i < length names → name ≡ get_or names i name → bytes_eq (text_of name) s ≡ false
+pub ordinal_passed : (s : List ℕ) (names : List (List ℕ)) (i : ℕ) (name : List ℕ) (total : ℕ) → i < length names → name ≡ get_or names i name
+    → bytes_eq (text_of name) s ≡ false
     → i + ordinal_in s (drop i names) ≡ total → i + 1 + ordinal_in s (drop (i + 1) names) ≡ total
 ordinal_passed s names i name total lt is test so_far =
     let step = ordinal_step s names i name false lt is test in
@@ -74,13 +77,15 @@ field_count_is (m ∷ ms) = let rest = field_count_is ms in omega arith
 
 -- ---- the member of a union
 
-pub case_shown : (bs : List CaseDesc) (i : ℕ) (b : CaseDesc) (label : ℤ) (other : json.Data → Option (List Tree)) (d : json.Data) → i < length bs → b ≡ get_or bs i b
+pub case_shown : (bs : List CaseDesc) (i : ℕ) (b : CaseDesc) (label : ℤ) (other : json.Data → Option (List Tree)) (d : json.Data) → i < length bs
+    → b ≡ get_or bs i b
     → is_label label b.labels.items ≡ true
     → branches_shown (branches_of (map case_view (drop i bs))) other label d ≡ one_shown (shown (desc_view b.desc) d)
 unfolding shown
 case_shown bs i b label other d lt is found = rw (branches_left bs i b lt is, found) refl
 
-pub case_passed : (bs : List CaseDesc) (i : ℕ) (b : CaseDesc) (label : ℤ) (other : json.Data → Option (List Tree)) (d : json.Data) → i < length bs → b ≡ get_or bs i b
+pub case_passed : (bs : List CaseDesc) (i : ℕ) (b : CaseDesc) (label : ℤ) (other : json.Data → Option (List Tree)) (d : json.Data) → i < length bs
+    → b ≡ get_or bs i b
     → is_label label b.labels.items ≡ false
     → branches_shown (branches_of (map case_view (drop i bs))) other label d ≡ branches_shown (branches_of (map case_view (drop (i + 1) bs))) other label d
 unfolding shown
@@ -103,7 +108,8 @@ pub row_form : (d : _) (n : ℕ) (j : json.Data) → shown (desc_view (desc.Row 
 unfolding shown
 row_form d n j = ap (λ s. shown s j) (view-Row d n)
 
-choice_form : (d : Box Desc Global) (cs : Vec CaseDesc Global) (f : Option (Box NamedDesc Global)) (j : json.Data) → shown (desc_view (desc.Choice d cs f)) j ≡ shown (choice (desc_view d.value) (branches_of (map case_view cs.items)) (fallback_view f)) j
+choice_form : (d : Box Desc Global) (cs : Vec CaseDesc Global) (f : Option (Box NamedDesc Global)) (j : json.Data)
+    → shown (desc_view (desc.Choice d cs f)) j ≡ shown (choice (desc_view d.value) (branches_of (map case_view cs.items)) (fallback_view f)) j
 choice_form d cs f j = ap (λ s. shown s j) (view-Choice d cs f)
 
 -- ---- objects of so many members
@@ -111,7 +117,8 @@ choice_form d cs f j = ap (λ s. shown s j) (view-Choice d cs f)
 counted : (j : json.Data) (ms : json.Members) (n k : ℕ) → as_object j ≡ Some ms → k ≡ members_len ms → (k == n) ≡ is_object_of n j
 counted j ms n k is many = rw (is, many) refl
 
-pub object_counted : (j : Json) (entries : List Entry) (n k : ℕ) → Some (members_view entries) ≡ as_object (view j) → k ≡ length entries → (k == n) ≡ is_object_of n (view j)
+pub object_counted : (j : Json) (entries : List Entry) (n k : ℕ) → Some (members_view entries) ≡ as_object (view j) → k ≡ length entries
+    → (k == n) ≡ is_object_of n (view j)
 object_counted j entries n k is many = counted (view j) (members_view entries) n k (sym is) (many ∙ sym (members_len-members_view entries))
 
 -- ---- refusals
@@ -130,7 +137,8 @@ no_form f form none = rw none refl
 
 -- ---- the member of a union by default
 
-pub default_shown : (m : NamedDesc) (d : json.Data) → fallback_shown (field (named_view m).name (named_view m).shape no_fields) d ≡ one_shown (shown (desc_view m.desc) d)
+pub default_shown : (m : NamedDesc) (d : json.Data)
+    → fallback_shown (field (named_view m).name (named_view m).shape no_fields) d ≡ one_shown (shown (desc_view m.desc) d)
 unfolding shown
 default_shown m d = rw (view-Named m) refl
 
@@ -156,7 +164,8 @@ case_absent None form other is h = h
 case_absent (Some v) form other is h = absurd cc
 
 pub choice_is : (disc : Shape) (bs : Branches) (f : Fields) (j l m : json.Data) (label : ℤ) (ts : List Tree) → union_parts j ≡ Some (l, m)
-    → label_shown disc l ≡ Some label → branches_shown bs (fallback_shown f) label m ≡ Some ts → shown (choice disc bs f) j ≡ Some (choice_of label (trees_of ts))
+    → label_shown disc l ≡ Some label → branches_shown bs (fallback_shown f) label m ≡ Some ts
+    → shown (choice disc bs f) j ≡ Some (choice_of label (trees_of ts))
 unfolding shown
 choice_is disc bs f j l m label ts parts named made = rw (parts, named, made) refl
 
@@ -166,8 +175,10 @@ made_shows (Ok v) form t is ok err = is ∙ ap (λ x. Some x) (sym ok)
 made_shows (Err e) form t is ok err = inr err
 
 -- a union was made of its discriminant and its member
-pub choice_shows : (d : Box Desc Global) (cs : Vec CaseDesc Global) (f : Option (Box NamedDesc Global)) (j l m : json.Data) (label : ℤ) (ts : List Tree) (result : Result Value FormFault) → union_parts j ≡ Some (l, m)
-    → label_shown (desc_view d.value) l ≡ Some label → branches_shown (branches_of (map case_view cs.items)) (fallback_shown (fallback_view f)) label m ≡ Some ts
+pub choice_shows : (d : Box Desc Global) (cs : Vec CaseDesc Global) (f : Option (Box NamedDesc Global)) (j l m : json.Data) (label : ℤ) (ts : List Tree)
+    (result : Result Value FormFault) → union_parts j ≡ Some (l, m)
+    → label_shown (desc_view d.value) l ≡ Some label
+    → branches_shown (branches_of (map case_view cs.items)) (fallback_shown (fallback_view f)) label m ≡ Some ts
     → IfOk result (λ v. value_view v ≡ choice_of label (trees_of ts)) → IfErr result (λ e. e ≡ NoMemory)
     → Shows value_view result (shown (desc_view (desc.Choice d cs f)) j)
 choice_shows d cs f j l m label ts result parts named made ok err =

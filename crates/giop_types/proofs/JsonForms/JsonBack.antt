@@ -43,6 +43,7 @@ use Rattle.giop_types.proofs.JsonForms.JsonLeavesBack.{text_back, char_back, oct
 use Rattle.giop_types.proofs.Descriptions.CheckLemmas.{faultless_full}
 use Rattle.giop_types.proofs.JsonForms.ReferenceBack.{reference_back}
 use Rattle.giop_types.proofs.JsonForms.JsonObjects.{member_found, all_new, fields_counted}
+use Rattle.std.proofs.lemmas.Bool.{false≢true}
 
 -- the values of a list, and the list of the values
 listed : (ts : Trees) → trees_of (list_of ts) ≡ ts
@@ -62,7 +63,8 @@ unfaulted false e h = refl
 no_doubles : (depth : ℕ) (s : Shape) → node_fault depth s ≡ None → has_doubles s ≡ false
 no_doubles depth s h =
     let own = (no_fault (fault_if (nat_lt 32 depth) TooDeep) (own_fault s) h).1 in
-    let more = (no_fault (fault_if (is_empty s) Empty) (option_or (fault_if (has_bad_discriminant s) BadDiscriminant) (fault_if (has_doubles s) Doubled)) own).1 in
+    let more =
+    (no_fault (fault_if (is_empty s) Empty) (option_or (fault_if (has_bad_discriminant s) BadDiscriminant) (fault_if (has_doubles s) Doubled)) own).1 in
     let last = (no_fault (fault_if (has_bad_discriminant s) BadDiscriminant) (fault_if (has_doubles s) Doubled) more).1 in
     unfaulted (has_doubles s) Doubled last
 
@@ -101,15 +103,16 @@ each_back p read write back (t ∷ ts) h =
     let parts = and_parts (p t) (list_all p ts) h in
     rw (back t parts.0, each_back p read write back ts parts.1) refl
 
-items_back : (s : Shape) (ts : Trees) (read : json.Data → Option Tree) (write : Tree → json.Data) → items_shown read (json_items (map write (list_of ts))) ≡ Some (list_of ts)
+items_back : (s : Shape) (ts : Trees) (read : json.Data → Option Tree) (write : Tree → json.Data)
+    → items_shown read (json_items (map write (list_of ts))) ≡ Some (list_of ts)
     → (of : Trees → Tree) → option_map (λ us. of (trees_of us)) (items_shown read (json_items (map write (list_of ts)))) ≡ Some (of ts)
 items_back s ts read write back of = rw back (ap (λ us. Some (of us)) (listed ts))
 
 one_back : (p : Tree → Bool) (read : json.Data → Option Tree) (write : Tree → json.Data) → ((t : Tree) → p t ≡ true → read (write t) ≡ Some t)
     → (ts : List Tree) → is_one p ts ≡ true → one_shown (read (only_data write ts)) ≡ Some ts
-one_back p read write back [] h = absurd cc
+one_back p read write back [] h = absurd (false≢true h)
 one_back p read write back (t ∷ []) h = ap one_shown (back t h)
-one_back p read write back (t ∷ u ∷ us) h = absurd cc
+one_back p read write back (t ∷ u ∷ us) h = absurd (false≢true h)
 
 by_case : (b : Bool) (d e : json.Data) (f g : json.Data → Option (List Tree)) (ts : List Tree) (fit unfit : Bool)
     → (if b then fit else unfit) ≡ true → (fit ≡ true → f d ≡ Some ts) → (unfit ≡ true → g e ≡ Some ts)
@@ -141,45 +144,51 @@ mutual
 
   pub json_back : (s : Shape) (t : Tree) (depth : ℕ) → desc_fault depth s ≡ None → is_plain s ≡ true → fits s t ≡ true → shown s (to_data s t) ≡ Some t
   json_back boolean (boolean_of b) depth checked single fit = refl
-  json_back boolean _ depth checked single fit = absurd cc
+  json_back boolean _ depth checked single fit = absurd (false≢true fit)
   json_back octet (octet_of n) depth checked single fit = rw fit refl
-  json_back octet _ depth checked single fit = absurd cc
+  json_back octet _ depth checked single fit = absurd (false≢true fit)
   json_back char (char_of n) depth checked single fit = ap (option_map char_of) (char_back n fit)
-  json_back char _ depth checked single fit = absurd cc
-  json_back short (short_of (pos n)) depth checked single fit = rw (below n 32767 (and_parts (int_le (negsuc 32767) (pos n)) (int_le (pos n) (pos 32767)) fit).1) refl
-  json_back short (short_of (negsuc n)) depth checked single fit = rw (below n 32767 (and_parts (int_le (negsuc 32767) (negsuc n)) (int_le (negsuc n) (pos 32767)) fit).0) refl
-  json_back short _ depth checked single fit = absurd cc
+  json_back char _ depth checked single fit = absurd (false≢true fit)
+  json_back short (short_of (pos n)) depth checked single fit =
+      rw (below n 32767 (and_parts (int_le (negsuc 32767) (pos n)) (int_le (pos n) (pos 32767)) fit).1) refl
+  json_back short (short_of (negsuc n)) depth checked single fit =
+      rw (below n 32767 (and_parts (int_le (negsuc 32767) (negsuc n)) (int_le (negsuc n) (pos 32767)) fit).0) refl
+  json_back short _ depth checked single fit = absurd (false≢true fit)
   json_back ushort (ushort_of n) depth checked single fit = rw fit refl
-  json_back ushort _ depth checked single fit = absurd cc
-  json_back long (long_of (pos n)) depth checked single fit = rw (below n 2147483647 (and_parts (int_le (negsuc 2147483647) (pos n)) (int_le (pos n) (pos 2147483647)) fit).1) refl
-  json_back long (long_of (negsuc n)) depth checked single fit = rw (below n 2147483647 (and_parts (int_le (negsuc 2147483647) (negsuc n)) (int_le (negsuc n) (pos 2147483647)) fit).0) refl
-  json_back long _ depth checked single fit = absurd cc
+  json_back ushort _ depth checked single fit = absurd (false≢true fit)
+  json_back long (long_of (pos n)) depth checked single fit =
+      rw (below n 2147483647 (and_parts (int_le (negsuc 2147483647) (pos n)) (int_le (pos n) (pos 2147483647)) fit).1) refl
+  json_back long (long_of (negsuc n)) depth checked single fit =
+      rw (below n 2147483647 (and_parts (int_le (negsuc 2147483647) (negsuc n)) (int_le (negsuc n) (pos 2147483647)) fit).0) refl
+  json_back long _ depth checked single fit = absurd (false≢true fit)
   json_back ulong (ulong_of n) depth checked single fit = rw fit refl
-  json_back ulong _ depth checked single fit = absurd cc
+  json_back ulong _ depth checked single fit = absurd (false≢true fit)
   json_back longlong (longlong_of (pos n)) depth checked single fit =
       rw (below n 9223372036854775807 (and_parts (int_le (negsuc 9223372036854775807) (pos n)) (int_le (pos n) (pos 9223372036854775807)) fit).1) refl
   json_back longlong (longlong_of (negsuc n)) depth checked single fit = refl
-  json_back longlong _ depth checked single fit = absurd cc
+  json_back longlong _ depth checked single fit = absurd (false≢true fit)
   json_back ulonglong (ulonglong_of n) depth checked single fit = refl
-  json_back ulonglong _ depth checked single fit = absurd cc
+  json_back ulonglong _ depth checked single fit = absurd (false≢true fit)
   json_back (text bound) (text_of t) depth checked single fit = ap (option_map text_of) (text_back t
       (and_parts (are_octets t) (not (has_null t) && (nat_lt (length t + 1) (2 ^ 32) && not (passes bound (length t)))) fit).0)
-  json_back (text bound) _ depth checked single fit = absurd cc
+  json_back (text bound) _ depth checked single fit = absurd (false≢true fit)
   json_back (octets bound) (octets_of t) depth checked single fit =
-      ap (λ r. option_map octets_of (result_ok r)) (decode_of-encode_lower t (octets_are_bytes t (and_parts (are_octets t) (is_counted bound (length t)) fit).0))
-  json_back (octets bound) _ depth checked single fit = absurd cc
+      ap (λ r. option_map octets_of (result_ok r))
+      (decode_of-encode_lower t (octets_are_bytes t (and_parts (are_octets t) (is_counted bound (length t)) fit).0))
+  json_back (octets bound) _ depth checked single fit = absurd (false≢true fit)
   json_back (labels names) (label_of n) depth checked single fit =
       let parts = and_parts (is_unsigned 32 n) (nat_lt n (length names)) fit in
       rw (name_back names n (no_doubles depth (labels names) checked) parts.1, parts.0) refl
-  json_back (labels names) _ depth checked single fit = absurd cc
+  json_back (labels names) _ depth checked single fit = absurd (false≢true fit)
   json_back (members fs) (members_of ts) depth checked single fit =
       let node = no_fault (node_fault depth (members fs)) (fields_fault (depth + 1) fs) checked in
       let apart = no_doubles depth (members fs) node.0 in
       let full = faultless_full depth (members fs) checked in
       either (is_reference fs)
       (λ is. rw is (reference_back (members fs) (members_of ts) full fit))
-      (λ other. rw (other, object_of fs (list_of ts) fit apart, fields_back fs (list_of ts) json.no_members (depth + 1) node.1 single apart fit) (ap (λ us. Some (members_of us)) (listed ts)))
-  json_back (members fs) _ depth checked single fit = absurd cc
+      (λ other. rw (other, object_of fs (list_of ts) fit apart, fields_back fs (list_of ts) json.no_members (depth + 1) node.1 single apart fit)
+      (ap (λ us. Some (members_of us)) (listed ts)))
+  json_back (members fs) _ depth checked single fit = absurd (false≢true fit)
   json_back (choice disc bs other) (choice_of label ts) depth checked single fit =
       let node = no_fault (node_fault depth (choice disc bs other))
       (option_or (desc_fault (depth + 1) disc) (option_or (branches_fault (depth + 1) bs) (fields_fault (depth + 1) other))) checked in
@@ -194,23 +203,25 @@ mutual
       let written = branches_data bs (fallback_data other) label (list_of ts) in
       choice_is disc bs other (choice_data (label_data disc label) written) (label_data disc label) written label (list_of ts)
       (parts_back (label_data disc label) written) l m ∙ ap (λ us. Some (choice_of label us)) (listed ts)
-  json_back (choice disc bs other) _ depth checked single fit = absurd cc
+  json_back (choice disc bs other) _ depth checked single fit = absurd (false≢true fit)
   json_back (items s bound) (items_of ts) depth checked single fit =
       let node = no_fault (node_fault depth (items s bound)) (desc_fault (depth + 1) s) checked in
       let all = (and_parts (is_counted bound (length (list_of ts))) (list_all (fits s) (list_of ts)) fit).1 in
-      items_back s ts (shown s) (to_data s) (each_back (fits s) (shown s) (to_data s) (λ t h. json_back s t (depth + 1) node.1 single h) (list_of ts) all) items_of
-  json_back (items s bound) _ depth checked single fit = absurd cc
+      items_back s ts (shown s) (to_data s)
+      (each_back (fits s) (shown s) (to_data s) (λ t h. json_back s t (depth + 1) node.1 single h) (list_of ts) all) items_of
+  json_back (items s bound) _ depth checked single fit = absurd (false≢true fit)
   json_back (row s n) (row_of ts) depth checked single fit =
       let node = no_fault (node_fault depth (row s n)) (desc_fault (depth + 1) s) checked in
       let all = (and_parts (length (list_of ts) == n) (list_all (fits s) (list_of ts)) fit).1 in
-      items_back s ts (shown s) (to_data s) (each_back (fits s) (shown s) (to_data s) (λ t h. json_back s t (depth + 1) node.1 single h) (list_of ts) all) row_of
-  json_back (row s n) _ depth checked single fit = absurd cc
+      items_back s ts (shown s) (to_data s)
+      (each_back (fits s) (shown s) (to_data s) (λ t h. json_back s t (depth + 1) node.1 single h) (list_of ts) all) row_of
+  json_back (row s n) _ depth checked single fit = absurd (false≢true fit)
 
   fields_back : (fs : Fields) (ts : List Tree) (ms : json.Members) (depth : ℕ) → fields_fault depth fs ≡ None → fields_plain fs ≡ true
       → has_doubled same_name (field_names fs) ≡ false → fields_fit fs ts ≡ true → fields_shown fs (json.object (fields_data fs ts ms)) ≡ Some ts
   fields_back no_fields [] ms depth checked single apart fit = refl
-  fields_back no_fields (t ∷ ts) ms depth checked single apart fit = absurd cc
-  fields_back (field n s fs) [] ms depth checked single apart fit = absurd cc
+  fields_back no_fields (t ∷ ts) ms depth checked single apart fit = absurd (false≢true fit)
+  fields_back (field n s fs) [] ms depth checked single apart fit = absurd (false≢true fit)
   fields_back (field n s fs) (t ∷ ts) ms depth checked single apart fit =
       let faults = no_fault (desc_fault depth s) (fields_fault depth fs) checked in
       let singles = and_parts (is_plain s) (fields_plain fs) single in
@@ -238,8 +249,8 @@ mutual
   fallback_back : (other : Fields) (ts : List Tree) (depth : ℕ) → fields_fault depth other ≡ None → is_single other ≡ true → fields_plain other ≡ true
       → fields_fit other ts ≡ true → fallback_shown other (fallback_data other ts) ≡ Some ts
   fallback_back no_fields [] depth checked one single fit = refl
-  fallback_back no_fields (t ∷ ts) depth checked one single fit = absurd cc
-  fallback_back (field n s no_fields) [] depth checked one single fit = absurd cc
+  fallback_back no_fields (t ∷ ts) depth checked one single fit = absurd (false≢true fit)
+  fallback_back (field n s no_fields) [] depth checked one single fit = absurd (false≢true fit)
   fallback_back (field n s no_fields) (t ∷ []) depth checked one single fit =
       let faults = no_fault (desc_fault depth s) None checked in
       ap one_shown (json_back s t depth faults.0 (and_parts (is_plain s) true single).0 (and_parts (fits s t) true fit).0)
@@ -258,7 +269,8 @@ back_by_checked d t written is fit =
     ap (from_data (checked_shape d)) is ∙ back_from_json (checked_shape d) d.checked (viewed_plain d.desc) t fit
 
 -- the answer of a call that reads it
-pub given_back : (t : Tree) (result : Result Value FormFault) (answer : Result Tree FormFault) → answer ≡ Ok t → Reads value_view result answer → ReadsBack t result
+pub given_back : (t : Tree) (result : Result Value FormFault) (answer : Result Tree FormFault) → answer ≡ Ok t → Reads value_view result answer
+    → ReadsBack t result
 given_back t (Ok v) answer is h = cc
 given_back t (Err e) answer is h = elim h [
   | inl refused ↦ absurd cc

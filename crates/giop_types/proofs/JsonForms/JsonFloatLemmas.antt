@@ -25,7 +25,8 @@ neither : (p q : Bool) → p ≡ false → q ≡ false → (p || q) ≡ false
 neither false q one two = two
 neither true q one two = absurd cc
 
-put_at : (o : Ordering) (k l : List ℕ) (d e : Data) (ms : Members) → IsWhole d → IsWhole e → members_have_float ms ≡ false → members_have_float (put k d ms) ≡ false
+put_at : (o : Ordering) (k l : List ℕ) (d e : Data) (ms : Members) → IsWhole d → IsWhole e → members_have_float ms ≡ false
+    → members_have_float (put k d ms) ≡ false
     → members_have_float (match_ordering o (member k d (member l e ms)) (member l d ms) (member l e (put k d ms))) ≡ false
 put_at Less k l d e ms one two all more = neither (has_float d) _ one (neither (has_float e) _ two all)
 put_at Equal k l d e ms one two all more = neither (has_float d) _ one all
@@ -112,13 +113,15 @@ mutual
   fields_whole : (fs : Fields) (ts : List Tree) (ms : Members) → members_have_float ms ≡ false → members_have_float (fields_data fs ts ms) ≡ false
   fields_whole no_fields ts ms all = all
   fields_whole (field name s fs) [] ms all = all
-  fields_whole (field name s fs) (t ∷ ts) ms all = fields_whole fs ts (put (utf8_of name) (to_data s t) ms) (put_whole (utf8_of name) (to_data s t) ms (data_whole s t) all)
+  fields_whole (field name s fs) (t ∷ ts) ms all =
+      fields_whole fs ts (put (utf8_of name) (to_data s t) ms) (put_whole (utf8_of name) (to_data s t) ms (data_whole s t) all)
 
   branches_whole : (bs : Branches) (other : List Tree → Data) → ((ts : List Tree) → IsWhole (other ts)) → (label : ℤ) (ts : List Tree)
       → IsWhole (branches_data bs other label ts)
   branches_whole no_branches other all label ts = all ts
   branches_whole (branch ls name s bs) other all label ts =
-      chosen_whole (is_label label ls) (only_data (to_data s) ts) (branches_data bs other label ts) (only_whole (to_data s) (data_whole s) ts) (branches_whole bs other all label ts)
+      chosen_whole (is_label label ls) (only_data (to_data s) ts) (branches_data bs other label ts) (only_whole (to_data s) (data_whole s) ts)
+      (branches_whole bs other all label ts)
 
   fallback_whole : (other : Fields) (ts : List Tree) → IsWhole (fallback_data other ts)
   fallback_whole no_fields ts = refl

@@ -16,6 +16,7 @@ use Rattle.giop_types.specs.Values.Fits.{are_octets, is_unsigned, fits_label}
 use Rattle.giop_types.specs.JsonForms.JsonText.{text_of, octets_of_chars, octets_in}
 use Rattle.giop_types.specs.JsonForms.ToJson.{name_data, whole_data, label_data, text_data}
 use Rattle.giop_types.specs.JsonForms.FromJson.{ordinal_in, ordinal_shown, whole, label_shown, char_shown}
+use Rattle.std.proofs.lemmas.Bool.{false≢true}
 
 -- ---- texts
 
@@ -52,7 +53,8 @@ differ_texts : (a b : List ℕ) → (a ≡ b → ⊥) → bytes_eq (text_of a) (
 differ_texts a b differ = false_from_ne_true (bytes_eq (text_of a) (text_of b)) (λ e. differ (encodes_same a b ((bytes_decides (text_of a) (text_of b)).0 e)))
 
 -- an item of a list of which none has this name
-pub absent_differs : (names : List (List ℕ)) (k : ℕ) (name m : List ℕ) → list_any (λ y. same_name y m) names ≡ false → slice_get names k ≡ Some name → m ≡ name → ⊥
+pub absent_differs : (names : List (List ℕ)) (k : ℕ) (name m : List ℕ) → list_any (λ y. same_name y m) names ≡ false → slice_get names k ≡ Some name → m ≡ name
+    → ⊥
 absent_differs [] k name m none is same = absurd cc
 absent_differs (x ∷ xs) zero name m none is same =
     let parts = or_parts (same_name x m) (list_any (λ y. same_name y m) xs) none in
@@ -61,7 +63,8 @@ absent_differs (x ∷ xs) zero name m none is same =
 absent_differs (x ∷ xs) (suc k) name m none is same =
     absent_differs xs k name m (or_parts (same_name x m) (list_any (λ y. same_name y m) xs) none).1 is same
 
-ordinal_back : (names : List (List ℕ)) (n : ℕ) (name : List ℕ) → has_doubled same_name names ≡ false → slice_get names n ≡ Some name → ordinal_in (text_of name) names ≡ n
+ordinal_back : (names : List (List ℕ)) (n : ℕ) (name : List ℕ) → has_doubled same_name names ≡ false → slice_get names n ≡ Some name
+    → ordinal_in (text_of name) names ≡ n
 ordinal_back [] n name apart is = absurd cc
 ordinal_back (m ∷ ms) zero name apart is =
     let same : m ≡ name = cc in
@@ -70,7 +73,8 @@ ordinal_back (m ∷ ms) (suc k) name apart is =
     let parts = or_parts (list_any (λ y. same_name y m) ms) (has_doubled same_name ms) apart in
     rw (differ_texts m name (absent_differs ms k name m parts.0 is), ordinal_back ms k name parts.1 is) (omega arith)
 
-pub name_back : (names : List (List ℕ)) (n : ℕ) → has_doubled same_name names ≡ false → nat_lt n (length names) ≡ true → ordinal_shown names (name_data names n) ≡ Some n
+pub name_back : (names : List (List ℕ)) (n : ℕ) → has_doubled same_name names ≡ false → nat_lt n (length names) ≡ true
+    → ordinal_shown names (name_data names n) ≡ Some n
 name_back names n apart lt =
     let is = slice_get-get_or names n [] (ltb-true n (length names) lt) in
     rw (is, ordinal_back names n (get_or names n []) apart is, lt) refl
@@ -113,7 +117,8 @@ char_label_back (negsuc n) h = absurd cc
 names_label_back : (names : List (List ℕ)) (z : ℤ) → has_doubled same_name names ≡ false → fits_label (labels names) z ≡ true
     → label_shown (labels names) (label_data (labels names) z) ≡ Some z
 names_label_back names (pos n) apart h =
-    let lt : n < min (length names) (2 ^ 32) = ltb-true n (min (length names) (2 ^ 32)) (and_parts (int_le (pos 0) (pos n)) (int_lt (pos n) (pos (min (length names) (2 ^ 32)))) h).1 in
+    let lt : n < min (length names) (2 ^ 32) = ltb-true n (min (length names) (2 ^ 32))
+    (and_parts (int_le (pos 0) (pos n)) (int_lt (pos n) (pos (min (length names) (2 ^ 32)))) h).1 in
     let small : nat_lt n (2 ^ 32) ≡ true = lt-ltb n (2 ^ 32) (omega arith) in
     let named : nat_lt n (length names) ≡ true = lt-ltb n (length names) (omega arith) in
     rw (small, name_back names n apart named) refl
@@ -134,10 +139,10 @@ label_back ulong z apart h = natural_back 4294967295 (omega arith) z h
 label_back longlong z apart h = signed_back 9223372036854775807 (omega arith) z h
 label_back ulonglong z apart h = natural_back 18446744073709551615 (omega arith) z h
 label_back (labels names) z apart h = names_label_back names z apart h
-label_back octet z apart h = absurd cc
-label_back (text n) z apart h = absurd cc
-label_back (octets n) z apart h = absurd cc
-label_back (members fs) z apart h = absurd cc
-label_back (choice d bs o) z apart h = absurd cc
-label_back (items t n) z apart h = absurd cc
-label_back (row t n) z apart h = absurd cc
+label_back octet z apart h = absurd (false≢true h)
+label_back (text n) z apart h = absurd (false≢true h)
+label_back (octets n) z apart h = absurd (false≢true h)
+label_back (members fs) z apart h = absurd (false≢true h)
+label_back (choice d bs o) z apart h = absurd (false≢true h)
+label_back (items t n) z apart h = absurd (false≢true h)
+label_back (row t n) z apart h = absurd (false≢true h)

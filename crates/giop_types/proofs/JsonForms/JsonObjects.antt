@@ -59,7 +59,8 @@ pub all_new : (fs : Fields) → AreNew fs no_members
 all_new no_fields = tt
 all_new (field n s fs) = (refl, all_new fs)
 
-still_new : (q : List ℕ) (d : Data) (fs : Fields) (ms : Members) → list_any (λ y. same_name y q) (field_names fs) ≡ false → AreNew fs ms → AreNew fs (put (text_of q) d ms)
+still_new : (q : List ℕ) (d : Data) (fs : Fields) (ms : Members) → list_any (λ y. same_name y q) (field_names fs) ≡ false → AreNew fs ms
+    → AreNew fs (put (text_of q) d ms)
 still_new q d no_fields ms apart new = tt
 still_new q d (field n s fs) ms apart new =
     let parts = or_parts (same_name n q) (list_any (λ y. same_name y q) (field_names fs)) apart in

@@ -36,11 +36,13 @@ members_read ms vs =
     ap (λ s. to_data s (value_view (value.Members vs))) (view-Members ms)
     ∙ ap (to_data (members (fields_of (map named_view ms.items)))) (members_view vs)
 
-plain_members : (fs : Fields) (ts : List Tree) → is_reference fs ≡ false → to_data (members fs) (members_of (trees_of ts)) ≡ json.object (fields_data fs ts json.no_members)
+plain_members : (fs : Fields) (ts : List Tree) → is_reference fs ≡ false
+    → to_data (members fs) (members_of (trees_of ts)) ≡ json.object (fields_data fs ts json.no_members)
 unfolding to_data
 plain_members fs ts plain = rw plain (ap (λ us. json.object (fields_data fs us json.no_members)) (list_back ts))
 
-reference_members : (fs : Fields) (ts : List Tree) → is_reference fs ≡ true → to_data (members fs) (members_of (trees_of ts)) ≡ reference_data (members fs) (members_of (trees_of ts))
+reference_members : (fs : Fields) (ts : List Tree) → is_reference fs ≡ true
+    → to_data (members fs) (members_of (trees_of ts)) ≡ reference_data (members fs) (members_of (trees_of ts))
 unfolding to_data
 reference_members fs ts is = rw is refl
 
@@ -75,12 +77,14 @@ row_data d n vs =
     ∙ ap (λ ts. json.array (items_of (map (to_data (desc_view d.value)) ts))) (list_back (map value_view vs.items))
 
 pub union_data : (d : _) (cs : _) (f : _) (label : ℤ) (m : _) → to_data (desc_view (desc.Choice d cs f)) (value_view (value.Choice label m))
-    ≡ choice_data (label_data (desc_view d.value) label) (branches_data (branches_of (map case_view cs.items)) (fallback_data (fallback_view f)) label (member_view m))
+    ≡ choice_data (label_data (desc_view d.value) label)
+    (branches_data (branches_of (map case_view cs.items)) (fallback_data (fallback_view f)) label (member_view m))
 unfolding to_data
 union_data d cs f label m =
     ap (λ s. to_data s (value_view (value.Choice label m))) (view-Choice d cs f)
     ∙ ap (to_data (choice (desc_view d.value) (branches_of (map case_view cs.items)) (fallback_view f))) (choice_view label m)
-    ∙ ap (λ ts. choice_data (label_data (desc_view d.value) label) (branches_data (branches_of (map case_view cs.items)) (fallback_data (fallback_view f)) label ts))
+    ∙ ap (λ ts. choice_data (label_data (desc_view d.value) label)
+    (branches_data (branches_of (map case_view cs.items)) (fallback_data (fallback_view f)) label ts))
     (list_back (member_view m))
 
 -- ---- the members of a struct
@@ -88,7 +92,8 @@ union_data d cs f label m =
 pub fields_put : (ms : List NamedDesc) (vs : List Value) (i : ℕ) (m : NamedDesc) (v : Value) (object : json.Members) → i < length ms → i < length vs
     → m ≡ get_or ms i m → v ≡ get_or vs i v
     → fields_data (fields_of (map named_view (drop i ms))) (map value_view (drop i vs)) object
-    ≡ fields_data (fields_of (map named_view (drop (i + 1) ms))) (map value_view (drop (i + 1) vs)) (json.put (text_of m.name) (to_data (desc_view m.desc) (value_view v)) object)
+    ≡ fields_data (fields_of (map named_view (drop (i + 1) ms))) (map value_view (drop (i + 1) vs))
+    (json.put (text_of m.name) (to_data (desc_view m.desc) (value_view v)) object)
 unfolding to_data
 fields_put ms vs i m v object lt le is has = rw (fields_left ms i m lt is, left_is vs i v le has) refl
 
@@ -140,7 +145,8 @@ by_case : (b : Bool) (s : Shape) (ts : List Tree) (other : json.Data) (more : Op
 by_case true s ts other more same = refl
 by_case false s ts other more same = same
 
-branches_selected : (bs : Branches) (f : Fields) (label : ℤ) (ts : List Tree) → branches_data bs (fallback_data f) label ts ≡ selected_data (selected bs f label) ts
+branches_selected : (bs : Branches) (f : Fields) (label : ℤ) (ts : List Tree)
+    → branches_data bs (fallback_data f) label ts ≡ selected_data (selected bs f label) ts
 unfolding to_data
 branches_selected no_branches no_fields label ts = refl
 branches_selected no_branches (field name s fs) label ts = refl
@@ -148,7 +154,8 @@ branches_selected (branch ls name s bs) f label ts =
     by_case (is_label label ls) s ts (branches_data bs (fallback_data f) label ts) (selected bs f label) (branches_selected bs f label ts)
 
 -- a union whose member, or null, is written
-pub union_written : (d : Box Desc Global) (cs : Vec CaseDesc Global) (f : Option (Box NamedDesc Global)) (label : ℤ) (m : Option (Box Value Global)) (l : json.Data) (written : json.Data) → l ≡ label_data (desc_view d.value) label
+pub union_written : (d : Box Desc Global) (cs : Vec CaseDesc Global) (f : Option (Box NamedDesc Global)) (label : ℤ) (m : Option (Box Value Global))
+    (l : json.Data) (written : json.Data) → l ≡ label_data (desc_view d.value) label
     → written ≡ selected_data (selected (branches_of (map case_view cs.items)) (fallback_view f) label) (member_view m)
     → choice_data l written ≡ to_data (desc_view (desc.Choice d cs f)) (value_view (value.Choice label m))
 union_written d cs f label m l written same is =
@@ -157,11 +164,13 @@ union_written d cs f label m l written same is =
 
 -- ---- which member a label selects
 
-pub case_selected : (bs : List CaseDesc) (i : ℕ) (b : CaseDesc) (f : Fields) (label : ℤ) → i < length bs → b ≡ get_or bs i b → is_label label b.labels.items ≡ true
+pub case_selected : (bs : List CaseDesc) (i : ℕ) (b : CaseDesc) (f : Fields) (label : ℤ) → i < length bs → b ≡ get_or bs i b
+    → is_label label b.labels.items ≡ true
     → selected (branches_of (map case_view (drop i bs))) f label ≡ Some (desc_view b.desc)
 case_selected bs i b f label lt is found = rw (branches_left bs i b lt is, found) refl
 
-pub case_passed : (bs : List CaseDesc) (i : ℕ) (b : CaseDesc) (f : Fields) (label : ℤ) → i < length bs → b ≡ get_or bs i b → is_label label b.labels.items ≡ false
+pub case_passed : (bs : List CaseDesc) (i : ℕ) (b : CaseDesc) (f : Fields) (label : ℤ) → i < length bs → b ≡ get_or bs i b
+    → is_label label b.labels.items ≡ false
     → selected (branches_of (map case_view (drop i bs))) f label ≡ selected (branches_of (map case_view (drop (i + 1) bs))) f label
 case_passed bs i b f label lt is passed = rw (branches_left bs i b lt is, passed) refl
 
@@ -169,7 +178,8 @@ pub by_default : (bs : List CaseDesc) (i : ℕ) (m : Box NamedDesc Global) (labe
     → selected (branches_of (map case_view (drop i bs))) (fallback_view (Some m)) label ≡ Some (desc_view m.value.desc)
 by_default bs i m label le = rw (drop_of_length-le bs le, view-Named m.value) refl
 
-pub none_selected : (bs : List CaseDesc) (i : ℕ) (label : ℤ) → length bs ≤ i → selected (branches_of (map case_view (drop i bs))) (fallback_view None) label ≡ None
+pub none_selected : (bs : List CaseDesc) (i : ℕ) (label : ℤ) → length bs ≤ i
+    → selected (branches_of (map case_view (drop i bs))) (fallback_view None) label ≡ None
 none_selected bs i label le = rw (drop_of_length-le bs le) refl
 
 pub view-Null : view Null ≡ json.null

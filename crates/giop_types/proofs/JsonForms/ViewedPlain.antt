@@ -65,7 +65,13 @@ layer (level.Members ms) = rw (folds.fold-roll-Desc Shape Selected Named desc_st
 layer (level.Choice disc cases None) =
     rw (folds.fold-roll-Desc Shape Selected Named desc_step case_step named_step (parts_of (level.Choice disc cases None)), branches cases.items) refl
 layer (level.Choice disc cases (Some m)) =
-    rw (folds.fold-roll-Desc Shape Selected Named desc_step case_step named_step (parts_of (level.Choice disc cases (Some m))), branches cases.items, view-Named m.value.0, m.value.1) refl
+    rw (
+      folds.fold-roll-Desc Shape Selected Named desc_step case_step named_step
+          (parts_of (level.Choice disc cases (Some m))),
+      branches cases.items,
+      view-Named m.value.0,
+      m.value.1,
+    ) refl
 layer (level.Items d n) = rw (folds.fold-roll-Desc Shape Selected Named desc_step case_step named_step (parts_of (level.Items d n))) d.value.1
 layer (level.Row d n) = rw (folds.fold-roll-Desc Shape Selected Named desc_step case_step named_step (parts_of (level.Row d n))) d.value.1
 

@@ -89,7 +89,8 @@ unfolding fits
 choice_fitting d cs f label m =
     ap (λ s. fits s (value_view (value.Choice label m))) (view-Choice d cs f)
     ∙ ap (fits (choice (desc_view d.value) (branches_of (map case_view cs.items)) (fallback_view f))) (choice_view label m)
-    ∙ ap (λ ts. fits_label (desc_view d.value) label && branches_fit (branches_of (map case_view cs.items)) (fields_fit (fallback_view f)) label ts) (list_back (member_view m))
+    ∙ ap (λ ts. fits_label (desc_view d.value) label && branches_fit (branches_of (map case_view cs.items)) (fields_fit (fallback_view f)) label ts)
+    (list_back (member_view m))
 
 -- ---- the values of a list, one after the other
 
@@ -97,7 +98,8 @@ pub values-each : (s : Shape) → IsEach (λ v. fits s (value_view v)) (λ vs. l
 values-each s = record { none = refl; more = λ v vs. refl }
 
 -- a value of a member that fits or not
-fields_step : (ms : List NamedDesc) (vs : List Value) (i : ℕ) (m : NamedDesc) (v : Value) → i < length ms → i < length vs → m ≡ get_or ms i m → v ≡ get_or vs i v
+fields_step : (ms : List NamedDesc) (vs : List Value) (i : ℕ) (m : NamedDesc) (v : Value) → i < length ms → i < length vs → m ≡ get_or ms i m
+    → v ≡ get_or vs i v
     → fields_fit (fields_of (map named_view (drop i ms))) (map value_view (drop i vs))
     ≡ (fits (desc_view m.desc) (value_view v) && fields_fit (fields_of (map named_view (drop (i + 1) ms))) (map value_view (drop (i + 1) vs)))
 unfolding fits
@@ -128,7 +130,8 @@ and_false true b h = h
 and_false false b h = refl
 
 -- too few values, or too many
-pub fields_differ : (ms : List NamedDesc) (vs : List Value) → ((length ms ≡ length vs) → ⊥) → fields_fit (fields_of (map named_view ms)) (map value_view vs) ≡ false
+pub fields_differ : (ms : List NamedDesc) (vs : List Value) → ((length ms ≡ length vs) → ⊥)
+    → fields_fit (fields_of (map named_view ms)) (map value_view vs) ≡ false
 unfolding fits
 fields_differ [] [] differ = absurd (differ refl)
 fields_differ [] (v ∷ vs) differ = refl

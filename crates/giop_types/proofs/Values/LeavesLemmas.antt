@@ -28,7 +28,8 @@ as_within f P size within o at v b s =
     let front : size (f s.first) ≤ length s.front = within o at s.first s.front s.spells_front in
     rw s.spells_back.0 (omega arith)
 
-one_leaf : {A : Type 0} (f : A → Tree) (P : Spelling A) → ((v : A) → leaves (f v) ≡ 1) → ((o : Order) (at : ℕ) (t : Tree) (b : List ℕ) → As f P o at t b → 0 < length b) → Within leaves (As f P)
+one_leaf : {A : Type 0} (f : A → Tree) (P : Spelling A) → ((v : A) → leaves (f v) ≡ 1)
+    → ((o : Order) (at : ℕ) (t : Tree) (b : List ℕ) → As f P o at t b → 0 < length b) → Within leaves (As f P)
 one_leaf f P one takes o at t b s =
     let some : 0 < length b = takes o at t b s in
     rw (s.spells_back.0, one s.first) (omega arith)
@@ -97,7 +98,8 @@ mutual
   shape_within (text bound) h = as_within text_of (Bounded bound SpellsString) leaves (string_within bound)
   shape_within (octets bound) h = as_within octets_of (Bounded bound SpellsOctets) leaves (octets_within bound)
   shape_within (labels names) h = one_leaf label_of _ (λ v. refl) (shape_takes (labels names) h)
-  shape_within (members fs) h = as_within (λ ts. members_of (trees_of ts)) (SpellsFields fs) leaves (fields_within fs (and_parts (has_fields fs) (are_full fs) h).1)
+  shape_within (members fs) h =
+      as_within (λ ts. members_of (trees_of ts)) (SpellsFields fs) leaves (fields_within fs (and_parts (has_fields fs) (are_full fs) h).1)
   shape_within (choice disc bs other) h =
       let parts = and_parts (is_discriminant disc) (all_full bs && are_full other) h in
       let full = and_parts (all_full bs) (are_full other) parts.1 in
@@ -109,7 +111,8 @@ mutual
       let member : leaves_of (trees_of m.first) ≤ length m.front
       = branches_within bs full.0 other (fields_within other full.1) s.first o (at + length s.front) m.first m.front m.spells_front in
       rw m.spells_back.0 (omega arith)
-  shape_within (items s bound) h = as_within (λ ts. items_of (trees_of ts)) (SpellsBounded bound (Spells s)) leaves (bounded_within bound (Spells s) (shape_within s h))
+  shape_within (items s bound) h =
+      as_within (λ ts. items_of (trees_of ts)) (SpellsBounded bound (Spells s)) leaves (bounded_within bound (Spells s) (shape_within s h))
   shape_within (row s n) h =
       as_within (λ ts. row_of (trees_of ts)) (CountedItems (Spells s) n) leaves
       (λ o at vs b s'. each_within (Spells s) (shape_within s (and_parts (nat_lt 0 n) (is_full s) h).1) o at vs b s'.1)
@@ -131,4 +134,5 @@ mutual
   branches_within no_branches h other within label = within
   branches_within (branch ls name s bs) h other within label =
       let parts = and_parts (is_full s) (all_full bs) h in
-      chosen_within (is_label label ls) (Spells s) (SpellsBranches bs (SpellsFields other) label) (shape_within s parts.0) (branches_within bs parts.1 other within label)
+      chosen_within (is_label label ls) (Spells s) (SpellsBranches bs (SpellsFields other) label) (shape_within s parts.0)
+      (branches_within bs parts.1 other within label)

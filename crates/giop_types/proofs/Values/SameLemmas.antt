@@ -1,14 +1,24 @@
 -- Two lists of values that are compared one by one.
 use Rattle.std.proofs.Common.{◌≡◌, ℕ, ◌+◌, ◌<◌, ◌≤◌, Bool, true, false, ◌&&◌, List, [], ◌∷◌, map, drop, get_or, length, refl, sym, ap, ◌∙◌, arith}
 use Rattle.std.proofs.Math.ListN.{drop_of_length-le}
+use Rattle.std.specs.Cmp.Lexicographic.{pointwise}
 use Rattle.giop_types.specs.declared.value.Value.{Value}
 use Rattle.giop_types.specs.Values.Same.{same_tree, same_trees}
+use Rattle.giop_types.specs.Values.Tree.{Tree}
 use Rattle.giop_types.specs.Values.Views.{value_view, trees_of}
 use Rattle.giop_types.proofs.Coding.MemberLoops.{left_is}
 
 -- whether two lists are the same
 abbrev pub are_same : List Value → List Value → Bool
 are_same xs ys = same_trees (trees_of (map value_view xs)) (trees_of (map value_view ys))
+
+-- the same, of what they show
+pub one_by_one : (xs ys : List Tree) → same_trees (trees_of xs) (trees_of ys) ≡ pointwise same_tree xs ys
+unfolding same_tree
+one_by_one [] [] = refl
+one_by_one [] (y ∷ ys) = refl
+one_by_one (x ∷ xs) [] = refl
+one_by_one (x ∷ xs) (y ∷ ys) = ap (λ b. same_tree x y && b) (one_by_one xs ys)
 
 step : (xs ys : List Value) (i : ℕ) (x y : Value) → i < length xs → i < length ys → x ≡ get_or xs i x → y ≡ get_or ys i y
     → are_same (drop i xs) (drop i ys) ≡ (same_tree (value_view x) (value_view y) && are_same (drop (i + 1) xs) (drop (i + 1) ys))

@@ -13,7 +13,8 @@ use Rattle.giop_types.specs.Values.Views.{value_view, desc_view, named_view, cas
 pub view-Members : (ms : _) → desc_view (desc.Members ms) ≡ members (fields_of (map named_view ms.items))
 view-Members ms = search (rules, the_lemmas)
 
-pub view-Choice : (d : _) (cs : _) (f : _) → desc_view (desc.Choice d cs f) ≡ choice (desc_view d.value) (branches_of (map case_view cs.items)) (fallback_view f)
+pub view-Choice : (d : _) (cs : _) (f : _)
+    → desc_view (desc.Choice d cs f) ≡ choice (desc_view d.value) (branches_of (map case_view cs.items)) (fallback_view f)
 view-Choice d cs None = search (rules, the_lemmas)
 view-Choice d cs (Some f) = search (rules, the_lemmas)
 

@@ -51,8 +51,8 @@ bounded_at item bound c = do
 abbrev pub is_label : ℤ → List ℤ → Bool
 is_label label ls = list_any (λ l. int_eq l label) ls
 
--- what reading answers at a cursor, shape by shape as `Spells` says what is spelled and `RefusedShape`
--- what is refused; that it is exact is the law `values_are_spelled`
+-- what reading answers at a cursor, shape by shape as `Spells` says what is spelled and
+-- `RefusedShape` what is refused; that it is exact is the law `values_are_spelled`
 unfoldable mutual
   pub decode_at : Shape → Cursor → Reading Tree
   decode_at boolean c = as_read boolean_of (boolean_at c)
@@ -70,8 +70,10 @@ unfoldable mutual
   decode_at (members fs) c = as_read (λ ts. members_of (trees_of ts)) (fields_at fs c)
   decode_at (choice disc bs other) c = do
     label ← label_at disc c
-    as_read (λ ts. choice_of label.0 (trees_of ts)) (branches_at bs (fields_at other) label.0 label.1)
-  decode_at (items s bound) c = as_read (λ ts. items_of (trees_of ts)) (bounded_at (decode_at s) bound c)
+    as_read (λ ts. choice_of label.0 (trees_of ts))
+        (branches_at bs (fields_at other) label.0 label.1)
+  decode_at (items s bound) c =
+      as_read (λ ts. items_of (trees_of ts)) (bounded_at (decode_at s) bound c)
   decode_at (row s n) c = as_read (λ ts. row_of (trees_of ts)) (row_at (decode_at s) n c)
 
   -- the members of a struct in their order
@@ -86,4 +88,5 @@ unfoldable mutual
   pub branches_at : Branches → (Cursor → Reading (List Tree)) → ℤ → Cursor → Reading (List Tree)
   branches_at no_branches other label c = other c
   branches_at (branch ls name s bs) other label c =
-      if is_label label ls then as_read (λ t. t ∷ []) (decode_at s c) else branches_at bs other label c
+      if is_label label ls then as_read (λ t. t ∷ []) (decode_at s c)
+      else branches_at bs other label c

@@ -9,13 +9,15 @@ use Rattle.giop_cdr.specs.Reading.Values.{Reading, fault, past}
 use Rattle.giop_types.specs.Values.Tree.{Tree, choice_of}
 
 -- a case was passed over, or none is there and the reading is another one
-abbrev pub SkipsCase : Result Bool CdrFault → Cursor → Cursor → Reading (List Tree) → Reading (List Tree) → Type 0
+abbrev pub SkipsCase : Result Bool CdrFault → Cursor → Cursor → Reading (List Tree)
+    → Reading (List Tree) → Type 0
 SkipsCase (Ok true) old new reading other = past reading ≡ Ok new
 SkipsCase (Ok false) old new reading other = (reading ≡ other) × (new ≡ old)
 SkipsCase (Err e) old new reading other = reading ≡ Err e
 
 -- a case was read, or none is there and the reading is another one
-abbrev pub FollowsCase : Result (Option Value) CdrFault → Cursor → Cursor → Reading (List Tree) → Reading (List Tree) → Type 0
+abbrev pub FollowsCase : Result (Option Value) CdrFault → Cursor → Cursor → Reading (List Tree)
+    → Reading (List Tree) → Type 0
 FollowsCase (Ok (Some v)) old new reading other = reading ≡ Ok (value_view v ∷ [], new)
 FollowsCase (Ok None) old new reading other = (reading ≡ other) × (new ≡ old)
 FollowsCase (Err e) old new reading other = (reading ≡ Err e) ⊎ (e.kind ≡ NoMemory)
@@ -30,11 +32,12 @@ abbrev pub MakesChoice : ℤ → List Tree → Result Value CdrFault → Type 0
 MakesChoice label ts (Ok v) = value_view v ≡ choice_of label (trees_of ts)
 MakesChoice label ts (Err e) = e.kind ≡ NoMemory
 
--- a value was read, or refused so, or memory is wanting where nothing is refused, which is told where
--- the reader stands; a refusal leaves the reader
+-- a value was read, or refused so, or memory is wanting where nothing is refused, which is told
+-- where the reader stands; a refusal leaves the reader
 abbrev pub Decodes : Cursor → Result Value CdrFault → Cursor → Reading Tree → Type 0
 Decodes old (Ok v) new reading = reading ≡ Ok (value_view v, new)
-Decodes old (Err e) new reading = ((reading ≡ Err e) ⊎ ((e ≡ fault old.at NoMemory) × IsOk reading)) × (new ≡ old)
+Decodes old (Err e) new reading =
+    ((reading ≡ Err e) ⊎ ((e ≡ fault old.at NoMemory) × IsOk reading)) × (new ≡ old)
 
 -- this value is the answer and the reader stands behind it, unless memory is wanting
 abbrev pub IsDecoded : Result Value CdrFault → Cursor → Tree → Cursor → Type 0

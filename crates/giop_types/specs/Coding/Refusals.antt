@@ -18,7 +18,9 @@ use Rattle.giop_types.specs.Coding.Spells.{Spells, SpellsLabel}
 
 -- no unsigned long is there, or the ordinal of no name
 abbrev pub RefusedOrdinal : ℕ → Refusal
-RefusedOrdinal n = RefusedUnless (λ ordinal. nat_lt ordinal n) 4 BadLabel (Took (SpellsNumber w32)) (RefusedShort 4)
+RefusedOrdinal n =
+    RefusedUnless (λ ordinal. nat_lt ordinal n) 4 BadLabel (Took (SpellsNumber w32))
+    (RefusedShort 4)
 
 -- a discriminant isn't there, or is none
 unfoldable pub RefusedLabel : Shape → Refusal
@@ -37,20 +39,24 @@ RefusedLabel _ = λ c e. e ≡ fault c.at BadLabel
 abbrev pub RefusedBounded : ℕ → Stretch Tree → Refusal → Refusal
 RefusedBounded bound M R c e =
     FirstRefused Counts RefusedCount
-    (λ n d f. ((passes bound n ≡ true) × (f ≡ fault (place 4 c) BoundPassed)) ⊎ ((passes bound n ≡ false) × RefusedAmong M R n d f)) c e
+    (λ n d f. ((passes bound n ≡ true) × (f ≡ fault (place 4 c) BoundPassed))
+    ⊎ ((passes bound n ≡ false) × RefusedAmong M R n d f)) c e
 
 -- an array of more values than octets remain, or the first of its values is refused
 abbrev pub RefusedRow : ℕ → Stretch Tree → Refusal → Refusal
-RefusedRow n M R c e = ((length c.rest < n) × (e ≡ fault c.at BadCount)) ⊎ ((n ≤ length c.rest) × RefusedAmong M R n c e)
+RefusedRow n M R c e =
+    ((length c.rest < n) × (e ≡ fault c.at BadCount))
+    ⊎ ((n ≤ length c.rest) × RefusedAmong M R n c e)
 
 -- one refusal or another
 abbrev pub RefusedBy : Bool → Refusal → Refusal → Refusal
 RefusedBy true R S = R
 RefusedBy false R S = S
 
--- where and why no value of a shape is read: too few octets for a number, what giop_cdr refuses of a
--- boolean, a string or octets, an ordinal of no name (9.3.2.6), a count above its bound or above what is
--- left (9.3.2.5), an array longer than what is left (9.3.2.4), or the first of the parts that is refused
+-- where and why no value of a shape is read: too few octets for a number, what giop_cdr refuses of
+-- a boolean, a string or octets, an ordinal of no name (9.3.2.6), a count above its bound or above
+-- what is left (9.3.2.5), an array longer than what is left (9.3.2.4), or the first of the parts
+-- that is refused
 unfoldable mutual
   pub RefusedShape : Shape → Refusal
   RefusedShape boolean = RefusedBoolean
@@ -67,14 +73,16 @@ unfoldable mutual
   RefusedShape (labels names) = RefusedOrdinal (length names)
   RefusedShape (members fs) = RefusedFields fs
   RefusedShape (choice disc bs other) =
-      FirstRefused (Took (SpellsLabel disc)) (RefusedLabel disc) (λ label. RefusedBranches bs (RefusedFields other) label)
+      FirstRefused (Took (SpellsLabel disc)) (RefusedLabel disc)
+      (λ label. RefusedBranches bs (RefusedFields other) label)
   RefusedShape (items s bound) = RefusedBounded bound (Took (Spells s)) (RefusedShape s)
   RefusedShape (row s n) = RefusedRow n (Took (Spells s)) (RefusedShape s)
 
   -- the first member that is refused, behind those that are read
   pub RefusedFields : Fields → Refusal
   RefusedFields no_fields = NeverRefused
-  RefusedFields (field name s fs) = FirstRefused (Took (Spells s)) (RefusedShape s) (λ t. RefusedFields fs)
+  RefusedFields (field name s fs) =
+      FirstRefused (Took (Spells s)) (RefusedShape s) (λ t. RefusedFields fs)
 
   -- the member of the first case that has the label is refused, or else what is there by default
   pub RefusedBranches : Branches → Refusal → ℤ → Refusal

@@ -47,10 +47,11 @@ SpellsLabel ulonglong = As pos (SpellsNumber w64)
 SpellsLabel (labels names) = As pos (SpellsOrdinal (length names))
 SpellsLabel _ = Nothing
 
--- the octets of a value, in an order and from an offset on: a boolean, an octet, a char and a number as
--- giop_cdr spells them (9.3.1); a string and octets within their bound (9.3.2.7, 9.3.2.5); an enum by its
--- ordinal (9.3.2.6); a struct member by member (9.3.2.2); a union by its discriminant and the member that
--- it selects (9.3.2.3); a sequence behind its count (9.3.2.5), an array without one (9.3.2.4)
+-- the octets of a value, in an order and from an offset on: a boolean, an octet, a char and a
+-- number as giop_cdr spells them (9.3.1); a string and octets within their bound (9.3.2.7,
+-- 9.3.2.5); an enum by its ordinal (9.3.2.6); a struct member by member (9.3.2.2); a union by its
+-- discriminant and the member that it selects (9.3.2.3); a sequence behind its count (9.3.2.5), an
+-- array without one (9.3.2.4)
 unfoldable mutual
   pub Spells : Shape → Spelling Tree
   Spells boolean = As boolean_of SpellsBoolean
@@ -67,7 +68,9 @@ unfoldable mutual
   Spells (labels names) = As label_of (SpellsOrdinal (length names))
   Spells (members fs) = As (λ ts. members_of (trees_of ts)) (SpellsFields fs)
   Spells (choice disc bs other) =
-      Then (SpellsLabel disc) (λ label. As (λ ts. choice_of label (trees_of ts)) (SpellsBranches bs (SpellsFields other) label))
+      Then (SpellsLabel disc)
+      (λ label. As (λ ts. choice_of label (trees_of ts))
+      (SpellsBranches bs (SpellsFields other) label))
   Spells (items s bound) = As (λ ts. items_of (trees_of ts)) (SpellsBounded bound (Spells s))
   Spells (row s n) = As (λ ts. row_of (trees_of ts)) (CountedItems (Spells s) n)
 

@@ -29,8 +29,8 @@ abbrev pub one_out : (Tree → Output → Output) → List Tree → Output → O
 one_out item (t ∷ []) out = item t out
 one_out item _ out = out
 
--- an output with a value behind it; nothing is written of a value of another kind. That what is written
--- of a fitting value is read back is the law `written_values_are_read_back`
+-- an output with a value behind it; nothing is written of a value of another kind. That what is
+-- written of a fitting value is read back is the law `written_values_are_read_back`
 unfoldable mutual
   pub value_out : Shape → Tree → Output → Output
   value_out boolean (boolean_of b) = number_out w8 (if b then 1 else 0)

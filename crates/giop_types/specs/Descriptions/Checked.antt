@@ -71,7 +71,8 @@ all_labels (branch ls name s bs) = ls ++ all_labels bs
 
 -- a union of which the discriminant can be none, or a label is none of its values
 abbrev pub has_bad_discriminant : Shape → Bool
-has_bad_discriminant (choice disc bs other) = not (is_discriminant disc && list_all (is_label_of disc) (all_labels bs))
+has_bad_discriminant (choice disc bs other) =
+    not (is_discriminant disc && list_all (is_label_of disc) (all_labels bs))
 has_bad_discriminant _ = false
 
 -- ---- names and labels that stand twice
@@ -84,7 +85,8 @@ has_doubled equal (x ∷ xs) = list_any (λ y. equal y x) xs || has_doubled equa
 -- whether an item of the first list is equal to a later one of it, or to one of the second list
 abbrev pub is_repeated : {A : Type 0} → (A → A → Bool) → List A → List A → Bool
 is_repeated equal [] later = false
-is_repeated equal (x ∷ xs) later = list_any (λ y. equal y x) (xs ++ later) || is_repeated equal xs later
+is_repeated equal (x ∷ xs) later =
+    list_any (λ y. equal y x) (xs ++ later) || is_repeated equal xs later
 
 -- whether two names are octet for octet the same
 abbrev pub same_name : List ℕ → List ℕ → Bool
@@ -105,7 +107,8 @@ abbrev pub has_doubles : Shape → Bool
 has_doubles (labels names) = has_doubled same_name names
 has_doubles (members fs) = has_doubled same_name (field_names fs)
 has_doubles (choice disc bs other) =
-    has_doubled same_name (field_names other ++ branch_names bs) || has_doubled int_eq (all_labels bs)
+    has_doubled same_name (field_names other ++ branch_names bs)
+    || has_doubled int_eq (all_labels bs)
 has_doubles _ = false
 
 -- ---- faults
@@ -114,7 +117,8 @@ has_doubles _ = false
 abbrev pub own_fault : Shape → Option DescFault
 own_fault s =
     option_or (fault_if (is_empty s) Empty)
-    (option_or (fault_if (has_bad_discriminant s) BadDiscriminant) (fault_if (has_doubles s) Doubled))
+    (option_or (fault_if (has_bad_discriminant s) BadDiscriminant)
+    (fault_if (has_doubles s) Doubled))
 
 -- the fault of one node at a depth: the first that holds. The outermost node is 1 deep
 abbrev pub node_fault : ℕ → Shape → Option DescFault
@@ -124,11 +128,14 @@ node_fault depth s = option_or (fault_if (nat_lt 32 depth) TooDeep) (own_fault s
 -- of a union the discriminant, then the cases in their order, then the default
 unfoldable mutual
   pub desc_fault : ℕ → Shape → Option DescFault
-  desc_fault depth (members fs) = option_or (node_fault depth (members fs)) (fields_fault (depth + 1) fs)
+  desc_fault depth (members fs) =
+      option_or (node_fault depth (members fs)) (fields_fault (depth + 1) fs)
   desc_fault depth (choice disc bs other) =
       option_or (node_fault depth (choice disc bs other))
-      (option_or (desc_fault (depth + 1) disc) (option_or (branches_fault (depth + 1) bs) (fields_fault (depth + 1) other)))
-  desc_fault depth (items s bound) = option_or (node_fault depth (items s bound)) (desc_fault (depth + 1) s)
+      (option_or (desc_fault (depth + 1) disc)
+      (option_or (branches_fault (depth + 1) bs) (fields_fault (depth + 1) other)))
+  desc_fault depth (items s bound) =
+      option_or (node_fault depth (items s bound)) (desc_fault (depth + 1) s)
   desc_fault depth (row s n) = option_or (node_fault depth (row s n)) (desc_fault (depth + 1) s)
   desc_fault depth s = node_fault depth s
 
@@ -138,7 +145,8 @@ unfoldable mutual
 
   pub branches_fault : ℕ → Branches → Option DescFault
   branches_fault depth no_branches = None
-  branches_fault depth (branch ls name s bs) = option_or (desc_fault depth s) (branches_fault depth bs)
+  branches_fault depth (branch ls name s bs) =
+      option_or (desc_fault depth s) (branches_fault depth bs)
 
 -- what a check answers where this fault is there, or none
 abbrev pub Tells : {A : Type 0} → Result A DescFault → Option DescFault → Type 0

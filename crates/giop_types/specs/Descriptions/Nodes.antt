@@ -15,13 +15,15 @@ pub record Node : Type 0 where
 abbrev node : ℕ → Shape → Node
 node depth s = record { depth = depth; shape = s }
 
--- the nodes of a description in reading order: itself and then its parts, of a union the discriminant,
--- the cases in their order, the default
+-- the nodes of a description in reading order: itself and then its parts, of a union the
+-- discriminant, the cases in their order, the default
 abbrev mutual
   pub nodes : ℕ → Shape → List Node
   nodes depth (members fs) = node depth (members fs) ∷ field_nodes (depth + 1) fs
   nodes depth (choice disc bs other) =
-      node depth (choice disc bs other) ∷ (nodes (depth + 1) disc ++ (branch_nodes (depth + 1) bs ++ field_nodes (depth + 1) other))
+      node depth (choice disc bs other)
+      ∷ (nodes (depth + 1) disc
+      ++ (branch_nodes (depth + 1) bs ++ field_nodes (depth + 1) other))
   nodes depth (items s bound) = node depth (items s bound) ∷ nodes (depth + 1) s
   nodes depth (row s n) = node depth (row s n) ∷ nodes (depth + 1) s
   nodes depth s = node depth s ∷ []
@@ -51,8 +53,8 @@ abbrev pub labels_of : Shape → List ℤ
 labels_of (choice disc bs other) = all_labels bs
 labels_of _ = []
 
--- a node is at most 32 deep, where the outermost is 1 deep; it has its parts; its discriminant can be
--- one, and each label is a value of it; and any two of its names, and of its labels, differ
+-- a node is at most 32 deep, where the outermost is 1 deep; it has its parts; its discriminant can
+-- be one, and each label is a value of it; and any two of its names, and of its labels, differ
 pub record IsSound (n : Node) : Type 0 where
   pub shallow : n.depth ≤ 32
   pub filled : is_empty n.shape ≡ false

@@ -1,4 +1,5 @@
--- What a description says: a tree, without where it lies in memory (CORBA 3.3 Part 2, 9.3.1, 9.3.2).
+-- What a description says: a tree, without where it lies in memory (CORBA 3.3 Part 2, 9.3.1,
+-- 9.3.2).
 use Rattle.std.specs.Prelude.{ℕ, ℤ, List}
 
 mutual

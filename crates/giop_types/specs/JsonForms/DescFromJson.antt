@@ -62,9 +62,12 @@ or_named name s shape other = if bytes_eq s name then Some shape else other
 -- the description of a name
 abbrev pub named_shape : List ℕ → Option Shape
 named_shape s =
-    or_named (codes "boolean") s boolean (or_named (codes "octet") s octet (or_named (codes "char") s char
-    (or_named (codes "short") s short (or_named (codes "ushort") s ushort (or_named (codes "long") s long
-    (or_named (codes "ulong") s ulong (or_named (codes "longlong") s longlong (or_named (codes "ulonglong") s ulonglong
+    or_named (codes "boolean") s boolean
+    (or_named (codes "octet") s octet (or_named (codes "char") s char
+    (or_named (codes "short") s short
+    (or_named (codes "ushort") s ushort (or_named (codes "long") s long
+    (or_named (codes "ulong") s ulong
+    (or_named (codes "longlong") s longlong (or_named (codes "ulonglong") s ulonglong
     (or_named (codes "string") s (text 0) (or_named (codes "octets") s (octets 0)
     (or_named (codes "reference") s reference_shape None)))))))))))
 
@@ -84,7 +87,8 @@ enum_in d names = in_object 1 (λ x. option_map labels (list_in octets_shown nam
 -- a name and a description
 abbrev pub member_of : (json.Data → Option Shape) → json.Data × json.Data → Option Named
 member_of inner pair =
-    option_and_then (λ name. option_map (λ s. record { name = name; shape = s }) (inner pair.1)) (octets_shown pair.0)
+    option_and_then (λ name. option_map (λ s. record { name = name; shape = s }) (inner pair.1))
+    (octets_shown pair.0)
 
 -- a member: a list of its name and its description
 abbrev pub member_in : (json.Data → Option Shape) → json.Data → Option Named
@@ -92,15 +96,18 @@ member_in inner d = option_and_then (member_of inner) (option_and_then pair_in (
 
 -- a struct, by its members
 abbrev pub struct_in : (json.Data → Option Shape) → json.Data → json.Data → Option Shape
-struct_in inner d ms = in_object 1 (λ x. option_map (λ fs. members (fields_of fs)) (list_in (member_in inner) ms)) d
+struct_in inner d ms =
+    in_object 1 (λ x. option_map (λ fs. members (fields_of fs)) (list_in (member_in inner) ms)) d
 
 -- the bound beside a sequence's item, where it has one, and no other key
 abbrev pub bound_beside : json.Data → Option ℕ
-bound_beside d = by_key (get (codes "bound") d) (λ bound. in_object 2 (λ x. bound_in bound) d) (in_object 1 (λ x. Some 0) d)
+bound_beside d = by_key (get (codes "bound") d) (λ bound. in_object 2 (λ x. bound_in bound) d)
+    (in_object 1 (λ x. Some 0) d)
 
 -- a sequence, by its item
 abbrev pub sequence_in : (json.Data → Option Shape) → json.Data → json.Data → Option Shape
-sequence_in inner d item = option_and_then (λ bound. option_map (λ s. items s bound) (inner item)) (bound_beside d)
+sequence_in inner d item =
+    option_and_then (λ bound. option_map (λ s. items s bound) (inner item)) (bound_beside d)
 
 -- the length beside an array's item, and no other key
 abbrev pub length_beside : json.Data → Option ℕ
@@ -108,12 +115,15 @@ length_beside d = by_key (get (codes "length") d) (λ n. in_object 2 (λ x. ulon
 
 -- an array, by its item
 abbrev pub array_in : (json.Data → Option Shape) → json.Data → json.Data → Option Shape
-array_in inner d item = option_and_then (λ n. option_map (λ s. row s n) (inner item)) (length_beside d)
+array_in inner d item =
+    option_and_then (λ n. option_map (λ s. row s n) (inner item)) (length_beside d)
 
 -- a case's labels, its name and its description
-abbrev pub case_of : (json.Data → Option Shape) → Shape → json.Data × json.Data × json.Data → Option Selected
+abbrev pub case_of : (json.Data → Option Shape) → Shape → json.Data × json.Data × json.Data
+    → Option Selected
 case_of inner disc parts =
-    option_and_then (λ ls. option_and_then (λ name. option_map (λ s. record { labels = ls; name = name; shape = s })
+    option_and_then (λ ls. option_and_then
+    (λ name. option_map (λ s. record { labels = ls; name = name; shape = s })
     (inner parts.2)) (octets_shown parts.1)) (list_in (label_shown disc) parts.0)
 
 -- a case: a list of its labels, its name and its description
@@ -127,7 +137,9 @@ one_field m = field m.name m.shape no_fields
 -- the default beside a union's cases, where it has one, and no other key
 abbrev pub default_beside : (json.Data → Option Shape) → json.Data → Option Fields
 default_beside inner d =
-    by_key (get (codes "default") d) (λ m. in_object 3 (λ x. option_map one_field (member_in inner m)) d) (in_object 2 (λ x. Some no_fields) d)
+    by_key (get (codes "default") d)
+    (λ m. in_object 3 (λ x. option_map one_field (member_in inner m)) d)
+    (in_object 2 (λ x. Some no_fields) d)
 
 -- the cases beside a union's discriminant
 abbrev pub cases_beside : (json.Data → Option Shape) → Shape → json.Data → Option (List Selected)
@@ -136,7 +148,8 @@ cases_beside inner disc d = option_and_then (list_in (case_in inner disc)) (get 
 -- a union, by its discriminant
 abbrev pub union_in : (json.Data → Option Shape) → json.Data → json.Data → Option Shape
 union_in inner d disc =
-    option_and_then (λ s. option_and_then (λ cases. option_map (λ other. choice s (branches_of cases) other)
+    option_and_then (λ s. option_and_then
+    (λ cases. option_map (λ other. choice s (branches_of cases) other)
     (default_beside inner d)) (cases_beside inner s d)) (inner disc)
 
 -- a description by the first of these keys that an object has
@@ -144,7 +157,8 @@ abbrev pub composed_in : (json.Data → Option Shape) → json.Data → Option S
 composed_in inner d =
     by_key (get (codes "string") d) (text_in d) (by_key (get (codes "octets") d) (octets_in d)
     (by_key (get (codes "enum") d) (enum_in d) (by_key (get (codes "struct") d) (struct_in inner d)
-    (by_key (get (codes "sequence") d) (sequence_in inner d) (by_key (get (codes "array") d) (array_in inner d)
+    (by_key (get (codes "sequence") d) (sequence_in inner d)
+    (by_key (get (codes "array") d) (array_in inner d)
     (by_key (get (codes "union") d) (union_in inner d) None))))))
 
 -- ---- descriptions
@@ -168,7 +182,8 @@ abbrev pub described : Option Shape → Result Shape FormFault
 described None = Err BadShape
 described (Some s) = judged s (desc_fault 1 s)
 
--- what a JSON text describes; no JSON that is read nests more than 127 deep, and so many descriptions
+-- what a JSON text describes; no JSON that is read nests more than 127 deep, and so many
+-- descriptions
 abbrev pub desc_told : Option json.Data → Result Shape FormFault
 desc_told None = Err BadJson
 desc_told (Some d) = described (desc_in 128 d)

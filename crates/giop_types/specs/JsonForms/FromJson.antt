@@ -22,7 +22,8 @@ use Rattle.giop_types.specs.Values.Fits.{fits}
 use Rattle.giop_types.specs.JsonForms.JsonText as utf8
 use Rattle.giop_types.specs.JsonForms.Reference.{is_reference, reference_shown}
 
--- ---- numbers: one that its type can't hold is shown as the longer one that it is, which doesn't fit
+-- ---- numbers: one that its type can't hold is shown as the longer one that it is, which doesn't
+-- fit
 
 -- a number of 0 or more
 abbrev pub natural_tree : Shape → ℕ → Tree
@@ -75,7 +76,8 @@ ordinal_in s (name ∷ names) = if bytes_eq (utf8.text_of name) s then 0 else or
 -- the ordinal of a name; how many names there are stands for a name that is none of them
 abbrev pub name_shown : List (List ℕ) → List ℕ → Option ℕ
 name_shown names s =
-    if nat_lt (ordinal_in s names) (length names) then Some (ordinal_in s names) else option_map (λ t. length names) (utf8.octets_in s)
+    if nat_lt (ordinal_in s names) (length names) then Some (ordinal_in s names)
+    else option_map (λ t. length names) (utf8.octets_in s)
 
 abbrev pub ordinal_shown : List (List ℕ) → json.Data → Option ℕ
 ordinal_shown names d = option_and_then (name_shown names) (as_str d)
@@ -96,7 +98,8 @@ label_shown disc d = whole d
 -- the values of a list, where each has one
 abbrev pub items_shown : {A : Type 0} → (json.Data → Option A) → json.Items → Option (List A)
 items_shown f json.no_items = Some []
-items_shown f (json.item d ds) = option_and_then (λ t. option_map (λ ts. t ∷ ts) (items_shown f ds)) (f d)
+items_shown f (json.item d ds) =
+    option_and_then (λ t. option_map (λ ts. t ∷ ts) (items_shown f ds)) (f d)
 
 -- an object of so many members
 abbrev pub is_object_of : ℕ → json.Data → Bool
@@ -108,7 +111,8 @@ in_object n read d = if is_object_of n d then read d else None
 
 -- the discriminant and the member of a union
 abbrev pub both_parts : json.Data → Option (json.Data × json.Data)
-both_parts d = option_and_then (λ label. option_map (λ member. (label, member)) (get (codes "value") d)) (get (codes "disc") d)
+both_parts d = option_and_then
+    (λ label. option_map (λ member. (label, member)) (get (codes "value") d)) (get (codes "disc") d)
 
 -- the same, in an object of these two
 abbrev pub union_parts : json.Data → Option (json.Data × json.Data)
@@ -134,21 +138,29 @@ unfoldable mutual
   shown (labels names) d = option_map ordinal_tree (ordinal_shown names d)
   shown (members fs) d =
       if is_reference fs then reference_shown (members fs) d
-      else option_map (λ ts. members_of (trees_of ts)) (in_object (field_count fs) (fields_shown fs) d)
+      else option_map (λ ts. members_of (trees_of ts))
+      (in_object (field_count fs) (fields_shown fs) d)
   shown (choice disc bs other) d = option_and_then (λ parts. option_and_then (λ label.
-      option_map (λ ts. choice_of label (trees_of ts)) (branches_shown bs (fallback_shown other) label parts.1)) (label_shown disc parts.0)) (union_parts d)
-  shown (items s bound) d = option_map (λ ts. items_of (trees_of ts)) (option_and_then (items_shown (shown s)) (as_array d))
-  shown (row s n) d = option_map (λ ts. row_of (trees_of ts)) (option_and_then (items_shown (shown s)) (as_array d))
+      option_map (λ ts. choice_of label (trees_of ts))
+      (branches_shown bs (fallback_shown other) label parts.1)) (label_shown disc parts.0))
+      (union_parts d)
+  shown (items s bound) d =
+      option_map (λ ts. items_of (trees_of ts))
+      (option_and_then (items_shown (shown s)) (as_array d))
+  shown (row s n) d =
+      option_map (λ ts. row_of (trees_of ts)) (option_and_then (items_shown (shown s)) (as_array d))
   shown s d = option_map (number_tree s) (whole d)
 
   -- the members of a struct, each under its name
   pub fields_shown : Fields → json.Data → Option (List Tree)
   fields_shown no_fields d = Some []
   fields_shown (field name s fs) d =
-      option_and_then (λ t. option_map (λ ts. t ∷ ts) (fields_shown fs d)) (option_and_then (shown s) (get (utf8.text_of name) d))
+      option_and_then (λ t. option_map (λ ts. t ∷ ts) (fields_shown fs d))
+      (option_and_then (shown s) (get (utf8.text_of name) d))
 
   -- the member of a union that its label selects
-  pub branches_shown : Branches → (json.Data → Option (List Tree)) → ℤ → json.Data → Option (List Tree)
+  pub branches_shown : Branches → (json.Data → Option (List Tree)) → ℤ → json.Data
+      → Option (List Tree)
   branches_shown no_branches other label d = other d
   branches_shown (branch ls name s bs) other label d =
       if is_label label ls then one_shown (shown s d) else branches_shown bs other label d
@@ -170,7 +182,8 @@ Shows view (Ok x) form = form ≡ Some (view x)
 Shows view (Err e) form = ((e ≡ BadShape) × (form ≡ None)) ⊎ (e ≡ NoMemory)
 
 -- a case's value was made, or none is there and the form is another one's
-abbrev pub ShowsCase : Result (Option Value) FormFault → Option (List Tree) → Option (List Tree) → Type 0
+abbrev pub ShowsCase : Result (Option Value) FormFault → Option (List Tree) → Option (List Tree)
+    → Type 0
 ShowsCase (Ok (Some v)) form other = form ≡ Some (value_view v ∷ [])
 ShowsCase (Ok None) form other = form ≡ other
 ShowsCase (Err e) form other = ((e ≡ BadShape) × (form ≡ None)) ⊎ (e ≡ NoMemory)
@@ -180,7 +193,8 @@ abbrev pub fitting : Shape → Option Tree → Result Tree FormFault
 fitting s None = Err BadShape
 fitting s (Some t) = if fits s t then Ok t else Err Unfit
 
--- the value of a description that a JSON value is: another form is told before a value that is unfit
+-- the value of a description that a JSON value is: another form is told before a value that is
+-- unfit
 abbrev pub from_data : Shape → json.Data → Result Tree FormFault
 from_data s d = fitting s (shown s d)
 

@@ -9,7 +9,8 @@ text_of octets = encode_utf8_all octets
 -- the octets that these characters are, unless one is above U+00FF
 abbrev pub octets_of_chars : List ℕ → Option (List ℕ)
 octets_of_chars [] = Some []
-octets_of_chars (c ∷ cs) = if nat_lt c (2 ^ 8) then option_map (λ octets. c ∷ octets) (octets_of_chars cs) else None
+octets_of_chars (c ∷ cs) =
+    if nat_lt c (2 ^ 8) then option_map (λ octets. c ∷ octets) (octets_of_chars cs) else None
 
 -- the octets that a text stands for, unless a character is above U+00FF
 abbrev pub octets_in : List ℕ → Option (List ℕ)

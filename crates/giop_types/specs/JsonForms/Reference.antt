@@ -18,7 +18,8 @@ profile_shape = members (field (codes "tag") ulong (field (codes "octets") (octe
 
 -- an IOR: a type id, and profiles
 abbrev pub reference_shape : Shape
-reference_shape = members (field (codes "type_id") (text 0) (field (codes "profiles") (items profile_shape 0) no_fields))
+reference_shape = members
+    (field (codes "type_id") (text 0) (field (codes "profiles") (items profile_shape 0) no_fields))
 
 -- ---- which members are those of an IOR
 

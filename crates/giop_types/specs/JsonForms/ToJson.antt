@@ -46,7 +46,8 @@ by_natural f (negsuc n) = json.null
 
 -- a number of 64 bits at most; null where it has more
 abbrev pub whole_data : ℤ → json.Data
-whole_data z = if is_between (negsuc (2 ^ 63 - 1)) (pos (2 ^ 64 - 1)) z then integer_data z else json.null
+whole_data z =
+    if is_between (negsuc (2 ^ 63 - 1)) (pos (2 ^ 64 - 1)) z then integer_data z else json.null
 
 -- a char by its octet; null where it is none
 abbrev pub char_data : ℕ → json.Data
@@ -68,11 +69,13 @@ only_data f (t ∷ ts) = f t
 abbrev pub selected : Branches → Fields → ℤ → Option Shape
 selected no_branches no_fields label = None
 selected no_branches (field name s fs) label = Some s
-selected (branch ls name s bs) other label = if is_label label ls then Some s else selected bs other label
+selected (branch ls name s bs) other label =
+    if is_label label ls then Some s else selected bs other label
 
 -- a union: its discriminant, and its member
 abbrev pub choice_data : json.Data → json.Data → json.Data
-choice_data label member = json.object (json.put (codes "value") member (json.put (codes "disc") label json.no_members))
+choice_data label member =
+    json.object (json.put (codes "value") member (json.put (codes "disc") label json.no_members))
 
 unfoldable mutual
   pub to_data : Shape → Tree → json.Data
@@ -89,16 +92,19 @@ unfoldable mutual
   to_data (octets bound) (octets_of t) = json.string (encode_lower t)
   to_data (labels names) (label_of n) = name_data names n
   to_data (members fs) (members_of ts) =
-      if is_reference fs then reference_data (members fs) (members_of ts) else json.object (fields_data fs (list_of ts) json.no_members)
+      if is_reference fs then reference_data (members fs) (members_of ts)
+      else json.object (fields_data fs (list_of ts) json.no_members)
   to_data (choice disc bs other) (choice_of label ts) =
-      choice_data (label_data disc label) (branches_data bs (fallback_data other) label (list_of ts))
+      choice_data (label_data disc label)
+      (branches_data bs (fallback_data other) label (list_of ts))
   to_data (items s bound) (items_of ts) = json.array (json_items (map (to_data s) (list_of ts)))
   to_data (row s n) (row_of ts) = json.array (json_items (map (to_data s) (list_of ts)))
   to_data _ _ = json.null
 
   -- these members, put into an object one after the other
   pub fields_data : Fields → List Tree → json.Members → json.Members
-  fields_data (field name s fs) (t ∷ ts) object = fields_data fs ts (json.put (utf8.text_of name) (to_data s t) object)
+  fields_data (field name s fs) (t ∷ ts) object =
+      fields_data fs ts (json.put (utf8.text_of name) (to_data s t) object)
   fields_data _ _ object = object
 
   -- the member of a union that its label selects

@@ -40,7 +40,8 @@ is_octets_of bound bs = are_octets bs && is_counted bound (length bs)
 
 -- octets without a null, within the bound, that can be counted with their null
 abbrev pub is_text_of : ℕ → List ℕ → Bool
-is_text_of bound t = are_octets t && (not (has_null t) && (nat_lt (length t + 1) (2 ^ 32) && not (passes bound (length t))))
+is_text_of bound t = are_octets t
+    && (not (has_null t) && (nat_lt (length t + 1) (2 ^ 32) && not (passes bound (length t))))
 
 -- a value of a discriminant; an ordinal is an unsigned long
 abbrev pub fits_label : Shape → ℤ → Bool
@@ -52,10 +53,10 @@ abbrev pub is_one : (Tree → Bool) → List Tree → Bool
 is_one test (t ∷ []) = test t
 is_one test _ = false
 
--- whether a value is of a shape: of the same kind; numbers in their range; a text without a null, and
--- within its bound (9.3.2.7); a sequence within its bound and its count (9.3.2.5); an ordinal of a name
--- (9.3.2.6); as many values as a struct has members (9.3.2.2) or an array says (9.3.2.4); a union's
--- discriminant in range, with the member that it selects and no other (9.3.2.3)
+-- whether a value is of a shape: of the same kind; numbers in their range; a text without a null,
+-- and within its bound (9.3.2.7); a sequence within its bound and its count (9.3.2.5); an ordinal
+-- of a name (9.3.2.6); as many values as a struct has members (9.3.2.2) or an array says (9.3.2.4);
+-- a union's discriminant in range, with the member that it selects and no other (9.3.2.3)
 unfoldable mutual
   pub fits : Shape → Tree → Bool
   fits boolean (boolean_of b) = true
@@ -73,7 +74,8 @@ unfoldable mutual
   fits (members fs) (members_of ts) = fields_fit fs (list_of ts)
   fits (choice disc bs other) (choice_of label ts) =
       fits_label disc label && branches_fit bs (fields_fit other) label (list_of ts)
-  fits (items s bound) (items_of ts) = is_counted bound (length (list_of ts)) && list_all (fits s) (list_of ts)
+  fits (items s bound) (items_of ts) =
+      is_counted bound (length (list_of ts)) && list_all (fits s) (list_of ts)
   fits (row s n) (row_of ts) = (length (list_of ts) == n) && list_all (fits s) (list_of ts)
   fits _ _ = false
 

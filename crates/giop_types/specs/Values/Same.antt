@@ -1,5 +1,5 @@
 -- Which values are the same: what `==` answers.
-use Rattle.std.specs.Prelude.{◌==◌, ◌&&◌, nat_eq, not, Bool, true, false}
+use Rattle.std.specs.Prelude.{◌==◌, ◌&&◌, nat_eq, not, Bool, true, false, List}
 use Rattle.std.specs.Ordering.{int_eq, on}
 use Rattle.std.specs.Cmp.Lexicographic.{pointwise}
 use Rattle.giop_types.specs.declared.value.Value.{Value}
@@ -43,3 +43,7 @@ unfoldable mutual
 -- what `==` answers of two values
 abbrev pub same_value : Value → Value → Bool
 same_value = on value_view same_tree
+
+-- what `==` answers of two lists of values: as many, each the same
+abbrev pub same_list : List Tree → List Tree → Bool
+same_list = pointwise same_tree

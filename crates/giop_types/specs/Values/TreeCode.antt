@@ -128,14 +128,17 @@ mutual
   tree_same (octets_of t) = ap octets_of (octets_same t)
   tree_same (label_of n) = refl
   tree_same (members_of ts) = ap members_of (trees_same ts)
-  tree_same (choice_of z ts) = ap (λ l. choice_of l (trees_back (trees_code ts))) (int_same z) ∙ ap (choice_of z) (trees_same ts)
+  tree_same (choice_of z ts) = ap (λ l. choice_of l (trees_back (trees_code ts))) (int_same z)
+      ∙ ap (choice_of z) (trees_same ts)
   tree_same (items_of ts) = ap items_of (trees_same ts)
   tree_same (row_of ts) = ap row_of (trees_same ts)
 
   trees_same : (ts : Trees) → trees_back (trees_code ts) ≡ ts
   trees_same no_trees = refl
-  trees_same (tree t ts) = ap (λ u. tree u (trees_back (trees_code ts))) (tree_same t) ∙ ap (tree t) (trees_same ts)
+  trees_same (tree t ts) =
+      ap (λ u. tree u (trees_back (trees_code ts))) (tree_same t) ∙ ap (tree t) (trees_same ts)
 
 -- two values with one code are the same
 abbrev pub coded_tree : Coded Tree
-coded_tree = record { code = tree_code; inj = λ t u p. sym (tree_same t) ∙ ap tree_back p ∙ tree_same u }
+coded_tree =
+    record { code = tree_code; inj = λ t u p. sym (tree_same t) ∙ ap tree_back p ∙ tree_same u }

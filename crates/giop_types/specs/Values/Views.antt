@@ -57,7 +57,8 @@ desc_step (level.Octets bound) = octets bound
 desc_step (level.Labels names) = labels names.items
 desc_step (level.Members ms) = members (fields_of ms.items)
 desc_step (level.Choice disc cases None) = choice disc.value (branches_of cases.items) no_fields
-desc_step (level.Choice disc cases (Some f)) = choice disc.value (branches_of cases.items) (field f.value.name f.value.shape no_fields)
+desc_step (level.Choice disc cases (Some f)) =
+    choice disc.value (branches_of cases.items) (field f.value.name f.value.shape no_fields)
 desc_step (level.Items d bound) = items d.value bound
 desc_step (level.Row d n) = row d.value n
 
@@ -84,7 +85,8 @@ case_view = fold-CaseDesc Shape Selected Named desc_step case_step named_step
 -- the member that is there by default, or none
 abbrev pub fallback_view : Option (Box NamedDesc Global) → Fields
 fallback_view None = no_fields
-fallback_view (Some member) = field (named_view member.value).name (named_view member.value).shape no_fields
+fallback_view (Some member) =
+    field (named_view member.value).name (named_view member.value).shape no_fields
 
 -- one level of a value
 abbrev pub value_step : grown.Value-F Tree → Tree

@@ -161,7 +161,8 @@ fn append_items(
     values: &[Value],
 ) -> Result<(), EncodeFault>
     ensures { AppendsFitting
-        (is_counted bound (length values.now) && list_all (fits (desc_view item.now)) (map value_view values.now))
+        (is_counted bound (length values.now)
+        && list_all (fits (desc_view item.now)) (map value_view values.now))
         out.old result out.new
         (sequence_out (value_out (desc_view item.now)) (map value_view values.now) out.old) }
 {
@@ -173,7 +174,8 @@ fn append_items(
 #[cycle(append)]
 fn append_row(out: &mut CdrOut, item: &Desc, n: u32, values: &[Value]) -> Result<(), EncodeFault>
     ensures { AppendsFitting
-        ((length values.now == n) && list_all (fits (desc_view item.now)) (map value_view values.now))
+        ((length values.now == n)
+        && list_all (fits (desc_view item.now)) (map value_view values.now))
         out.old result out.new
         (items_out (value_out (desc_view item.now)) (map value_view values.now) out.old) }
 {
@@ -205,10 +207,12 @@ fn append_case(
     member: &Option<Box<Value>>,
 ) -> Result<bool, EncodeFault>
     ensures { (other : _) (more : _) → AppendsCase
-        (branches_fit (branches_of (map case_view cases.now)) other label.now (member_view member.now))
+        (branches_fit (branches_of (map case_view cases.now)) other label.now
+        (member_view member.now))
         (other (member_view member.now))
         out.old result out.new
-        (branches_out (branches_of (map case_view cases.now)) more label.now (member_view member.now) out.old)
+        (branches_out (branches_of (map case_view cases.now)) more label.now
+        (member_view member.now) out.old)
         (more (member_view member.now) out.old) }
 {
     for case in cases {

@@ -119,7 +119,8 @@ fn build_case<S: Octets>(
     input: &mut CdrIn<S>,
 ) -> Result<Option<Value>, CdrFault>
     ensures { (other : _) → FollowsCase result input.old input.new
-        (branches_at (branches_of (map case_view cases.now)) other label.now input.old) (other input.old) }
+        (branches_at (branches_of (map case_view cases.now)) other label.now input.old)
+        (other input.old) }
 {
     for case in cases {
         if has_label(&case.labels, label) {
@@ -137,7 +138,8 @@ fn build_fallback<S: Octets>(
     fallback: &Option<Box<NamedDesc>>,
     input: &mut CdrIn<S>,
 ) -> Result<Option<Value>, CdrFault>
-    ensures { Follows one_or_none result input.new (fields_at (fallback_view fallback.now) input.old) }
+    ensures { Follows one_or_none result input.new
+        (fields_at (fallback_view fallback.now) input.old) }
 {
     match fallback {
         Some(member) => Ok(Some(build(alloc, &member.desc, input)?)),

@@ -30,7 +30,8 @@ pub fn decode<S: Octets>(
     // What is answered is what is spelled there, and what is spelled there is answered.
     ensures found { IfOk result (λ value.
         Took (Spells (checked_shape desc.now)) input.old (value_view value) input.new) }
-    ensures only { (tree : _) (after : _) → Took (Spells (checked_shape desc.now)) input.old tree after
+    ensures only { (tree : _) (after : _)
+        → Took (Spells (checked_shape desc.now)) input.old tree after
         → IsDecoded result input.new tree after }
 
     // It has no more leaves than octets were read.
@@ -38,13 +39,14 @@ pub fn decode<S: Octets>(
         leaves (value_view value) + length input.new.rest ≤ length input.old.rest) }
 
     // Which refusal it is.
-    ensures value { Decodes input.old result input.new (decode_at (checked_shape desc.now) input.old) }
+    ensures value { Decodes input.old result input.new
+        (decode_at (checked_shape desc.now) input.old) }
 {
     value_of(alloc, desc.desc(), input)
 }
 
-/// The value, in one pass where all goes well. Memory comes last: where it is wanting, a second pass
-/// without memory looks for a fault.
+/// The value, in one pass where all goes well. Memory comes last: where it is wanting, a second
+/// pass without memory looks for a fault.
 pub fn value_of<S: Octets>(
     alloc: Global,
     desc: &Desc,

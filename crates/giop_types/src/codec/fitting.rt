@@ -143,7 +143,8 @@ fn each_fits(item: &Desc, values: &[Value]) -> bool
 #[cycle(fitting)]
 fn case_fits(label: &i128, cases: &[CaseDesc], member: &Option<Box<Value>>) -> Option<bool>
     ensures { (other : _)
-        → branches_fit (branches_of (map case_view cases.now)) other label.now (member_view member.now)
+        → branches_fit (branches_of (map case_view cases.now)) other label.now
+        (member_view member.now)
         ≡ unwrap_or result (other (member_view member.now)) }
 {
     for case in cases {

@@ -49,7 +49,8 @@ pub fn skip<S: Octets>(desc: &Desc, input: &mut CdrIn<S>) -> Result<(), CdrFault
 
 #[cycle(skip)]
 fn skip_members<S: Octets>(members: &[NamedDesc], input: &mut CdrIn<S>) -> Result<(), CdrFault>
-    ensures { Skips result input.new (fields_at (fields_of (map named_view members.now)) input.old) }
+    ensures { Skips result input.new
+        (fields_at (fields_of (map named_view members.now)) input.old) }
 {
     for member in members {
         skip(&member.desc, input)?;
@@ -65,7 +66,8 @@ fn skip_case<S: Octets>(
     input: &mut CdrIn<S>,
 ) -> Result<bool, CdrFault>
     ensures { (other : _) → SkipsCase result input.old input.new
-        (branches_at (branches_of (map case_view cases.now)) other label.now input.old) (other input.old) }
+        (branches_at (branches_of (map case_view cases.now)) other label.now input.old)
+        (other input.old) }
 {
     for case in cases {
         if has_label(&case.labels, label) {

@@ -20,13 +20,14 @@ pub struct CheckedDesc {
 impl CheckedDesc {
     ghost use Rattle.giop_types.specs.Descriptions.CheckedShape.{checked_shape};
 
-    /// Checks a description. Refused, and dropped, with the fault of the first node in reading order
-    /// that has one, the node itself before its parts: of a union the discriminant, then the cases
-    /// in their order, then the default. Of one node the first fault of these is told: TooDeep,
-    /// Empty, BadDiscriminant, Doubled.
+    /// Checks a description. Refused, and dropped, with the fault of the first node in reading
+    /// order that has one, the node itself before its parts: of a union the discriminant, then the
+    /// cases in their order, then the default. Of one node the first fault of these is told:
+    /// TooDeep, Empty, BadDiscriminant, Doubled.
     ///
-    /// It takes no memory, and looks 33 nodes deep at most; to drop a description takes as much stack
-    /// as it is deep. The time grows with the square of the names, or of the labels, of one node.
+    /// It takes no memory, and looks 33 nodes deep at most; to drop a description takes as much
+    /// stack as it is deep. The time grows with the square of the names, or of the labels, of one
+    /// node.
     pub fn check(desc: Desc) -> Result<CheckedDesc, DescFault>
         ensures ok { IfOk result (λ checked.
             (desc_fault 1 (desc_view desc) ≡ None) × (checked_shape checked ≡ desc_view desc)) }

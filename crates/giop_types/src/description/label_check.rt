@@ -55,7 +55,8 @@ fn are_labels_of(disc: &Desc, labels: &[i128]) -> bool
 
 /// Whether each label of a union's cases is a value of its discriminant.
 pub fn are_cases_of(disc: &Desc, cases: &[CaseDesc]) -> bool
-    ensures { result ≡ list_all (is_label_of (desc_view disc.now)) (all_labels (branches_of (map case_view cases.now))) }
+    ensures { result ≡ list_all (is_label_of (desc_view disc.now))
+        (all_labels (branches_of (map case_view cases.now))) }
 {
     for case in cases {
         if !are_labels_of(disc, &case.labels) {
@@ -79,7 +80,8 @@ fn has_case_of(cases: &[CaseDesc], label: &i128) -> bool
 
 // Whether a label stands again later among its case's, or among those of a later case.
 fn is_repeated(labels: &[i128], later: &[CaseDesc]) -> bool
-    ensures { result ≡ is_repeated int_eq labels.now (all_labels (branches_of (map case_view later.now))) }
+    ensures { result ≡ is_repeated int_eq labels.now
+        (all_labels (branches_of (map case_view later.now))) }
 {
     for (i, label) in labels.iter().enumerate() {
         if has_label(&labels[i + 1..], label) || has_case_of(later, label) {
@@ -91,8 +93,10 @@ fn is_repeated(labels: &[i128], later: &[CaseDesc]) -> bool
 
 /// Whether two labels of a union are equal.
 pub fn has_doubled_label(cases: &[CaseDesc]) -> bool
-    ensures value { result ≡ has_doubled int_eq (all_labels (branches_of (map case_view cases.now))) }
-    ensures apart { (result ≡ false) ↔ AllPairs (λ one other. one ≢ other) (all_labels (branches_of (map case_view cases.now))) }
+    ensures value { result
+        ≡ has_doubled int_eq (all_labels (branches_of (map case_view cases.now))) }
+    ensures apart { (result ≡ false)
+        ↔ AllPairs (λ one other. one ≢ other) (all_labels (branches_of (map case_view cases.now))) }
 {
     for (i, case) in cases.iter().enumerate() {
         if is_repeated(&case.labels, &cases[i + 1..]) {

@@ -22,7 +22,8 @@ pub fn has_doubled_name(names: &[OctetList]) -> bool
 
 // Whether a member has this name.
 fn has_member(members: &[NamedDesc], name: &OctetList) -> bool
-    ensures { result ≡ list_any (λ other. same_name other name.now) (field_names (fields_of (map named_view members.now))) }
+    ensures { result ≡ list_any (λ other. same_name other name.now)
+        (field_names (fields_of (map named_view members.now))) }
 {
     for member in members {
         if member.name == *name {
@@ -34,7 +35,8 @@ fn has_member(members: &[NamedDesc], name: &OctetList) -> bool
 
 /// Whether two members of a struct have the same name.
 pub fn has_doubled_member(members: &[NamedDesc]) -> bool
-    ensures { result ≡ has_doubled same_name (field_names (fields_of (map named_view members.now))) }
+    ensures { result ≡ has_doubled same_name
+        (field_names (fields_of (map named_view members.now))) }
 {
     for (i, member) in members.iter().enumerate() {
         if has_member(&members[i + 1..], &member.name) {
@@ -46,7 +48,8 @@ pub fn has_doubled_member(members: &[NamedDesc]) -> bool
 
 // Whether a case of a union has this name.
 fn has_case(cases: &[CaseDesc], name: &OctetList) -> bool
-    ensures { result ≡ list_any (λ other. same_name other name.now) (branch_names (branches_of (map case_view cases.now))) }
+    ensures { result ≡ list_any (λ other. same_name other name.now)
+        (branch_names (branches_of (map case_view cases.now))) }
 {
     for case in cases {
         if case.name == *name {
@@ -58,7 +61,8 @@ fn has_case(cases: &[CaseDesc], name: &OctetList) -> bool
 
 // Whether two cases of a union have the same name.
 fn has_doubled_case(cases: &[CaseDesc]) -> bool
-    ensures { result ≡ has_doubled same_name (branch_names (branches_of (map case_view cases.now))) }
+    ensures { result ≡ has_doubled same_name
+        (branch_names (branches_of (map case_view cases.now))) }
 {
     for (i, case) in cases.iter().enumerate() {
         if has_case(&cases[i + 1..], &case.name) {
@@ -70,7 +74,9 @@ fn has_doubled_case(cases: &[CaseDesc]) -> bool
 
 /// Whether two members of a union have the same name, among its cases and its default.
 pub fn has_doubled_choice(cases: &[CaseDesc], fallback: &Option<Box<NamedDesc>>) -> bool
-    ensures { result ≡ has_doubled same_name (field_names (fallback_view fallback.now) ++ branch_names (branches_of (map case_view cases.now))) }
+    ensures { result ≡ has_doubled same_name
+        (field_names (fallback_view fallback.now)
+        ++ branch_names (branches_of (map case_view cases.now))) }
 {
     match fallback {
         Some(member) => has_case(cases, &member.name) || has_doubled_case(cases),

@@ -37,8 +37,11 @@ pub fn desc_from_json(alloc: Global, text: &[u8]) -> Result<CheckedDesc, FormFau
 
 /// A description that was checked.
 pub fn checked(desc: Desc) -> Result<CheckedDesc, FormFault>
-    ensures ok { IfOk result (λ checked. judged (desc_view desc) (desc_fault 1 (desc_view desc)) ≡ Ok (checked_shape checked)) }
-    ensures err { IfErr result (λ e. judged (desc_view desc) (desc_fault 1 (desc_view desc)) ≡ Err e) }
+    ensures ok { IfOk result
+        (λ checked. judged (desc_view desc) (desc_fault 1 (desc_view desc))
+        ≡ Ok (checked_shape checked)) }
+    ensures err { IfErr result
+        (λ e. judged (desc_view desc) (desc_fault 1 (desc_view desc)) ≡ Err e) }
 {
     match CheckedDesc::check(desc) {
         Ok(checked) => Ok(checked),
@@ -216,7 +219,8 @@ fn names_of(alloc: Global, json: &Json) -> Result<Vec<OctetList>, FormFault>
 // A struct.
 #[cycle(desc_of)]
 fn struct_of(alloc: Global, json: &Json, members: &Json, levels: u32) -> Result<Desc, FormFault>
-    ensures { Shows desc_view result (struct_in (desc_in levels) (view json.now) (view members.now)) }
+    ensures { Shows desc_view result
+        (struct_in (desc_in levels) (view json.now) (view members.now)) }
 {
     if !is_object_of(1, json) {
         return Err(FormFault::BadShape);
@@ -265,7 +269,8 @@ fn bound_beside(json: &Json) -> Result<u32, FormFault>
 // A sequence, with its bound where it has one.
 #[cycle(desc_of)]
 fn sequence_of(alloc: Global, json: &Json, item: &Json, levels: u32) -> Result<Desc, FormFault>
-    ensures { Shows desc_view result (sequence_in (desc_in levels) (view json.now) (view item.now)) }
+    ensures { Shows desc_view result
+        (sequence_in (desc_in levels) (view json.now) (view item.now)) }
 {
     let bound = bound_beside(json)?;
     let item = desc_of(alloc, item, levels)?;
@@ -366,7 +371,8 @@ fn cases_of(
 // A case: its labels, its name and its description.
 #[cycle(desc_of)]
 fn case_of(alloc: Global, disc: &Desc, json: &Json, levels: u32) -> Result<CaseDesc, FormFault>
-    ensures { Shows case_view result (case_in (desc_in levels) (desc_view disc.now) (view json.now)) }
+    ensures { Shows case_view result
+        (case_in (desc_in levels) (desc_view disc.now) (view json.now)) }
 {
     let (labels, name, desc) = triple_of(json)?;
     Ok(CaseDesc {
@@ -378,7 +384,8 @@ fn case_of(alloc: Global, disc: &Desc, json: &Json, levels: u32) -> Result<CaseD
 
 // The labels of a case.
 fn labels_of(alloc: Global, disc: &Desc, json: &Json) -> Result<Vec<i128>, FormFault>
-    ensures { Shows (λ labels. labels.items) result (list_in (label_shown (desc_view disc.now)) (view json.now)) }
+    ensures { Shows (λ labels. labels.items) result
+        (list_in (label_shown (desc_view disc.now)) (view json.now)) }
 {
     let list = list_of(json)?;
     let mut labels = Vec::with_capacity(alloc, list.len())?;

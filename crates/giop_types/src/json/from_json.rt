@@ -125,7 +125,8 @@ fn show_fields(alloc: Global, members: &[NamedDesc], json: &Json) -> Result<Vec<
 #[cycle(show)]
 fn show_member(alloc: Global, member: &NamedDesc, json: &Json) -> Result<Value, FormFault>
     ensures { Shows value_view result
-        (option_and_then (shown (desc_view member.now.desc)) (get (text_of member.now.name) (view json.now))) }
+        (option_and_then (shown (desc_view member.now.desc))
+        (get (text_of member.now.name) (view json.now))) }
 {
     let name = text_of(alloc, member.name.as_slice())?;
     match json.get(name.as_str()) {
@@ -162,7 +163,8 @@ fn show_each(alloc: Global, item: &Desc, list: &[Json]) -> Result<Vec<Value>, Fo
 
 // The discriminant and the member of a union.
 fn union_parts(json: &Json) -> Result<(&Json, &Json), FormFault>
-    ensures { Shows (λ parts. (view parts.0.now, view parts.1.now)) result (union_parts (view json.now)) }
+    ensures { Shows (λ parts. (view parts.0.now, view parts.1.now)) result
+        (union_parts (view json.now)) }
 {
     if !is_object_of(2, json) {
         return Err(FormFault::BadShape);
@@ -176,7 +178,8 @@ fn union_parts(json: &Json) -> Result<(&Json, &Json), FormFault>
 // A union's value: its discriminant, and its member where it has one.
 #[tactic(auto, using(crate::proofs::Values::ViewLemmas::chosen_view, crate::proofs::Values::ViewLemmas::bare_view))]
 fn chosen(alloc: Global, label: &i128, member: Option<Value>) -> Result<Value, FormFault>
-    ensures ok { IfOk result (λ value. value_view value ≡ choice_of label.now (trees_of (one_or_none member))) }
+    ensures ok { IfOk result
+        (λ value. value_view value ≡ choice_of label.now (trees_of (one_or_none member))) }
     ensures err { IfErr result (λ e. e ≡ NoMemory) }
 {
     let Some(member) = member else {
@@ -203,7 +206,8 @@ fn show_case(
     json: &Json,
 ) -> Result<Option<Value>, FormFault>
     ensures { (other : _) → ShowsCase result
-        (branches_shown (branches_of (map case_view cases.now)) other label.now (view json.now)) (other (view json.now)) }
+        (branches_shown (branches_of (map case_view cases.now)) other label.now (view json.now))
+        (other (view json.now)) }
 {
     for case in cases {
         if has_label(&case.labels, label) {
@@ -221,7 +225,8 @@ fn show_fallback(
     fallback: &Option<Box<NamedDesc>>,
     json: &Json,
 ) -> Result<Option<Value>, FormFault>
-    ensures { Shows one_or_none result (fallback_shown (fallback_view fallback.now) (view json.now)) }
+    ensures { Shows one_or_none result
+        (fallback_shown (fallback_view fallback.now) (view json.now)) }
 {
     match fallback {
         Some(member) => Ok(Some(show(alloc, &member.desc, json)?)),

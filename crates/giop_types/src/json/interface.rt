@@ -44,11 +44,11 @@ impl Interface {
         }
     }
 
-    /// The interface that a JSON text is. Refused as BadJson where the text is none, or nests arrays
-    /// and objects more than 127 deep; else as BadShape where it, or a part of it, has another form,
-    /// a oneway operation has outs, a name or an id has a null, or two parameters of one list have
-    /// the same name; else as BadDesc with the fault of the first description that has one; and as
-    /// NoMemory where memory is wanting, in place of any.
+    /// The interface that a JSON text is. Refused as BadJson where the text is none, or nests
+    /// arrays and objects more than 127 deep; else as BadShape where it, or a part of it, has
+    /// another form, a oneway operation has outs, a name or an id has a null, or two parameters of
+    /// one list have the same name; else as BadDesc with the fault of the first description that
+    /// has one; and as NoMemory where memory is wanting, in place of any.
     pub fn from_json(alloc: Global, text: &[u8]) -> Result<Interface, FormFault>
         ensures { MakesOf (json_in text.now) result }
     {
@@ -58,14 +58,16 @@ impl Interface {
     /// The operation of this name. It takes no memory, and a time that grows with the logarithm of
     /// the number of operations.
     pub fn operation(&self, name: &[u8]) -> Option<&Operation>
-        ensures { option_copied result ≡ get_by (λ key. slice_cmp nat_cmp name.now key.items) self.now.operations }
+        ensures { option_copied result
+            ≡ get_by (λ key. slice_cmp nat_cmp name.now key.items) self.now.operations }
     {
         self.operations.get(name)
     }
 
     /// The members of the exception of this id, likewise.
     pub fn exception(&self, id: &[u8]) -> Option<&Parameters>
-        ensures { option_copied result ≡ get_by (λ key. slice_cmp nat_cmp id.now key.items) self.now.exceptions }
+        ensures { option_copied result
+            ≡ get_by (λ key. slice_cmp nat_cmp id.now key.items) self.now.exceptions }
     {
         self.exceptions.get(id)
     }

@@ -33,8 +33,8 @@ struct ExceptionForm {
     members: Vec<NamedDesc>,
 }
 
-/// The interface that a JSON text is. Refused as BadJson where the text is none, or nests arrays and
-/// objects more than 127 deep; else as BadShape where it, or a part of it, has another form, a
+/// The interface that a JSON text is. Refused as BadJson where the text is none, or nests arrays
+/// and objects more than 127 deep; else as BadShape where it, or a part of it, has another form, a
 /// oneway operation has outs, a name or an id has a null, or two parameters of one list have the
 /// same name; else as BadDesc with the fault of the first description that has one; and as NoMemory
 /// where memory is wanting, in place of any.

@@ -29,7 +29,8 @@ pub fn whole_of(json: &Json) -> Result<i128, FormFault>
 /// A number of this description, or the longer number that it is where the description can't hold
 /// it.
 pub fn number_of(desc: &Desc, json: &Json) -> Result<Value, FormFault>
-    ensures { Shows value_view result (option_map (number_tree (desc_view desc.now)) (whole (view json.now))) }
+    ensures { Shows value_view result
+        (option_map (number_tree (desc_view desc.now)) (whole (view json.now))) }
 {
     if let Some(number) = json.as_u64() {
         return Ok(natural_value(desc, number));

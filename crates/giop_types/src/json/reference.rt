@@ -22,8 +22,8 @@ use giop_cdr::{CdrIn, CdrKind, CdrOut, EncodeFault, OctetList, Order, SliceOctet
 use serde_json::Value as Json;
 use std::alloc::{AllocError, Global};
 
-/// The description of an IOR: a struct of `type_id`, a string, and `profiles`, a sequence of structs
-/// of `tag`, an unsigned long, and `octets`, a sequence of octets.
+/// The description of an IOR: a struct of `type_id`, a string, and `profiles`, a sequence of
+/// structs of `tag`, an unsigned long, and `octets`, a sequence of octets.
 pub fn reference_desc(alloc: Global) -> Result<Desc, AllocError>
     ensures { IfOk result (λ desc. desc_view desc ≡ reference_shape) }
 {
@@ -41,7 +41,8 @@ fn struct_of(
     two: Desc,
 ) -> Result<Desc, AllocError>
     ensures { IfOk result (λ desc. desc_view desc
-        ≡ members (field one_name.now (desc_view one) (field two_name.now (desc_view two) no_fields))) }
+        ≡ members (field one_name.now (desc_view one)
+        (field two_name.now (desc_view two) no_fields))) }
 {
     let one_name = OctetList::from_slice(alloc, one_name)?;
     let two_name = OctetList::from_slice(alloc, two_name)?;
@@ -107,7 +108,8 @@ pub fn is_reference(members: &[NamedDesc]) -> bool
 
 /// The text of a reference, big-endian; null where the value doesn't fit.
 pub fn reference_json(alloc: Global, value: &Value, desc: &Desc) -> Result<Json, AllocError>
-    ensures { IfOk result (λ json. view json ≡ reference_data (desc_view desc.now) (value_view value.now)) }
+    ensures { IfOk result
+        (λ json. view json ≡ reference_data (desc_view desc.now) (value_view value.now)) }
 {
     let mut out = CdrOut::new(alloc, Order::Big, 0);
     out.write_octet(0)?;
@@ -137,7 +139,8 @@ pub fn reference_of(alloc: Global, desc: &Desc, json: &Json) -> Result<Value, Fo
 // The value of an encapsulation, whatever stands behind it.
 #[tactic(auto, unfolding(crate::specs::IorText::encapsulated, giop_cdr::specs::Encapsulation::OfLayout::inside_at))]
 fn encapsulated(alloc: Global, desc: &Desc, octets: &[u8]) -> Result<Value, FormFault>
-    ensures { Shows value_view result (result_ok (encapsulated (decode_at (desc_view desc.now)) octets.now)) }
+    ensures { Shows value_view result
+        (result_ok (encapsulated (decode_at (desc_view desc.now)) octets.now)) }
 {
     let Ok((order, content)) = open_octets(octets) else {
         return Err(FormFault::BadShape);

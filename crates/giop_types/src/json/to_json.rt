@@ -28,8 +28,11 @@ pub fn value_to_json(alloc: Global, desc: &CheckedDesc, value: &Value) -> Result
         view json ≡ to_data (checked_shape desc.now) (value_view value.now)) }
     ensures back { IfOk result (λ json.
         from_data (checked_shape desc.now) (view json) ≡ Ok (value_view value.now)) }
-    ensures only { fits (checked_shape desc.now) (value_view value.now) ≡ false → IsErrOf result Unfit }
-    ensures err { IfErr result (λ e. ((e ≡ Unfit) × (fits (checked_shape desc.now) (value_view value.now) ≡ false)) ⊎ (e ≡ NoMemory)) }
+    ensures only { fits (checked_shape desc.now) (value_view value.now) ≡ false
+        → IsErrOf result Unfit }
+    ensures err { IfErr result
+        (λ e. ((e ≡ Unfit) × (fits (checked_shape desc.now) (value_view value.now) ≡ false))
+        ⊎ (e ≡ NoMemory)) }
 {
     if !fits(desc, value) {
         return Err(FormFault::Unfit);
@@ -41,7 +44,8 @@ pub fn value_to_json(alloc: Global, desc: &CheckedDesc, value: &Value) -> Result
 #[cycle(to_json)]
 #[tactic(auto, unfolding(crate::specs::JsonForms::ToJson::to_data))]
 pub fn to_json(alloc: Global, value: &Value, desc: &Desc) -> Result<Json, AllocError>
-    ensures { IfOk result (λ json. view json ≡ to_data (desc_view desc.now) (value_view value.now)) }
+    ensures { IfOk result
+        (λ json. view json ≡ to_data (desc_view desc.now) (value_view value.now)) }
 {
     match (desc, value) {
         (Desc::Boolean, Value::Boolean(boolean)) => Ok(Json::from(*boolean)),
@@ -90,7 +94,8 @@ pub fn to_json(alloc: Global, value: &Value, desc: &Desc) -> Result<Json, AllocE
 #[cycle(to_json)]
 fn members_json(alloc: Global, values: &[Value], members: &[NamedDesc]) -> Result<Json, AllocError>
     ensures { IfOk result (λ json. view json
-        ≡ object (fields_data (fields_of (map named_view members.now)) (map value_view values.now) no_members)) }
+        ≡ object (fields_data (fields_of (map named_view members.now))
+        (map value_view values.now) no_members)) }
 {
     let mut object = Map::new(alloc);
     for i in 0..members.len().min(values.len()) {

@@ -1,5 +1,5 @@
-// Laws of the text of a reference. Each function's contract is one of them; the bodies are empty, and
-// no program calls these.
+// Laws of the text of a reference. Each function's contract is one of them; the bodies are empty,
+// and no program calls these.
 ghost use Rattle.std.specs.Prelude.{◌≡◌, ◌++◌, ℕ, List, true, false, codes, Ok};
 ghost use Rattle.giop_cdr.specs.Layout.{AreOctets};
 ghost use Rattle.giop_types.specs.Coding.Decoding.{decode_at};

@@ -1,5 +1,5 @@
-// Laws of values as JSON. The body of the first is empty, that of the second makes the very calls, and
-// no program calls these.
+// Laws of values as JSON. The body of the first is empty, that of the second makes the very calls,
+// and no program calls these.
 ghost use Rattle.std.specs.Prelude.{◌≡◌, ◌↔◌, true, false, None, Ok, IfOk, IsErrOf};
 ghost use Rattle.giop_types.specs.declared.json.form_fault.FormFault.TheVariants.{Unfit};
 ghost use Rattle.giop_types.specs.Descriptions.Checked.{desc_fault};

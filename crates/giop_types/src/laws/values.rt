@@ -1,5 +1,5 @@
-// Laws of the definitions. Each function's contract is one of them; the bodies are empty but for the
-// last, which makes the very calls, and no program calls these.
+// Laws of the definitions. Each function's contract is one of them; the bodies are empty but for
+// the last, which makes the very calls, and no program calls these.
 ghost use Rattle.std.specs.Prelude.{◌≡◌, ◌+◌, ◌<◌, ◌≤◌, ◌↔◌, ◌^◌, ℕ, ℤ, List, length, true, false, None, IfOk, IsErrOf};
 ghost use Rattle.std.specs.List.{AllByRecursion};
 ghost use Rattle.giop_cdr.specs.declared.order.Order.{Order};
@@ -15,7 +15,7 @@ ghost use Rattle.giop_types.specs.Values.Fits.{are_octets, fits};
 ghost use Rattle.giop_types.specs.Descriptions.Full.{is_full};
 ghost use Rattle.giop_types.specs.Coding.Refusals.{RefusedShape};
 ghost use Rattle.giop_types.specs.declared.value.Value.{Value};
-ghost use Rattle.giop_types.specs.Values.Same.{same_value};
+ghost use Rattle.giop_types.specs.Values.Same.{same_value, same_list};
 ghost use Rattle.giop_types.specs.Descriptions.Shape.{Shape};
 ghost use Rattle.giop_types.specs.Values.Leaves.{leaves, leaves_of};
 ghost use Rattle.giop_types.specs.Descriptions.Nodes.{nodes, first_fault, IsSound};
@@ -41,7 +41,8 @@ pub fn values_are_spelled()
 
 /// No value has more leaves than octets spell it: so no count makes a small message a large value.
 pub fn values_are_bounded()
-    ensures { (shape : Shape) → is_full shape ≡ true → (order : Order) (at : ℕ) (tree : Tree) (octets : List ℕ)
+    ensures { (shape : Shape) → is_full shape ≡ true
+        → (order : Order) (at : ℕ) (tree : Tree) (octets : List ℕ)
         → Spells shape order at tree octets → leaves tree ≤ length octets }
 {}
 
@@ -49,7 +50,8 @@ pub fn values_are_bounded()
 /// stands behind it: in both orders, at every offset.
 pub fn written_values_are_read_back()
     ensures { (shape : Shape) → is_full shape ≡ true → (tree : Tree) → fits shape tree ≡ true
-        → (out : Output) → IsReadBack (Spells shape) (decode_at shape) tree out (value_out shape tree out) }
+        → (out : Output) → IsReadBack (Spells shape) (decode_at shape) tree out
+        (value_out shape tree out) }
 {}
 
 /// What octets spell is a value that fits, and so can be written again: for octets, which are
@@ -81,17 +83,20 @@ pub fn leaves_count_every_part()
     ensures lists { (values : Trees)
         → (leaves_of values ≤ leaves (items_of values)) × (0 < leaves (items_of values)) }
     ensures parts { (values : Trees)
-        → (leaves_of values ≤ leaves (members_of values)) × (leaves_of values ≤ leaves (row_of values)) }
+        → (leaves_of values ≤ leaves (members_of values))
+        × (leaves_of values ≤ leaves (row_of values)) }
     ensures sums { (first : Tree) (others : Trees)
         → leaves first + leaves_of others ≤ leaves_of (tree first others) }
     ensures some { (shape : Shape) (value : Tree)
         → is_full shape ≡ true → fits shape value ≡ true → 0 < leaves value }
 {}
 
-/// Two values are equal by `==` exactly where contracts see the same of both.
+/// Two values are equal by `==` exactly where contracts see the same of both, and so are two lists
+/// of values.
 pub fn equal_values_are_the_same()
-    ensures { (one other : Value)
+    ensures values { (one other : Value)
         → (same_value one other ≡ true) ↔ (value_view one ≡ value_view other) }
+    ensures lists { (one other : List Tree) → (same_list one other ≡ true) ↔ (one ≡ other) }
 {}
 
 /// Writes a value, in an order and from an offset on, and reads it again. Refused as Unfit where it

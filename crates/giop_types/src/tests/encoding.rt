@@ -285,8 +285,8 @@ fn over(alloc: Global, disc: Desc, label: i128, with_default: bool) -> Result<De
     })
 }
 
-// A union over each kind of discriminant: a label that a case has, one that none has, and the octets
-// of both discriminants.
+// A union over each kind of discriminant: a label that a case has, one that none has, and the
+// octets of both discriminants.
 #[test]
 fn each_discriminant_is_written_by_its_number(rt: HostRuntime) -> Result<(), Fail> {
     let alloc = rt.alloc();

@@ -21,7 +21,8 @@ pub fn unended(octets: &[u8]) -> &[u8]
 
 /// Writes a line, and the newline behind it.
 pub fn write_line<W: Write>(line: &[u8], writer: &mut W) -> Result<(), Failure>
-    ensures { OnOk result (Appends (W.contents writer.old) (W.contents writer.new) (ended line.now)) }
+    ensures { OnOk result
+        (Appends (W.contents writer.old) (W.contents writer.new) (ended line.now)) }
 {
     writer.write_all(line)?;
     writer.write_all(b"\n")?;

@@ -137,6 +137,7 @@ fn value_of_octets(
     ensures value { IfOk result (λ value. (after : Cursor)
         × (decode_at (checked_shape desc.now) (reader_of order octets.now)
         ≡ Ok (value_view value, after)) × (after.rest ≡ [])) }
+    ensures fits { IfOk result (λ value. fits (checked_shape desc.now) (value_view value) ≡ true) }
     ensures err { IfErr result (λ e. RefusedOctets (checked_shape desc.now) order octets.now e
         ⊎ (e.kind ≡ octets_no_memory)) }
 {
@@ -158,13 +159,15 @@ fn value_of_octets(
     Ok(value)
 }
 
-// A value in JSON, without blanks.
-fn text_of_value(alloc: Global, value: &Value, desc: &CheckedDesc) -> Result<String, Failure>
-    ensures { IfOk result (λ text.
-        string_bytes text ≡ compact_text (to_data (checked_shape desc.now) (value_view value.now))) }
+// A value that fits in JSON, without blanks.
+fn text_of_value(alloc: Global, value: &Value, desc: &CheckedDesc) -> Result<String, AllocError>
+    requires { fits (checked_shape desc.now) (value_view value.now) ≡ true }
+    ensures { IfOk result (λ text. string_bytes text
+        ≡ compact_text (to_data (checked_shape desc.now) (value_view value.now))) }
 {
     match value_to_json(alloc, desc, value) {
         Ok(json) => Ok(json.to_string(alloc)?),
-        Err(_) => Err(Failure::Memory),
+        Err(FormFault::NoMemory) => Err(AllocError),
+        Err(_) => unreachable!(),
     }
 }

@@ -31,8 +31,8 @@ pub fn convert_value<W: Write>(
     order: Order,
     writer: &mut W,
 ) -> Result<Status, Failure>
-    ensures { IfOk result
-        (ConvertsValue way order octets.now (W.contents writer.old) (W.contents writer.new)) }
+    ensures { IfOk result (ConvertsValue way order description.now octets.now
+        (W.contents writer.old) (W.contents writer.new)) }
 {
     let desc = match desc_from_json(alloc, description) {
         Ok(desc) => desc,

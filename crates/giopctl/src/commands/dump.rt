@@ -17,8 +17,8 @@ pub const MESSAGE_LIMIT: u32 = 1_048_576;
 /// What becomes of the input behind a fault in a header, of which nothing is shown.
 #[derive(Clone, Copy, Debug, PartialEq, Eq)]
 pub enum BehindFault {
-    /// It is read to its end before the fault is told, so that a reading that fails comes first: for
-    /// files.
+    /// It is read to its end before the fault is told, so that a reading that fails comes first:
+    /// for files.
     Read,
     /// It is left unread, and the fault told at once: for what may never end.
     Leave,
@@ -27,10 +27,11 @@ pub enum BehindFault {
 /// Writes the messages that the octets of a file are, and then how many octets are left, or the
 /// fault that ends it. It is `Done` where the file is messages and nothing else, else `Refused`.
 ///
-/// Where writing fails the answer is `InputOutput`, and where memory is wanting `Memory`; then a part
-/// of the text is written.
+/// Where writing fails the answer is `InputOutput`, and where memory is wanting `Memory`; then a
+/// part of the text is written.
 pub fn dump_octets<W: Write>(alloc: Global, octets: &[u8], writer: &mut W) -> Status
-    ensures { Dumps MESSAGE_LIMIT octets.now (W.contents writer.old) (W.contents writer.new) result }
+    ensures { Dumps MESSAGE_LIMIT octets.now (W.contents writer.old)
+        (W.contents writer.new) result }
 {
     let mut left = octets;
     match dump_stream(alloc, &mut left, writer, BehindFault::Read) {

@@ -118,7 +118,8 @@ fn write_locate_request<W: Write>(message: &Msg, writer: &mut W) -> Result<(), F
 fn write_locate_reply<W: Write>(message: &Msg, writer: &mut W) -> Result<(), Failure>
     requires { length message.now.payload < 2 ^ 32 }
     ensures { OnOk result (Appends (W.contents writer.old) (W.contents writer.new)
-        (locate_reply_text (end_of message.now) (head_of_joined (locate_reply_head message.now.version)
+        (locate_reply_text (end_of message.now)
+        (head_of_joined (locate_reply_head message.now.version)
         right_behind message.now.order message.now.payload))) }
 {
     let octets = message.payload.as_slice();

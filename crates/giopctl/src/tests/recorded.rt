@@ -3,8 +3,8 @@ use crate::status::Status;
 use std::test::Fail;
 
 // Recorded from omniORB 4.2.5: what a client sent that calls the operations ping, add, echo, sum,
-// tell (oneway) and fail of one object, and what the server answered. Pads hold what was left in the
-// sender's buffer, and the first Request has a service context.
+// tell (oneway) and fail of one object, and what the server answered. Pads hold what was left in
+// the sender's buffer, and the first Request has a service context.
 const CLIENT: &str = "47494F5001020103100000000200000000001E000400000063616C63\
     47494F5001020100380000000400000003000000000000000400000063616C6305000000\
     70696E670000280001000000010000000C000000010000000100010009010100\

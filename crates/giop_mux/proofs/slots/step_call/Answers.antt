@@ -28,9 +28,11 @@ becomes g c =
     rw (sym c.get_mut.ensures.value ∙ ap option_copied_mut c.in-Some.is) refl in
     let written = (c.get_mut.follows.holds c.step_slot-outcome.new.slot).3 there in
     elim c.if-is_none.branch [
-      | then-is_none w ↦ subst (λ (m : BTreeMap ℕ (Option g.row.R-Entry.Denot)). Becomes c.args.table.now.entries m.entries c.args.id (as_slot c.step_slot-outcome.new.slot))
+      | then-is_none w ↦ subst
+          (λ (m : BTreeMap ℕ (Option g.row.R-Entry.Denot)). Becomes c.args.table.now.entries m.entries c.args.id (as_slot c.step_slot-outcome.new.slot))
           (sym w.table-is) (Becomes-removed _ _ _ _ _ w.if-is_none.ensures written.0 w.drop_slot.ensures.gone.0)
-      | else-is_none w ↦ subst (λ (m : BTreeMap ℕ (Option g.row.R-Entry.Denot)). Becomes c.args.table.now.entries m.entries c.args.id (as_slot c.step_slot-outcome.new.slot))
+      | else-is_none w ↦ subst
+          (λ (m : BTreeMap ℕ (Option g.row.R-Entry.Denot)). Becomes c.args.table.now.entries m.entries c.args.id (as_slot c.step_slot-outcome.new.slot))
           (sym w.table-is) (Becomes-written _ _ _ _ w.if-is_none.ensures written.0)
     ]
 

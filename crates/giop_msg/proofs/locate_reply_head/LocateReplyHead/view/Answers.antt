@@ -19,7 +19,9 @@ returns-in_err-head-clause-only g c = λ head body is.
 
 pub returns-clause-exact : goal.returns-clause-exact
 returns-clause-exact g c =
-    rw c.position.ensures (sym (head_found (locate_reply_head c.args.version) right_behind c.args.order (g.S.Octets.octets c.args.octets.now) c.in_ok-head.head c.read_head.new.input
+    rw c.position.ensures
+    (sym (head_found (locate_reply_head c.args.version) right_behind c.args.order
+    (g.S.Octets.octets c.args.octets.now) c.in_ok-head.head c.read_head.new.input
     (ap (locate_reply_head c.args.version).read (sym c.new-input.ensures) ∙ c.in_ok-head.ensures)))
 
 pub returns-clause-found : goal.returns-clause-found

@@ -9,7 +9,8 @@ use Rattle.giop_msg.proofs.reply_head.ReplyHead.view.Goals as goal
 pub returns-in_err-head-clause-exact : goal.returns-in_err-head-clause-exact
 returns-in_err-head-clause-exact g c =
     let p = err_from_is_err_and c.from_residual.result c.from_residual.ensures.1 in
-    rw (p.1, p.2) (sym (head_refused (reply_head c.args.version) (body_place c.args.version) c.args.order (g.S.Octets.octets c.args.octets.now) c.in_err-head.field-0.0
+    rw (p.1, p.2) (sym (head_refused (reply_head c.args.version) (body_place c.args.version) c.args.order
+    (g.S.Octets.octets c.args.octets.now) c.in_err-head.field-0.0
     (ap (reply_head c.args.version).read (sym c.new-input.ensures) ∙ c.in_err-head.ensures)))
 
 pub returns-in_err-head-clause-only : goal.returns-in_err-head-clause-only
@@ -19,7 +20,9 @@ returns-in_err-head-clause-only g c = λ head body is.
 
 pub returns-clause-exact : goal.returns-clause-exact
 returns-clause-exact g c =
-    rw c.body_place.ensures (sym (head_found (reply_head c.args.version) (body_place c.args.version) c.args.order (g.S.Octets.octets c.args.octets.now) c.in_ok-head.head c.view_head.new.input
+    rw c.body_place.ensures
+    (sym (head_found (reply_head c.args.version) (body_place c.args.version) c.args.order
+    (g.S.Octets.octets c.args.octets.now) c.in_ok-head.head c.view_head.new.input
     (ap (reply_head c.args.version).read (sym c.new-input.ensures) ∙ c.in_ok-head.ensures)))
 
 pub returns-clause-found : goal.returns-clause-found

@@ -17,7 +17,8 @@ loop-told-preserved g c =
     let at_rule = subst (λ (r : g.row.R.Denot). Does (call_rules (g.R.CallRule.next r) (g.R.CallRule.closed r) c.loop-told.self.limit) c.loop-told.self.entries
     (record { id = c.in-Some.told.id; what = Hears c.in-Some.told.what }) (event_reply c.apply.result) c.apply.new.self.entries)
     c.loop-told.invariant.rule c.apply.ensures.exact in
-    let at_limit = subst (λ (n : ℕ). Does (call_rules (g.R.CallRule.next c.args.self.now.rule) (g.R.CallRule.closed c.args.self.now.rule) n) c.loop-told.self.entries
+    let at_limit =
+    subst (λ (n : ℕ). Does (call_rules (g.R.CallRule.next c.args.self.now.rule) (g.R.CallRule.closed c.args.self.now.rule) n) c.loop-told.self.entries
     (record { id = c.in-Some.told.id; what = Hears c.in-Some.told.what }) (event_reply c.apply.result) c.apply.new.self.entries)
     c.loop-told.invariant.limit at_rule in
     record {

@@ -39,7 +39,8 @@ append-returns-in_err-append_case-in-Choice-Choice t c =
     let u = c.in-Choice-Choice in
     let p = err_from_is_err_and c.from_residual-in_err-append_case-in-Choice-Choice.result c.from_residual-in_err-append_case-in-Choice-Choice.ensures.1 in
     let label = rw c.deref-in-Choice-Choice.ensures at c.in_ok-append_label-in-Choice-Choice.ensures in
-    let h = case_over c.deref-in-Choice-Choice-2.ensures.value (fields_fit (fallback_view u.fallback)) (fields_out (fallback_view u.fallback)) u.label (member_view u.member)
+    let h = case_over c.deref-in-Choice-Choice-2.ensures.value (fields_fit (fallback_view u.fallback)) (fields_out (fallback_view u.fallback)) u.label
+    (member_view u.member)
     c.append_label.new.out c.append_case.new.out (Err c.in_err-append_case-in-Choice-Choice.field-0.0)
     (c.in_err-append_case-in-Choice-Choice.ensures (fields_fit (fallback_view u.fallback)) (fields_out (fallback_view u.fallback))) in
     rw (p.1, p.2, u.is-0, u.is-1) (puts_fails _ _ c.args.out.now c.append_label.new.out c.append_case.new.out c.in_err-append_case-in-Choice-Choice.field-0.0
@@ -50,14 +51,16 @@ append-returns-then-branch t c =
     let u = c.in-Choice-Choice in
     let bs = branches_of (map case_view u.cases.items) in
     let label = rw c.deref-in-Choice-Choice.ensures at c.in_ok-append_label-in-Choice-Choice.ensures in
-    let h = case_over c.deref-in-Choice-Choice-2.ensures.value (fields_fit (fallback_view u.fallback)) (fields_out (fallback_view u.fallback)) u.label (member_view u.member)
+    let h = case_over c.deref-in-Choice-Choice-2.ensures.value (fields_fit (fallback_view u.fallback)) (fields_out (fallback_view u.fallback)) u.label
+    (member_view u.member)
     c.append_label.new.out c.append_case.new.out (Ok c.in_ok-append_case-in-Choice-Choice.field-0)
     (c.in_ok-append_case-in-Choice-Choice.ensures (fields_fit (fallback_view u.fallback)) (fields_out (fallback_view u.fallback))) in
     rw (u.is-0, u.is-1) (puts_as _ _ c.args.out.now c.append_case.new.out _ _ (Ok (tt {0}))
     (sym (choice_fitting u.disc u.cases u.fallback u.label u.member))
     (ap (branches_out bs (fields_out (fallback_view u.fallback)) u.label (member_view u.member)) label.1
     ∙ sym (choice_written u.disc u.cases u.fallback u.label u.member c.args.out.now))
-    (choice_by_case ⊤ (tt {0}) (fits_label (desc_view u.disc.value) u.label) _ _ c.in_ok-append_case-in-Choice-Choice.field-0 c.args.out.now c.append_label.new.out
+    (choice_by_case ⊤ (tt {0})
+    (fits_label (desc_view u.disc.value) u.label) _ _ c.in_ok-append_case-in-Choice-Choice.field-0 c.args.out.now c.append_label.new.out
     c.append_case.new.out _ _ label.0 label.2 c.if-branch.true h))
 
 pub append-returns-else-branch : goal.append-returns-else-branch
@@ -65,14 +68,16 @@ append-returns-else-branch t c =
     let u = c.in-Choice-Choice in
     let bs = branches_of (map case_view u.cases.items) in
     let label = rw c.deref-in-Choice-Choice.ensures at c.in_ok-append_label-in-Choice-Choice.ensures in
-    let h = case_over c.deref-in-Choice-Choice-2.ensures.value (fields_fit (fallback_view u.fallback)) (fields_out (fallback_view u.fallback)) u.label (member_view u.member)
+    let h = case_over c.deref-in-Choice-Choice-2.ensures.value (fields_fit (fallback_view u.fallback)) (fields_out (fallback_view u.fallback)) u.label
+    (member_view u.member)
     c.append_label.new.out c.append_case.new.out (Ok c.in_ok-append_case-in-Choice-Choice.field-0)
     (c.in_ok-append_case-in-Choice-Choice.ensures (fields_fit (fallback_view u.fallback)) (fields_out (fallback_view u.fallback))) in
     rw (u.is-0, u.is-1) (puts_as _ _ c.args.out.now c.append_default.new.out _ _ c.append_default.result
     (sym (choice_fitting u.disc u.cases u.fallback u.label u.member))
     (ap (branches_out bs (fields_out (fallback_view u.fallback)) u.label (member_view u.member)) label.1
     ∙ sym (choice_written u.disc u.cases u.fallback u.label u.member c.args.out.now))
-    (choice_by_default (fits_label (desc_view u.disc.value) u.label) _ (fields_fit (fallback_view u.fallback) (member_view u.member)) c.in_ok-append_case-in-Choice-Choice.field-0
+    (choice_by_default (fits_label (desc_view u.disc.value) u.label) _
+    (fields_fit (fallback_view u.fallback) (member_view u.member)) c.in_ok-append_case-in-Choice-Choice.field-0
     c.args.out.now c.append_label.new.out c.append_case.new.out c.append_default.new.out _ (fields_out (fallback_view u.fallback) (member_view u.member))
     c.append_default.result label.0 label.2 c.if-branch.false h c.append_default.ensures))
 
@@ -122,7 +127,8 @@ append_case-loop-case-preserved t c =
     record {
       fit = λ other. sym (case_differs c.args.cases.now c.loop-case.case-index c.case-item.result c.args.label.now other (member_view c.args.member.now)
           c.loop-case-test.true c.case-item.is passed) ∙ l.fit other;
-      written = λ more. sym (case_left c.args.cases.now c.loop-case.case-index c.case-item.result c.args.label.now more (member_view c.args.member.now) c.args.out.now
+      written =
+          λ more. sym (case_left c.args.cases.now c.loop-case.case-index c.case-item.result c.args.label.now more (member_view c.args.member.now) c.args.out.now
           c.loop-case-test.true c.case-item.is passed) ∙ l.written more;
       stays = l.stays;
     }
@@ -132,7 +138,8 @@ append_case-returns t c =
     let l = c.loop-case.invariant in
     λ other more. (
       sym (l.fit other) ∙ cases_end c.args.cases.now c.loop-case.case-index c.args.label.now other (member_view c.args.member.now) c.loop-case-test.false,
-      sym (l.written more) ∙ cases_done c.args.cases.now c.loop-case.case-index c.args.label.now more (member_view c.args.member.now) c.args.out.now c.loop-case-test.false,
+      sym (l.written more)
+          ∙ cases_done c.args.cases.now c.loop-case.case-index c.args.label.now more (member_view c.args.member.now) c.args.out.now c.loop-case-test.false,
       l.stays,
     )
 
@@ -152,7 +159,12 @@ append_default-returns-in-None t c =
 
 pub append_default-returns-in-None-2 : goal.append_default-returns-in-None-2
 append_default-returns-in-None-2 t c =
-    rw c.in-None.is (default_absent c.args.member.now true (sym (c.if-is_some.ensures)), sym (nothing_written c.args.member.now c.args.out.now), grows_not c.args.out.now)
+    rw c.in-None.is (
+      default_absent c.args.member.now true (sym (c.if-is_some.ensures)),
+      sym
+          (nothing_written c.args.member.now c.args.out.now),
+      grows_not c.args.out.now,
+    )
 
 pub append_each-loop-value-preserved : goal.append_each-loop-value-preserved
 append_each-loop-value-preserved t c =
@@ -161,7 +173,8 @@ append_each-loop-value-preserved t c =
     let s = desc_view c.args.item.now in
     record {
       fit = each_passed (values-each s) c.args.values.now c.loop-value.value-index c.value-item.result _ c.loop-value-test.true c.value-item.is put.0 l.fit;
-      written = each_on s c.args.values.now c.loop-value.value-index c.value-item.result c.loop-value.out c.append.new.out _ c.loop-value-test.true c.value-item.is put.1 l.written;
+      written = each_on s c.args.values.now c.loop-value.value-index c.value-item.result c.loop-value.out c.append.new.out _ c.loop-value-test.true
+          c.value-item.is put.1 l.written;
       grows = grows_then c.args.out.now c.loop-value.out c.append.new.out l.grows put.2;
     }
 
@@ -175,7 +188,8 @@ append_each-returns t c =
     )
 
 pub append_members-returns-then-members-values : goal.append_members-returns-then-members-values
-append_members-returns-then-members-values t c = (λ unfit. fields_differ c.args.members.now c.args.values.now c.if-members-values.true, grows_not c.args.out.now)
+append_members-returns-then-members-values t c =
+    (λ unfit. fields_differ c.args.members.now c.args.values.now c.if-members-values.true, grows_not c.args.out.now)
 
 pub append_members-returns-in_err-append : goal.append_members-returns-in_err-append
 append_members-returns-in_err-append t c =

@@ -54,7 +54,8 @@ build_members-loop-member-preserved g t c =
     let pushed : c.push.new.self.items ≡ c.loop-member.values.items ++ c.in_ok-value.value ∷ [] = grind (arith, common_steps) in
     rw (pushed, one_more c.loop-member.values.items c.in_ok-value.value) (members_read_on (map value_view c.loop-member.values.items) c.args.members.now
     c.loop-member.member-index c.member-item.result c.loop-member.input (value_view c.in_ok-value.value) c.build.new.input
-    (fields_at (fields_of (map named_view c.args.members.now)) c.args.input.now) c.loop-member-test.true c.member-item.is c.in_ok-value.ensures c.loop-member.invariant)
+    (fields_at (fields_of
+    (map named_view c.args.members.now)) c.args.input.now) c.loop-member-test.true c.member-item.is c.in_ok-value.ensures c.loop-member.invariant)
 
 pub build_members-returns : goal.build_members-returns
 build_members-returns g t c = members_read (map value_view c.loop-member.values.items) c.args.members.now c.loop-member.member-index c.loop-member.input
@@ -78,15 +79,19 @@ build_fallback-returns-in_err-build-in-Some g t c =
     ])
 
 pub build_case-returns : goal.build_case-returns
-build_case-returns g t c other =
-    (sym (c.loop-case.invariant.read other) ∙ no_case c.args.cases.now c.loop-case.case-index c.args.label.now other c.args.input.now c.loop-case-test.false, c.loop-case.invariant.stays)
+build_case-returns g t c other = (
+  sym (c.loop-case.invariant.read other)
+      ∙ no_case c.args.cases.now c.loop-case.case-index c.args.label.now other c.args.input.now c.loop-case-test.false,
+  c.loop-case.invariant.stays,
+)
 
 pub build_case-loop-case-preserved : goal.build_case-loop-case-preserved
 build_case-loop-case-preserved g t c =
     let test : c.has_label.result ≡ is_label c.args.label.now c.case-item.result.labels.items = rw c.deref.ensures.value at c.has_label.ensures in
     record {
       read = λ other.
-          sym (case_passed c.args.cases.now c.loop-case.case-index c.case-item.result c.args.label.now other c.args.input.now c.loop-case-test.true c.case-item.is
+          sym (case_passed c.args.cases.now c.loop-case.case-index c.case-item.result c.args.label.now other c.args.input.now c.loop-case-test.true
+          c.case-item.is
           (sym test ∙ c.if-has_label.false))
           ∙ c.loop-case.invariant.read other;
       stays = c.loop-case.invariant.stays;
@@ -95,7 +100,8 @@ build_case-loop-case-preserved g t c =
 pub build_case-returns-then-has_label : goal.build_case-returns-then-has_label
 build_case-returns-then-has_label g t c other =
     let test : c.has_label.result ≡ is_label c.args.label.now c.case-item.result.labels.items = rw c.deref.ensures.value at c.has_label.ensures in
-    let found = case_found c.args.cases.now c.loop-case.case-index c.case-item.result c.args.label.now other c.args.input.now c.loop-case-test.true c.case-item.is
+    let found =
+    case_found c.args.cases.now c.loop-case.case-index c.case-item.result c.args.label.now other c.args.input.now c.loop-case-test.true c.case-item.is
     (sym test ∙ c.if-has_label.true) in
     let read : decode_at (desc_view c.case-item.result.desc) c.args.input.now ≡ Ok (value_view c.in_ok-value.value, c.build.new.input)
     = rw c.loop-case.invariant.stays at c.in_ok-value.ensures in
@@ -104,7 +110,8 @@ build_case-returns-then-has_label g t c other =
 pub build_case-returns-in_err-value : goal.build_case-returns-in_err-value
 build_case-returns-in_err-value g t c other =
     let test : c.has_label.result ≡ is_label c.args.label.now c.case-item.result.labels.items = rw c.deref.ensures.value at c.has_label.ensures in
-    let found = case_found c.args.cases.now c.loop-case.case-index c.case-item.result c.args.label.now other c.args.input.now c.loop-case-test.true c.case-item.is
+    let found =
+    case_found c.args.cases.now c.loop-case.case-index c.case-item.result c.args.label.now other c.args.input.now c.loop-case-test.true c.case-item.is
     (sym test ∙ c.if-has_label.true) in
     let p = err_from_is_err_and c.from_residual.result c.from_residual.ensures.1 in
     let answer : (decode_at (desc_view c.case-item.result.desc) c.args.input.now ≡ Err c.in_err-value.field-0.0) ⊎ (c.in_err-value.field-0.0.kind ≡ NoMemory)

@@ -10,7 +10,8 @@ pub case_fits-returns-in-Some : goal.case_fits-returns-in-Some
 case_fits-returns-in-Some t c = λ other.
     let found = case_fits c.args.cases.now c.loop-case.case-index c.case-item.result c.args.label.now other (member_view c.args.member.now)
     c.loop-case-test.true c.case-item.is (rw c.deref.ensures.value at (sym c.has_label.ensures ∙ c.if-has_label.true)) in
-    let fit : c.value_fits.result ≡ fits (desc_view c.case-item.result.desc) (value_view c.in-Some.value.value) = rw c.deref-in-Some.ensures at c.value_fits.ensures in
+    let fit : c.value_fits.result
+    ≡ fits (desc_view c.case-item.result.desc) (value_view c.in-Some.value.value) = rw c.deref-in-Some.ensures at c.value_fits.ensures in
     sym (c.loop-case.invariant other) ∙ found ∙ ap (λ m. is_one (fits (desc_view c.case-item.result.desc)) (member_view m)) c.in-Some.is ∙ sym fit
 
 pub case_fits-returns-in-None : goal.case_fits-returns-in-None
@@ -21,7 +22,8 @@ case_fits-returns-in-None t c = λ other.
 
 pub case_fits-returns : goal.case_fits-returns
 case_fits-returns t c = λ other.
-    sym (c.loop-case.invariant other) ∙ cases_end c.args.cases.now c.loop-case.case-index c.args.label.now other (member_view c.args.member.now) c.loop-case-test.false
+    sym (c.loop-case.invariant other)
+    ∙ cases_end c.args.cases.now c.loop-case.case-index c.args.label.now other (member_view c.args.member.now) c.loop-case-test.false
 
 pub case_fits-loop-case-preserved : goal.case_fits-loop-case-preserved
 case_fits-loop-case-preserved t c = λ other.

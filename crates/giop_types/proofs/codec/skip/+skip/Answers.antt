@@ -27,14 +27,17 @@ skip_counted-returns g t c = skips_done (decode_at (desc_view c.args.item.now)) 
     (items_at (decode_at (desc_view c.args.item.now)) c.args.count c.args.input.now) c.loop-test.false c.loop.invariant
 
 pub skip_members-loop-member-preserved : goal.skip_members-loop-member-preserved
-skip_members-loop-member-preserved g t c = members_skip_on c.args.members.now c.loop-member.member-index c.member-item.result c.loop-member.input c.skip.new.input
-    (fields_at (fields_of (map named_view c.args.members.now)) c.args.input.now) c.loop-member-test.true c.member-item.is c.in_ok-skip.ensures c.loop-member.invariant
+skip_members-loop-member-preserved g t c =
+    members_skip_on c.args.members.now c.loop-member.member-index c.member-item.result c.loop-member.input c.skip.new.input
+    (fields_at (fields_of
+    (map named_view c.args.members.now)) c.args.input.now) c.loop-member-test.true c.member-item.is c.in_ok-skip.ensures c.loop-member.invariant
 
 pub skip_members-returns-in_err-skip : goal.skip_members-returns-in_err-skip
 skip_members-returns-in_err-skip g t c =
     let p = err_from_is_err_and c.from_residual.result c.from_residual.ensures.1 in
     rw (p.1, p.2) (members_skip_end c.args.members.now c.loop-member.member-index c.member-item.result c.loop-member.input c.in_err-skip.field-0.0
-    (fields_at (fields_of (map named_view c.args.members.now)) c.args.input.now) c.loop-member-test.true c.member-item.is c.in_err-skip.ensures c.loop-member.invariant)
+    (fields_at (fields_of
+    (map named_view c.args.members.now)) c.args.input.now) c.loop-member-test.true c.member-item.is c.in_err-skip.ensures c.loop-member.invariant)
 
 pub skip_members-returns : goal.skip_members-returns
 skip_members-returns g t c = members_skipped c.args.members.now c.loop-member.member-index c.loop-member.input
@@ -58,7 +61,8 @@ skip_case-loop-case-preserved g t c =
     let test : c.has_label.result ≡ is_label c.args.label.now c.case-item.result.labels.items = rw c.deref.ensures.value at c.has_label.ensures in
     record {
       read = λ other.
-          sym (case_passed c.args.cases.now c.loop-case.case-index c.case-item.result c.args.label.now other c.args.input.now c.loop-case-test.true c.case-item.is
+          sym (case_passed c.args.cases.now c.loop-case.case-index c.case-item.result c.args.label.now other c.args.input.now c.loop-case-test.true
+          c.case-item.is
           (sym test ∙ c.if-has_label.false))
           ∙ c.loop-case.invariant.read other;
       stays = c.loop-case.invariant.stays;
@@ -68,7 +72,8 @@ pub skip_case-returns-then-has_label : goal.skip_case-returns-then-has_label
 skip_case-returns-then-has_label g t c other =
     let test : c.has_label.result ≡ is_label c.args.label.now c.case-item.result.labels.items = rw c.deref.ensures.value at c.has_label.ensures in
     let so_far = c.loop-case.invariant.read other in
-    let found = case_found c.args.cases.now c.loop-case.case-index c.case-item.result c.args.label.now other c.args.input.now c.loop-case-test.true c.case-item.is
+    let found =
+    case_found c.args.cases.now c.loop-case.case-index c.case-item.result c.args.label.now other c.args.input.now c.loop-case-test.true c.case-item.is
     (sym test ∙ c.if-has_label.true) in
     rw (sym so_far ∙ found) (past_one (decode_at (desc_view c.case-item.result.desc) c.args.input.now) c.skip.new.input
     (rw c.loop-case.invariant.stays at c.in_ok-skip.ensures))
@@ -77,7 +82,8 @@ pub skip_case-returns-in_err-skip : goal.skip_case-returns-in_err-skip
 skip_case-returns-in_err-skip g t c other =
     let test : c.has_label.result ≡ is_label c.args.label.now c.case-item.result.labels.items = rw c.deref.ensures.value at c.has_label.ensures in
     let so_far = c.loop-case.invariant.read other in
-    let found = case_found c.args.cases.now c.loop-case.case-index c.case-item.result c.args.label.now other c.args.input.now c.loop-case-test.true c.case-item.is
+    let found =
+    case_found c.args.cases.now c.loop-case.case-index c.case-item.result c.args.label.now other c.args.input.now c.loop-case-test.true c.case-item.is
     (sym test ∙ c.if-has_label.true) in
     let p = err_from_is_err_and c.from_residual.result c.from_residual.ensures.1 in
     let refused : decode_at (desc_view c.case-item.result.desc) c.args.input.now ≡ Err c.in_err-skip.field-0.0
@@ -96,5 +102,6 @@ skip-returns-in_ok-skip_fallback-in-Choice g t c =
     = rw (same, c.deref-in-Choice-2.ensures.value) at (case_absent c.in_ok-skip_case-in-Choice.field-0 middle c.skip_case.new.input _ _ c.if-not-branch.true
     (c.in_ok-skip_case-in-Choice.ensures other)) in
     let default : past (other middle) ≡ Ok c.skip_fallback.new.input = rw passed.1 at c.in_ok-skip_fallback-in-Choice.ensures in
-    rw (u.is, view-Choice u.disc u.cases u.fallback) (choice_by_default (desc_view u.disc.value) (branches_of (map case_view u.cases.items)) (fallback_view u.fallback)
+    rw (u.is, view-Choice u.disc u.cases u.fallback)
+    (choice_by_default (desc_view u.disc.value) (branches_of (map case_view u.cases.items)) (fallback_view u.fallback)
     c.args.input.now middle c.skip_fallback.new.input label read passed.0 default)

@@ -52,7 +52,8 @@ check_desc-returns-in_err-check_cases-in-Choice t c =
     let cases : branches_fault (c.args.depth + 1) (branches_of (map case_view u.cases.items)) ≡ Some c.in_err-check_cases-in-Choice.field-0.0
     = rw c.deref-in-Choice-2.ensures.value at c.in_err-check_cases-in-Choice.ensures in
     rw (p.1, p.2, u.is, view-Choice u.disc u.cases u.fallback)
-    (choice_case c.args.depth (desc_view u.disc.value) (branches_of (map case_view u.cases.items)) (fallback_view u.fallback) c.in_err-check_cases-in-Choice.field-0.0
+    (choice_case c.args.depth (desc_view u.disc.value) (branches_of (map case_view u.cases.items))
+    (fallback_view u.fallback) c.in_err-check_cases-in-Choice.field-0.0
     c.if-depth-gt-DEEPEST.false (rw (u.is, view-Choice u.disc u.cases u.fallback) at own) disc cases)
 
 pub check_desc-returns-in_ok-check_cases-in-Choice : goal.check_desc-returns-in_ok-check_cases-in-Choice

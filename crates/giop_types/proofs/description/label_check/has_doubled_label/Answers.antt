@@ -10,7 +10,8 @@ use Rattle.giop_types.proofs.description.label_check.has_doubled_label.Goals as 
 
 pub returns-then-is_repeated : goal.returns-then-is_repeated
 returns-then-is_repeated c =
-    let test : c.is_repeated.result ≡ is_repeated int_eq c.index-cases-i.result.labels.items (all_labels (branches_of (map case_view (drop (c.loop-i.i + 1) c.args.cases.now))))
+    let test : c.is_repeated.result
+    ≡ is_repeated int_eq c.index-cases-i.result.labels.items (all_labels (branches_of (map case_view (drop (c.loop-i.i + 1) c.args.cases.now))))
     = rw (c.deref.ensures.value, take_rest) at c.is_repeated.ensures in
     let found : true ≡ doubled_labels c.args.cases.now
     = some_found doubled_labels-some c.args.cases.now c.loop-i.i c.index-cases-i.result (doubled_labels c.args.cases.now) c.loop-i-test.true c.index-cases-i.is
@@ -25,7 +26,8 @@ returns c =
 
 pub loop-i-preserved : goal.loop-i-preserved
 loop-i-preserved c =
-    let test : c.is_repeated.result ≡ is_repeated int_eq c.index-cases-i.result.labels.items (all_labels (branches_of (map case_view (drop (c.loop-i.i + 1) c.args.cases.now))))
+    let test : c.is_repeated.result
+    ≡ is_repeated int_eq c.index-cases-i.result.labels.items (all_labels (branches_of (map case_view (drop (c.loop-i.i + 1) c.args.cases.now))))
     = rw (c.deref.ensures.value, take_rest) at c.is_repeated.ensures in
     some_passed doubled_labels-some c.args.cases.now c.loop-i.i c.index-cases-i.result (doubled_labels c.args.cases.now) c.loop-i-test.true c.index-cases-i.is
     (sym test ∙ c.if-is_repeated.false) c.loop-i.invariant

@@ -12,7 +12,8 @@ returns-then-contains-clause-apart c =
     let test : c.contains.result ≡ list_any (λ other. same_name other c.index-names-i.result) (drop (c.loop-i.i + 1) c.args.names.now)
     = rw take_rest at c.contains.ensures.value in
     names_apart true c.args.names.now
-    (some_found doubled_names-some c.args.names.now c.loop-i.i c.index-names-i.result (has_doubled same_name c.args.names.now) c.loop-i-test.true c.index-names-i.is
+    (some_found doubled_names-some c.args.names.now c.loop-i.i c.index-names-i.result
+    (has_doubled same_name c.args.names.now) c.loop-i-test.true c.index-names-i.is
     (sym test ∙ c.if-contains.true) c.loop-i.invariant)
 
 pub returns-clause-apart : goal.returns-clause-apart

@@ -7,4 +7,5 @@ use Rattle.giop_types.proofs.json.desc_json.labels_of.Given as goal
 
 abbrev pub invariant-loop-label : goal.invariant-loop-label
 invariant-loop-label l =
-    with_front l.labels.items (items_shown (label_shown (desc_view l.disc)) (items_view (drop l.label-index l.list))) ≡ items_shown (label_shown (desc_view l.disc)) (items_view l.list)
+    with_front l.labels.items (items_shown (label_shown (desc_view l.disc)) (items_view (drop l.label-index l.list)))
+    ≡ items_shown (label_shown (desc_view l.disc)) (items_view l.list)

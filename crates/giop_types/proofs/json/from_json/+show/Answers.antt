@@ -47,7 +47,8 @@ show-returns-in_ok-show_fallback-in-None-2 t c =
     let u = c.in-Choice in
     let label = c.in_ok-label-in-Choice-2.label in
     let same : to_z w128 (of_z w128 label) ≡ label = grind (arith, to_z-of_z) in
-    let named : label_shown (desc_view u.disc.value) (view c.in_ok-label-in-Choice.label.now) ≡ Some label = rw c.deref-in-Choice.ensures at c.in_ok-label-in-Choice-2.ensures in
+    let named : label_shown (desc_view u.disc.value) (view c.in_ok-label-in-Choice.label.now)
+    ≡ Some label = rw c.deref-in-Choice.ensures at c.in_ok-label-in-Choice-2.ensures in
     let passed = rw (same, c.deref-in-Choice-2.ensures.value) at (case_absent c.in_ok-value-in-Choice.field-0 _ _ c.in-None-2.is
     (c.in_ok-value-in-Choice.ensures (fallback_shown (fallback_view u.fallback)))) in
     let made = rw same at c.chosen-in-None-2.ensures.ok in
@@ -62,20 +63,23 @@ show_case-returns t c other =
 pub show_case-loop-case-preserved : goal.show_case-loop-case-preserved
 show_case-loop-case-preserved t c other =
     let test : c.has_label.result ≡ is_label c.args.label.now c.case-item.result.labels.items = rw c.deref.ensures.value at c.has_label.ensures in
-    sym (case_passed c.args.cases.now c.loop-case.case-index c.case-item.result c.args.label.now other (view c.args.json.now) c.loop-case-test.true c.case-item.is
+    sym (case_passed c.args.cases.now c.loop-case.case-index c.case-item.result c.args.label.now other
+    (view c.args.json.now) c.loop-case-test.true c.case-item.is
     (sym test ∙ c.if-has_label.false)) ∙ c.loop-case.invariant other
 
 pub show_case-returns-then-has_label : goal.show_case-returns-then-has_label
 show_case-returns-then-has_label t c other =
     let test : c.has_label.result ≡ is_label c.args.label.now c.case-item.result.labels.items = rw c.deref.ensures.value at c.has_label.ensures in
-    let found = case_shown c.args.cases.now c.loop-case.case-index c.case-item.result c.args.label.now other (view c.args.json.now) c.loop-case-test.true c.case-item.is
+    let found =
+    case_shown c.args.cases.now c.loop-case.case-index c.case-item.result c.args.label.now other (view c.args.json.now) c.loop-case-test.true c.case-item.is
     (sym test ∙ c.if-has_label.true) in
     sym (c.loop-case.invariant other) ∙ found ∙ ap one_shown c.in_ok-value.ensures
 
 pub show_case-returns-in_err-value : goal.show_case-returns-in_err-value
 show_case-returns-in_err-value t c other =
     let test : c.has_label.result ≡ is_label c.args.label.now c.case-item.result.labels.items = rw c.deref.ensures.value at c.has_label.ensures in
-    let found = case_shown c.args.cases.now c.loop-case.case-index c.case-item.result c.args.label.now other (view c.args.json.now) c.loop-case-test.true c.case-item.is
+    let found =
+    case_shown c.args.cases.now c.loop-case.case-index c.case-item.result c.args.label.now other (view c.args.json.now) c.loop-case-test.true c.case-item.is
     (sym test ∙ c.if-has_label.true) in
     let p = err_from_is_err_and c.from_residual.result c.from_residual.ensures.1 in
     rw (p.1, p.2) (refused_along _ _ _ (λ none. sym (c.loop-case.invariant other) ∙ found ∙ ap one_shown none) c.in_err-value.ensures)
@@ -100,19 +104,23 @@ show_fallback-returns-in-None-as_null t c = rw c.in-None.is (inl (refl, null_sho
 pub show_fields-returns-in_err-value : goal.show_fields-returns-in_err-value
 show_fields-returns-in_err-value t c =
     let p = err_from_is_err_and c.from_residual-in_err-value.result c.from_residual-in_err-value.ensures.1 in
-    rw (p.1, p.2) (refused_along _ _ _ (λ none. part_missing (members-each (view c.args.json.now)) (map value_view c.loop-member.values.items) c.args.members.now
+    rw (p.1, p.2) (refused_along _ _ _
+    (λ none. part_missing (members-each (view c.args.json.now)) (map value_view c.loop-member.values.items) c.args.members.now
     c.loop-member.member-index c.member-item.result (fields_shown (fields_of (map named_view c.args.members.now)) (view c.args.json.now))
     c.loop-member-test.true c.member-item.is none c.loop-member.invariant) c.in_err-value.ensures)
 
 pub show_fields-loop-member-preserved : goal.show_fields-loop-member-preserved
 show_fields-loop-member-preserved t c =
     let pushed : c.push.new.self.items ≡ c.loop-member.values.items ++ c.in_ok-value.value ∷ [] = grind (arith, common_steps) in
-    rw (pushed, one_more c.loop-member.values.items c.in_ok-value.value) (part_made (members-each (view c.args.json.now)) (map value_view c.loop-member.values.items)
+    rw (pushed, one_more c.loop-member.values.items c.in_ok-value.value)
+    (part_made (members-each (view c.args.json.now)) (map value_view c.loop-member.values.items)
     c.args.members.now c.loop-member.member-index c.member-item.result (value_view c.in_ok-value.value)
-    (fields_shown (fields_of (map named_view c.args.members.now)) (view c.args.json.now)) c.loop-member-test.true c.member-item.is c.in_ok-value.ensures c.loop-member.invariant)
+    (fields_shown (fields_of (map named_view c.args.members.now))
+    (view c.args.json.now)) c.loop-member-test.true c.member-item.is c.in_ok-value.ensures c.loop-member.invariant)
 
 pub show_fields-returns : goal.show_fields-returns
-show_fields-returns t c = parts_made (members-each (view c.args.json.now)) (map value_view c.loop-member.values.items) c.args.members.now c.loop-member.member-index
+show_fields-returns t c =
+    parts_made (members-each (view c.args.json.now)) (map value_view c.loop-member.values.items) c.args.members.now c.loop-member.member-index
     (fields_shown (fields_of (map named_view c.args.members.now)) (view c.args.json.now)) c.loop-member-test.false c.loop-member.invariant
 
 pub show_members-returns-then-is_object_of : goal.show_members-returns-then-is_object_of

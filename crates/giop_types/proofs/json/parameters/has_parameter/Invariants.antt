@@ -5,4 +5,5 @@ use Rattle.giop_types.proofs.json.parameters.has_parameter.Given as goal
 
 abbrev pub invariant-loop-parameter : goal.invariant-loop-parameter
 invariant-loop-parameter l =
-    list_any (λ other. same_name other l.name) (map (λ p. p.name) (drop l.parameter-index l.list)) ≡ list_any (λ other. same_name other l.name) (map (λ p. p.name) l.list)
+    list_any (λ other. same_name other l.name) (map (λ p. p.name) (drop l.parameter-index l.list))
+    ≡ list_any (λ other. same_name other l.name) (map (λ p. p.name) l.list)

@@ -20,5 +20,6 @@ loop-i-preserved c =
 
 pub returns : goal.returns
 returns c =
-    let at_end = ordinal_absent c.args.text.now c.args.names.now c.loop-i.i (ordinal_in c.args.text.now c.args.names.now) c.loop-i-test.false c.loop-i.invariant in
+    let at_end =
+    ordinal_absent c.args.text.now c.args.names.now c.loop-i.i (ordinal_in c.args.text.now c.args.names.now) c.loop-i-test.false c.loop-i.invariant in
     omega arith

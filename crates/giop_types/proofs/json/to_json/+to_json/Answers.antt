@@ -57,13 +57,15 @@ members_json-loop-i-preserved t c =
 
 pub members_json-returns : goal.members_json-returns
 members_json-returns t c = view-Object c.loop-i.object ∙ ap (λ ms. object ms)
-    (sym (fields_end c.args.members.now c.args.values.now c.loop-i.i (members_view c.loop-i.object.entries) c.min-i-end.result c.min-i-end.ensures c.loop-i-test.false) ∙ c.loop-i.invariant)
+    (sym (fields_end c.args.members.now c.args.values.now c.loop-i.i
+    (members_view c.loop-i.object.entries) c.min-i-end.result c.min-i-end.ensures c.loop-i-test.false) ∙ c.loop-i.invariant)
 
 pub items_json-loop-value-preserved : goal.items_json-loop-value-preserved
 items_json-loop-value-preserved t c =
     let pushed : c.push.new.self.items ≡ c.loop-value.list.items ++ c.in_ok-json.json ∷ [] = grind (arith, common_steps) in
     rw pushed (list_goes_on (desc_view c.args.item.now) c.loop-value.list.items c.args.values.now c.loop-value.value-index c.value-item.result c.in_ok-json.json
-    (map (to_data (desc_view c.args.item.now)) (map value_view c.args.values.now)) c.loop-value-test.true c.value-item.is c.in_ok-json.ensures c.loop-value.invariant)
+    (map (to_data (desc_view c.args.item.now))
+    (map value_view c.args.values.now)) c.loop-value-test.true c.value-item.is c.in_ok-json.ensures c.loop-value.invariant)
 
 pub items_json-returns : goal.items_json-returns
 items_json-returns t c = view-Array c.loop-value.list ∙ ap (λ ds. array (items_of ds))

@@ -1,7 +1,5 @@
-use Rattle.std.proofs.Common.{length, arith, subst, ap, sym, ◌≡◌, ◌≤◌, ◌+◌, ◌++◌, ◌∷◌, [], ◌∙◌, take}
-use Rattle.std.specs.Io.KnownBytes.{Appends}
+use Rattle.std.proofs.Common.{length, arith, ap, sym, ◌≡◌, ◌≤◌, ◌+◌, ◌++◌, ◌∷◌, [], ◌∙◌, take}
 use Rattle.std.proofs.lemmas.List.{take_more, take_all}
-use Rattle.giopctl.specs.Convert.{profile_lines}
 use Rattle.giopctl.proofs.ConvertLemmas.{profile_told}
 use Rattle.giopctl.proofs.DumpLemmas.{Appends-nil}
 use Rattle.giopctl.proofs.commands.convert_reference.write_profiles.Goals as goal

@@ -7,4 +7,5 @@ returns-clause-part g c =
     let short : c.min-part.result ≤ length c.run-run.result.now = omega (arith, c.min-part.ensures) in
     let fits : c.min-part.result ≤ c.self.inside.count - c.args.from = omega (arith, c.min-part.ensures) in
     let within = rw (← c.self.view_is) at c.requires in
-    rw (← c.self.view_is) (run_of_part _ c.run-run.result.now c.self.inside.from c.self.inside.count c.args.from c.min-part.result c.run-run.ensures.part within short fits)
+    rw (← c.self.view_is)
+    (run_of_part _ c.run-run.result.now c.self.inside.from c.self.inside.count c.args.from c.min-part.result c.run-run.ensures.part within short fits)

@@ -1,4 +1,4 @@
-use Rattle.std.proofs.Common.{◌≡◌, ◌-◌, take, ap, ◌∙◌, sym}
+use Rattle.std.proofs.Common.{take, ap, ◌∙◌}
 use Rattle.giop_cdr.specs.Reading.Values.{has_null}
 use Rattle.giop_cdr.proofs.Spelling.TextSpelling.{text_inside}
 use Rattle.giop_cdr.proofs.input.reader.CdrIn.read_string.Goals as goal

@@ -11,11 +11,15 @@ returns-then-self-eq0-clause-none g c =
 
 pub returns-in_default-clause-none : goal.returns-in_default-clause-none
 returns-in_default-clause-none g c =
-    absurd (walks_not (tagged_at g.I.Tagged.made) c.self.inside.count c.self.inside.items c.in_default.field-0 (omega arith) c.self.invariant c.in_default.ensures.0)
+    absurd (walks_not (tagged_at g.I.Tagged.made) c.self.inside.count c.self.inside.items c.in_default.field-0
+    (omega arith) c.self.invariant c.in_default.ensures.0)
 
 pub invariant_of-self-2 : goal.invariant_of-self-2
-invariant_of-self-2 g c = (walks (tagged_at g.I.Tagged.made) c.self.inside.count c.self.inside.items _ c.view_tagged.new.input (omega arith) c.self.invariant c.in-Ok.ensures).rest
+invariant_of-self-2 g c =
+    (walks (tagged_at g.I.Tagged.made) c.self.inside.count c.self.inside.items _ c.view_tagged.new.input (omega arith) c.self.invariant c.in-Ok.ensures).rest
 
 pub returns-clause-first : goal.returns-clause-first
 returns-clause-first g c =
-    rw (← c.self.view_is) ((walks (tagged_at g.I.Tagged.made) c.self.inside.count c.self.inside.items _ c.view_tagged.new.input (omega arith) c.self.invariant c.in-Ok.ensures).values)
+    rw (← c.self.view_is)
+    ((walks (tagged_at g.I.Tagged.made) c.self.inside.count c.self.inside.items _ c.view_tagged.new.input
+    (omega arith) c.self.invariant c.in-Ok.ensures).values)

@@ -1,0 +1,3 @@
+mod ClientStands
+mod EqualCalls
+mod ServerStands

@@ -1,0 +1,11 @@
+pub mod Faults
+pub mod Outcomes
+pub mod Messages
+pub mod ServerTable
+pub mod ServerKeeps
+pub mod ClientTable
+pub mod ClientKeeps
+pub mod Histories
+pub mod ServerStanding
+pub mod ServerItems
+pub mod ClientStanding

@@ -1,0 +1,57 @@
+ghost use Rattle.std.specs.Prelude.{◌≡◌};
+ghost use Rattle.giop_calls.specs.ClientTable.{client_step};
+
+use crate::client::entry::ClientEntry;
+use crate::client::event::ClientEvent;
+use crate::client::steps;
+use crate::fault::CallFault;
+use giop_mux::{CallRule, Step};
+
+/// The rule by which a client's calls run.
+#[derive(Clone, Copy, Debug, PartialEq, Eq)]
+pub struct ClientRule;
+
+impl CallRule for ClientRule {
+    ghost use Rattle.giop_calls.specs.ClientTable.{client_step, is_closed};
+    ghost use Rattle.giop_calls.specs.ClientKeeps.{fault_keeps};
+
+    type Entry = ClientEntry;
+
+    type Event = ClientEvent;
+
+    type Answer = ();
+
+    type Fault = CallFault;
+
+    ghost next = { λ rule. client_step };
+
+    ghost closed = { λ rule. is_closed };
+
+    ghost fault_keeps = { λ rule. fault_keeps };
+
+    fn step(
+        &self,
+        entry: Option<ClientEntry>,
+        event: ClientEvent,
+    ) -> Step<ClientEntry, (), CallFault>
+        ensures { result ≡ client_step entry event }
+    {
+        match event {
+            ClientEvent::Call { call, pieces } => steps::begin(entry, call, pieces),
+            ClientEvent::Send => steps::send(entry),
+            ClientEvent::Cancel => steps::cancel(entry),
+            ClientEvent::First { kind, version } => steps::first(entry, kind, version),
+            ClientEvent::Whole {
+                kind,
+                version,
+                reply,
+            } => steps::whole(entry, kind, version, reply),
+            ClientEvent::More { in_order } => steps::more(entry, in_order),
+            ClientEvent::Last { in_order, reply } => steps::last(entry, in_order, reply),
+        }
+    }
+
+    fn is_closed(&self, entry: &ClientEntry) -> bool {
+        entry.is_closed()
+    }
+}

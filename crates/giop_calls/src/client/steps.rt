@@ -1,0 +1,272 @@
+//! What each event does to a call, a function for each. None takes memory.
+ghost use Rattle.std.specs.Prelude.{◌≡◌, IfNone, IfSome, Some};
+ghost use Rattle.giop_calls.specs.ClientTable as table;
+ghost use Rattle.giop_calls.specs.declared.client.entry.ClientEntry.TheVariants.{Waiting, Gathering, Cancelled};
+ghost use Rattle.giop_calls.specs.declared.fault.CallFault.TheVariants.{NotOpen};
+ghost use Rattle.giop_calls.specs.declared.client.heard.HeardReply.TheVariants as heard;
+ghost use Rattle.giop_calls.specs.Messages.{is_same_version};
+
+use crate::client::call::Call;
+use crate::client::entry::ClientEntry;
+use crate::client::heard::HeardReply;
+use crate::client::late::Late;
+use crate::fault::CallFault;
+use crate::kind::CallKind;
+use giop_msg::{LocateReply, Reply, Version};
+use giop_mux::Step;
+
+pub type ClientStep = Step<ClientEntry, (), CallFault>;
+
+fn becomes(entry: ClientEntry) -> ClientStep
+    ensures { result ≡ table.becomes entry }
+{
+    Step {
+        entry: Some(entry),
+        outcome: Ok(()),
+    }
+}
+
+fn refused(entry: Option<ClientEntry>, fault: CallFault) -> ClientStep
+    ensures { result ≡ table.refused entry fault }
+{
+    Step {
+        entry,
+        outcome: Err(fault),
+    }
+}
+
+// Whether a call may begin under the id of this entry.
+fn is_free(entry: &Option<ClientEntry>) -> bool
+    ensures { result ≡ table.is_free entry.now }
+{
+    match entry {
+        None => true,
+        Some(entry) => entry.is_closed(),
+    }
+}
+
+// The entry of a call all of whose pieces are sent.
+fn sent(call: Call) -> ClientEntry
+    ensures { result ≡ table.sent call }
+{
+    match call {
+        Call::Request(request) if request.head.flags == 0 => ClientEntry::OnewaySent { request },
+        call => ClientEntry::Waiting { call },
+    }
+}
+
+// The entry of a call of which so many pieces aren't sent yet.
+fn sending(call: Call, left: u32) -> ClientEntry
+    ensures { result ≡ table.sending call left }
+{
+    if left == 0 {
+        sent(call)
+    } else {
+        ClientEntry::Sending { call, left }
+    }
+}
+
+/// The client calls in so many pieces, of which the first goes out. Refused as IdInUse where the id
+/// isn't free.
+pub fn begin(entry: Option<ClientEntry>, call: Call, pieces: u32) -> ClientStep
+    ensures { result ≡ table.begins entry call pieces }
+{
+    if is_free(&entry) {
+        becomes(sending(call, pieces.saturating_sub(1)))
+    } else {
+        refused(entry, CallFault::IdInUse)
+    }
+}
+
+/// The next piece of the call is sent. Refused as NothingToSend where none is left.
+pub fn send(entry: Option<ClientEntry>) -> ClientStep
+    ensures { result ≡ table.send entry }
+{
+    match entry {
+        Some(ClientEntry::Sending { call, left }) => {
+            becomes(sending(call, left.saturating_sub(1)))
+        }
+        entry => refused(entry, CallFault::NothingToSend),
+    }
+}
+
+/// The client cancels. Refused as NotOpen where nothing is sent or awaited.
+pub fn cancel(entry: Option<ClientEntry>) -> ClientStep
+    ensures { result ≡ table.cancel entry }
+{
+    match late_at_cancel(&entry) {
+        Some(late) => dropped(late),
+        None => refused(entry, CallFault::NotOpen),
+    }
+}
+
+// How much of its reply came of a call that may be cancelled; `None` for any other.
+fn late_at_cancel(entry: &Option<ClientEntry>) -> Option<Late>
+    ensures some { IfSome result (λ late. table.cancel entry.now
+        ≡ table.becomes (Cancelled late)) }
+    ensures none { IfNone result (table.cancel entry.now ≡ table.refused entry.now NotOpen) }
+{
+    match entry {
+        Some(ClientEntry::Sending { .. }) => Some(Late::None),
+        Some(ClientEntry::Waiting { .. }) => Some(Late::None),
+        Some(ClientEntry::Gathering { .. }) => Some(Late::Begun),
+        _ => None,
+    }
+}
+
+fn dropped(late: Late) -> ClientStep
+    ensures { result ≡ table.becomes (Cancelled late) }
+{
+    becomes(ClientEntry::Cancelled { late })
+}
+
+// Whether a message of this kind and version answers the call.
+fn answers(kind: CallKind, version: Version, call: &Call) -> bool
+    ensures { result ≡ table.answers kind version call.now }
+{
+    match (kind, call) {
+        (CallKind::Request, Call::Request(request)) => {
+            request.head.version.minor() == version.minor()
+        }
+        (CallKind::Locate, Call::Locate(request)) => request.version.minor() == version.minor(),
+        _ => false,
+    }
+}
+
+/// The first piece of a Reply or a LocateReply comes, and more are to come. Refused as WrongKind
+/// where the call waits for another kind or version, and as UnknownReply where it waits for none.
+pub fn first(entry: Option<ClientEntry>, kind: CallKind, version: Version) -> ClientStep
+    ensures { result ≡ table.first entry kind version }
+{
+    match entry {
+        Some(ClientEntry::Waiting { call }) => begin_reply(call, kind, version),
+        Some(ClientEntry::Cancelled { late: Late::None }) => dropped(Late::Begun),
+        entry => refused(entry, CallFault::UnknownReply),
+    }
+}
+
+fn begin_reply(call: Call, kind: CallKind, version: Version) -> ClientStep
+    ensures { result ≡ table.first (Some (Waiting call)) kind version }
+{
+    if answers(kind, version, &call) {
+        becomes(ClientEntry::Gathering { call })
+    } else {
+        refused(Some(ClientEntry::Waiting { call }), CallFault::WrongKind)
+    }
+}
+
+/// A Reply or a LocateReply comes in one piece. The refusals are those of `first`.
+pub fn whole(
+    entry: Option<ClientEntry>,
+    kind: CallKind,
+    version: Version,
+    reply: HeardReply,
+) -> ClientStep
+    ensures { result ≡ table.whole entry kind version reply }
+{
+    match entry {
+        Some(ClientEntry::Waiting { call }) => settle_whole(call, kind, version, reply),
+        Some(ClientEntry::Cancelled { late: Late::None }) => dropped(Late::Seen),
+        entry => refused(entry, CallFault::UnknownReply),
+    }
+}
+
+fn settle_whole(call: Call, kind: CallKind, version: Version, reply: HeardReply) -> ClientStep
+    ensures { result ≡ table.whole (Some (Waiting call)) kind version reply }
+{
+    if answers(kind, version, &call) {
+        settle(false, call, reply)
+    } else {
+        refused(Some(ClientEntry::Waiting { call }), CallFault::WrongKind)
+    }
+}
+
+// The entry of a call whose reply isn't whole: gathered in part, or not begun.
+fn expecting(gathered: bool, call: Call) -> ClientEntry
+    ensures { result ≡ table.expecting gathered call }
+{
+    if gathered {
+        ClientEntry::Gathering { call }
+    } else {
+        ClientEntry::Waiting { call }
+    }
+}
+
+// The last piece of the reply came.
+fn settle(gathered: bool, call: Call, reply: HeardReply) -> ClientStep
+    ensures { result ≡ table.settles (table.expecting gathered call) call reply }
+{
+    match reply {
+        HeardReply::Reply(reply) => settle_reply(gathered, call, reply),
+        HeardReply::Locate(reply) => settle_located(gathered, call, reply),
+        HeardReply::Undecoded(fault) => becomes(ClientEntry::Undecoded { call, fault }),
+        HeardReply::Unread => refused(Some(expecting(gathered, call)), CallFault::WrongKind),
+    }
+}
+
+fn settle_reply(gathered: bool, call: Call, reply: Reply) -> ClientStep
+    ensures { result ≡ table.settles (table.expecting gathered call) call (heard.Reply reply) }
+{
+    match call {
+        Call::Request(request) => becomes(ClientEntry::Done { request, reply }),
+        call => refused(Some(expecting(gathered, call)), CallFault::WrongKind),
+    }
+}
+
+fn settle_located(gathered: bool, call: Call, reply: LocateReply) -> ClientStep
+    ensures { result ≡ table.settles (table.expecting gathered call) call (heard.Locate reply) }
+{
+    match call {
+        Call::Locate(request) => becomes(ClientEntry::LocateDone { request, reply }),
+        call => refused(Some(expecting(gathered, call)), CallFault::WrongKind),
+    }
+}
+
+/// A Fragment comes, and more are to come. Refused as OrderDiffers, or as Stray where nothing is
+/// gathered; ignored behind a cancel.
+pub fn more(entry: Option<ClientEntry>, in_order: bool) -> ClientStep
+    ensures { result ≡ table.more entry in_order }
+{
+    match entry {
+        Some(ClientEntry::Gathering { call }) => gather(call, in_order),
+        Some(ClientEntry::Cancelled { late }) => dropped(late),
+        entry => refused(entry, CallFault::Stray),
+    }
+}
+
+fn gather(call: Call, in_order: bool) -> ClientStep
+    ensures { result ≡ table.more (Some (Gathering call)) in_order }
+{
+    let entry = ClientEntry::Gathering { call };
+    if in_order {
+        becomes(entry)
+    } else {
+        refused(Some(entry), CallFault::OrderDiffers)
+    }
+}
+
+/// The last Fragment comes: behind a cancel it ends the late reply. The refusals are those of
+/// `more`, and WrongKind where the pieces are no reply to the call.
+pub fn last(entry: Option<ClientEntry>, in_order: bool, reply: HeardReply) -> ClientStep
+    ensures { result ≡ table.last entry in_order reply }
+{
+    match entry {
+        Some(ClientEntry::Gathering { call }) => complete(call, in_order, reply),
+        Some(ClientEntry::Cancelled { late: Late::Begun }) => dropped(Late::Seen),
+        Some(ClientEntry::Cancelled { late }) => dropped(late),
+        entry => refused(entry, CallFault::Stray),
+    }
+}
+
+fn complete(call: Call, in_order: bool, reply: HeardReply) -> ClientStep
+    ensures { result ≡ table.last (Some (Gathering call)) in_order reply }
+{
+    if in_order {
+        settle(true, call, reply)
+    } else {
+        refused(
+            Some(ClientEntry::Gathering { call }),
+            CallFault::OrderDiffers,
+        )
+    }
+}

@@ -1,0 +1,36 @@
+//! Laws of both rules, over all that befalls one call.
+ghost use Rattle.std.specs.Prelude.{◌≡◌, List, Option, None, IsOk};
+ghost use Rattle.std.specs.List.{AllByRecursion};
+ghost use Rattle.giop_ids.specs.Runs.{alone, told_alone};
+ghost use Rattle.giop_mux.specs.Runs.{Happening, turn};
+ghost use Rattle.giop_calls.specs.ServerTable as server;
+ghost use Rattle.giop_calls.specs.ClientTable as client;
+ghost use Rattle.giop_calls.specs.ServerItems.{Item, Carries};
+ghost use Rattle.giop_calls.specs.ServerStanding as server_acts;
+ghost use Rattle.giop_calls.specs.ClientStanding as client_acts;
+ghost use Rattle.giop_calls.specs.declared.server.entry.ServerEntry.{ServerEntry};
+ghost use Rattle.giop_calls.specs.declared.server.event.ServerEvent.{ServerEvent};
+ghost use Rattle.giop_calls.specs.declared.client.event.ClientEvent.{ClientEvent};
+
+/// After any events and takes of one id at a server of which none is refused, what stands there is
+/// told without steps by those of its latest call.
+pub fn server_entry_stands()
+    ensures value { (acts : List (Happening ServerEvent))
+        → AllByRecursion IsOk (told_alone (turn server.server_step server.is_closed) None acts)
+        → alone (turn server.server_step server.is_closed) None acts ≡ server_acts.standing acts }
+{}
+
+/// After any events and takes of one id at a client of which none is refused, what stands there is
+/// told without steps by those of its latest call.
+pub fn client_entry_stands()
+    ensures value { (acts : List (Happening ClientEvent))
+        → AllByRecursion IsOk (told_alone (turn client.client_step client.is_closed) None acts)
+        → alone (turn client.client_step client.is_closed) None acts ≡ client_acts.standing acts }
+{}
+
+/// Two lists of events of one id at a server that spell the same items in the same order, each
+/// message in one piece or in many, and of which none is refused, leave the same entry.
+pub fn equal_items_equal_entries()
+    ensures value { (items : List Item) (one other : List ServerEvent) (m n : Option ServerEntry)
+        → Carries None items one m → Carries None items other n → m ≡ n }
+{}

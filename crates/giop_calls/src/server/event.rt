@@ -1,0 +1,48 @@
+use crate::kind::CallKind;
+use crate::server::heard::HeardCall;
+use giop_msg::Reply;
+
+/// What may befall a call at a server: a message of its client, or an act of the server itself.
+///
+/// A whole message is told by what it is, decoded, so that the rule knows no interface.
+#[derive(Debug, Drop)]
+pub enum ServerEvent {
+    /// The first piece of a Request or a LocateRequest comes, and more are to come.
+    First {
+        /// Which message it begins.
+        kind: CallKind,
+    },
+    /// A Request or a LocateRequest comes in one piece.
+    Whole {
+        /// What it is.
+        call: HeardCall,
+    },
+    /// A Fragment comes, and more are to come; or any Fragment where nothing is gathered.
+    More {
+        /// Whether it has the byte order of the pieces that are gathered.
+        in_order: bool,
+    },
+    /// The last Fragment comes.
+    Last {
+        /// Whether it has the byte order of the pieces that are gathered.
+        in_order: bool,
+        /// What they are all together.
+        call: HeardCall,
+    },
+    /// A CancelRequest comes.
+    Cancel,
+    /// The server answers a Request.
+    Answer {
+        /// Its reply.
+        reply: Reply,
+        /// In how many pieces the reply is sent, of which the first goes out now.
+        pieces: u32,
+    },
+    /// The server answers a LocateRequest.
+    AnswerLocate {
+        /// Whether the object is here.
+        here: bool,
+    },
+    /// The next piece of the reply is sent.
+    Send,
+}

@@ -1,0 +1,10 @@
+use giop_msg::{Request, RequestFault};
+
+/// What a reply of a server answers.
+#[derive(Debug, Drop)]
+pub enum Question {
+    /// A Request.
+    Request(Request),
+    /// A Request that couldn't be decoded, for this fault.
+    Undecoded(RequestFault),
+}

@@ -1,0 +1,271 @@
+//! What each event does to a call, a function for each. None takes memory.
+ghost use Rattle.std.specs.Prelude.{◌≡◌, ◌==◌, Some};
+ghost use Rattle.giop_calls.specs.ServerTable as table;
+ghost use Rattle.giop_calls.specs.declared.server.entry.ServerEntry.TheVariants.{Asked, Gathering};
+ghost use Rattle.giop_calls.specs.Messages.{is_same_version, is_system_exception};
+
+use crate::fault::CallFault;
+use crate::kind::CallKind;
+use crate::server::entry::ServerEntry;
+use crate::server::heard::HeardCall;
+use crate::server::question::Question;
+use crate::server::undecoded::UndecodedCall;
+use giop_msg::{Reply, ReplyBody, Request, Version};
+use giop_mux::Step;
+
+pub type ServerStep = Step<ServerEntry, (), CallFault>;
+
+fn becomes(entry: ServerEntry) -> ServerStep
+    ensures { result ≡ table.becomes entry }
+{
+    Step {
+        entry: Some(entry),
+        outcome: Ok(()),
+    }
+}
+
+fn refused(entry: Option<ServerEntry>, fault: CallFault) -> ServerStep
+    ensures { result ≡ table.refused entry fault }
+{
+    Step {
+        entry,
+        outcome: Err(fault),
+    }
+}
+
+// Whether a call may begin under the id of this entry.
+fn is_free(entry: &Option<ServerEntry>) -> bool
+    ensures { result ≡ table.is_free entry.now }
+{
+    match entry {
+        None => true,
+        Some(entry) => entry.is_closed(),
+    }
+}
+
+/// The entry of a message that came whole.
+pub fn arrived(call: HeardCall) -> ServerEntry
+    ensures { result ≡ table.arrived call }
+{
+    match call {
+        HeardCall::Request(request) if request.head.flags == 0 => {
+            ServerEntry::Delivered { request }
+        }
+        HeardCall::Request(request) => ServerEntry::Asked { request },
+        HeardCall::Locate(request) => ServerEntry::LocateAsked { request },
+        HeardCall::Undecoded(call) => ServerEntry::Undecoded { call },
+    }
+}
+
+/// A Request or a LocateRequest comes, and leaves this entry. Refused as IdInUse where the id isn't
+/// free.
+pub fn begin(entry: Option<ServerEntry>, next: ServerEntry) -> ServerStep
+    ensures { result ≡ table.begins entry next }
+{
+    if is_free(&entry) {
+        becomes(next)
+    } else {
+        refused(entry, CallFault::IdInUse)
+    }
+}
+
+/// A Fragment comes, and more are to come. Refused as OrderDiffers, or as Stray where nothing is
+/// gathered; ignored behind a cancel.
+pub fn more(entry: Option<ServerEntry>, in_order: bool) -> ServerStep
+    ensures { result ≡ table.more entry in_order }
+{
+    match entry {
+        Some(ServerEntry::Gathering { kind }) => gather(kind, in_order),
+        Some(ServerEntry::Cancelled { answered, left }) => {
+            becomes(ServerEntry::Cancelled { answered, left })
+        }
+        entry => refused(entry, CallFault::Stray),
+    }
+}
+
+fn gather(kind: CallKind, in_order: bool) -> ServerStep
+    ensures { result ≡ table.more (Some (Gathering kind)) in_order }
+{
+    let entry = ServerEntry::Gathering { kind };
+    if in_order {
+        becomes(entry)
+    } else {
+        refused(Some(entry), CallFault::OrderDiffers)
+    }
+}
+
+/// The last Fragment comes. The refusals are those of `more`.
+pub fn last(entry: Option<ServerEntry>, in_order: bool, call: HeardCall) -> ServerStep
+    ensures { result ≡ table.last entry in_order call }
+{
+    match entry {
+        Some(ServerEntry::Gathering { kind }) => complete(kind, in_order, call),
+        Some(ServerEntry::Cancelled { answered, left }) => {
+            becomes(ServerEntry::Cancelled { answered, left })
+        }
+        entry => refused(entry, CallFault::Stray),
+    }
+}
+
+fn complete(kind: CallKind, in_order: bool, call: HeardCall) -> ServerStep
+    ensures { result ≡ table.last (Some (Gathering kind)) in_order call }
+{
+    if in_order {
+        becomes(arrived(call))
+    } else {
+        refused(
+            Some(ServerEntry::Gathering { kind }),
+            CallFault::OrderDiffers,
+        )
+    }
+}
+
+/// A CancelRequest comes: it ends a call that expects a reply, and else changes nothing. It is
+/// never refused.
+pub fn cancel(entry: Option<ServerEntry>) -> ServerStep
+    ensures { result ≡ table.cancel entry }
+{
+    Step {
+        entry: cancelled(entry),
+        outcome: Ok(()),
+    }
+}
+
+// What stands behind a cancel.
+fn cancelled(entry: Option<ServerEntry>) -> Option<ServerEntry>
+    ensures { result ≡ (table.cancel entry).entry }
+{
+    let dropped = ServerEntry::Cancelled {
+        answered: false,
+        left: 0,
+    };
+    match entry {
+        Some(ServerEntry::Gathering { .. }) => Some(dropped),
+        Some(ServerEntry::Asked { .. }) => Some(dropped),
+        Some(ServerEntry::LocateAsked { .. }) => Some(dropped),
+        Some(ServerEntry::Undecoded { call }) if call.expects.is_some() => Some(dropped),
+        Some(ServerEntry::Answered { left, .. }) => Some(ServerEntry::Cancelled {
+            answered: true,
+            left,
+        }),
+        Some(ServerEntry::LocateAnswered { .. }) => Some(ServerEntry::Cancelled {
+            answered: true,
+            left: 0,
+        }),
+        entry => entry,
+    }
+}
+
+/// The server answers a Request in so many pieces, of which the first goes out. Refused as
+/// WrongKind for a LocateRequest, as NotOpen where no reply is expected, and as Unfit in another
+/// version than the request's, or where the request couldn't be decoded and the reply is no
+/// exception of the broker.
+pub fn answer(entry: Option<ServerEntry>, reply: Reply, pieces: u32) -> ServerStep
+    ensures { result ≡ table.answer entry reply pieces }
+{
+    match entry {
+        Some(ServerEntry::Asked { request }) => answer_request(request, reply, pieces),
+        Some(ServerEntry::Undecoded { call }) => answer_undecoded(call, reply, pieces),
+        Some(ServerEntry::LocateAsked { .. }) => refused(entry, CallFault::WrongKind),
+        entry => refused(entry, CallFault::NotOpen),
+    }
+}
+
+fn is_same_version(one: Version, other: Version) -> bool
+    ensures { result ≡ is_same_version one other }
+{
+    one.minor() == other.minor()
+}
+
+fn answer_request(request: Request, reply: Reply, pieces: u32) -> ServerStep
+    ensures { result ≡ table.answer (Some (Asked request)) reply pieces }
+{
+    if !is_same_version(request.head.version, reply.version) {
+        return refused(Some(ServerEntry::Asked { request }), CallFault::Unfit);
+    }
+    becomes(ServerEntry::Answered {
+        asked: Question::Request(request),
+        reply,
+        left: pieces.saturating_sub(1),
+    })
+}
+
+fn is_system_exception(body: &ReplyBody) -> bool
+    ensures { result ≡ is_system_exception body.now }
+{
+    matches!(body, ReplyBody::SystemException { .. })
+}
+
+fn answer_undecoded(call: UndecodedCall, reply: Reply, pieces: u32) -> ServerStep
+    ensures { result ≡ table.answer_undecoded call.expects call reply pieces }
+{
+    let entry = ServerEntry::Undecoded { call };
+    match call.expects {
+        None => refused(Some(entry), CallFault::NotOpen),
+        Some(CallKind::Locate) => refused(Some(entry), CallFault::WrongKind),
+        Some(CallKind::Request) => {
+            if !is_system_exception(&reply.body) || !is_same_version(call.version, reply.version) {
+                return refused(Some(entry), CallFault::Unfit);
+            }
+            becomes(ServerEntry::Answered {
+                asked: Question::Undecoded(call.fault),
+                reply,
+                left: pieces.saturating_sub(1),
+            })
+        }
+    }
+}
+
+/// The server answers a LocateRequest. Refused as WrongKind for a Request that expects a reply, as
+/// NotOpen where nothing is open, and as Unfit where the target couldn't be decoded and yet is told
+/// to be here.
+pub fn answer_locate(entry: Option<ServerEntry>, here: bool) -> ServerStep
+    ensures { result ≡ table.answer_locate entry here }
+{
+    match entry {
+        Some(ServerEntry::LocateAsked { request }) => becomes(ServerEntry::LocateAnswered {
+            target: Some(request.target),
+            here,
+        }),
+        Some(ServerEntry::Undecoded { call }) => answer_locate_undecoded(call, here),
+        Some(ServerEntry::Asked { .. }) => refused(entry, CallFault::WrongKind),
+        entry => refused(entry, CallFault::NotOpen),
+    }
+}
+
+fn answer_locate_undecoded(call: UndecodedCall, here: bool) -> ServerStep
+    ensures { result ≡ table.answer_locate_undecoded call.expects call here }
+{
+    let entry = Some(ServerEntry::Undecoded { call });
+    match call.expects {
+        None => refused(entry, CallFault::NotOpen),
+        Some(CallKind::Request) => refused(entry, CallFault::WrongKind),
+        Some(CallKind::Locate) if here => refused(entry, CallFault::Unfit),
+        Some(CallKind::Locate) => becomes(ServerEntry::LocateAnswered {
+            target: None,
+            here: false,
+        }),
+    }
+}
+
+/// The next piece of the reply is sent. Refused as NothingToSend where none is left.
+pub fn send(entry: Option<ServerEntry>) -> ServerStep
+    ensures { result ≡ table.send entry }
+{
+    match entry {
+        Some(ServerEntry::Answered { asked, reply, left }) if left > 0 => {
+            becomes(ServerEntry::Answered {
+                asked,
+                reply,
+                left: left - 1,
+            })
+        }
+        Some(ServerEntry::Cancelled { answered, left }) if left > 0 => {
+            becomes(ServerEntry::Cancelled {
+                answered,
+                left: left - 1,
+            })
+        }
+        entry => refused(entry, CallFault::NothingToSend),
+    }
+}

@@ -1,0 +1,4 @@
+mod client_table;
+mod made;
+mod mux;
+mod server_table;

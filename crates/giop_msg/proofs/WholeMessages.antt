@@ -1,0 +1,8 @@
+-- What whole messages rest on.
+pub mod OutcomeLemmas
+pub mod BodyLemmas
+pub mod ParameterLoops
+pub mod LocateReplyLemmas
+pub mod RequestLemmas
+pub mod ReplyLemmas
+pub mod LawLemmas

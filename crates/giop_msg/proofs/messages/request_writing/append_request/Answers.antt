@@ -1,0 +1,28 @@
+use Rattle.std.proofs.Common.{◌≡◌, length, map, sym, ap, ◌∙◌}
+use Rattle.std.proofs.lemmas.List.{length-map}
+use Rattle.giop_types.specs.Values.Views.{value_view}
+use Rattle.giop_msg.proofs.WholeMessages.RequestLemmas.{appends_then, fits_head, fits_many, parts_written, written_unknown}
+use Rattle.giop_msg.proofs.messages.request_writing.append_request.Goals as goal
+
+pub append_head-requires : goal.append_head-requires
+append_head-requires c = fits_head c.args.interface.now c.args.q.now.head.version c.args.q.now c.requires
+
+pub returns-in_default : goal.returns-in_default
+returns-in_default c =
+    let q = c.args.q.now in
+    let put = c.in_ok-append_head.ensures in
+    (put.0 ∙ sym (written_unknown c.args.interface.now q.head.version q c.as_slice.result.now c.args.out.now c.as_slice.ensures c.in_default.ensures), put.1)
+
+pub append_body-requires : goal.append_body-requires
+append_body-requires c =
+    let q = c.args.q.now in
+    let many = fits_many c.args.interface.now q.head.version q c.as_slice.result.now c.in-Some.operation.now c.as_slice.ensures c.in-Some.ensures c.requires in
+    ap length c.as_slice-2.ensures.same ∙ many ∙ sym (ap length c.as_slice-3.ensures) ∙ length-map c.as_slice-3.result.now value_view
+
+pub returns : goal.returns
+returns c =
+    let q = c.args.q.now in
+    let put = c.in_ok-append_head.ensures in
+    appends_then c.append_body.result c.args.out.now c.append_head.new.out c.append_body.new.out _ _ put.1 c.append_body.ensures
+    (parts_written c.args.interface.now q.head.version q c.as_slice.result.now c.in-Some.operation.now c.args.out.now c.append_head.new.out
+    c.as_slice-2.result.now (map value_view c.as_slice-3.result.now) c.as_slice.ensures c.in-Some.ensures c.as_slice-2.ensures.same c.as_slice-3.ensures put.0)

@@ -1,0 +1,45 @@
+-- What holds of whole messages.
+use Rattle.std.specs.Prelude.{◌≡◌, ℕ, ◌+◌, ◌≤◌, ◌↔◌, true, List, [], length, drop, Result, Ok, Err}
+use Rattle.giop_cdr.specs.declared.order.Order.{Order}
+use Rattle.giop_cdr.specs.declared.fault.CdrFault.{CdrFault}
+use Rattle.giop_cdr.specs.Reading.Cursor.{Cursor, pad}
+use Rattle.giop_cdr.specs.Layout.{AreOctets}
+use Rattle.giop_cdr.specs.Ending.{Ending, IsExactToEnd}
+use Rattle.giop_types.specs.declared.json.interface.Interface.{Interface}
+use Rattle.giop_msg.specs.declared.messages.request.Request.{Request}
+use Rattle.giop_msg.specs.declared.messages.request_fault.RequestFault.{RequestFault}
+use Rattle.giop_msg.specs.declared.version.Version.{Version}
+use Rattle.giop_msg.specs.Joined.{joined_from}
+use Rattle.giop_msg.specs.Messages.Outcome.{joined_into}
+use Rattle.giop_msg.specs.Messages.Request.{request}
+use Rattle.giop_msg.specs.Messages.RequestAnswer.{RefusedRequest, request_of_joined}
+
+-- what holds of a whole message
+pub record IsWhole {A : Type 0} (message : Ending A) : Type 0 where
+  -- what is read is what all octets up to the end spell, and else the first refused field is
+  -- answered
+  pub exact : (c : Cursor) →
+      IsExactToEnd (λ v. message.spells c.order c.at v c.rest) (message.refused c) (message.read c)
+  -- whatever octets spell fits, and its numbers are in the ranges of their types
+  pub fits : (order : Order) (at : ℕ) (v : A) (octets : List ℕ) → AreOctets octets →
+      message.spells order at v octets → (message.fits v ≡ true) × message.holds v
+  -- the joined octets that are written of a message that fits are read as that message
+  pub back : (order : Order) (v : A) → message.fits v ≡ true → message.holds v →
+      message.read (joined_from order (message.written v (joined_into order)).octets) ≡ Ok v
+
+-- a Request is refused exactly as is said: of its head, its operation and its body the first part
+-- that is refused is told
+abbrev pub RequestsAreRefused : Type 0
+RequestsAreRefused =
+    (interface : Interface) (version : Version) (order : Order) (octets : List ℕ)
+    (e : RequestFault) →
+    (request_of_joined interface version order octets ≡ Err e)
+    ↔ RefusedRequest interface version (joined_from order octets) e
+
+-- a Request is read back from the joined octets that are written of it
+abbrev pub RequestsAreReadBack : Type 0
+RequestsAreReadBack =
+    (interface : Interface) (version : Version) (order : Order) (q : Request) →
+    (request interface version).fits q ≡ true → (request interface version).holds q →
+    request_of_joined interface version order
+    ((request interface version).written q (joined_into order)).octets ≡ Ok q

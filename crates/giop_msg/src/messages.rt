@@ -1,0 +1,12 @@
+//! Whole messages: a head and what stands behind it.
+
+pub mod body;
+pub mod body_writing;
+pub mod completion;
+pub mod locate_reply;
+pub mod reply;
+pub mod reply_body;
+mod reply_reading;
+pub mod request;
+pub mod request_fault;
+pub mod request_writing;

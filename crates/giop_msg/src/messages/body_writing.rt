@@ -1,0 +1,85 @@
+//! Writing the bodies of Requests and Replies.
+#![tactic(auto, unfolding(crate::specs::Messages::Body::body_of, crate::specs::Messages::Body::values, giop_cdr::specs::Ending::ended, giop_cdr::specs::Ending::from_multiple_of_8), using(giop_cdr::proofs::Writing::WriterLemmas::grows_then, giop_cdr::proofs::Writing::WriterLemmas::grows_not))]
+
+ghost use Rattle.std.specs.Prelude.{◌≡◌, length, map};
+ghost use Rattle.giop_cdr.specs.Ending.{ended, unless_empty};
+ghost use Rattle.giop_cdr.specs.Writing.Output.{padding_out};
+ghost use Rattle.giop_cdr.specs.Writing.Outcome.{Appends};
+ghost use Rattle.giop_types.specs.Coding.Written.{fields_out};
+ghost use Rattle.giop_types.specs.Values.Fits.{fields_fit};
+ghost use Rattle.giop_types.specs.Values.Views.{value_view};
+ghost use Rattle.giop_msg.specs.Messages.Body.{body_of, fields_in, values};
+
+use crate::version::Version;
+use giop_cdr::{CdrOut, EncodeFault};
+use giop_types::{Parameter, Value, encode, fits};
+
+/// Whether there are as many values as parameters, each of its parameter's description.
+pub fn are_fitting(parameters: &[Parameter], values: &[Value]) -> bool
+    ensures { result ≡ fields_fit (fields_in parameters.now) (map value_view values.now) }
+{
+    if parameters.len() != values.len() {
+        return false;
+    }
+    for i in 0..parameters.len() {
+        if !fits(&parameters[i].desc, &values[i]) {
+            return false;
+        }
+    }
+    true
+}
+
+// The values, one after the other. Where memory is wanting a part of them is left.
+fn append_values(
+    parameters: &[Parameter],
+    values: &[Value],
+    out: &mut CdrOut,
+) -> Result<(), EncodeFault>
+    requires { length parameters.now ≡ length values.now }
+    ensures { Appends out.old result out.new
+        (fields_out (fields_in parameters.now) (map value_view values.now) out.old) }
+{
+    for i in 0..parameters.len() {
+        encode(out, &parameters[i].desc, &values[i])?;
+    }
+    Ok(())
+}
+
+// The values from the next multiple of 8 on, and no padding where they take no octets.
+fn append_aligned(
+    parameters: &[Parameter],
+    values: &[Value],
+    out: &mut CdrOut,
+) -> Result<(), EncodeFault>
+    requires { length parameters.now ≡ length values.now }
+    ensures { Appends out.old result out.new (unless_empty out.old (padding_out 8 out.old)
+        (fields_out (fields_in parameters.now) (map value_view values.now)
+        (padding_out 8 out.old))) }
+{
+    let point = out.checkpoint();
+    out.align(8)?;
+    let padded = out.as_slice().len();
+    append_values(parameters, values, out)?;
+    if out.as_slice().len() == padded {
+        out.back_to(point);
+    }
+    Ok(())
+}
+
+/// The body behind a head, where its version has it. Where memory is wanting a part of it is left.
+pub fn append_body(
+    version: Version,
+    parameters: &[Parameter],
+    body: &[Value],
+    out: &mut CdrOut,
+) -> Result<(), EncodeFault>
+    requires { length parameters.now ≡ length body.now }
+    ensures { Appends out.old result out.new
+        ((body_of version (ended (values parameters.now))).written (map value_view body.now)
+        out.old) }
+{
+    match version {
+        Version::V10 | Version::V11 => append_values(parameters, body, out),
+        Version::V12 => append_aligned(parameters, body, out),
+    }
+}

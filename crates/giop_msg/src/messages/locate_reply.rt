@@ -1,0 +1,122 @@
+#![tactic(auto, unfolding(crate::specs::Messages::LocateReply::locate_reply, giop_cdr::specs::Ending::leads, giop_cdr::specs::Ending::made_of, giop_cdr::specs::Ending::remainder))]
+
+ghost use Rattle.std.specs.Prelude.{◌≡◌, ◌≤◌, ◌^◌, ◌↔◌, length, false, true, ℕ, List, IfOk, IsErrOf};
+ghost use Rattle.giop_cdr.specs.declared.order.Order.{Order};
+ghost use Rattle.giop_cdr.specs.Layout.{AreOctets};
+ghost use Rattle.giop_cdr.specs.Writing.Outcome.{Appends};
+ghost use Rattle.giop_msg.specs.Joined.{joined_from};
+ghost use Rattle.giop_msg.specs.Messages.LocateReply.{locate_reply};
+ghost use Rattle.giop_msg.specs.Messages.Outcome.{Decodes, IsTold, joined_into};
+
+use crate::locate_reply_head::{LocateReplyHead, append_head, read_head};
+use crate::version::Version;
+use giop_cdr::{CdrFault, CdrIn, CdrKind, CdrOut, EncodeFault, OctetList, Octets, Order};
+use std::alloc::{AllocError, Global};
+
+/// A LocateReply (CORBA 3.3 Part 2, 9.4.6): its head, and the octets behind it as they came.
+#[derive(Debug, Drop)]
+pub struct LocateReply {
+    /// The version, the id and the status.
+    pub head: LocateReplyHead,
+    /// The octets behind the status, undecoded.
+    pub rest: OctetList,
+}
+
+impl LocateReply {
+    /// The LocateReply that joined octets are, which are as for `RequestHead::view`. It takes
+    /// memory for the octets behind the status.
+    ///
+    /// Refused as the first field of the head that is refused, in reading order: each as its own
+    /// reader says, and a status that the version hasn't as BadLabel; and as NoMemory at 12 where
+    /// nothing is refused and memory is wanting.
+    pub fn decode<S: Octets>(
+        alloc: Global,
+        octets: &S,
+        version: Version,
+        order: Order,
+    ) -> Result<LocateReply, CdrFault>
+        requires { length (S.octets octets.now) ≤ 2 ^ 62 }
+        // What is answered is what the octets spell, and what they spell is answered.
+        ensures found { IfOk result (λ reply.
+            (locate_reply version).spells order 12 reply (S.octets octets.now)) }
+        ensures only { (reply : _)
+            → (locate_reply version).spells order 12 reply (S.octets octets.now)
+            → IsTold result reply }
+
+        // Which refusal it is.
+        ensures exact { Decodes result
+            ((locate_reply version).read (joined_from order (S.octets octets.now))) }
+    {
+        read_reply(alloc, octets, version, order)
+    }
+
+    /// Whether octets spell the LocateReply: its version has its status. It takes no memory.
+    #[tactic(auto, using(crate::proofs::WholeMessages::LocateReplyLemmas::locate_reply_fits))]
+    pub fn is_writable(&self) -> bool
+        ensures { result ≡ (locate_reply self.now.head.version).fits self.now }
+    {
+        self.head.is_writable()
+    }
+
+    /// The joined octets of the LocateReply, in an order: the fields in their order, and the octets
+    /// behind them as they are.
+    ///
+    /// Refused as Unfit where `is_writable` is false, and then no octets spell it; else as NoMemory
+    /// where memory is wanting.
+    #[tactic(auto, using(crate::proofs::WholeMessages::LocateReplyLemmas::locate_reply_unspelled))]
+    pub fn encode(&self, alloc: Global, order: Order) -> Result<Vec<u8>, EncodeFault>
+        ensures value { IfOk result (λ octets. octets.items
+            ≡ ((locate_reply self.now.head.version).written self.now (joined_into order)).octets) }
+        ensures err { IsErrOf result EncodeFault.Unfit
+            ↔ ((locate_reply self.now.head.version).fits self.now ≡ false) }
+        ensures unfit { IsErrOf result EncodeFault.Unfit
+            → (order : Order) (at : ℕ) (octets : List ℕ)
+            → AreOctets octets
+            → (locate_reply self.now.head.version).spells order at self.now octets → ⊥ }
+    {
+        if !self.is_writable() {
+            return Err(EncodeFault::Unfit);
+        }
+        let mut out = CdrOut::new(alloc, order, 12);
+        if append_reply(self, &mut out).is_err() {
+            return Err(EncodeFault::NoMemory);
+        }
+        Ok(out.into_bytes())
+    }
+}
+
+fn read_reply<S: Octets>(
+    alloc: Global,
+    octets: &S,
+    version: Version,
+    order: Order,
+) -> Result<LocateReply, CdrFault>
+    requires { length (S.octets octets.now) ≤ 2 ^ 62 }
+    ensures { Decodes result
+        ((locate_reply version).read (joined_from order (S.octets octets.now))) }
+{
+    let mut input = CdrIn::new(octets, order, 12);
+    let head = match read_head(version, &mut input) {
+        Ok(head) => head,
+        Err(fault) => return Err(fault),
+    };
+    match input.view_remainder().to_list(alloc) {
+        Ok(rest) => Ok(LocateReply { head, rest }),
+        Err(_) => Err(CdrFault {
+            at: 12,
+            kind: CdrKind::NoMemory,
+        }),
+    }
+}
+
+// The head and the octets behind it. Where memory is wanting a part of them is left.
+#[tactic(auto, unfolding(crate::specs::Messages::LocateReply::locate_reply, giop_cdr::specs::Ending::leads, giop_cdr::specs::Ending::made_of, giop_cdr::specs::Ending::remainder), using(giop_cdr::proofs::Writing::WriterLemmas::grows_then, giop_cdr::proofs::Writing::WriterLemmas::grows_not))]
+fn append_reply(reply: &LocateReply, out: &mut CdrOut) -> Result<(), AllocError>
+    requires { (locate_reply reply.now.head.version).fits reply.now ≡ true }
+    ensures { Appends out.old result out.new
+        ((locate_reply reply.now.head.version).written reply.now out.old) }
+{
+    append_head(&reply.head, out)?;
+    out.append_octets(reply.rest.as_slice())?;
+    Ok(())
+}

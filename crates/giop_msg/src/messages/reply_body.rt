@@ -1,0 +1,34 @@
+use crate::messages::completion::Completion;
+use giop_cdr::OctetList;
+use giop_ior::Ior;
+use giop_types::ValueList;
+
+/// What a Reply answers, by its status (CORBA 3.3 Part 2, 9.4.3).
+#[derive(Debug, Drop)]
+pub enum ReplyBody {
+    /// Status 0: the result, then the inout and out parameters in their order; none where the flags
+    /// of the request are 1.
+    NoException(ValueList),
+    /// Status 1: an exception that the operation may raise.
+    UserException {
+        /// The repository id of the exception, without its null.
+        id: OctetList,
+        /// The members of the exception, in their order.
+        members: ValueList,
+    },
+    /// Status 2: an exception of the broker.
+    SystemException {
+        /// The repository id of the exception, without its null.
+        id: OctetList,
+        /// What the vendor says more of it.
+        minor: u32,
+        /// Whether the operation was completed.
+        completion: Completion,
+    },
+    /// Status 3: where the object is, for this request.
+    Forward(Ior),
+    /// Status 4, in 1.2 alone: where the object is from now on.
+    ForwardPerm(Ior),
+    /// Status 5, in 1.2 alone: the disposition in which the target has to be addressed, any value.
+    NeedsAddressing(i16),
+}

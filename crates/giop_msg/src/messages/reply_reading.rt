@@ -1,0 +1,237 @@
+//! Reading the body of a Reply, by its status.
+#![tactic(auto, unfolding(crate::specs::Messages::Reply::completion, crate::specs::Messages::Reply::no_exception, crate::specs::Messages::Reply::user_exception, crate::specs::Messages::Reply::system_exception, crate::specs::Messages::Reply::forward, crate::specs::Messages::Reply::needs_addressing, crate::specs::Messages::Reply::reply_body, crate::specs::Messages::Body::values, giop_cdr::specs::Layout::field, giop_cdr::specs::Layout::such, giop_cdr::specs::Layout::number, giop_cdr::specs::Layout::signed, giop_cdr::specs::Layout::text, giop_cdr::specs::Layout::gives, giop_cdr::specs::Layout::chosen, giop_cdr::specs::Reading::Values::such_at))]
+
+ghost use Rattle.std.specs.Prelude.{◌≡◌};
+ghost use Rattle.giop_cdr.specs.Reading.Outcome.{Exactly, Follows};
+ghost use Rattle.giop_cdr.specs.declared.fault.CdrKind.TheVariants.{BadLabel};
+ghost use Rattle.giop_cdr.specs.Ending.{ended};
+ghost use Rattle.giop_cdr.specs.Layout.{such, text};
+ghost use Rattle.giop_msg.specs.Messages.Body.{body_of};
+ghost use Rattle.giop_msg.specs.Messages.Outcome.{FollowsToEnd};
+ghost use Rattle.giop_msg.specs.Messages.Reply.{completion, exception_of, forward, is_known, listed, needs_addressing, no_exception, outs_for, reply_body, system_exception, user_exception};
+ghost use Rattle.giop_msg.specs.declared.messages.reply_body.ReplyBody.TheVariants.{Forward, ForwardPerm};
+
+use crate::messages::body::{align_body, no_memory, read_values};
+use crate::messages::completion::Completion;
+use crate::messages::reply_body::ReplyBody;
+use crate::messages::request::Request;
+use crate::version::Version;
+use giop_cdr::{CdrFault, CdrIn, CdrKind, OctetList, Octets};
+use giop_ior::read_ior;
+use giop_types::{Interface, Parameter};
+use std::alloc::Global;
+
+// The outs of an operation.
+fn read_no_exception<S: Octets>(
+    alloc: Global,
+    outs: &[Parameter],
+    input: &mut CdrIn<S>,
+) -> Result<ReplyBody, CdrFault>
+    ensures { Follows (λ body. body) result input.new ((no_exception outs.now).read input.old) }
+{
+    match read_values(alloc, outs, input) {
+        Ok(values) => Ok(ReplyBody::NoException(values)),
+        Err(fault) => Err(fault),
+    }
+}
+
+// Whether the operation was completed.
+fn read_completion<S: Octets>(input: &mut CdrIn<S>) -> Result<Completion, CdrFault>
+    ensures { Exactly result input.new (completion.read input.old) }
+{
+    let at = input.place::<4>();
+    match input.read_ulong()? {
+        0 => Ok(Completion::Yes),
+        1 => Ok(Completion::No),
+        2 => Ok(Completion::Maybe),
+        _ => Err(CdrFault {
+            at,
+            kind: CdrKind::BadLabel,
+        }),
+    }
+}
+
+// An exception of the broker.
+fn read_system_exception<S: Octets>(
+    alloc: Global,
+    input: &mut CdrIn<S>,
+) -> Result<ReplyBody, CdrFault>
+    ensures { Follows (λ body. body) result input.new (system_exception.read input.old) }
+{
+    let id = input.view_string(0)?;
+    let minor = input.read_ulong()?;
+    let completion = read_completion(input)?;
+    let Ok(id) = id.to_list(alloc) else {
+        return Err(no_memory());
+    };
+    Ok(ReplyBody::SystemException {
+        id,
+        minor,
+        completion,
+    })
+}
+
+// The disposition in which the target has to be addressed.
+fn read_needs_addressing<S: Octets>(input: &mut CdrIn<S>) -> Result<ReplyBody, CdrFault>
+    ensures { Follows (λ body. body) result input.new (needs_addressing.read input.old) }
+{
+    let disposition = input.read_short()?;
+    Ok(ReplyBody::NeedsAddressing(disposition))
+}
+
+// Where the object is, for this request.
+fn read_forward<S: Octets>(alloc: Global, input: &mut CdrIn<S>) -> Result<ReplyBody, CdrFault>
+    ensures { Follows (λ body. body) result input.new
+        ((forward (λ ior. Forward ior)).read input.old) }
+{
+    let ior = read_ior(alloc, input)?;
+    Ok(ReplyBody::Forward(ior))
+}
+
+// Where the object is from now on.
+fn read_forward_perm<S: Octets>(alloc: Global, input: &mut CdrIn<S>) -> Result<ReplyBody, CdrFault>
+    ensures { Follows (λ body. body) result input.new
+        ((forward (λ ior. ForwardPerm ior)).read input.old) }
+{
+    let ior = read_ior(alloc, input)?;
+    Ok(ReplyBody::ForwardPerm(ior))
+}
+
+// The id of an exception that the interface has.
+fn read_exception_id<S: Octets>(
+    alloc: Global,
+    interface: &Interface,
+    input: &mut CdrIn<S>,
+) -> Result<OctetList, CdrFault>
+    ensures { Follows (λ id. id) result input.new
+        ((such (λ id. is_known (exception_of interface.now id)) 4 BadLabel text).read input.old) }
+{
+    let at = input.place::<4>();
+    let id = input.view_string(0)?;
+    let Ok(id) = id.to_list(alloc) else {
+        return Err(no_memory());
+    };
+    if !is_known(interface, id.as_slice()) {
+        return Err(CdrFault {
+            at,
+            kind: CdrKind::BadLabel,
+        });
+    }
+    Ok(id)
+}
+
+// Whether the interface has an exception of this id.
+fn is_known(interface: &Interface, id: &[u8]) -> bool
+    ensures { result ≡ is_known (exception_of interface.now id.now) }
+{
+    match interface.exception(id) {
+        Some(_) => true,
+        None => false,
+    }
+}
+
+/// The members of the exception of this id; none where the interface hasn't it.
+pub fn members_of<'a>(interface: &'a Interface, id: &[u8]) -> &'a [Parameter]
+    ensures { result.now ≡ listed (exception_of interface.now id.now) }
+{
+    match interface.exception(id) {
+        Some(members) => members.as_slice(),
+        None => &[],
+    }
+}
+
+// An exception of the interface: its id, and its members.
+fn read_user_exception<S: Octets>(
+    alloc: Global,
+    interface: &Interface,
+    input: &mut CdrIn<S>,
+) -> Result<ReplyBody, CdrFault>
+    ensures { Follows (λ body. body) result input.new
+        ((user_exception interface.now).read input.old) }
+{
+    let id = match read_exception_id(alloc, interface, input) {
+        Ok(id) => id,
+        Err(fault) => return Err(fault),
+    };
+    match read_values(alloc, members_of(interface, id.as_slice()), input) {
+        Ok(members) => Ok(ReplyBody::UserException { id, members }),
+        Err(fault) => Err(fault),
+    }
+}
+
+// A body, by its status.
+fn read_by_status<S: Octets>(
+    alloc: Global,
+    interface: &Interface,
+    outs: &[Parameter],
+    status: u32,
+    input: &mut CdrIn<S>,
+) -> Result<ReplyBody, CdrFault>
+    ensures { Follows (λ body. body) result input.new
+        ((reply_body interface.now outs.now status).read input.old) }
+{
+    match status {
+        0 => read_no_exception(alloc, outs, input),
+        1 => read_user_exception(alloc, interface, input),
+        2 => read_system_exception(alloc, input),
+        3 => read_forward(alloc, input),
+        4 => read_forward_perm(alloc, input),
+        _ => read_needs_addressing(input),
+    }
+}
+
+// A body, and nothing behind it.
+#[tactic(auto, unfolding(giop_cdr::specs::Ending::ended))]
+fn read_last<S: Octets>(
+    alloc: Global,
+    interface: &Interface,
+    outs: &[Parameter],
+    status: u32,
+    input: &mut CdrIn<S>,
+) -> Result<ReplyBody, CdrFault>
+    ensures { FollowsToEnd result
+        ((ended (reply_body interface.now outs.now status)).read input.old) }
+{
+    let body = match read_by_status(alloc, interface, outs, status, input) {
+        Ok(body) => body,
+        Err(fault) => return Err(fault),
+    };
+    if input.remaining() > 0 {
+        return Err(CdrFault {
+            at: input.position(),
+            kind: CdrKind::Trailing,
+        });
+    }
+    Ok(body)
+}
+
+/// The body behind a head, which `input` stands at the end of, by the status of the head.
+#[tactic(auto, using(crate::proofs::WholeMessages::BodyLemmas::body_read))]
+pub fn read_reply_body<S: Octets>(
+    alloc: Global,
+    version: Version,
+    interface: &Interface,
+    outs: &[Parameter],
+    status: u32,
+    input: &mut CdrIn<S>,
+) -> Result<ReplyBody, CdrFault>
+    ensures { FollowsToEnd result
+        ((body_of version (ended (reply_body interface.now outs.now status))).read input.old) }
+{
+    align_body(version, input);
+    read_last(alloc, interface, outs, status, input)
+}
+
+/// The outs that a reply to a request brings where there is no exception: none where the flags of
+/// the request are 1.
+pub fn outs_for<'a>(interface: &'a Interface, request: &Request) -> &'a [Parameter]
+    ensures { result.now ≡ outs_for interface.now request.now }
+{
+    if request.head.flags == 1 {
+        return &[];
+    }
+    match interface.operation(request.head.operation.as_slice()) {
+        Some(operation) => operation.outs.as_slice(),
+        None => &[],
+    }
+}

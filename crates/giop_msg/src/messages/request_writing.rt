@@ -1,0 +1,78 @@
+ghost use Rattle.std.specs.Prelude.{◌≡◌, ◌↔◌, false, true, ℕ, List, IfOk, IsErrOf};
+ghost use Rattle.giop_cdr.specs.declared.order.Order.{Order};
+ghost use Rattle.giop_cdr.specs.Layout.{AreOctets};
+ghost use Rattle.giop_cdr.specs.Writing.Outcome.{Appends};
+ghost use Rattle.giop_msg.specs.Messages.Outcome.{joined_into};
+ghost use Rattle.giop_msg.specs.Messages.Request.{request};
+
+use crate::messages::body_writing::{append_body, are_fitting};
+use crate::messages::request::Request;
+use crate::request_head_writing::append_head;
+use giop_cdr::{CdrOut, EncodeFault, Order};
+use giop_types::Interface;
+use std::alloc::Global;
+
+impl Request {
+    /// Whether octets spell the Request in its version: its head is writable, the interface has its
+    /// operation, and there are as many values as ins, each of its description. It takes no memory.
+    pub fn is_writable(&self, interface: &Interface) -> bool
+        ensures { result ≡ (request interface.now self.now.head.version).fits self.now }
+    {
+        let Some(operation) = interface.operation(self.head.operation.as_slice()) else {
+            return false;
+        };
+        self.head.is_writable() && are_fitting(operation.ins.as_slice(), self.body.as_slice())
+    }
+
+    /// The joined octets of the Request, in an order: its head and its body, padded with zeros. In
+    /// 1.2 a body that has octets begins at a multiple of 8, and an empty one is written without
+    /// padding.
+    ///
+    /// Refused as Unfit where `is_writable` is false, and then no octets spell it; else as NoMemory
+    /// where memory is wanting.
+    #[tactic(auto, using(crate::proofs::WholeMessages::RequestLemmas::request_unspelled))]
+    pub fn encode(
+        &self,
+        alloc: Global,
+        interface: &Interface,
+        order: Order,
+    ) -> Result<Vec<u8>, EncodeFault>
+        ensures value { IfOk result (λ octets. octets.items
+            ≡ ((request interface.now self.now.head.version).written self.now
+            (joined_into order)).octets) }
+        ensures err { IsErrOf result EncodeFault.Unfit
+            ↔ ((request interface.now self.now.head.version).fits self.now ≡ false) }
+        ensures unfit { IsErrOf result EncodeFault.Unfit
+            → (order : Order) (at : ℕ) (octets : List ℕ)
+            → AreOctets octets
+            → (request interface.now self.now.head.version).spells order at self.now octets → ⊥ }
+    {
+        if !self.is_writable(interface) {
+            return Err(EncodeFault::Unfit);
+        }
+        let mut out = CdrOut::new(alloc, order, 12);
+        if append_request(self, interface, &mut out).is_err() {
+            return Err(EncodeFault::NoMemory);
+        }
+        Ok(out.into_bytes())
+    }
+}
+
+// The head, and the body behind it. Where memory is wanting a part of them is left.
+#[tactic(auto, using(giop_cdr::proofs::Writing::WriterLemmas::grows_then, giop_cdr::proofs::Writing::WriterLemmas::grows_not))]
+fn append_request(q: &Request, interface: &Interface, out: &mut CdrOut) -> Result<(), EncodeFault>
+    requires { (request interface.now q.now.head.version).fits q.now ≡ true }
+    ensures { Appends out.old result out.new
+        ((request interface.now q.now.head.version).written q.now out.old) }
+{
+    append_head(&q.head, out)?;
+    let Some(operation) = interface.operation(q.head.operation.as_slice()) else {
+        return Ok(());
+    };
+    append_body(
+        q.head.version,
+        operation.ins.as_slice(),
+        q.body.as_slice(),
+        out,
+    )
+}

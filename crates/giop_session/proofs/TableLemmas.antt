@@ -1,0 +1,237 @@
+-- What each act leaves of the table and of the pieces, and that both stay tied.
+use Rattle.std.proofs.Common.{◌≡◌, ◌≢◌, ℕ, Bool, true, false, cond, List, length, Option, Some, None, is_some, is_none, Result, Ok, Err, IsOk, refl, sym, ap, subst, ◌∙◌, ◌&&◌, ◌==◌, inl, inr}
+use Rattle.std.specs.Option.{option_map, option_or}
+use Rattle.std.specs.FinMap as finite
+use Rattle.giop_cdr.specs.declared.order.Order.{Order}
+use Rattle.giop_ids.specs.ById.{ById, put}
+use Rattle.giop_ids.specs.Runs.{Does, told, within, left, refusal_of, RefusedAs, IsApart, Distinguishes}
+use Rattle.giop_ids.proofs.Puts.{get-put, get-put_same, put_same, put-put, put_absent}
+use Rattle.giop_mux.specs.Calls.{Calls, is_one_too_many, room_refusal, by_rule, judged}
+use Rattle.giop_mux.specs.declared.step.Step.{Step}
+use Rattle.giop_mux.specs.declared.refusal.Refusal.{Refusal}
+use Rattle.giop_mux.specs.declared.refusal.Refusal.TheVariants as refusal
+use Rattle.giop_frag.specs.Gathered.{Gathered, Pieces, Lists, grown, is_over}
+use Rattle.giop_frag.specs.declared.fault.GatherFault.{GatherFault}
+use Rattle.giop_frag.specs.declared.fault.GatherFault.TheVariants as gathering
+use Rattle.giop_session.specs.declared.slot.Slot.{Slot}
+use Rattle.giop_session.specs.declared.plan.Planned.{Planned}
+use Rattle.giop_session.specs.declared.sending.Sends.{Sends}
+use Rattle.giop_session.specs.declared.table_fault.TableFault.{TableFault}
+use Rattle.giop_session.specs.declared.table_fault.TableFault.TheVariants.{Rule, TooManyCalls, GatherFull, StillOpen, NoMemory}
+use Rattle.giop_session.specs.Sending.{sending_step}
+use Rattle.giop_session.specs.CallTable.{Held, Call, at, put_call, octets_fault, Brings, First, More, Nothing, Act, Hears, IsTaken, Reply, Answers, Gives, brought, fault_of, gather_fault, Turned, taken, gathers, IsTied, turned, turn, room_fault, calls_fault, limit, rules_of, is_of_call}
+
+-- both structures, as the calls of an end
+abbrev pub held : {S R E : Type 0} → R → Calls S (Slot E) → Gathered → Held R E
+held rule m g = record { rule = rule; calls = m.limit; room = g.limit; table = m.entries; gathered = g.lists }
+
+-- a change of one id under both leaves them tied where it ties that id
+pub tied_after : {E : Type 0} (gathering : E → Bool) (table table' : ById (Slot E)) (gathered gathered' : Lists) (id : ℕ) (slot : Option (Slot E))
+    (pieces : Option Pieces) → IsTied gathering table gathered → table' ≡ put table id slot → gathered' ≡ put gathered id pieces
+    → is_some pieces ≡ gathers gathering slot → IsTied gathering table' gathered'
+tied_after gathering table table' gathered gathered' id slot pieces tied is_table is_gathered same q =
+    ap (λ g. is_some (finite.get g q)) is_gathered ∙ ap is_some (get-put gathered id pieces q)
+    ∙ by_id (q == id) ∙ sym (ap (λ m. gathers gathering (finite.get m q)) is_table ∙ ap (gathers gathering) (get-put table id slot q))
+  where
+    by_id : (b : Bool) → is_some (cond b pieces (finite.get gathered q)) ≡ gathers gathering (cond b slot (finite.get table q))
+    by_id true = same
+    by_id false = tied q
+
+-- what stands there already changes nothing
+pub put_itself : {V : Type 0} (m : ById V) (id : ℕ) → m ≡ put m id (finite.get m id)
+put_itself m id = sym (put_same m id (finite.get m id) refl)
+
+-- the pieces that are left of a call: they are there exactly where it gathers
+pub kept : (b : Bool) (pieces : Option Pieces) → (b ≡ true → is_some pieces ≡ true) → is_some (cond b pieces None) ≡ b
+kept true pieces there = there refl
+kept false pieces there = refl
+
+-- a call that still gathers has its pieces, where no event began them
+pub has_pieces : (pieces : Option Pieces) (before after : Bool) → is_some pieces ≡ before → (before ≡ false → after ≡ false) → after ≡ true
+    → is_some pieces ≡ true
+has_pieces pieces true after same quiet now = same
+has_pieces pieces false true same quiet now = let wrong = quiet refl in absurd cc
+has_pieces pieces false false same quiet now = absurd cc
+
+-- what the table accepts, its rule accepts, and there is room
+accepted : {A F : Type 0} (many : Bool) (outcome : Result A F) (answer : A)
+    → within (cond many (Some refusal.TooManyCalls) None) (by_rule outcome) ≡ Ok answer → (outcome ≡ Ok answer) × (many ≡ false)
+accepted true (Ok given) answer is = absurd cc
+accepted true (Err fault) answer is = absurd cc
+accepted false (Ok given) answer is = (cc, refl)
+accepted false (Err fault) answer is = absurd cc
+
+-- how the table refuses, so does the end
+refused : {E A F : Type 0} (gathering : E → Bool) (many : Bool) (outcome : Result (Sends A) F) (slot : Option (Slot E)) (pieces : Option Pieces)
+    (why : Refusal F) → RefusedAs refusal.NoMemory why (refusal_of (within (cond many (Some refusal.TooManyCalls) None) (by_rule outcome)))
+    → RefusedAs NoMemory (fault_of why) (refusal_of (within (option_or (cond many (Some TooManyCalls) None) None) (turned gathering pieces slot outcome)))
+refused gathering many (Err fault) slot pieces why (inl is) = inl (ap (option_map fault_of) is)
+refused gathering many (Err fault) slot pieces why (inr both) = absurd cc
+refused gathering true (Ok sends) slot pieces why (inl is) = inl (ap (option_map fault_of) is)
+refused gathering true (Ok sends) slot pieces why (inr both) = absurd cc
+refused gathering false (Ok sends) slot pieces why (inl is) = absurd cc
+refused gathering false (Ok sends) slot pieces why (inr both) = inr (ap fault_of both.0, refl)
+
+-- where the rule accepts, only a limit refuses
+over_is : {E A F : Type 0} (gathering : E → Bool) (over : Option (TableFault F)) (outcome : Result (Sends A) F) (slot : Option (Slot E))
+    (pieces : Option Pieces)
+    → IsOk outcome → refusal_of (within over (turned gathering pieces slot outcome)) ≡ over
+over_is gathering (Some why) (Ok sends) slot pieces ok = refl
+over_is gathering None (Ok sends) slot pieces ok = refl
+over_is gathering over (Err fault) slot pieces ok = absurd cc
+
+-- how the gatherer refuses a first piece, so does the end
+pub gather_refused : {F : Type 0} (over : Bool) (why : GatherFault) → RefusedAs gathering.NoMemory why (cond over (Some gathering.GatherFull) None)
+    → RefusedAs {Why = TableFault F} NoMemory (gather_fault why) (cond over (Some GatherFull) None)
+gather_refused true why (inl is) = inl (ap (option_map gather_fault) is)
+gather_refused true why (inr both) = absurd cc
+gather_refused false why (inl is) = absurd cc
+gather_refused false why (inr both) = inr (ap gather_fault both.0, refl)
+
+-- an id that gets an entry is one too many where it has none and the table is full
+pub many_is : {E : Type 0} (gathering : E → Bool) (table : ById (Slot E)) (calls id : ℕ) (slot : Option (Slot E)) → gathers gathering slot ≡ true
+    → is_one_too_many table calls id slot ≡ (is_none (finite.get table id) && (finite.len table == calls))
+many_is gathering table calls id None gathers = absurd cc
+many_is gathering table calls id (Some slot) gathers = by_test (is_none (finite.get table id)) (finite.len table == calls)
+  where
+    by_test : (a b : Bool) → (a && true && b) ≡ (a && b)
+    by_test true b = refl
+    by_test false b = refl
+
+module _ {R E V A F : Type 0} (next : Option E → V → Step E A F) (closed gathering : E → Bool) where
+  -- what the call's rule makes of an event, in the table
+  abbrev step_in : Held R E → ℕ → Planned V → Step (Slot E) (Sends A) F
+  step_in h id planned = sending_step next (finite.get h.table id) planned
+
+  -- an event that is accepted, and for whose octets there is room
+  pub does_heard : (h h' : Held R E) (id : ℕ) (planned : Planned V) (brings : Brings) (sends : Sends A)
+      → judged h.table h.calls id (step_in h id planned) ≡ Ok sends
+      → room_fault {F = F} gathering h id (step_in h id planned).entry brings ≡ None
+      → h' ≡ put_call h id (record {
+        slot = (step_in h id planned).entry;
+        pieces = cond (gathers gathering (step_in h id planned).entry) (brought brings (finite.get h.gathered id)) None;
+      })
+      → Does (rules_of next closed gathering) h (record { id = id; what = Hears planned brings }) (Ok (Answers sends)) h'
+  does_heard h h' id planned brings sends is room after =
+      let step = step_in h id planned in
+      let both = accepted (is_one_too_many h.table h.calls id step.entry) step.outcome sends is in
+      let none : limit next closed gathering h id (Hears planned brings) ≡ None =
+      (λ i. option_or (cond (both.1 i) (Some TooManyCalls) None) (room i)) in
+      let is_turned = ap (turned gathering (brought brings (finite.get h.gathered id)) step.entry) both.0 in
+      record {
+        answer = ap told (ap (λ over. within over (turn next closed gathering (at h id) (Hears planned brings))) none ∙ ap (within None) is_turned);
+        refusal = tt;
+        leaves = after ∙ ap (put_call h id) (sym (ap (left (at h id)) is_turned));
+      }
+
+  -- an event that the rule or the table refuses
+  pub does_refused : (h h' : Held R E) (id : ℕ) (planned : Planned V) (why : Refusal F)
+      → RefusedAs refusal.NoMemory why (refusal_of (judged h.table h.calls id (step_in h id planned))) → h' ≡ h
+      → Does (rules_of next closed gathering) h (record { id = id; what = Hears planned Nothing }) (Err (fault_of why)) h'
+  does_refused h h' id planned why is after = record {
+    answer = tt;
+    refusal = refused gathering (is_one_too_many h.table h.calls id (step_in h id planned).entry) (step_in h id planned).outcome
+        (step_in h id planned).entry (finite.get h.gathered id) why is;
+    leaves = after;
+  }
+
+  -- an event that the rule accepts and for which there is no room, or no memory
+  pub does_over : (h h' : Held R E) (id : ℕ) (planned : Planned V) (brings : Brings) (why : TableFault F)
+      → IsOk (step_in h id planned).outcome → RefusedAs NoMemory why (limit next closed gathering h id (Hears planned brings)) → h' ≡ h
+      → Does (rules_of next closed gathering) h (record { id = id; what = Hears planned brings }) (Err why) h'
+  does_over h h' id planned brings why ok is after = record {
+    answer = tt;
+    refusal = subst (RefusedAs NoMemory why) (sym (over_is gathering (limit next closed gathering h id (Hears planned brings)) (step_in h id planned).outcome
+        (step_in h id planned).entry (brought brings (finite.get h.gathered id)) ok)) is;
+    leaves = after;
+  }
+
+  -- a call is over where its slot is taken out
+  pub does_take : (h h' : Held R E) (id : ℕ) (given : Option (Slot E)) → option_map (λ slot. closed slot.entry) (finite.get h.table id) ≢ Some false
+      → given ≡ finite.get h.table id → h' ≡ record h { table = put h.table id None }
+      → Does (rules_of next closed gathering) h (record { id = id; what = IsTaken }) (Ok (Gives given)) h'
+  does_take h h' id given over is after =
+      let done : Turned E A F = Ok (record { now = record { slot = None; pieces = finite.get h.gathered id }; answer = Gives (finite.get h.table id) }) in
+      let is_turned = by_test (option_map (λ slot. closed slot.entry) (finite.get h.table id)) over in
+      record {
+        answer = ap told (ap (within None) is_turned) ∙ ap (λ s. Ok (Gives s)) (sym is);
+        refusal = tt;
+        leaves = after ∙ ap (λ (g : Lists). record h { table = put h.table id None; gathered = g }) (put_itself h.gathered id)
+            ∙ ap (put_call h id) (sym (ap (left (at h id)) is_turned));
+      }
+    where
+      by_test : (over : Option Bool) → over ≢ Some false → taken {A = A} {F = F} over (at h id)
+          ≡ Ok (record { now = record { slot = None; pieces = finite.get h.gathered id }; answer = Gives (finite.get h.table id) })
+      by_test None over = refl
+      by_test (Some true) over = refl
+      by_test (Some false) over = absurd (over refl)
+
+-- what is taken out does not gather
+pub over_is_away : {E : Type 0} (closed gathering : E → Bool) → ((entry : E) → gathering entry ≡ true → closed entry ≡ false)
+    → (slot : Option (Slot E)) → option_map (λ s. closed s.entry) slot ≢ Some false → gathers gathering slot ≡ false
+over_is_away closed gathering law None over = refl
+over_is_away closed gathering law (Some slot) over = by_test (gathering slot.entry) (λ here. over (ap Some (law slot.entry here)))
+  where
+    by_test : (b : Bool) → (b ≡ true → ⊥) → b ≡ false
+    by_test true not_so = absurd (not_so refl)
+    by_test false not_so = refl
+
+-- an id that doesn't gather has no pieces
+pub no_pieces : (pieces : Option Pieces) (b : Bool) → is_some pieces ≡ b → b ≡ false → pieces ≡ None
+no_pieces None b same away = refl
+no_pieces (Some pieces) b same away = absurd cc
+
+-- an id that is not in the table twice: a first piece that is begun and then dropped leaves what was gathered
+pub dropped : (m m' m'' : Lists) (id : ℕ) (pieces : Option Pieces) → finite.get m id ≡ None → m' ≡ put m id pieces → m'' ≡ put m' id None → m'' ≡ m
+dropped m m' m'' id pieces none is then =
+    then ∙ ap (λ n. put n id None) is ∙ put-put m id pieces None ∙ put_absent m id none
+
+-- no room is wanting for a first piece, where none was found
+pub none_wanting : {R E F : Type 0} (gathering : E → Bool) (h : Held R E) (id : ℕ) (slot : Option (Slot E)) (order : Order) (octets : List ℕ)
+    → gathers gathering slot ≡ true → is_one_too_many h.table h.calls id slot ≡ false → is_over h.room h.gathered (length octets) ≡ false
+    → option_or (calls_fault {F = F} h id slot) (room_fault gathering h id slot (First order octets)) ≡ None
+none_wanting gathering h id slot order octets here one over = rw (one, here, over) refl
+
+-- there was room, where the gatherer found no fault
+pub not_over : (over : Bool) → cond over (Some gathering.GatherFull) None ≡ None → over ≡ false
+not_over true found = absurd cc
+not_over false found = refl
+
+-- a change of one call leaves each other
+pub table_apart : {R E V A F : Type 0} (next : Option E → V → Step E A F) (closed gathering : E → Bool)
+    → IsApart (rules_of next closed gathering {R = R})
+table_apart {E = E} next closed gathering h id call q =
+    (λ i. record { slot = get-put h.table id call.slot q i; pieces = get-put h.gathered id call.pieces q i }) ∙ by_id (q == id)
+  where
+    by_id : (b : Bool) → ◌≡◌ {A = Call E} (record { slot = cond b call.slot (finite.get h.table q); pieces = cond b call.pieces (finite.get h.gathered q) })
+        (cond b call (at h q))
+    by_id true = refl
+    by_id false = refl
+
+-- a limit's refusal is no call's own
+limit_is_apart : {F : Type 0} (many here over : Bool) (why : TableFault F)
+    → option_or (cond many (Some TooManyCalls) None) (cond here (cond over (Some GatherFull) None) None) ≡ Some why → is_of_call why ≡ false
+limit_is_apart true here over why is = let same : TooManyCalls ≡ why = cc in ap is_of_call (sym same)
+limit_is_apart false true true why is = let same : GatherFull ≡ why = cc in ap is_of_call (sym same)
+limit_is_apart false true false why is = absurd cc
+limit_is_apart false false over why is = absurd cc
+
+-- a call's own refusals are told from those of the limits and of memory
+pub told_apart : {R E V A F : Type 0} (next : Option E → V → Step E A F) (closed gathering : E → Bool)
+    → Distinguishes (rules_of next closed gathering {R = R}) is_of_call
+told_apart {R} {E} {V} {A} {F} next closed gathering = record {
+  limits = λ h act why is. by_act h act.id act.what why is;
+  memory = refl;
+}
+  where
+    by_act : (h : Held R E) (id : ℕ) (act : Act V) (why : TableFault F) → limit next closed gathering h id act ≡ Some why → is_of_call why ≡ false
+    by_act h id (Hears planned (First order octets)) why is =
+        let slot = (sending_step next (finite.get h.table id) planned).entry in
+        limit_is_apart (is_one_too_many h.table h.calls id slot) (gathers gathering slot) (is_over h.room h.gathered (length octets)) why is
+    by_act h id (Hears planned (More octets)) why is =
+        let slot = (sending_step next (finite.get h.table id) planned).entry in
+        limit_is_apart (is_one_too_many h.table h.calls id slot) (gathers gathering (finite.get h.table id)) (is_over h.room h.gathered (length octets)) why is
+    by_act h id (Hears planned Nothing) why is =
+        let slot = (sending_step next (finite.get h.table id) planned).entry in
+        limit_is_apart (is_one_too_many h.table h.calls id slot) false false why is
+    by_act h id IsTaken why is = absurd cc

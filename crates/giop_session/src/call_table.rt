@@ -1,0 +1,286 @@
+ghost use Rattle.std.specs.Prelude.{◌≡◌, ◌==◌, ◌&&◌, ◌≤◌, ◌^◌, true, false, if◌then◌else◌, Ok, None, length, is_none, IfNone, IfOk, IfSome, IsOk, IsSome, option_copied};
+ghost use Rattle.std.specs.FinMap as finite;
+ghost use Rattle.std.specs.Option.{option_map};
+ghost use Rattle.giop_frag.specs.Gathered.{order_fault};
+ghost use Rattle.giop_ids.specs.ById.{put};
+ghost use Rattle.giop_ids.specs.Runs.{Does};
+ghost use Rattle.giop_mux.specs.Calls.{is_one_too_many, judged};
+ghost use Rattle.giop_session.specs.Sending.{sending_step};
+ghost use Rattle.giop_session.specs.CallTable.{event_reply, First, gathers, Hears, IsTaken, More, Nothing, rules_of, take_reply};
+
+use crate::plan::Planned;
+use crate::sending::{Sending, Sends};
+use crate::side::Side;
+use crate::slot::Slot;
+use crate::table_fault::TableFault;
+use giop_cdr::Order;
+use giop_frag::{Chain, Gather};
+use giop_mux::Mux;
+use std::alloc::{AllocError, Global};
+use std::marker::Model;
+
+/// The calls of one end: their entries with the messages that are still to be sent, and the pieces
+/// of the messages that come.
+///
+/// Contracts see the rule, both limits and both maps.
+#[derive(Drop)]
+pub struct CallTable<R: Side> {
+    mux: Mux<Sending<R>>,
+    gather: Gather,
+}
+
+impl<R: Side> Model for CallTable<R> {
+    ghost use Rattle.giop_session.specs.CallTable.{Held, IsTied, held_code};
+    ghost use Rattle.giop_session.specs.Codes.{slot_code};
+
+    ghost Value = { Held R R.Entry };
+
+    ghost coded = { held_code R.code (slot_code R.Entry.code) };
+
+    ghost view = { λ t. record {
+      rule = t.mux.rule.rule;
+      calls = t.mux.limit;
+      room = t.gather.limit;
+      table = t.mux.entries;
+      gathered = t.gather.lists;
+    } };
+
+    ghost invariant = { λ t. IsTied R.gathering t.mux.entries t.gather.lists };
+}
+
+impl<R: Side> CallTable<R> {
+    /// No calls, of which there may be at most `calls`, and `room` gathered octets. It takes no
+    /// memory.
+    pub fn new(alloc: Global, rule: R, calls: u32, room: usize) -> Self
+        requires { room ≤ 2 ^ 62 }
+        ensures { result ≡ record {
+          rule = rule;
+          calls = calls;
+          room = room;
+          table = finite.empty;
+          gathered = finite.empty;
+        } }
+    {
+        CallTable {
+            mux: Mux::new(alloc, Sending { rule, alloc }, calls),
+            gather: Gather::new(alloc, room),
+        }
+    }
+
+    /// What stands under the id. It takes no memory.
+    pub fn slot(&self, id: u32) -> Option<&Slot<R::Entry>>
+        ensures { option_copied result ≡ finite.get self.now.table id }
+    {
+        self.mux.entry(id)
+    }
+
+    /// The ids under which something stands, ascending. `alloc` gives the memory of the list.
+    pub fn ids(&self, alloc: Global) -> Result<Vec<u32>, AllocError>
+        ensures { IfOk result (λ ids. ids.items ≡ finite.keys self.now.table) }
+    {
+        self.mux.ids(alloc)
+    }
+
+    /// The byte order and the octets of the pieces gathered under the id, where they lie. It takes
+    /// no memory.
+    pub fn pieces(&self, id: u32) -> Option<(Order, Chain<'_>)>
+        ensures value { result
+            ≡ option_map (λ p. (p.order, p.octets)) (finite.get self.now.gathered id) }
+        ensures most { IfSome result (λ found. length found.1 ≤ 2 ^ 62) }
+    {
+        self.gather.chain(id)
+    }
+
+    /// An event that brings no octets to be gathered befalls a call.
+    ///
+    /// Refusals, in this order: the rule's fault; `TooManyCalls`; `NoMemory`, only where an id
+    /// without an entry would get one. A refusal changes nothing.
+    pub fn hear(
+        &mut self,
+        id: u32,
+        planned: Planned<R::Event>,
+    ) -> Result<Sends<R::Answer>, TableFault<R::Fault>>
+        requires quiet { gathers R.gathering (finite.get self.old.table id) ≡ false
+            → gathers R.gathering (sending_step (R.next self.old.rule)
+            (finite.get self.old.table id) planned).entry ≡ false }
+        ensures { Does (rules_of (R.next self.old.rule) (R.closed self.old.rule) R.gathering)
+            self.old (record { id = id; what = Hears planned Nothing }) (event_reply result)
+            self.new }
+    {
+        let sends = match self.mux.apply(id, planned) {
+            Ok(sends) => sends,
+            Err(refusal) => return Err(TableFault::from(refusal)),
+        };
+        keep_if(gathers_in(&self.mux, id), &mut self.gather, id);
+        Ok(sends)
+    }
+
+    /// The first piece of a message, with more to come, whose octets are gathered from now on.
+    ///
+    /// Refusals, in this order: `TooManyCalls`, `GatherFull`, `NoMemory`. A refusal changes
+    /// nothing: what the gatherer began is undone where there is no memory for the entry.
+    pub fn begin(
+        &mut self,
+        id: u32,
+        planned: Planned<R::Event>,
+        order: Order,
+        octets: &[u8],
+    ) -> Result<Sends<R::Answer>, TableFault<R::Fault>>
+        requires away { gathers R.gathering (finite.get self.old.table id) ≡ false }
+        requires accepted { IsOk (sending_step (R.next self.old.rule)
+            (finite.get self.old.table id) planned).outcome }
+        requires gathers { gathers R.gathering (sending_step (R.next self.old.rule)
+            (finite.get self.old.table id) planned).entry ≡ true }
+        ensures { Does (rules_of (R.next self.old.rule) (R.closed self.old.rule) R.gathering)
+            self.old (record { id = id; what = Hears planned (First order octets.now) })
+            (event_reply result) self.new }
+    {
+        if self.is_one_too_many(id) {
+            return Err(TableFault::TooManyCalls);
+        }
+        if let Err(fault) = self.gather.begin(id, order, octets) {
+            return Err(TableFault::from(fault));
+        }
+        if let Some(sends) = enter(&mut self.mux, id, planned) {
+            return Ok(sends);
+        }
+        self.gather.discard(id);
+        Err(TableFault::NoMemory)
+    }
+
+    /// A further piece of a message whose pieces are gathered, with more to come: its octets are
+    /// joined to them.
+    ///
+    /// Refusals, in this order: `GatherFull`, `NoMemory`. A refusal changes nothing.
+    pub fn go_on(
+        &mut self,
+        id: u32,
+        planned: Planned<R::Event>,
+        order: Order,
+        octets: &[u8],
+    ) -> Result<Sends<R::Answer>, TableFault<R::Fault>>
+        requires comes { gathers R.gathering (finite.get self.old.table id) ≡ true }
+        requires in_order { order_fault (finite.get self.old.gathered id) order ≡ None }
+        requires accepted { IsOk (sending_step (R.next self.old.rule)
+            (finite.get self.old.table id) planned).outcome }
+        requires goes_on { gathers R.gathering (sending_step (R.next self.old.rule)
+            (finite.get self.old.table id) planned).entry ≡ true }
+        ensures { Does (rules_of (R.next self.old.rule) (R.closed self.old.rule) R.gathering)
+            self.old (record { id = id; what = Hears planned (More octets.now) })
+            (event_reply result) self.new }
+    {
+        if let Err(fault) = self.gather.add(id, order, octets) {
+            return Err(TableFault::from(fault));
+        }
+        Ok(stay(&mut self.mux, id, planned))
+    }
+
+    /// The last piece of a message whose pieces are gathered, where the event tells what they all
+    /// are together. The octets count as gathered at this moment, and no piece is kept.
+    ///
+    /// Refusals, in this order: `GatherFull`. A refusal changes nothing. It takes no memory.
+    pub fn complete(
+        &mut self,
+        id: u32,
+        planned: Planned<R::Event>,
+        octets: &[u8],
+    ) -> Result<Sends<R::Answer>, TableFault<R::Fault>>
+        requires comes { gathers R.gathering (finite.get self.old.table id) ≡ true }
+        requires accepted { IsOk (sending_step (R.next self.old.rule)
+            (finite.get self.old.table id) planned).outcome }
+        requires ends { gathers R.gathering (sending_step (R.next self.old.rule)
+            (finite.get self.old.table id) planned).entry ≡ false }
+        ensures { Does (rules_of (R.next self.old.rule) (R.closed self.old.rule) R.gathering)
+            self.old (record { id = id; what = Hears planned (More octets.now) })
+            (event_reply result) self.new }
+    {
+        if octets.len() > self.gather.limit() - self.gather.total() {
+            return Err(TableFault::GatherFull);
+        }
+        let sends = stay(&mut self.mux, id, planned);
+        self.gather.discard(id);
+        Ok(sends)
+    }
+
+    /// Takes what stands under the id out, where its call is over, and gives it; `None` where
+    /// nothing stands there. A call that is not over is `StillOpen`. It takes no memory.
+    pub fn take(&mut self, id: u32) -> Result<Option<Slot<R::Entry>>, TableFault<R::Fault>>
+        ensures { Does (rules_of (R.next self.old.rule) (R.closed self.old.rule) R.gathering)
+            self.old (record { id = id; what = IsTaken }) (take_reply result) self.new }
+    {
+        let Ok(slot) = self.mux.take(id) else {
+            return Err(TableFault::StillOpen);
+        };
+        Ok(slot)
+    }
+
+    // Whether the id has no entry, and the table holds as many as it may.
+    fn is_one_too_many(&self, id: u32) -> bool
+        ensures { result ≡ (is_none (finite.get self.now.table id)
+            && (finite.len self.now.table == self.now.calls)) }
+    {
+        self.slot(id).is_none() && self.mux.is_full()
+    }
+}
+
+// Whether pieces are gathered under the id.
+fn gathers_in<R: Side>(mux: &Mux<Sending<R>>, id: u32) -> bool
+    ensures { result ≡ gathers R.gathering (finite.get mux.now.entries id) }
+{
+    match mux.entry(id) {
+        Some(slot) => R::is_gathering(&slot.entry),
+        None => false,
+    }
+}
+
+// Applies an event that the rule accepts and for which there is room, so that it fails for want of
+// memory alone.
+fn enter<R: Side>(
+    mux: &mut Mux<Sending<R>>,
+    id: u32,
+    planned: Planned<R::Event>,
+) -> Option<Sends<R::Answer>>
+    requires accepted { IsOk (sending_step (R.next mux.old.rule.rule)
+        (finite.get mux.old.entries id) planned).outcome }
+    requires room { is_one_too_many mux.old.entries mux.old.limit id
+        (sending_step (R.next mux.old.rule.rule) (finite.get mux.old.entries id) planned).entry
+        ≡ false }
+    ensures some { IfSome result (λ sends. (judged mux.old.entries mux.old.limit id
+        (sending_step (R.next mux.old.rule.rule) (finite.get mux.old.entries id) planned)
+        ≡ Ok sends)
+        × (mux.new ≡ record mux.old {
+          entries = put mux.old.entries id (sending_step (R.next mux.old.rule.rule)
+              (finite.get mux.old.entries id) planned).entry;
+        })) }
+    ensures none { IfNone result (mux.new ≡ mux.old) }
+{
+    mux.apply(id, planned).ok()
+}
+
+// Applies an event that the rule accepts to a call that has an entry, which takes no memory.
+fn stay<R: Side>(mux: &mut Mux<Sending<R>>, id: u32, planned: Planned<R::Event>) -> Sends<R::Answer>
+    requires present { IsSome (finite.get mux.old.entries id) }
+    requires accepted { IsOk (sending_step (R.next mux.old.rule.rule)
+        (finite.get mux.old.entries id) planned).outcome }
+    ensures value { judged mux.old.entries mux.old.limit id
+        (sending_step (R.next mux.old.rule.rule) (finite.get mux.old.entries id) planned)
+        ≡ Ok result }
+    ensures after { mux.new ≡ record mux.old {
+      entries = put mux.old.entries id (sending_step (R.next mux.old.rule.rule)
+          (finite.get mux.old.entries id) planned).entry;
+    } }
+{
+    mux.apply(id, planned).unwrap()
+}
+
+// Drops the pieces of the id, unless they are to be kept.
+fn keep_if(kept: bool, gather: &mut Gather, id: u32)
+    ensures { gather.new ≡ record gather.old {
+      lists = put gather.old.lists id (if kept then finite.get gather.old.lists id else None);
+    } }
+{
+    match kept {
+        true => {}
+        false => gather.discard(id),
+    }
+}

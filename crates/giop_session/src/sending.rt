@@ -1,0 +1,133 @@
+ghost use Rattle.std.specs.Prelude.{◌≡◌, Option};
+ghost use Rattle.giop_session.specs.Sending.{entry_of, message_of, sending_step, settled_by, slot_of, unsent_after, unsent_of};
+ghost use Rattle.giop_session.specs.declared.slot.Slot.{Slot};
+
+use crate::plan::{Plan, Planned};
+use crate::slot::Slot;
+use crate::unsent::Unsent;
+use giop_msg::Msg;
+use giop_mux::{CallRule, Step};
+use std::alloc::Global;
+
+/// A rule of calls over entries that stand in one slot with the messages that are still to be sent.
+///
+/// One event changes the entry and the messages together; a refused one changes neither.
+#[derive(Drop)]
+pub struct Sending<R: CallRule> {
+    /// The rule of the entries.
+    pub rule: R,
+    /// Where empty lists of messages come from, which take no memory.
+    pub alloc: Global,
+}
+
+/// What an accepted event answers: what the rule answers, and the message that is to be put out.
+#[derive(Drop)]
+pub struct Sends<A> {
+    pub answer: A,
+    pub message: Option<Msg>,
+}
+
+impl<R: CallRule> CallRule for Sending<R> {
+    ghost use Rattle.giop_session.specs.Sending.{entry_of, keeps_by, sending_step};
+
+    type Entry = Slot<R::Entry>;
+
+    type Event = Planned<R::Event>;
+
+    type Answer = Sends<R::Answer>;
+
+    type Fault = R::Fault;
+
+    ghost next = { λ sending. sending_step (R.next sending.rule) };
+
+    ghost closed = { λ sending slot. R.closed sending.rule slot.entry };
+
+    ghost fault_keeps = { λ sending slot planned. keeps_by slot planned.plan
+        (R.next sending.rule (entry_of slot) planned.event).entry
+        (R.next sending.rule (entry_of slot) planned.event).outcome
+        (R.fault_keeps sending.rule (entry_of slot) planned.event) };
+
+    fn step(
+        &self,
+        entry: Option<Slot<R::Entry>>,
+        event: Planned<R::Event>,
+    ) -> Step<Slot<R::Entry>, Sends<R::Answer>, R::Fault>
+        ensures { result ≡ sending_step (R.next self.now.rule) entry event }
+    {
+        let (entry, unsent) = parts(self.alloc, entry);
+        let step = self.rule.step(entry, event.event);
+        settle(self.alloc, step.entry, event.plan, unsent, step.outcome)
+    }
+
+    fn is_closed(&self, entry: &Slot<R::Entry>) -> bool {
+        self.rule.is_closed(&entry.entry)
+    }
+}
+
+// The entry and the messages of a slot; there are none where there is no slot.
+fn parts<E: Drop>(alloc: Global, slot: Option<Slot<E>>) -> (Option<E>, Unsent)
+    ensures entry { result.0 ≡ entry_of slot }
+    ensures unsent { result.1 ≡ unsent_of slot }
+{
+    match slot {
+        Some(slot) => (Some(slot.entry), slot.unsent),
+        None => (None, Unsent::new(alloc)),
+    }
+}
+
+// A step with its messages beside it, as the plan says where it is accepted, and as they were where
+// it is refused.
+fn settle<E: Drop, A: Drop, F: Drop>(
+    alloc: Global,
+    entry: Option<E>,
+    plan: Plan,
+    unsent: Unsent,
+    outcome: Result<A, F>,
+) -> Step<Slot<E>, Sends<A>, F>
+    ensures { result ≡ settled_by entry plan unsent outcome }
+{
+    match outcome {
+        Ok(answer) => {
+            let (message, unsent) = carry_out(alloc, plan, unsent);
+            Step {
+                entry: beside(entry, unsent),
+                outcome: Ok(Sends { answer, message }),
+            }
+        }
+        Err(fault) => Step {
+            entry: beside(entry, unsent),
+            outcome: Err(fault),
+        },
+    }
+}
+
+// The message that is put out, and the messages that are left.
+fn carry_out(alloc: Global, plan: Plan, unsent: Unsent) -> (Option<Msg>, Unsent)
+    ensures message { result.0 ≡ message_of plan unsent }
+    ensures left { result.1 ≡ unsent_after plan unsent }
+{
+    match plan {
+        Plan::Put(messages) => first_taken(messages),
+        Plan::Next => first_taken(unsent),
+        Plan::Keep => (None, unsent),
+        Plan::Leave => (None, Unsent::new(alloc)),
+    }
+}
+
+fn first_taken(messages: Unsent) -> (Option<Msg>, Unsent)
+    ensures message { result.0 ≡ message_of Plan.Next messages }
+    ensures left { result.1 ≡ unsent_after Plan.Next messages }
+{
+    let mut left = messages;
+    let first = left.take_first();
+    (first, left)
+}
+
+fn beside<E: Drop>(entry: Option<E>, unsent: Unsent) -> Option<Slot<E>>
+    ensures { result ≡ slot_of entry unsent }
+{
+    match entry {
+        Some(entry) => Some(Slot { entry, unsent }),
+        None => None,
+    }
+}

@@ -1,0 +1,29 @@
+//! The two sides of a connection, as rules of calls of which some entries gather pieces.
+use crate::side::Side;
+use giop_calls::{ClientEntry, ClientRule, ServerEntry, ServerRule};
+
+impl Side for ServerRule {
+    ghost use Rattle.giop_calls.specs.ServerTable.{is_gathering};
+    ghost use Rattle.giop_session.specs.Sides.{server_gathering_is_open};
+
+    ghost gathering = { is_gathering };
+
+    ghost gathering_is_open = { λ rule. server_gathering_is_open };
+
+    fn is_gathering(entry: &ServerEntry) -> bool {
+        entry.is_gathering()
+    }
+}
+
+impl Side for ClientRule {
+    ghost use Rattle.giop_calls.specs.ClientTable.{is_gathering};
+    ghost use Rattle.giop_session.specs.Sides.{client_gathering_is_open};
+
+    ghost gathering = { is_gathering };
+
+    ghost gathering_is_open = { λ rule. client_gathering_is_open };
+
+    fn is_gathering(entry: &ClientEntry) -> bool {
+        entry.is_gathering()
+    }
+}
