@@ -135,6 +135,16 @@ module _ {R E V A F : Type 0} (next : Option E → V → Step E A F) (closed gat
     leaves = after;
   }
 
+  -- an event that the rule refuses, whatever octets it brings
+  pub does_own : (h : Held R E) (id : ℕ) (planned : Planned V) (brings : Brings) (fault : F) → (step_in h id planned).outcome ≡ Err fault
+      → Does (rules_of next closed gathering) h (record { id = id; what = Hears planned brings }) (Err (Rule fault)) h
+  does_own h id planned brings fault is = record {
+    answer = tt;
+    refusal = inl (ap (λ outcome. refusal_of (within (limit next closed gathering h id (Hears planned brings))
+        (turned gathering (brought brings (finite.get h.gathered id)) (step_in h id planned).entry outcome))) is);
+    leaves = refl;
+  }
+
   -- an event that the rule accepts and for which there is no room, or no memory
   pub does_over : (h h' : Held R E) (id : ℕ) (planned : Planned V) (brings : Brings) (why : TableFault F)
       → IsOk (step_in h id planned).outcome → RefusedAs NoMemory why (limit next closed gathering h id (Hears planned brings)) → h' ≡ h

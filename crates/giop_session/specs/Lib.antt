@@ -1,5 +1,9 @@
 pub mod CallTable
 pub mod Codes
+pub mod Decoding
+pub mod Heard
 pub mod Sending
+pub mod ServerHears
+pub mod SessionFaults
 pub mod Sides
 pub mod Unsent

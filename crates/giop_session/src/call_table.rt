@@ -1,7 +1,7 @@
-ghost use Rattle.std.specs.Prelude.{◌≡◌, ◌==◌, ◌&&◌, ◌≤◌, ◌^◌, true, false, if◌then◌else◌, Ok, None, length, is_none, IfNone, IfOk, IfSome, IsOk, IsSome, option_copied};
+ghost use Rattle.std.specs.Prelude.{◌≡◌, ◌==◌, ◌&&◌, ◌≤◌, ◌^◌, ◌+◌, not, is_some, true, false, if◌then◌else◌, Ok, None, length, is_none, IfNone, IfOk, IfSome, IsOk, IsSome, option_copied};
 ghost use Rattle.std.specs.FinMap as finite;
 ghost use Rattle.std.specs.Option.{option_map};
-ghost use Rattle.giop_frag.specs.Gathered.{order_fault};
+ghost use Rattle.giop_frag.specs.Gathered.{is_over, octets_in, order_fault};
 ghost use Rattle.giop_ids.specs.ById.{put};
 ghost use Rattle.giop_ids.specs.Runs.{Does};
 ghost use Rattle.giop_mux.specs.Calls.{is_one_too_many, judged};
@@ -87,8 +87,18 @@ impl<R: Side> CallTable<R> {
         ensures value { result
             ≡ option_map (λ p. (p.order, p.octets)) (finite.get self.now.gathered id) }
         ensures most { IfSome result (λ found. length found.1 ≤ 2 ^ 62) }
+        ensures there { is_some result ≡ gathers R.gathering (finite.get self.now.table id) }
     {
         self.gather.chain(id)
+    }
+
+    /// Whether so many octets may come beside those that are gathered. It takes no memory.
+    pub fn has_room(&self, more: usize) -> bool
+        ensures value { result ≡ not (is_over self.now.room self.now.gathered more) }
+        ensures most { (id : _) → result ≡ true
+            → octets_in (finite.get self.now.gathered id) + more ≤ 2 ^ 62 }
+    {
+        more <= self.gather.limit() - self.gather.total()
     }
 
     /// An event that brings no octets to be gathered befalls a call.
@@ -194,7 +204,7 @@ impl<R: Side> CallTable<R> {
             self.old (record { id = id; what = Hears planned (More octets.now) })
             (event_reply result) self.new }
     {
-        if octets.len() > self.gather.limit() - self.gather.total() {
+        if !self.has_room(octets.len()) {
             return Err(TableFault::GatherFull);
         }
         let sends = stay(&mut self.mux, id, planned);

@@ -6,9 +6,13 @@
 #![tactic(auto)]
 
 mod call_table;
+mod decoding;
+mod hearing;
 pub mod laws;
 mod plan;
 mod sending;
+mod server_hearing;
+mod session_fault;
 mod side;
 mod sides;
 mod slot;
@@ -17,8 +21,10 @@ mod unsent;
 mod with_last;
 
 pub use call_table::CallTable;
+pub use hearing::Hearing;
 pub use plan::{Plan, Planned};
 pub use sending::{Sending, Sends};
+pub use session_fault::SessionFault;
 pub use side::Side;
 pub use slot::Slot;
 pub use table_fault::TableFault;

@@ -1,0 +1,97 @@
+-- What a message of the client does at a server (CORBA 3.3 Part 2, 9.4).
+use Rattle.std.specs.Prelude.{ℕ, Bool, true, false, if◌then◌else◌, List, ◌++◌, drop, Option, Some, None, Result, Ok, Err}
+use Rattle.giop_cdr.specs.declared.order.Order.{Order}
+use Rattle.giop_cdr.specs.declared.fault.CdrFault.{CdrFault}
+use Rattle.giop_types.specs.declared.json.interface.Interface.{Interface}
+use Rattle.giop_msg.specs.declared.kind.Kind.{Kind}
+use Rattle.giop_msg.specs.declared.kind.Kind.TheVariants as message
+use Rattle.giop_msg.specs.declared.msg.Msg.{Msg}
+use Rattle.giop_msg.specs.RequestId.{request_id_of}
+use Rattle.giop_frag.specs.Gathered.{Pieces, same_order}
+use Rattle.giop_calls.specs.declared.fault.CallFault.{CallFault}
+use Rattle.giop_calls.specs.declared.kind.CallKind.{CallKind}
+use Rattle.giop_calls.specs.declared.kind.CallKind.TheVariants as kind
+use Rattle.giop_calls.specs.declared.server.entry.ServerEntry.{ServerEntry}
+use Rattle.giop_calls.specs.declared.server.entry.ServerEntry.TheVariants.{Gathering}
+use Rattle.giop_calls.specs.declared.server.event.ServerEvent.{ServerEvent}
+use Rattle.giop_calls.specs.declared.server.event.ServerEvent.TheVariants as event
+use Rattle.giop_session.specs.declared.plan.Planned.{Planned}
+use Rattle.giop_session.specs.declared.plan.Plan.TheVariants.{Keep}
+use Rattle.giop_session.specs.declared.session_fault.SessionFault.{SessionFault}
+use Rattle.giop_session.specs.declared.session_fault.SessionFault.TheVariants.{NoId, WrongDirection, PeerError, Closed, Call as InCall}
+use Rattle.giop_session.specs.declared.slot.Slot.{Slot}
+use Rattle.giop_calls.specs.ServerTable.{server_step, is_closed, is_gathering}
+use Rattle.giop_session.specs.CallTable.{Act, Hears, First, More, Nothing, Held, at, rules_of}
+use Rattle.giop_session.specs.Decoding.{heard_call}
+use Rattle.giop_session.specs.Heard.{Heard, Breaks, Befalls, IsHeard}
+
+-- an event that sends nothing
+abbrev pub kept : {V : Type 0} → V → Planned V
+kept event = record { event = event; plan = Keep }
+
+-- a Request or a LocateRequest comes: its first piece, whose octets are gathered, or all of it
+abbrev pub comes : Interface → CallKind → Msg → Act ServerEvent
+comes interface kind m =
+    if m.more
+    then Hears (kept (event.First kind)) (First m.order m.payload)
+    else Hears (kept (event.Whole (heard_call interface kind m.version m.order m.payload))) Nothing
+
+-- which message is gathered, if one is
+abbrev pub kind_in : ServerEntry → Option CallKind
+kind_in (Gathering kind) = Some kind
+kind_in _ = None
+
+abbrev pub gathered_kind : Option (Slot ServerEntry) → Option CallKind
+gathered_kind None = None
+gathered_kind (Some slot) = kind_in slot.entry
+
+-- the pieces that a Fragment of this byte order continues, with the kind of their message
+abbrev pub continued : Order → Option CallKind → Option Pieces → Option (CallKind × List ℕ)
+continued order (Some kind) (Some pieces) =
+    if same_order order pieces.order then Some (kind, pieces.octets) else None
+continued order kind pieces = None
+
+-- a Fragment comes, whose first four octets are its request id (9.4.9); it continues these pieces,
+-- or none
+abbrev pub continues : Interface → Msg → Option (CallKind × List ℕ) → Act ServerEvent
+continues interface m None = Hears (kept (event.More false)) Nothing
+continues interface m (Some pieces) =
+    if m.more
+    then Hears (kept (event.More true)) (More (drop 4 m.payload))
+    else Hears (kept (event.Last true (heard_call interface pieces.0 m.version m.order
+    (pieces.1 ++ drop 4 m.payload)))) (More (drop 4 m.payload))
+
+-- what befalls the call that a message names
+abbrev pub named : Option (Result ℕ CdrFault) → (ℕ → Act ServerEvent) → Heard ServerEvent
+named (Some (Ok id)) act = Befalls id (act id)
+named (Some (Err fault)) act = Breaks (NoId fault)
+named None act = Breaks WrongDirection
+
+-- what a message does, by its kind
+abbrev pub heard_as : {R : Type 0} → Interface → Held R ServerEntry → Msg → Kind
+    → Heard ServerEvent
+heard_as interface h m message.Request =
+    named (request_id_of m) (λ id. comes interface kind.Request m)
+heard_as interface h m message.LocateRequest =
+    named (request_id_of m) (λ id. comes interface kind.Locate m)
+heard_as interface h m message.CancelRequest =
+    named (request_id_of m) (λ id. Hears (kept event.Cancel) Nothing)
+heard_as interface h m message.Fragment =
+    named (request_id_of m) (λ id. continues interface m
+    (continued m.order (gathered_kind (at h id).slot) (at h id).pieces))
+heard_as interface h m message.Reply = Breaks WrongDirection
+heard_as interface h m message.LocateReply = Breaks WrongDirection
+heard_as interface h m message.CloseConnection = Breaks Closed
+heard_as interface h m message.MessageError = Breaks PeerError
+
+abbrev pub server_heard : {R : Type 0} → Interface → Held R ServerEntry → Msg → Heard ServerEvent
+server_heard interface h m = heard_as interface h m m.kind
+
+-- the fault of an end whose rule refuses what befalls a call
+abbrev pub in_call : ℕ → CallFault → SessionFault
+in_call id fault = InCall id fault
+
+-- a server hears a message that does this, and leaves these calls
+abbrev pub AtServer : {R : Type 0} → Heard ServerEvent → Held R ServerEntry
+    → Result (Unit {0}) SessionFault → Held R ServerEntry → Type 0
+AtServer = IsHeard (rules_of server_step is_closed is_gathering) in_call

@@ -1,0 +1,38 @@
+ghost use Rattle.std.specs.Prelude.{◌≤◌, ◌^◌, length};
+ghost use Rattle.giop_session.specs.CallTable.{rules_of};
+ghost use Rattle.giop_session.specs.Heard.{IsHeard};
+
+use crate::call_table::CallTable;
+use crate::session_fault::SessionFault;
+use crate::side::Side;
+use giop_msg::Msg;
+use giop_mux::CallRule;
+use giop_types::Interface;
+use std::alloc::Global;
+
+/// A side of a connection that hears the messages of the other: each ends the session, or befalls
+/// the call of one id.
+pub trait Hearing: Side {
+    ghost use Rattle.std.specs.Prelude.{ℕ};
+    ghost use Rattle.giop_types.specs.declared.json.interface.Interface.{Interface};
+    ghost use Rattle.giop_msg.specs.declared.msg.Msg.{Msg};
+    ghost use Rattle.giop_session.specs.CallTable.{Held};
+    ghost use Rattle.giop_session.specs.Heard.{Heard};
+    ghost use Rattle.giop_session.specs.declared.session_fault.SessionFault.{SessionFault};
+
+    ghost heard: { Interface → Held Self Self.Entry → Msg → Heard Self.Event };
+
+    ghost in_call: { ℕ → Self.Fault → SessionFault };
+
+    /// Hears a message, whose values are those of the interface. A fault changes nothing.
+    fn hear(
+        alloc: Global,
+        interface: &Interface,
+        calls: &mut CallTable<Self>,
+        message: &Msg,
+    ) -> Result<(), SessionFault>
+        requires { length message.now.payload ≤ 2 ^ 62 }
+        ensures { IsHeard (rules_of (⟦<Self as CallRule>⟧.next calls.old.rule)
+            (⟦<Self as CallRule>⟧.closed calls.old.rule) ⟦<Self as Side>⟧.gathering) in_call
+            (heard interface.now calls.old message.now) calls.old result calls.new };
+}

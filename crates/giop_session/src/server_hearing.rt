@@ -1,0 +1,289 @@
+//! What a message of the client does at a server, a function for each kind.
+ghost use Rattle.std.specs.Prelude.{◌≡◌, ◌≤◌, ◌^◌, ◌+◌, ◌++◌, drop, length, Ok, Err, None, Some, true, false, IfOk, IfErr, IfSome, IfNone};
+ghost use Rattle.std.specs.FinMap as finite;
+ghost use Rattle.giop_frag.specs.Gathered.{octets_in, order_fault};
+ghost use Rattle.giop_msg.specs.RequestId.{request_id_of};
+ghost use Rattle.giop_calls.specs.declared.server.event.ServerEvent.TheVariants as event;
+ghost use Rattle.giop_calls.specs.declared.server.entry.ServerEntry.{ServerEntry};
+ghost use Rattle.giop_calls.specs.ServerTable.{is_free};
+ghost use Rattle.giop_session.specs.CallTable.{First, Hears, More, Nothing, at, event_reply};
+ghost use Rattle.giop_session.specs.Decoding.{heard_call};
+ghost use Rattle.giop_session.specs.Heard.{Befalls, Breaks, told_of};
+ghost use Rattle.giop_session.specs.Sending.{entry_of};
+ghost use Rattle.giop_session.specs.ServerHears.{AtServer, comes, continued, continues, gathered_kind, in_call, kept, kind_in, named};
+
+use crate::call_table::CallTable;
+use crate::decoding::heard_call;
+use crate::hearing::Hearing;
+use crate::plan::{Plan, Planned};
+use crate::sending::Sends;
+use crate::session_fault::SessionFault;
+use crate::table_fault::TableFault;
+use crate::with_last::WithLast;
+use giop_calls::{CallFault, CallKind, HeardCall, ServerEntry, ServerEvent, ServerRule};
+use giop_cdr::{Order, SliceOctets};
+use giop_msg::{Kind, Msg};
+use giop_types::Interface;
+use std::alloc::Global;
+
+type Calls = CallTable<ServerRule>;
+
+impl Hearing for ServerRule {
+    ghost use Rattle.giop_session.specs.ServerHears.{in_call, server_heard};
+
+    ghost heard = { server_heard };
+
+    ghost in_call = { in_call };
+
+    fn hear(
+        alloc: Global,
+        interface: &Interface,
+        calls: &mut Calls,
+        message: &Msg,
+    ) -> Result<(), SessionFault> {
+        match message.kind {
+            Kind::Request => come(alloc, interface, calls, CallKind::Request, message),
+            Kind::LocateRequest => come(alloc, interface, calls, CallKind::Locate, message),
+            Kind::CancelRequest => cancel(calls, message),
+            Kind::Fragment => go_on(alloc, interface, calls, message),
+            Kind::Reply | Kind::LocateReply => Err(SessionFault::WrongDirection),
+            Kind::CloseConnection => Err(SessionFault::Closed),
+            Kind::MessageError => Err(SessionFault::PeerError),
+        }
+    }
+}
+
+// The id of the call that a message names, whose kind has one.
+fn named(message: &Msg) -> Result<u32, SessionFault>
+    requires { length message.now.payload ≤ 2 ^ 62 }
+    ensures ok { IfOk result (λ id. request_id_of message.now ≡ Some (Ok id)) }
+    ensures err { IfErr result (λ why. (act : _)
+        → named (request_id_of message.now) act ≡ Breaks why) }
+{
+    match message.request_id() {
+        Some(Ok(id)) => Ok(id),
+        Some(Err(fault)) => Err(SessionFault::NoId(fault)),
+        None => Err(SessionFault::WrongDirection),
+    }
+}
+
+// A Request or a LocateRequest comes.
+fn come(
+    alloc: Global,
+    interface: &Interface,
+    calls: &mut Calls,
+    kind: CallKind,
+    message: &Msg,
+) -> Result<(), SessionFault>
+    requires { length message.now.payload ≤ 2 ^ 62 }
+    ensures { AtServer (named (request_id_of message.now)
+        (λ id. comes interface.now kind message.now)) calls.old result calls.new }
+{
+    let id = named(message)?;
+    if message.more {
+        begin(calls, id, kind, message)
+    } else {
+        arrive(alloc, interface, calls, id, kind, message)
+    }
+}
+
+// Its first piece.
+fn begin(calls: &mut Calls, id: u32, kind: CallKind, message: &Msg) -> Result<(), SessionFault>
+    ensures { AtServer (Befalls id (Hears (kept (event.First kind))
+        (First message.now.order message.now.payload))) calls.old result calls.new }
+{
+    if !is_free(calls, id) {
+        return told(id, Err(TableFault::Rule(CallFault::IdInUse)));
+    }
+    let first = kept(ServerEvent::First { kind });
+    told(
+        id,
+        calls.begin(id, first, message.order, message.payload.as_slice()),
+    )
+}
+
+// All of it.
+fn arrive(
+    alloc: Global,
+    interface: &Interface,
+    calls: &mut Calls,
+    id: u32,
+    kind: CallKind,
+    message: &Msg,
+) -> Result<(), SessionFault>
+    requires { length message.now.payload ≤ 2 ^ 62 }
+    ensures { AtServer (Befalls id (Hears (kept (event.Whole (heard_call interface.now kind
+        message.now.version message.now.order message.now.payload))) Nothing))
+        calls.old result calls.new }
+{
+    let joined = SliceOctets::new(message.payload.as_slice());
+    let (version, order) = (message.version, message.order);
+    let Some(call) = heard_call(alloc, interface, kind, version, order, &joined) else {
+        return Err(SessionFault::NoMemory);
+    };
+    told(id, calls.hear(id, kept(ServerEvent::Whole { call })))
+}
+
+fn cancel(calls: &mut Calls, message: &Msg) -> Result<(), SessionFault>
+    requires { length message.now.payload ≤ 2 ^ 62 }
+    ensures { AtServer (named (request_id_of message.now)
+        (λ id. Hears (kept event.Cancel) Nothing)) calls.old result calls.new }
+{
+    let id = named(message)?;
+    told(id, calls.hear(id, kept(ServerEvent::Cancel)))
+}
+
+// A Fragment comes.
+fn go_on(
+    alloc: Global,
+    interface: &Interface,
+    calls: &mut Calls,
+    message: &Msg,
+) -> Result<(), SessionFault>
+    requires { length message.now.payload ≤ 2 ^ 62 }
+    ensures { AtServer (named (request_id_of message.now) (λ id. continues interface.now message.now
+        (continued message.now.order (gathered_kind (finite.get calls.old.table id))
+        (finite.get calls.old.gathered id)))) calls.old result calls.new }
+{
+    let id = named(message)?;
+    let Some(kind) = continued(calls, id, message.order) else {
+        return told(
+            id,
+            calls.hear(id, kept(ServerEvent::More { in_order: false })),
+        );
+    };
+    if message.more {
+        add(calls, id, kind, message)
+    } else {
+        complete(alloc, interface, calls, id, kind, message)
+    }
+}
+
+// The kind of the message that is gathered under the id, where pieces of this byte order continue
+// it.
+fn continued(calls: &Calls, id: u32, order: Order) -> Option<CallKind>
+    ensures some { IfSome result (λ kind.
+        (gathered_kind (finite.get calls.now.table id) ≡ Some kind)
+        × (order_fault (finite.get calls.now.gathered id) order ≡ None)) }
+    ensures none { IfNone result (continued order (gathered_kind (finite.get calls.now.table id))
+        (finite.get calls.now.gathered id) ≡ None) }
+{
+    let kind = gathered_kind(&calls.slot(id)?.entry)?;
+    let (held, _) = calls.pieces(id)?;
+    if order == held { Some(kind) } else { None }
+}
+
+fn gathered_kind(entry: &ServerEntry) -> Option<CallKind>
+    ensures { result ≡ kind_in entry.now }
+{
+    match entry {
+        ServerEntry::Gathering { kind } => Some(*kind),
+        _ => None,
+    }
+}
+
+// A Fragment that continues what is gathered, with more to come.
+fn add(calls: &mut Calls, id: u32, kind: CallKind, message: &Msg) -> Result<(), SessionFault>
+    requires gathered { gathered_kind (finite.get calls.old.table id) ≡ Some kind }
+    requires in_order { order_fault (finite.get calls.old.gathered id) message.now.order ≡ None }
+    ensures { AtServer (Befalls id (Hears (kept (event.More true))
+        (More (drop 4 message.now.payload)))) calls.old result calls.new }
+{
+    let more = kept(ServerEvent::More { in_order: true });
+    told(id, calls.go_on(id, more, message.order, behind_id(message)))
+}
+
+// The last Fragment of what is gathered.
+fn complete(
+    alloc: Global,
+    interface: &Interface,
+    calls: &mut Calls,
+    id: u32,
+    kind: CallKind,
+    message: &Msg,
+) -> Result<(), SessionFault>
+    requires gathered { gathered_kind (finite.get calls.old.table id) ≡ Some kind }
+    ensures { (pieces : _) → finite.get calls.old.gathered id ≡ Some pieces
+        → AtServer (Befalls id (Hears (kept (event.Last true (heard_call interface.now kind
+        message.now.version message.now.order (pieces.octets ++ drop 4 message.now.payload))))
+        (More (drop 4 message.now.payload)))) calls.old result calls.new }
+{
+    let octets = behind_id(message);
+    if !calls.has_room(octets.len()) {
+        return Err(SessionFault::GatherFull);
+    }
+    let Some(call) = joined_call(alloc, interface, calls, id, kind, message) else {
+        return Err(SessionFault::NoMemory);
+    };
+    let last = kept(ServerEvent::Last {
+        in_order: true,
+        call,
+    });
+    told(id, calls.complete(id, last, octets))
+}
+
+// What the gathered pieces and the last one come to, where they lie. `None` where memory is
+// wanting.
+fn joined_call(
+    alloc: Global,
+    interface: &Interface,
+    calls: &Calls,
+    id: u32,
+    kind: CallKind,
+    message: &Msg,
+) -> Option<HeardCall>
+    requires { octets_in (finite.get calls.now.gathered id)
+        + length (drop 4 message.now.payload) ≤ 2 ^ 62 }
+    ensures { IfSome result (λ call. (pieces : _) → finite.get calls.now.gathered id ≡ Some pieces
+        → call ≡ heard_call interface.now kind message.now.version message.now.order
+        (pieces.octets ++ drop 4 message.now.payload)) }
+{
+    let (_, gathered) = calls.pieces(id)?;
+    let joined = WithLast::new(&gathered, behind_id(message));
+    let (version, order) = (message.version, message.order);
+    heard_call(alloc, interface, kind, version, order, &joined)
+}
+
+// The octets of a Fragment behind its request id.
+fn behind_id(message: &Msg) -> &[u8]
+    ensures { result.now ≡ drop 4 message.now.payload }
+{
+    match message.payload.as_slice().get(4..) {
+        Some(octets) => octets,
+        None => &[],
+    }
+}
+
+// Whether a call may begin under the id.
+fn is_free(calls: &Calls, id: u32) -> bool
+    ensures { result ≡ is_free (entry_of (finite.get calls.now.table id)) }
+{
+    match calls.slot(id) {
+        Some(slot) => slot.entry.is_closed(),
+        None => true,
+    }
+}
+
+// An event that sends nothing.
+fn kept(event: ServerEvent) -> Planned<ServerEvent>
+    ensures { result ≡ kept event }
+{
+    Planned {
+        event,
+        plan: Plan::Keep,
+    }
+}
+
+// What an end tells of what befell a call.
+fn told(id: u32, answered: Result<Sends<()>, TableFault<CallFault>>) -> Result<(), SessionFault>
+    ensures { result ≡ told_of (in_call id) (event_reply {E = ServerEntry} answered) }
+{
+    match answered {
+        Ok(_) => Ok(()),
+        Err(TableFault::Rule(fault)) => Err(SessionFault::Call { id, fault }),
+        Err(TableFault::TooManyCalls) => Err(SessionFault::TooManyCalls),
+        Err(TableFault::GatherFull) => Err(SessionFault::GatherFull),
+        Err(TableFault::StillOpen) => Err(SessionFault::StillOpen),
+        Err(TableFault::NoMemory) => Err(SessionFault::NoMemory),
+    }
+}
