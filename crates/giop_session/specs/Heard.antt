@@ -1,11 +1,12 @@
 -- What a message does at an end: it ends the session, or something befalls the call of one id.
 use Rattle.std.specs.Prelude.{◌≡◌, ◌⊎◌, ℕ, Bool, Option, Result, Ok, Err}
 use Rattle.giop_ids.specs.Runs.{Does, Rules}
+use Rattle.giop_msg.specs.declared.msg.Msg.{Msg}
 use Rattle.giop_mux.specs.declared.step.Step.{Step}
 use Rattle.giop_session.specs.declared.session_fault.SessionFault.{SessionFault}
 use Rattle.giop_session.specs.declared.session_fault.SessionFault.TheVariants.{NoMemory}
 use Rattle.giop_session.specs.declared.table_fault.TableFault.{TableFault}
-use Rattle.giop_session.specs.CallTable.{Act, Call, Held, Reply}
+use Rattle.giop_session.specs.CallTable.{Act, Call, Held, Reply, rules_of}
 use Rattle.giop_session.specs.SessionFaults.{of_table}
 
 -- what a message does
@@ -34,3 +35,10 @@ module _ {R E V A F : Type 0} (rules : Rules (Held R E) (Call E) (Act V) (Reply 
   abbrev pub IsHeard : Heard V → Held R E → Result (Unit {0}) SessionFault → Held R E → Type 0
   IsHeard heard h result k =
       ((result ≡ Err NoMemory) × (k ≡ h)) ⊎ IsHeardAs heard h result k
+
+-- the same of a message: what it does is told by the calls that stand
+abbrev pub hears_by : {R E V A F : Type 0} → (R → Option E → V → Step E A F) → (R → E → Bool)
+    → (E → Bool) → (ℕ → F → SessionFault) → (Held R E → Msg → Heard V)
+    → Msg → Held R E → Result (Unit {0}) SessionFault → Held R E → Type 0
+hears_by next closed gathering of_rule heard m h =
+    IsHeard (rules_of (next h.rule) (closed h.rule) gathering) of_rule (heard h m) h

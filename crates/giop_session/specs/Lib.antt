@@ -1,6 +1,7 @@
 pub mod CallTable
 pub mod Codes
 pub mod Decoding
+pub mod Feeding
 pub mod Heard
 pub mod Sending
 pub mod ServerHears

@@ -1,5 +1,5 @@
 -- The faults of an end: their numbers, and how the faults of its parts are told.
-use Rattle.std.specs.Prelude.{ℕ}
+use Rattle.std.specs.Prelude.{ℕ, List, [], ◌∷◌, ◌++◌, Option, Some, None, codes}
 use Rattle.giop_msg.specs.declared.fault.WireFault.{WireFault}
 use Rattle.giop_msg.specs.declared.fault.WireKind.{WireKind}
 use Rattle.giop_msg.specs.declared.fault.WireKind.TheVariants as wire
@@ -36,3 +36,14 @@ of_table of_rule table.TooManyCalls = TooManyCalls
 of_table of_rule table.GatherFull = GatherFull
 of_table of_rule table.StillOpen = StillOpen
 of_table of_rule table.NoMemory = NoMemory
+
+-- the MessageError (9.4.8) that a peer is sent after a fault of its own: a header of 1.2 without
+-- octets behind it
+abbrev pub message_error : List ℕ
+message_error = codes "GIOP" ++ 1 ∷ 2 ∷ 0 ∷ 6 ∷ 0 ∷ 0 ∷ 0 ∷ 0 ∷ []
+
+abbrev pub error_message_of : Option SessionFault → Option (List ℕ)
+error_message_of (Some (Wire fault)) = Some message_error
+error_message_of (Some (Call id fault)) = Some message_error
+error_message_of (Some WrongDirection) = Some message_error
+error_message_of _ = None

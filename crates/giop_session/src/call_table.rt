@@ -1,4 +1,4 @@
-ghost use Rattle.std.specs.Prelude.{◌≡◌, ◌==◌, ◌&&◌, ◌≤◌, ◌^◌, ◌+◌, not, is_some, true, false, if◌then◌else◌, Ok, None, length, is_none, IfNone, IfOk, IfSome, IsOk, IsSome, option_copied};
+ghost use Rattle.std.specs.Prelude.{◌≡◌, ◌==◌, ◌&&◌, ◌≤◌, ◌^◌, ◌+◌, not, is_some, true, false, if◌then◌else◌, Ok, None, length, is_none, IfNone, IfErr, IfOk, IfSome, IsOk, OnErr, IsSome, option_copied};
 ghost use Rattle.std.specs.FinMap as finite;
 ghost use Rattle.std.specs.Option.{option_map};
 ghost use Rattle.giop_frag.specs.Gathered.{is_over, octets_in, order_fault};
@@ -215,8 +215,13 @@ impl<R: Side> CallTable<R> {
     /// Takes what stands under the id out, where its call is over, and gives it; `None` where
     /// nothing stands there. A call that is not over is `StillOpen`. It takes no memory.
     pub fn take(&mut self, id: u32) -> Result<Option<Slot<R::Entry>>, TableFault<R::Fault>>
-        ensures { Does (rules_of (R.next self.old.rule) (R.closed self.old.rule) R.gathering)
+        ensures does { Does (rules_of (R.next self.old.rule) (R.closed self.old.rule) R.gathering)
             self.old (record { id = id; what = IsTaken }) (take_reply result) self.new }
+        ensures value { IfOk result (λ slot. (slot ≡ finite.get self.old.table id)
+            × (self.new ≡ record self.old { table = put self.old.table id None })) }
+        ensures open { IfErr result (λ why. option_map (λ slot. R.closed self.old.rule slot.entry)
+            (finite.get self.old.table id) ≡ Some false) }
+        ensures kept { OnErr result (self.new ≡ self.old) }
     {
         let Ok(slot) = self.mux.take(id) else {
             return Err(TableFault::StillOpen);

@@ -1,6 +1,5 @@
 ghost use Rattle.std.specs.Prelude.{◌≤◌, ◌^◌, length};
-ghost use Rattle.giop_session.specs.CallTable.{rules_of};
-ghost use Rattle.giop_session.specs.Heard.{IsHeard};
+ghost use Rattle.giop_session.specs.Heard.{hears_by};
 
 use crate::call_table::CallTable;
 use crate::session_fault::SessionFault;
@@ -32,7 +31,7 @@ pub trait Hearing: Side {
         message: &Msg,
     ) -> Result<(), SessionFault>
         requires { length message.now.payload ≤ 2 ^ 62 }
-        ensures { IsHeard (rules_of (⟦<Self as CallRule>⟧.next calls.old.rule)
-            (⟦<Self as CallRule>⟧.closed calls.old.rule) ⟦<Self as Side>⟧.gathering) in_call
-            (heard interface.now calls.old message.now) calls.old result calls.new };
+        ensures { hears_by ⟦<Self as CallRule>⟧.next ⟦<Self as CallRule>⟧.closed
+            ⟦<Self as Side>⟧.gathering in_call (heard interface.now) message.now calls.old result
+            calls.new };
 }

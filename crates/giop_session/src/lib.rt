@@ -7,8 +7,10 @@
 
 mod call_table;
 mod decoding;
+mod end;
 mod hearing;
 pub mod laws;
+mod limits;
 mod plan;
 mod sending;
 mod server_hearing;
@@ -21,7 +23,9 @@ mod unsent;
 mod with_last;
 
 pub use call_table::CallTable;
+pub use end::{End, ServerEnd};
 pub use hearing::Hearing;
+pub use limits::Limits;
 pub use plan::{Plan, Planned};
 pub use sending::{Sending, Sends};
 pub use session_fault::SessionFault;

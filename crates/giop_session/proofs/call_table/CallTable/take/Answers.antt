@@ -14,8 +14,8 @@ invariant_of-self-2 g c =
     (c.self.invariant c.args.id ∙ over_is_away (g.R.CallRule.closed m.rule.rule) g.R.Side.gathering (g.met.R.Side.gathering_is_open m.rule.rule)
     (finite.get m.entries c.args.id) (λ open_yet. let wrong = c.in-Ok.ensures.err.1 open_yet in absurd cc))
 
-pub returns : goal.returns
-returns g c =
+pub returns-clause-does : goal.returns-clause-does
+returns-clause-does g c =
     let m = c.self.inside.mux in
     subst (λ (h : Held g.row.R.Denot g.row.R-Entry.Denot). Does (rules_of (g.R.CallRule.next h.rule) (g.R.CallRule.closed h.rule) g.R.Side.gathering) h
     (record { id = c.args.id; what = IsTaken }) (Ok (Gives c.in-Ok.slot))

@@ -1,0 +1,37 @@
+use Rattle.std.proofs.Common.{◌≡◌, ℕ, Option, Some, Result, Ok, Err, IfSome, List, length, subst, sym, ap, ◌∙◌}
+use Rattle.std.specs.Borrow.{Bor}
+use Rattle.giop_types.specs.declared.json.interface.Interface.{Interface}
+use Rattle.giop_msg.specs.declared.msg.Msg.{Msg}
+use Rattle.giop_msg.specs.Stream.{TakesMessage}
+use Rattle.giop_msg.proofs.FramerLemmas.{takes_fewer}
+use Rattle.giop_session.specs.declared.session_fault.SessionFault.TheVariants.{NoMemory}
+use Rattle.giop_session.specs.CallTable.{Held}
+use Rattle.giop_session.specs.Feeding.{Fed, with_octets}
+use Rattle.giop_session.specs.Heard.{hears_by}
+use Rattle.giop_session.proofs.FeedingLemmas.{so_far_none, so_far_more, wanting, of_want}
+use Rattle.giop_session.proofs.end.End.hear_all.Goals as goal
+
+pub returns-in_err-feed-clause-fed : goal.returns-in_err-feed-clause-fed
+returns-in_err-feed-clause-fed g c =
+    let heard = hears_by g.R.CallRule.next g.R.CallRule.closed g.R.Side.gathering g.R.Hearing.in_call (g.R.Hearing.heard c.args.self.now.interface.now) in
+    let unread = with_octets c.args.self.now.framer c.args.octets.now in
+    wanting heard unread unread _ _ _ c.from_residual.result (so_far_none heard unread _)
+    (of_want c.from_residual.result c.in_err-feed.field-0.0 c.in_err-feed.ensures.err c.from_residual.ensures.1)
+
+pub loop-message-smaller : goal.loop-message-smaller
+loop-message-smaller g c =
+    takes_fewer _ _ c.in-Some.message
+    (subst (λ o. IfSome o (λ m. TakesMessage c.loop-message.self.framer m c.next.new.self)) c.in-Some.is c.in_ok-message.ensures.found)
+
+pub loop-message-preserved : goal.loop-message-preserved
+loop-message-preserved g c =
+    let heard = hears_by g.R.CallRule.next g.R.CallRule.closed g.R.Side.gathering g.R.Hearing.in_call (g.R.Hearing.heard c.args.self.now.interface.now) in
+    let takes = subst (λ o. IfSome o (λ m. TakesMessage c.loop-message.self.framer m c.next.new.self)) c.in-Some.is c.in_ok-message.ensures.found in (
+      so_far_more heard _ _ _ _ _ _ c.in-Some.message c.loop-message.invariant.0 takes
+          (subst (λ (i : Bor Interface). hears_by g.R.CallRule.next g.R.CallRule.closed g.R.Side.gathering g.R.Hearing.in_call (g.R.Hearing.heard i.now)
+          c.in-Some.message c.loop-message.self.calls (Ok tt) c.hear.new.calls) c.loop-message.invariant.1
+          (subst (λ result. hears_by g.R.CallRule.next g.R.CallRule.closed g.R.Side.gathering g.R.Hearing.in_call
+          (g.R.Hearing.heard c.loop-message.self.interface.now) c.in-Some.message c.loop-message.self.calls result c.hear.new.calls)
+          c.in_ok-hear.was c.hear.ensures)),
+      c.loop-message.invariant.1,
+    )

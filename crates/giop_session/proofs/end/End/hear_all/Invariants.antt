@@ -1,0 +1,13 @@
+use Rattle.std.proofs.Common.{◌≡◌, length}
+use Rattle.giop_session.specs.Heard.{hears_by}
+use Rattle.giop_session.proofs.FeedingLemmas.{SoFar}
+use Rattle.giop_session.proofs.end.End.hear_all.Given as goal
+
+abbrev pub invariant-loop-message : goal.invariant-loop-message
+invariant-loop-message g l =
+    SoFar (hears_by g.R.CallRule.next g.R.CallRule.closed g.R.Side.gathering g.R.Hearing.in_call (g.R.Hearing.heard l.initial.self.interface.now))
+    l.initial.self.framer l.initial.self.calls l.self.framer l.self.calls
+    × (l.self.interface ≡ l.initial.self.interface)
+
+abbrev pub decreases-loop-message : goal.decreases-loop-message
+decreases-loop-message g l = length l.self.framer.octets

@@ -1,0 +1,172 @@
+ghost use Rattle.std.specs.Prelude.{◌≡◌, ◌≤◌, ◌^◌, [], false, None, Some, Err, length, option_copied, IfErr, IfOk};
+ghost use Rattle.std.specs.FinMap as finite;
+ghost use Rattle.std.specs.Option.{option_map};
+ghost use Rattle.giop_ids.specs.ById.{put};
+ghost use Rattle.giop_session.specs.declared.session_fault.SessionFault.TheVariants.{StillOpen};
+ghost use Rattle.giop_session.specs.Feeding.{Fed, standing, with_octets};
+ghost use Rattle.giop_session.specs.Heard.{hears_by};
+ghost use Rattle.giop_session.specs.Sending.{entry_of};
+ghost use Rattle.giop_session.specs.SessionFaults.{error_message_of};
+
+use crate::call_table::CallTable;
+use crate::hearing::Hearing;
+use crate::limits::Limits;
+use crate::session_fault::SessionFault;
+use crate::slot::Slot;
+use giop_calls::ServerRule;
+use giop_msg::Framer;
+use giop_mux::CallRule;
+use giop_types::Interface;
+use std::alloc::{AllocError, Global};
+
+/// One end of a connection: octets of the peer go in, and a table of calls stands.
+///
+/// Contracts see the interface, the octets that are unread, the calls, and the fault that stands,
+/// if one does.
+#[derive(Drop)]
+pub struct End<'a, R: Hearing> {
+    interface: &'a Interface,
+    framer: Framer,
+    calls: CallTable<R>,
+    fault: Option<SessionFault>,
+    alloc: Global,
+}
+
+/// The end of a connection that answers calls of an interface.
+pub type ServerEnd<'a> = End<'a, ServerRule>;
+
+impl<'a> End<'a, ServerRule> {
+    /// A server's end without calls. It takes no memory.
+    pub fn new(alloc: Global, interface: &'a Interface, limits: Limits) -> ServerEnd<'a>
+        requires { limits.gathered ≤ 2 ^ 62 }
+        ensures interface { result.interface.now ≡ interface.now }
+        ensures calls { result.calls ≡ record {
+          rule = record {};
+          calls = limits.calls;
+          room = limits.gathered;
+          table = finite.empty;
+          gathered = finite.empty;
+        } }
+        ensures unread { result.framer ≡ record { limit = limits.message; octets = [] } }
+        ensures fault { result.fault ≡ None }
+    {
+        End {
+            interface,
+            framer: Framer::new(alloc, limits.message),
+            calls: CallTable::new(alloc, ServerRule, limits.calls, limits.gathered as usize),
+            fault: None,
+            alloc,
+        }
+    }
+}
+
+impl<'a, R: Hearing> End<'a, R> {
+    /// Takes octets of the peer in, of any number: each message that is whole is heard, in their
+    /// order, and does what it does to the call that it names.
+    ///
+    /// A fault makes the end failed: its calls are those after the last message before the fault,
+    /// nothing is read any more, and the end answers this fault from then on. For one message the
+    /// first of these holds: `Wire`; `WrongDirection`; `Closed` and `PeerError`; `NoId`; `Call`;
+    /// `TooManyCalls`; `GatherFull`. `NoMemory` may stand in place of any.
+    pub fn feed(&mut self, octets: &[u8]) -> Result<(), SessionFault>
+        ensures failed { (why : _) → self.old.fault ≡ Some why
+            → (result ≡ Err why) × (self.new ≡ self.old) }
+        ensures fed { self.old.fault ≡ None
+            → Fed (hears_by R.next R.closed R.gathering R.in_call (R.heard self.old.interface.now))
+            (with_octets self.old.framer octets.now) self.old.calls result
+            self.new.framer self.new.calls }
+        ensures stands { self.old.fault ≡ None → self.new.fault ≡ standing result }
+        ensures interface { self.new.interface ≡ self.old.interface }
+    {
+        if let Some(fault) = self.fault {
+            return Err(fault);
+        }
+        let fed = self.hear_all(octets);
+        self.fault = fed.err();
+        fed
+    }
+
+    /// What stands under the id. It takes no memory.
+    pub fn entry(&self, id: u32) -> Option<&R::Entry>
+        ensures { option_copied result ≡ entry_of (finite.get self.now.calls.table id) }
+    {
+        self.calls.slot(id).map(|slot| &slot.entry)
+    }
+
+    /// The ids under which something stands, ascending. `alloc` gives the memory of the list.
+    pub fn ids(&self, alloc: Global) -> Result<Vec<u32>, AllocError>
+        ensures { IfOk result (λ ids. ids.items ≡ finite.keys self.now.calls.table) }
+    {
+        self.calls.ids(alloc)
+    }
+
+    /// How many octets are unread: those of a message that isn't whole, and of a failed end those
+    /// behind the message that failed it. It takes no memory.
+    pub fn rest(&self) -> usize
+        ensures { result ≡ length self.now.framer.octets }
+    {
+        self.framer.rest()
+    }
+
+    /// The fault that made the end failed, if one did. It takes no memory.
+    pub fn fault(&self) -> Option<SessionFault>
+        ensures { result ≡ self.now.fault }
+    {
+        self.fault
+    }
+
+    /// The MessageError to be sent to a peer whose octets are no message, or of the wrong
+    /// direction, or befall a call as none may (9.4.8); none after any other fault. It takes no
+    /// memory.
+    pub fn error_message(&self) -> Option<[u8; 12]>
+        ensures { result ≡ error_message_of self.now.fault }
+    {
+        match self.fault? {
+            SessionFault::Wire(_) | SessionFault::Call { .. } | SessionFault::WrongDirection => {
+                Some(*b"GIOP\x01\x02\x00\x06\x00\x00\x00\x00")
+            }
+            _ => None,
+        }
+    }
+
+    /// Takes what stands under the id out, where its call is over, and gives it; `None` where
+    /// nothing stands there. It takes no memory.
+    ///
+    /// A failed end answers its fault, and a call that isn't over is `StillOpen`. A refusal changes
+    /// nothing.
+    pub fn take(&mut self, id: u32) -> Result<Option<R::Entry>, SessionFault>
+        ensures failed { (why : _) → self.old.fault ≡ Some why → result ≡ Err why }
+        ensures value { IfOk result (λ taken. (taken ≡ entry_of (finite.get self.old.calls.table id))
+            × (self.new ≡ record self.old {
+              calls = record self.old.calls {
+                table = put self.old.calls.table id None;
+              };
+            })) }
+        ensures open { self.old.fault ≡ None → IfErr result (λ why. (why ≡ StillOpen)
+            × (option_map (λ slot. R.closed self.old.calls.rule slot.entry)
+            (finite.get self.old.calls.table id) ≡ Some false)) }
+        ensures kept { IfErr result (λ why. self.new ≡ self.old) }
+    {
+        if let Some(fault) = self.fault {
+            return Err(fault);
+        }
+        match self.calls.take(id) {
+            Ok(slot) => Ok(slot.map(|slot| slot.entry)),
+            Err(_) => Err(SessionFault::StillOpen),
+        }
+    }
+
+    // Hears what is whole behind the octets that are unread and these.
+    fn hear_all(&mut self, octets: &[u8]) -> Result<(), SessionFault>
+        ensures fed { Fed (hears_by R.next R.closed R.gathering R.in_call
+            (R.heard self.old.interface.now)) (with_octets self.old.framer octets.now)
+            self.old.calls result self.new.framer self.new.calls }
+        ensures interface { self.new.interface ≡ self.old.interface }
+    {
+        self.framer.feed(octets)?;
+        while let Some(message) = self.framer.next()? {
+            R::hear(self.alloc, self.interface, &mut self.calls, &message)?;
+        }
+        Ok(())
+    }
+}
