@@ -1,3 +1,4 @@
 mod TableLemmas
 mod ServerLemmas
 mod FeedingLemmas
+mod HeardLemmas

@@ -1,12 +1,14 @@
 -- What a message does at an end: it ends the session, or something befalls the call of one id.
-use Rattle.std.specs.Prelude.{◌≡◌, ◌⊎◌, ℕ, Bool, Option, Result, Ok, Err}
+use Rattle.std.specs.Prelude.{◌≡◌, ◌⊎◌, ℕ, Bool, Option, Some, None, Result, Ok, Err}
+use Rattle.giop_cdr.specs.declared.fault.CdrFault.{CdrFault}
 use Rattle.giop_ids.specs.Runs.{Does, Rules}
 use Rattle.giop_msg.specs.declared.msg.Msg.{Msg}
+use Rattle.giop_msg.specs.RequestId.{request_id_of}
 use Rattle.giop_mux.specs.declared.step.Step.{Step}
 use Rattle.giop_session.specs.declared.session_fault.SessionFault.{SessionFault}
-use Rattle.giop_session.specs.declared.session_fault.SessionFault.TheVariants.{NoMemory}
+use Rattle.giop_session.specs.declared.session_fault.SessionFault.TheVariants.{NoId, NoMemory, WrongDirection}
 use Rattle.giop_session.specs.declared.table_fault.TableFault.{TableFault}
-use Rattle.giop_session.specs.CallTable.{Act, Call, Held, Reply, rules_of}
+use Rattle.giop_session.specs.CallTable.{Act, Call, Held, Reply, at, rules_of}
 use Rattle.giop_session.specs.SessionFaults.{of_table}
 
 -- what a message does
@@ -36,9 +38,29 @@ module _ {R E V A F : Type 0} (rules : Rules (Held R E) (Call E) (Act V) (Reply 
   IsHeard heard h result k =
       ((result ≡ Err NoMemory) × (k ≡ h)) ⊎ IsHeardAs heard h result k
 
--- the same of a message: what it does is told by the calls that stand
+-- what befalls the call that a message names
+abbrev pub named : {V : Type 0} → Option (Result ℕ CdrFault) → (ℕ → Act V) → Heard V
+named (Some (Ok id)) act = Befalls id (act id)
+named (Some (Err fault)) act = Breaks (NoId fault)
+named None act = Breaks WrongDirection
+
+-- a message ends the session, where something says why, or befalls the call that it names
+abbrev pub heard_by : {V : Type 0} → Option SessionFault → Option (Result ℕ CdrFault)
+    → (ℕ → Act V) → Heard V
+heard_by (Some why) name act = Breaks why
+heard_by None name act = named name act
+
+-- a side of a connection tells which messages end the session, and what befalls a call by one; what
+-- that does is told by this call alone
+abbrev pub heard_of : {R E V : Type 0} → (Msg → Option SessionFault) → (Msg → Call E → Act V)
+    → Held R E → Msg → Heard V
+heard_of breaks befalls h m =
+    heard_by (breaks m) (request_id_of m) (λ id. befalls m (at h id))
+
+-- an end hears a message
 abbrev pub hears_by : {R E V A F : Type 0} → (R → Option E → V → Step E A F) → (R → E → Bool)
-    → (E → Bool) → (ℕ → F → SessionFault) → (Held R E → Msg → Heard V)
+    → (E → Bool) → (ℕ → F → SessionFault) → (Msg → Option SessionFault) → (Msg → Call E → Act V)
     → Msg → Held R E → Result (Unit {0}) SessionFault → Held R E → Type 0
-hears_by next closed gathering of_rule heard m h =
-    IsHeard (rules_of (next h.rule) (closed h.rule) gathering) of_rule (heard h m) h
+hears_by next closed gathering of_rule breaks befalls m h =
+    IsHeard (rules_of (next h.rule) (closed h.rule) gathering) of_rule
+    (heard_of breaks befalls h m) h

@@ -1,3 +1,4 @@
+pub mod Alone
 pub mod CallTable
 pub mod Codes
 pub mod Decoding

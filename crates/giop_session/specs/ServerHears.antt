@@ -1,12 +1,10 @@
 -- What a message of the client does at a server (CORBA 3.3 Part 2, 9.4).
-use Rattle.std.specs.Prelude.{ℕ, Bool, true, false, if◌then◌else◌, List, ◌++◌, drop, Option, Some, None, Result, Ok, Err}
+use Rattle.std.specs.Prelude.{ℕ, true, false, if◌then◌else◌, List, ◌++◌, drop, Option, Some, None, Result}
 use Rattle.giop_cdr.specs.declared.order.Order.{Order}
-use Rattle.giop_cdr.specs.declared.fault.CdrFault.{CdrFault}
 use Rattle.giop_types.specs.declared.json.interface.Interface.{Interface}
 use Rattle.giop_msg.specs.declared.kind.Kind.{Kind}
 use Rattle.giop_msg.specs.declared.kind.Kind.TheVariants as message
 use Rattle.giop_msg.specs.declared.msg.Msg.{Msg}
-use Rattle.giop_msg.specs.RequestId.{request_id_of}
 use Rattle.giop_frag.specs.Gathered.{Pieces, same_order}
 use Rattle.giop_calls.specs.declared.fault.CallFault.{CallFault}
 use Rattle.giop_calls.specs.declared.kind.CallKind.{CallKind}
@@ -18,12 +16,12 @@ use Rattle.giop_calls.specs.declared.server.event.ServerEvent.TheVariants as eve
 use Rattle.giop_session.specs.declared.plan.Planned.{Planned}
 use Rattle.giop_session.specs.declared.plan.Plan.TheVariants.{Keep}
 use Rattle.giop_session.specs.declared.session_fault.SessionFault.{SessionFault}
-use Rattle.giop_session.specs.declared.session_fault.SessionFault.TheVariants.{NoId, WrongDirection, PeerError, Closed, Call as InCall}
+use Rattle.giop_session.specs.declared.session_fault.SessionFault.TheVariants.{WrongDirection, PeerError, Closed, Call as InCall}
 use Rattle.giop_session.specs.declared.slot.Slot.{Slot}
 use Rattle.giop_calls.specs.ServerTable.{server_step, is_closed, is_gathering}
-use Rattle.giop_session.specs.CallTable.{Act, Hears, First, More, Nothing, Held, at, rules_of}
+use Rattle.giop_session.specs.CallTable.{Act, Call, Hears, First, More, Nothing, Held, rules_of}
 use Rattle.giop_session.specs.Decoding.{heard_call}
-use Rattle.giop_session.specs.Heard.{Heard, Breaks, Befalls, IsHeard}
+use Rattle.giop_session.specs.Heard.{Heard, IsHeard}
 
 -- an event that sends nothing
 abbrev pub kept : {V : Type 0} → V → Planned V
@@ -61,31 +59,31 @@ continues interface m (Some pieces) =
     else Hears (kept (event.Last true (heard_call interface pieces.0 m.version m.order
     (pieces.1 ++ drop 4 m.payload)))) (More (drop 4 m.payload))
 
+-- why a message ends the session, if it does: a client doesn't send it, or it says so
+abbrev pub breaks_by : Kind → Option SessionFault
+breaks_by message.Request = None
+breaks_by message.LocateRequest = None
+breaks_by message.CancelRequest = None
+breaks_by message.Fragment = None
+breaks_by message.Reply = Some WrongDirection
+breaks_by message.LocateReply = Some WrongDirection
+breaks_by message.CloseConnection = Some Closed
+breaks_by message.MessageError = Some PeerError
+
+abbrev pub server_breaks : Msg → Option SessionFault
+server_breaks m = breaks_by m.kind
+
 -- what befalls the call that a message names
-abbrev pub named : Option (Result ℕ CdrFault) → (ℕ → Act ServerEvent) → Heard ServerEvent
-named (Some (Ok id)) act = Befalls id (act id)
-named (Some (Err fault)) act = Breaks (NoId fault)
-named None act = Breaks WrongDirection
+abbrev pub befalls_by : Interface → Msg → Call ServerEntry → Kind → Act ServerEvent
+befalls_by interface m call message.Request = comes interface kind.Request m
+befalls_by interface m call message.LocateRequest = comes interface kind.Locate m
+befalls_by interface m call message.CancelRequest = Hears (kept event.Cancel) Nothing
+befalls_by interface m call message.Fragment =
+    continues interface m (continued m.order (gathered_kind call.slot) call.pieces)
+befalls_by interface m call _ = Hears (kept event.Cancel) Nothing
 
--- what a message does, by its kind
-abbrev pub heard_as : {R : Type 0} → Interface → Held R ServerEntry → Msg → Kind
-    → Heard ServerEvent
-heard_as interface h m message.Request =
-    named (request_id_of m) (λ id. comes interface kind.Request m)
-heard_as interface h m message.LocateRequest =
-    named (request_id_of m) (λ id. comes interface kind.Locate m)
-heard_as interface h m message.CancelRequest =
-    named (request_id_of m) (λ id. Hears (kept event.Cancel) Nothing)
-heard_as interface h m message.Fragment =
-    named (request_id_of m) (λ id. continues interface m
-    (continued m.order (gathered_kind (at h id).slot) (at h id).pieces))
-heard_as interface h m message.Reply = Breaks WrongDirection
-heard_as interface h m message.LocateReply = Breaks WrongDirection
-heard_as interface h m message.CloseConnection = Breaks Closed
-heard_as interface h m message.MessageError = Breaks PeerError
-
-abbrev pub server_heard : {R : Type 0} → Interface → Held R ServerEntry → Msg → Heard ServerEvent
-server_heard interface h m = heard_as interface h m m.kind
+abbrev pub server_befalls : Interface → Msg → Call ServerEntry → Act ServerEvent
+server_befalls interface m call = befalls_by interface m call m.kind
 
 -- the fault of an end whose rule refuses what befalls a call
 abbrev pub in_call : ℕ → CallFault → SessionFault

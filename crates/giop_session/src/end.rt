@@ -72,7 +72,8 @@ impl<'a, R: Hearing> End<'a, R> {
         ensures failed { (why : _) → self.old.fault ≡ Some why
             → (result ≡ Err why) × (self.new ≡ self.old) }
         ensures fed { self.old.fault ≡ None
-            → Fed (hears_by R.next R.closed R.gathering R.in_call (R.heard self.old.interface.now))
+            → Fed (hears_by R.next R.closed R.gathering R.in_call R.breaks
+            (R.befalls self.old.interface.now))
             (with_octets self.old.framer octets.now) self.old.calls result
             self.new.framer self.new.calls }
         ensures stands { self.old.fault ≡ None → self.new.fault ≡ standing result }
@@ -158,8 +159,8 @@ impl<'a, R: Hearing> End<'a, R> {
 
     // Hears what is whole behind the octets that are unread and these.
     fn hear_all(&mut self, octets: &[u8]) -> Result<(), SessionFault>
-        ensures fed { Fed (hears_by R.next R.closed R.gathering R.in_call
-            (R.heard self.old.interface.now)) (with_octets self.old.framer octets.now)
+        ensures fed { Fed (hears_by R.next R.closed R.gathering R.in_call R.breaks
+            (R.befalls self.old.interface.now)) (with_octets self.old.framer octets.now)
             self.old.calls result self.new.framer self.new.calls }
         ensures interface { self.new.interface ≡ self.old.interface }
     {

@@ -12,14 +12,15 @@ use std::alloc::Global;
 /// A side of a connection that hears the messages of the other: each ends the session, or befalls
 /// the call of one id.
 pub trait Hearing: Side {
-    ghost use Rattle.std.specs.Prelude.{ℕ};
+    ghost use Rattle.std.specs.Prelude.{ℕ, Option};
     ghost use Rattle.giop_types.specs.declared.json.interface.Interface.{Interface};
     ghost use Rattle.giop_msg.specs.declared.msg.Msg.{Msg};
-    ghost use Rattle.giop_session.specs.CallTable.{Held};
-    ghost use Rattle.giop_session.specs.Heard.{Heard};
+    ghost use Rattle.giop_session.specs.CallTable.{Act, Call};
     ghost use Rattle.giop_session.specs.declared.session_fault.SessionFault.{SessionFault};
 
-    ghost heard: { Interface → Held Self Self.Entry → Msg → Heard Self.Event };
+    ghost breaks: { Msg → Option SessionFault };
+
+    ghost befalls: { Interface → Msg → Call Self.Entry → Act Self.Event };
 
     ghost in_call: { ℕ → Self.Fault → SessionFault };
 
@@ -32,6 +33,6 @@ pub trait Hearing: Side {
     ) -> Result<(), SessionFault>
         requires { length message.now.payload ≤ 2 ^ 62 }
         ensures { hears_by ⟦<Self as CallRule>⟧.next ⟦<Self as CallRule>⟧.closed
-            ⟦<Self as Side>⟧.gathering in_call (heard interface.now) message.now calls.old result
-            calls.new };
+            ⟦<Self as Side>⟧.gathering in_call breaks (befalls interface.now) message.now calls.old
+            result calls.new };
 }

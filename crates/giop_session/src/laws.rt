@@ -1,9 +1,15 @@
 //! Laws of the calls of an end, whatever its rule: what a run of acts leaves of each call.
-ghost use Rattle.std.specs.Prelude.{◌≡◌, ℕ};
+ghost use Rattle.std.specs.Prelude.{◌≡◌, ℕ, List, Ok};
 ghost use Rattle.giop_ids.specs.Runs.{own, alone, told_alone, Runs, addressed, MeetsNoLimit};
+ghost use Rattle.giop_types.specs.declared.json.interface.Interface.{Interface};
+ghost use Rattle.giop_msg.specs.declared.msg.Msg.{Msg};
+ghost use Rattle.giop_msg.specs.Stream.{Unread};
+ghost use Rattle.giop_session.specs.Alone.{alone_heard, own_messages};
+ghost use Rattle.giop_session.specs.Feeding.{Fed, Through, with_octets};
+ghost use Rattle.giop_session.specs.Heard.{hears_by};
 ghost use Rattle.giop_session.specs.CallTable.{at, Held, is_of_call, rules_of, turn};
 
-use crate::Side;
+use crate::{Hearing, Side};
 
 /// Whatever befalls other ids in a run of acts, which goes on behind refusals, a call has the
 /// entry, the unsent messages, the pieces and the answers of its own acts alone; unless one of them
@@ -31,4 +37,40 @@ pub fn any_interleaving<R: Side>(rule: &R)
         → ((id : ℕ) → MeetsNoLimit is_of_call id one results)
         → ((id : ℕ) → MeetsNoLimit is_of_call id other results')
         → ((id : ℕ) → own id one ≡ own id other) → (id : ℕ) → at k id ≡ at k' id }
+{}
+
+/// A call is what its own messages make of it: after messages of which none is refused, whatever
+/// stands under an id is what those that name the id leave of what stood there, one after another,
+/// however messages that name other ids lie between them.
+pub fn own_messages_alone<R: Hearing>(rule: &R)
+    ensures { (interface : Interface) (h k : Held R R.Entry) (messages : List Msg) (id : ℕ)
+        → Through (hears_by R.next R.closed R.gathering R.in_call R.breaks (R.befalls interface))
+        h messages k
+        → at k id ≡ alone_heard (turn (R.next h.rule) (R.closed h.rule) R.gathering)
+        (R.befalls interface) (at h id) (own_messages id messages) }
+{}
+
+/// Two ends that heard, for each id, the same messages in the same order hold the same calls, in
+/// whatever interleaving these came.
+pub fn any_interleaving_of_messages<R: Hearing>(rule: &R)
+    ensures { (interface : Interface) (h k k' : Held R R.Entry) (one other : List Msg)
+        → Through (hears_by R.next R.closed R.gathering R.in_call R.breaks (R.befalls interface))
+        h one k
+        → Through (hears_by R.next R.closed R.gathering R.in_call R.breaks (R.befalls interface))
+        h other k'
+        → ((id : ℕ) → own_messages id one ≡ own_messages id other)
+        → (id : ℕ) → at k id ≡ at k' id }
+{}
+
+/// Octets may be fed in any pieces: what an end makes of octets and then of more is what it makes of
+/// both at once.
+pub fn any_reads<R: Hearing>(rule: &R)
+    ensures { (interface : Interface) (unread left last : Unread) (h mid k : Held R R.Entry)
+        (more : List ℕ) (result : _)
+        → Fed (hears_by R.next R.closed R.gathering R.in_call R.breaks (R.befalls interface))
+        unread h (Ok tt) left mid
+        → Fed (hears_by R.next R.closed R.gathering R.in_call R.breaks (R.befalls interface))
+        (with_octets left more) mid result last k
+        → Fed (hears_by R.next R.closed R.gathering R.in_call R.breaks (R.befalls interface))
+        (with_octets unread more) h result last k }
 {}

@@ -19,6 +19,8 @@ mod side;
 mod sides;
 mod slot;
 mod table_fault;
+#[cfg(test)]
+mod tests;
 mod unsent;
 mod with_last;
 

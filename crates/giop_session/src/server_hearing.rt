@@ -1,16 +1,17 @@
 //! What a message of the client does at a server, a function for each kind.
-ghost use Rattle.std.specs.Prelude.{◌≡◌, ◌≤◌, ◌^◌, ◌+◌, ◌++◌, drop, length, Ok, Err, None, Some, true, false, IfOk, IfErr, IfSome, IfNone};
+ghost use Rattle.std.specs.Prelude.{◌≡◌, ℕ, ◌≤◌, ◌^◌, ◌+◌, ◌++◌, drop, length, Ok, Err, None, Some, true, false, IfOk, IfErr, IfSome, IfNone};
 ghost use Rattle.std.specs.FinMap as finite;
 ghost use Rattle.giop_frag.specs.Gathered.{octets_in, order_fault};
 ghost use Rattle.giop_msg.specs.RequestId.{request_id_of};
 ghost use Rattle.giop_calls.specs.declared.server.event.ServerEvent.TheVariants as event;
 ghost use Rattle.giop_calls.specs.declared.server.entry.ServerEntry.{ServerEntry};
 ghost use Rattle.giop_calls.specs.ServerTable.{is_free};
-ghost use Rattle.giop_session.specs.CallTable.{First, Hears, More, Nothing, at, event_reply};
+ghost use Rattle.giop_calls.specs.declared.server.event.ServerEvent.{ServerEvent};
+ghost use Rattle.giop_session.specs.CallTable.{Act, First, Hears, More, Nothing, at, event_reply};
 ghost use Rattle.giop_session.specs.Decoding.{heard_call};
-ghost use Rattle.giop_session.specs.Heard.{Befalls, Breaks, told_of};
+ghost use Rattle.giop_session.specs.Heard.{Befalls, Breaks, named, told_of};
 ghost use Rattle.giop_session.specs.Sending.{entry_of};
-ghost use Rattle.giop_session.specs.ServerHears.{AtServer, comes, continued, continues, gathered_kind, in_call, kept, kind_in, named};
+ghost use Rattle.giop_session.specs.ServerHears.{AtServer, comes, continued, continues, gathered_kind, in_call, kept, kind_in};
 
 use crate::call_table::CallTable;
 use crate::decoding::heard_call;
@@ -29,9 +30,11 @@ use std::alloc::Global;
 type Calls = CallTable<ServerRule>;
 
 impl Hearing for ServerRule {
-    ghost use Rattle.giop_session.specs.ServerHears.{in_call, server_heard};
+    ghost use Rattle.giop_session.specs.ServerHears.{in_call, server_befalls, server_breaks};
 
-    ghost heard = { server_heard };
+    ghost breaks = { server_breaks };
+
+    ghost befalls = { server_befalls };
 
     ghost in_call = { in_call };
 
@@ -57,7 +60,7 @@ impl Hearing for ServerRule {
 fn named(message: &Msg) -> Result<u32, SessionFault>
     requires { length message.now.payload ≤ 2 ^ 62 }
     ensures ok { IfOk result (λ id. request_id_of message.now ≡ Some (Ok id)) }
-    ensures err { IfErr result (λ why. (act : _)
+    ensures err { IfErr result (λ why. (act : ℕ → Act ServerEvent)
         → named (request_id_of message.now) act ≡ Breaks why) }
 {
     match message.request_id() {

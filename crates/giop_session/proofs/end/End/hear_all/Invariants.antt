@@ -5,7 +5,7 @@ use Rattle.giop_session.proofs.end.End.hear_all.Given as goal
 
 abbrev pub invariant-loop-message : goal.invariant-loop-message
 invariant-loop-message g l =
-    SoFar (hears_by g.R.CallRule.next g.R.CallRule.closed g.R.Side.gathering g.R.Hearing.in_call (g.R.Hearing.heard l.initial.self.interface.now))
+    SoFar (hears_by g.R.CallRule.next g.R.CallRule.closed g.R.Side.gathering g.R.Hearing.in_call g.R.Hearing.breaks (g.R.Hearing.befalls l.initial.self.interface.now))
     l.initial.self.framer l.initial.self.calls l.self.framer l.self.calls
     × (l.self.interface ≡ l.initial.self.interface)
 

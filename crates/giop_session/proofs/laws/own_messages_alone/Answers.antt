@@ -1,0 +1,7 @@
+use Rattle.giop_session.proofs.HeardLemmas.{calls_alone}
+use Rattle.giop_session.proofs.laws.own_messages_alone.Goals as goal
+
+pub returns : goal.returns
+returns g c = λ interface h k messages id through.
+    calls_alone g.R.CallRule.next g.R.CallRule.closed g.R.Side.gathering g.R.Hearing.in_call g.R.Hearing.breaks (g.R.Hearing.befalls interface)
+    h k messages id through
