@@ -15,9 +15,23 @@ fn reply(
     version: Version,
 ) -> Result<Reply, CdrFault> {
     let joined = SliceOctets::new(&octets[..octets.len().min(64)]);
-    match Reply::decode(alloc, interface, request, &joined, version, Order::Big) {
+    match Reply::decode(
+        alloc,
+        interface,
+        Some(request),
+        &joined,
+        version,
+        Order::Big,
+    ) {
         Err(fault) if fault.kind == CdrKind::NoMemory => {
-            Reply::decode(alloc, interface, request, &joined, version, Order::Big)
+            Reply::decode(
+                alloc,
+                interface,
+                Some(request),
+                &joined,
+                version,
+                Order::Big,
+            )
         }
         answer => answer,
     }
