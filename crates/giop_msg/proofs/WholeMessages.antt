@@ -5,4 +5,5 @@ pub mod ParameterLoops
 pub mod LocateReplyLemmas
 pub mod RequestLemmas
 pub mod ReplyLemmas
+pub mod ReplyWritingLemmas
 pub mod LawLemmas

@@ -4,12 +4,13 @@ ghost use Rattle.std.specs.Prelude.{◌≡◌, ◌↔◌, false, true, ℕ, List
 ghost use Rattle.giop_cdr.specs.declared.order.Order.{Order};
 ghost use Rattle.giop_cdr.specs.Writing.Outcome.{Writes, Appends};
 ghost use Rattle.giop_cdr.specs.Layout.{AreOctets};
+ghost use Rattle.giop_msg.specs.declared.version.Version.TheVariants.{V12};
 ghost use Rattle.giop_msg.specs.ReplyHead.{early_reply_head, reply_head, reply_head_1_2};
 
 use crate::reply_head::{ReplyHead, last_reply_status};
 use crate::version::Version;
 use giop_cdr::{CdrOut, EncodeFault};
-use giop_ior::{append_contexts, are_writable_contexts};
+use giop_ior::{ServiceContext, append_contexts, are_writable_contexts};
 use std::alloc::AllocError;
 
 impl ReplyHead {
@@ -18,11 +19,7 @@ impl ReplyHead {
     pub fn is_writable(&self) -> bool
         ensures { result ≡ (reply_head self.now.version).fits self.now }
     {
-        match self.version {
-            Version::V10 => is_writable_early(Version::V10, self),
-            Version::V11 => is_writable_early(Version::V11, self),
-            Version::V12 => is_writable_1_2(self),
-        }
+        are_writable_parts(self.version, self.status, self.contexts.as_slice())
     }
 
     /// Writes the head: the fields in their order. In 1.2 the body is aligned to 8 behind it,
@@ -52,39 +49,123 @@ impl ReplyHead {
     }
 }
 
-fn is_writable_1_2(head: &ReplyHead) -> bool
-    ensures { result ≡ reply_head_1_2.fits head.now }
+/// Whether octets spell a head of a version that has these parts, whatever its id.
+pub(crate) fn are_writable_parts(version: Version, status: u32, contexts: &[ServiceContext]) -> bool
+    ensures { (id : ℕ) → result ≡ (reply_head version).fits (record {
+      version = version;
+      id = id;
+      status = status;
+      contexts = contexts.now;
+    }) }
 {
-    head.status <= last_reply_status(Version::V12)
-        && are_writable_contexts(head.contexts.as_slice())
+    match version {
+        Version::V10 => are_writable_early(Version::V10, status, contexts),
+        Version::V11 => are_writable_early(Version::V11, status, contexts),
+        Version::V12 => are_writable_1_2(status, contexts),
+    }
 }
 
-fn is_writable_early(version: Version, head: &ReplyHead) -> bool
-    ensures { result ≡ (early_reply_head version).fits head.now }
+fn are_writable_1_2(status: u32, contexts: &[ServiceContext]) -> bool
+    ensures { (id : ℕ) → result ≡ reply_head_1_2.fits (record {
+      version = V12;
+      id = id;
+      status = status;
+      contexts = contexts.now;
+    }) }
 {
-    are_writable_contexts(head.contexts.as_slice()) && head.status <= last_reply_status(version)
+    status <= last_reply_status(Version::V12) && are_writable_contexts(contexts)
+}
+
+fn are_writable_early(version: Version, status: u32, contexts: &[ServiceContext]) -> bool
+    ensures { (id : ℕ) → result ≡ (early_reply_head version).fits (record {
+      version = version;
+      id = id;
+      status = status;
+      contexts = contexts.now;
+    }) }
+{
+    are_writable_contexts(contexts) && status <= last_reply_status(version)
 }
 
 // The fields of 1.2 in their order. Where memory is wanting a part of them is left.
-fn append_head_1_2(head: &ReplyHead, out: &mut CdrOut) -> Result<(), AllocError>
-    requires { reply_head_1_2.fits head.now ≡ true }
-    ensures { Appends out.old result out.new (reply_head_1_2.written head.now out.old) }
+fn append_parts_1_2(
+    id: u32,
+    status: u32,
+    contexts: &[ServiceContext],
+    out: &mut CdrOut,
+) -> Result<(), AllocError>
+    requires { reply_head_1_2.fits (record {
+      version = V12;
+      id = id;
+      status = status;
+      contexts = contexts.now;
+    }) ≡ true }
+    ensures { Appends out.old result out.new (reply_head_1_2.written (record {
+      version = V12;
+      id = id;
+      status = status;
+      contexts = contexts.now;
+    }) out.old) }
 {
-    out.write_ulong(head.id)?;
-    out.write_ulong(head.status)?;
-    append_contexts(head.contexts.as_slice(), out)?;
+    out.write_ulong(id)?;
+    out.write_ulong(status)?;
+    append_contexts(contexts, out)?;
     Ok(())
 }
 
 // The fields before 1.2 in their order. Where memory is wanting a part of them is left.
-fn append_early_head(version: Version, head: &ReplyHead, out: &mut CdrOut) -> Result<(), AllocError>
-    requires { (early_reply_head version).fits head.now ≡ true }
-    ensures { Appends out.old result out.new ((early_reply_head version).written head.now out.old) }
+fn append_early_parts(
+    version: Version,
+    id: u32,
+    status: u32,
+    contexts: &[ServiceContext],
+    out: &mut CdrOut,
+) -> Result<(), AllocError>
+    requires { (early_reply_head version).fits (record {
+      version = version;
+      id = id;
+      status = status;
+      contexts = contexts.now;
+    }) ≡ true }
+    ensures { Appends out.old result out.new ((early_reply_head version).written (record {
+      version = version;
+      id = id;
+      status = status;
+      contexts = contexts.now;
+    }) out.old) }
 {
-    append_contexts(head.contexts.as_slice(), out)?;
-    out.write_ulong(head.id)?;
-    out.write_ulong(head.status)?;
+    append_contexts(contexts, out)?;
+    out.write_ulong(id)?;
+    out.write_ulong(status)?;
     Ok(())
+}
+
+/// Writes a head that has these parts. Where memory is wanting a part of it is left.
+pub(crate) fn append_parts(
+    version: Version,
+    id: u32,
+    status: u32,
+    contexts: &[ServiceContext],
+    out: &mut CdrOut,
+) -> Result<(), AllocError>
+    requires { (reply_head version).fits (record {
+      version = version;
+      id = id;
+      status = status;
+      contexts = contexts.now;
+    }) ≡ true }
+    ensures { Appends out.old result out.new ((reply_head version).written (record {
+      version = version;
+      id = id;
+      status = status;
+      contexts = contexts.now;
+    }) out.old) }
+{
+    match version {
+        Version::V10 => append_early_parts(Version::V10, id, status, contexts, out),
+        Version::V11 => append_early_parts(Version::V11, id, status, contexts, out),
+        Version::V12 => append_parts_1_2(id, status, contexts, out),
+    }
 }
 
 fn append_head(head: &ReplyHead, out: &mut CdrOut) -> Result<(), AllocError>
@@ -92,9 +173,6 @@ fn append_head(head: &ReplyHead, out: &mut CdrOut) -> Result<(), AllocError>
     ensures { Appends out.old result out.new
         ((reply_head head.now.version).written head.now out.old) }
 {
-    match head.version {
-        Version::V10 => append_early_head(Version::V10, head, out),
-        Version::V11 => append_early_head(Version::V11, head, out),
-        Version::V12 => append_head_1_2(head, out),
-    }
+    let contexts = head.contexts.as_slice();
+    append_parts(head.version, head.id, head.status, contexts, out)
 }

@@ -60,7 +60,7 @@ fn is_writable_1_2(head: &RequestHead) -> bool
 {
     matches!(head.flags, 0 | 1 | 3)
         && is_writable_target(&head.target)
-        && is_operation(head.operation.as_slice())
+        && is_text(head.operation.as_slice())
         && are_writable_contexts(head.contexts.as_slice())
 }
 
@@ -70,14 +70,14 @@ fn is_writable_early(version: Version, head: &RequestHead) -> bool
     are_writable_contexts(head.contexts.as_slice())
         && matches!(head.flags, 0 | 3)
         && is_writable_key(&head.target)
-        && is_operation(head.operation.as_slice())
+        && is_text(head.operation.as_slice())
 }
 
-// Whether an operation's name is a text, and short enough for its count.
-fn is_operation(name: &[u8]) -> bool
-    ensures { result ≡ is_spellable name.now }
+/// Whether octets are a string's, and few enough for its count.
+pub(crate) fn is_text(octets: &[u8]) -> bool
+    ensures { result ≡ is_spellable octets.now }
 {
-    name.len() < u32::MAX as usize && !name.contains(&0)
+    octets.len() < u32::MAX as usize && !octets.contains(&0)
 }
 
 fn append_reserved(out: &mut CdrOut) -> Result<(), AllocError>

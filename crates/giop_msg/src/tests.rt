@@ -11,6 +11,7 @@ mod header;
 mod heads;
 mod messages;
 mod replies;
+mod replies_written;
 mod request_head;
 mod request_id;
 

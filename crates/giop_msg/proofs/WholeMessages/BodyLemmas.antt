@@ -1,5 +1,5 @@
 -- Bodies are lawful: those of values, wherever their version has them.
-use Rattle.std.proofs.Common.{◌≡◌, ℕ, ◌+◌, ◌<◌, ◌&&◌, true, List, [], ◌∷◌, ◌++◌, map, refl, sym, ap, subst, ◌∙◌, append-nil}
+use Rattle.std.proofs.Common.{◌≡◌, ℕ, ◌<◌, true, List, [], ◌∷◌, refl, sym, ap, subst, ◌∙◌, append-nil}
 use Rattle.std.proofs.lemmas.Bool.{lt-ltb}
 use Rattle.std.proofs.lemmas.List.Elements.{All-head, All-tail}
 use Rattle.giop_cdr.specs.declared.order.Order.{Order}
@@ -14,7 +14,7 @@ use Rattle.giop_types.specs.Coding.Spells.{Spells, SpellsFields}
 use Rattle.giop_types.specs.Coding.Written.{fields_out}
 use Rattle.giop_types.specs.Descriptions.Full.{is_full, are_full}
 use Rattle.giop_types.specs.Descriptions.Shape.{Fields, members}
-use Rattle.giop_types.specs.Values.Fits.{are_octets, fits, fields_fit, list_of}
+use Rattle.giop_types.specs.Values.Fits.{are_octets, fits, fields_fit}
 use Rattle.giop_types.specs.Values.Tree.{Tree, members_of}
 use Rattle.giop_types.specs.Values.Views.{desc_view, trees_of}
 use Rattle.giop_types.proofs.Coding.ShapeExact.{fields_exact}

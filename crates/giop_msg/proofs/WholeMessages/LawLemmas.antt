@@ -1,11 +1,9 @@
 -- The laws of whole messages.
-use Rattle.std.proofs.Common.{◌≡◌, ◌↔◌, ℕ, ◌+◌, true, List, [], Option, Some, None, Result, Ok, Err, inl, inr, refl, sym, ap, subst, ◌∙◌}
+use Rattle.std.proofs.Common.{◌≡◌, ℕ, true, List, Option, Some, None, Result, Ok, Err, refl, sym, subst, ◌∙◌}
 use Rattle.giop_cdr.specs.declared.order.Order.{Order}
 use Rattle.giop_cdr.specs.declared.fault.CdrFault.{CdrFault}
 use Rattle.giop_cdr.specs.Reading.Cursor.{Cursor}
-use Rattle.giop_cdr.specs.Reading.Exactness.{Took}
 use Rattle.giop_cdr.specs.Reading.Values.{Reading}
-use Rattle.giop_cdr.specs.RoundTrip.{IsSpelled}
 use Rattle.giop_cdr.specs.Ending.{Ending, IsLawfulEnding}
 use Rattle.giop_types.specs.declared.json.interface.Interface.{Interface}
 use Rattle.giop_types.specs.declared.json.interface.Operation.{Operation}

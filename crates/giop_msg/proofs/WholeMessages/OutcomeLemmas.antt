@@ -1,14 +1,10 @@
 -- What is answered by reading is what the octets spell, and what they spell is answered.
-use Rattle.std.proofs.Common.{◌≡◌, ℕ, ◌⊎◌, inl, inr, List, Result, Ok, Err, IsOk, IfOk, refl, ◌∙◌, sym, ap, subst}
+use Rattle.std.proofs.Common.{◌≡◌, ℕ, inl, inr, List, Result, Ok, Err, IfOk, ◌∙◌, sym}
 use Rattle.giop_cdr.specs.declared.order.Order.{Order}
 use Rattle.giop_cdr.specs.declared.fault.CdrFault.{CdrFault}
 use Rattle.giop_cdr.specs.Ending.{Ending, IsLawfulEnding}
 use Rattle.giop_cdr.proofs.Reading.Answers.{ok_same}
-use Rattle.giop_types.specs.declared.json.interface.Interface.{Interface}
-use Rattle.giop_msg.specs.declared.messages.request.Request.{Request}
-use Rattle.giop_msg.specs.declared.messages.request_fault.RequestFault.{RequestFault}
-use Rattle.giop_msg.specs.declared.version.Version.{Version}
-use Rattle.giop_msg.specs.Joined.{joined_from, no_memory}
+use Rattle.giop_msg.specs.Joined.{joined_from}
 use Rattle.giop_msg.specs.Messages.Outcome.{Decodes, FollowsToEnd, IsTold, IsToldToEnd}
 
 abbrev value_of : {A : Type 0} → A → Result A CdrFault

@@ -1,11 +1,11 @@
 -- The table of a Reply is lawful.
-use Rattle.std.proofs.Common.{◌≡◌, ◌≤◌, ◌<◌, ℕ, zero, suc, ◌==◌, nat_lt, nat_le, ◌&&◌, Bool, true, false, List, Option, Some, None, refl, sym, ap, ◌∙◌, arith}
+use Rattle.std.proofs.Common.{◌≡◌, ◌≤◌, ℕ, zero, suc, ◌==◌, nat_lt, nat_le, ◌&&◌, Bool, true, false, List, Option, refl, sym, ap, ◌∙◌, arith}
 use Rattle.std.proofs.lemmas.Bool.{eqb-true, leb-true, ltb-true}
 use Rattle.std.proofs.lemmas.Bool.Decides.{nat_tests}
 use Rattle.std.specs.Int.{w16, w32}
 use Rattle.giop_cdr.specs.Layout.{IsLawful, number, such, field, gives, chosen}
-use Rattle.giop_cdr.specs.Ending.{IsLawfulEnding, ended, from_multiple_of_8, made_of}
-use Rattle.giop_cdr.proofs.EndingLemmas.{ended_is, leads_is, made_of_is}
+use Rattle.giop_cdr.specs.Ending.{Ending, IsLawfulEnding, ended, from_multiple_of_8, made_of, nothing}
+use Rattle.giop_cdr.proofs.EndingLemmas.{ended_is, leads_is, made_of_is, nothing_is}
 use Rattle.giop_cdr.proofs.LayoutLemmas.{both, number_is, signed_is, text_is, such_is, field_is, gives_is, chosen_is}
 use Rattle.giop_ior.specs.Ior.{Reference as IorValue}
 use Rattle.giop_ior.specs.ServiceContext.{service_contexts}
@@ -18,8 +18,8 @@ use Rattle.giop_msg.specs.declared.messages.reply_body.ReplyBody.TheVariants.{Fo
 use Rattle.giop_msg.specs.declared.messages.request.Request.{Request}
 use Rattle.giop_msg.specs.declared.version.Version.{Version}
 use Rattle.giop_msg.specs.declared.version.Version.TheVariants.{V10, V11, V12}
-use Rattle.giop_msg.specs.Messages.Body.{body_of, values}
-use Rattle.giop_msg.specs.Messages.Reply.{completion, completion_of, completion_number, status_of, outs_in, id_in, members_in, ior_in, disposition_in, no_exception, user_exception, system_exception, forward, needs_addressing, reply_body, outs_for, head_in, reply}
+use Rattle.giop_msg.specs.Messages.Body.{body_of}
+use Rattle.giop_msg.specs.Messages.Reply.{completion, completion_of, completion_number, status_of, outs_in, id_in, members_in, ior_in, disposition_in, no_exception, user_exception, system_exception, forward, needs_addressing, reply_body, outs_for, may_answer, allowed, head_in, reply}
 use Rattle.giop_msg.specs.ReplyHead.{AnyReplyHead, early_reply_head, last_reply_status, reply_head, reply_head_1_2, reply_status}
 use Rattle.giop_msg.proofs.ReplyHeadLemmas.{reply_head_is}
 use Rattle.giop_msg.proofs.WholeMessages.BodyLemmas.{body_is, values_are}
@@ -129,19 +129,33 @@ status_fits V10 head fit = within_five head.status (early_fits V10 head fit)
 status_fits V11 head fit = within_five head.status (early_fits V11 head fit)
 status_fits V12 head fit = leb-true head.status 5 (late_fits head fit)
 
+allowed_is : {A : Type 0} (may : Bool) {f : Ending A} → IsLawfulEnding f → IsLawfulEnding (allowed may f)
+unfolding allowed
+allowed_is true one = one
+allowed_is false one = nothing_is
+
+allowed_holds : {A : Type 0} (may : Bool) (f : Ending A) (v : A) → (allowed may f).holds v → f.holds v
+unfolding allowed nothing
+allowed_holds true f v held = held
+allowed_holds false f v held = absurd held
+
 -- a Reply tells its head again
-its_head : (version : Version) (interface : Interface) (outs : List Parameter) (head : AnyReplyHead) (v : Reply) → (reply_head version).fits head ≡ true
+its_head : (version : Version) (interface : Interface) (outs : List Parameter) (may : Bool) (head : AnyReplyHead) (v : Reply)
+    → (reply_head version).fits head ≡ true
     → (made_of (λ (reply : Reply). reply.body) (λ body. record { version = head.version; id = head.id; contexts = head.contexts; body = body })
-    (body_of version (ended (reply_body interface outs head.status)))).holds v → head_in v ≡ head
+    (allowed may (body_of version (ended (reply_body interface outs head.status))))).holds v → head_in v ≡ head
 unfolding made_of
-its_head version interface outs head v fits held =
+its_head version interface outs may head v fits held =
     let told = status_told interface outs head.status v.body (status_fits version head fits)
-    (body_holds version interface outs head.status v.body held.1) in
+    (body_holds version interface outs head.status v.body
+    (allowed_holds may (body_of version (ended (reply_body interface outs head.status))) v.body held.1)) in
     ap head_in held.0 ∙ (λ i. record { version = head.version; id = head.id; status = told i; contexts = head.contexts })
 
 -- the table of a Reply is lawful
-pub reply_is : (interface : Interface) (request : Request) (version : Version) → IsLawfulEnding (reply interface request version)
+pub reply_is : (interface : Interface) (request : Option Request) (version : Version) → IsLawfulEnding (reply interface request version)
 unfolding reply
 reply_is interface request version =
-    leads_is _ (λ head v fits _ held. its_head version interface (outs_for interface request) head v fits held) (reply_head_is version)
-    (λ head. made_of_is _ _ (λ body. refl) (body_is version (ended_is (reply_body_is interface (outs_for interface request) head.status))))
+    leads_is _ (λ head v fits _ held. its_head version interface (outs_for interface request) (may_answer request head.status) head v fits held)
+    (reply_head_is version)
+    (λ head. made_of_is _ _ (λ body. refl)
+    (allowed_is (may_answer request head.status) (body_is version (ended_is (reply_body_is interface (outs_for interface request) head.status)))))

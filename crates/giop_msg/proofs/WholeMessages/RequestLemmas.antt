@@ -1,5 +1,5 @@
 -- The table of a Request is lawful, and what is read by it is answered, fault by fault.
-use Rattle.std.proofs.Common.{◌≡◌, ◌⊎◌, inl, inr, ℕ, ◌&&◌, Bool, true, false, List, length, Option, Some, None, Result, Ok, Err, IfOk, refl, sym, ap, ◌∙◌}
+use Rattle.std.proofs.Common.{◌≡◌, inl, inr, ℕ, ◌&&◌, Bool, true, false, List, length, Option, Some, None, Result, Ok, Err, IfOk, refl, sym, ap, ◌∙◌}
 use Rattle.giop_cdr.specs.declared.order.Order.{Order}
 use Rattle.giop_cdr.specs.declared.fault.CdrFault.{CdrFault}
 use Rattle.giop_cdr.specs.Reading.Cursor.{Cursor}
@@ -13,7 +13,7 @@ use Rattle.giop_types.specs.declared.json.parameters.Parameter.{Parameter}
 use Rattle.giop_types.specs.Values.Tree.{Tree}
 use Rattle.giop_msg.specs.declared.messages.request.Request.{Request}
 use Rattle.giop_msg.specs.declared.messages.request_fault.RequestFault.{RequestFault}
-use Rattle.giop_msg.specs.declared.messages.request_fault.RequestFault.TheVariants.{Header, Operation as NoOperation, Body}
+use Rattle.giop_msg.specs.declared.messages.request_fault.RequestFault.TheVariants.{Operation as NoOperation, Body}
 use Rattle.giop_msg.specs.declared.version.Version.{Version}
 use Rattle.giop_msg.specs.Joined.{joined_from}
 use Rattle.giop_types.specs.Values.Fits.{fields_fit}

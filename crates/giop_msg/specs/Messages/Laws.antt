@@ -1,8 +1,7 @@
 -- What holds of whole messages.
-use Rattle.std.specs.Prelude.{◌≡◌, ℕ, ◌+◌, ◌≤◌, ◌↔◌, true, List, [], length, drop, Result, Ok, Err}
+use Rattle.std.specs.Prelude.{◌≡◌, ℕ, ◌↔◌, true, List, Ok, Err}
 use Rattle.giop_cdr.specs.declared.order.Order.{Order}
-use Rattle.giop_cdr.specs.declared.fault.CdrFault.{CdrFault}
-use Rattle.giop_cdr.specs.Reading.Cursor.{Cursor, pad}
+use Rattle.giop_cdr.specs.Reading.Cursor.{Cursor}
 use Rattle.giop_cdr.specs.Layout.{AreOctets}
 use Rattle.giop_cdr.specs.Ending.{Ending, IsExactToEnd}
 use Rattle.giop_types.specs.declared.json.interface.Interface.{Interface}

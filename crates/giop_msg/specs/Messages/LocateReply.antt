@@ -1,5 +1,4 @@
 -- A whole LocateReply (CORBA 3.3 Part 2, 9.4.6).
-use Rattle.std.specs.Prelude.{List}
 use Rattle.giop_cdr.specs.Ending.{Ending, leads, made_of, remainder}
 use Rattle.giop_msg.specs.declared.messages.locate_reply.LocateReply.{LocateReply}
 use Rattle.giop_msg.specs.declared.version.Version.{Version}

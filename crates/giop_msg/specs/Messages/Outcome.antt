@@ -1,5 +1,5 @@
 -- What a call says that reads a whole message from its joined octets, or writes it.
-use Rattle.std.specs.Prelude.{◌≡◌, ◌⊎◌, ℕ, List, [], Result, Ok, Err, IsOk}
+use Rattle.std.specs.Prelude.{◌≡◌, ◌⊎◌, [], Result, Ok, Err, IsOk}
 use Rattle.giop_cdr.specs.declared.order.Order.{Order}
 use Rattle.giop_cdr.specs.declared.fault.CdrFault.{CdrFault}
 use Rattle.giop_cdr.specs.declared.fault.CdrKind.TheVariants.{NoMemory}

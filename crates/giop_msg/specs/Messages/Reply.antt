@@ -5,7 +5,7 @@ use Rattle.std.specs.Int.{w16, w32}
 use Rattle.std.specs.Ordering.{nat_cmp}
 use Rattle.std.specs.Cmp.Lexicographic.{slice_cmp}
 use Rattle.giop_cdr.specs.declared.fault.CdrKind.TheVariants.{BadLabel}
-use Rattle.giop_cdr.specs.Ending.{Ending, ended, leads, made_of}
+use Rattle.giop_cdr.specs.Ending.{Ending, ended, leads, made_of, nothing}
 use Rattle.giop_cdr.specs.Layout.{Layout, number, signed, text, such, field, gives, chosen}
 use Rattle.giop_ior.specs.Ior.{ior_layout}
 use Rattle.giop_ior.specs.Ior.{Reference as IorValue}
@@ -106,11 +106,17 @@ abbrev pub outs_of : Option Operation → List Parameter
 outs_of (Some operation) = operation.outs.list.items
 outs_of None = []
 
--- what a reply to a request brings where there is no exception: the outs of its operation, and none
--- where its flags are 1
-abbrev pub outs_for : Interface → Request → List Parameter
-outs_for interface request =
+-- what a reply to a request brings where there is no exception: the outs of its operation; none
+-- where its flags are 1, or where it could not be decoded
+abbrev pub outs_for : Interface → Option Request → List Parameter
+outs_for interface None = []
+outs_for interface (Some request) =
     if request.head.flags == 1 then [] else outs_of (operation_of interface request.head.operation)
+
+-- whether a status answers a request: to one that could not be decoded SYSTEM_EXCEPTION alone does
+abbrev pub may_answer : Option Request → ℕ → Bool
+may_answer None status = status == 2
+may_answer (Some request) status = true
 
 -- 0 NO_EXCEPTION: the outs
 unfoldable pub no_exception : List Parameter → Layout ReplyBody
@@ -148,6 +154,11 @@ reply_body interface outs status =
     (chosen (status == 3) (forward (λ ior. Forward ior))
     (chosen (status == 4) (forward (λ ior. ForwardPerm ior)) needs_addressing))))
 
+-- a body where there may be one; no octets, where there may not
+unfoldable pub allowed : {A : Type 0} → Bool → Ending A → Ending A
+allowed true f = f
+allowed false f = nothing
+
 -- the head of a Reply
 abbrev pub head_in : Reply → AnyReplyHead
 head_in reply = record {
@@ -157,8 +168,8 @@ head_in reply = record {
   contexts = reply.contexts;
 }
 
--- a Reply of an interface to a request, by a version's layout
-unfoldable pub reply : Interface → Request → Version → Ending Reply
+-- a Reply of an interface to a request, by a version's layout; or to one that could not be decoded
+unfoldable pub reply : Interface → Option Request → Version → Ending Reply
 reply interface request version =
     leads head_in (reply_head version) λ head.
     made_of (λ reply. reply.body) (λ body. record {
@@ -167,4 +178,5 @@ reply interface request version =
       contexts = head.contexts;
       body = body;
     })
-    (body_of version (ended (reply_body interface (outs_for interface request) head.status)))
+    (allowed (may_answer request head.status)
+    (body_of version (ended (reply_body interface (outs_for interface request) head.status))))

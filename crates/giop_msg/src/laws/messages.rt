@@ -1,5 +1,6 @@
 // Laws of whole messages. Each function's contract is one of them; the bodies are empty, and no
 // program calls these.
+ghost use Rattle.std.specs.Prelude.{Option};
 ghost use Rattle.giop_types.specs.declared.json.interface.Interface.{Interface};
 ghost use Rattle.giop_msg.specs.declared.version.Version.{Version};
 ghost use Rattle.giop_msg.specs.Messages.Laws.{IsWhole, RequestsAreReadBack, RequestsAreRefused};
@@ -25,8 +26,9 @@ pub fn locate_replies_are_spelled()
     ensures { (version : Version) → IsWhole (locate_reply version) }
 {}
 
-/// The same of a Reply of any interface to any request: its body is by its status.
+/// The same of a Reply of any interface to any request: its body is by its status. To a request
+/// that could not be decoded it is an exception of the broker.
 pub fn replies_are_spelled()
-    ensures { (interface : Interface) (asked : Request) (version : Version)
+    ensures { (interface : Interface) (asked : Option Request) (version : Version)
         → IsWhole (reply interface asked version) }
 {}

@@ -29,8 +29,8 @@ pub fn are_fitting(parameters: &[Parameter], values: &[Value]) -> bool
     true
 }
 
-// The values, one after the other. Where memory is wanting a part of them is left.
-fn append_values(
+/// The values, one after the other. Where memory is wanting a part of them is left.
+pub fn append_values(
     parameters: &[Parameter],
     values: &[Value],
     out: &mut CdrOut,

@@ -1,18 +1,19 @@
-#![tactic(auto, unfolding(crate::specs::Messages::Reply::reply, giop_cdr::specs::Ending::leads, giop_cdr::specs::Ending::made_of))]
+#![tactic(auto, unfolding(crate::specs::Messages::Reply::reply, crate::specs::Messages::Reply::allowed, giop_cdr::specs::Ending::nothing, giop_cdr::specs::Ending::leads, giop_cdr::specs::Ending::made_of))]
 
 ghost use Rattle.std.specs.Prelude.{◌≡◌, ◌≤◌, ◌^◌, length, IfOk};
+ghost use Rattle.std.specs.Option.{option_copied};
 ghost use Rattle.giop_msg.specs.Joined.{joined_from};
 ghost use Rattle.giop_msg.specs.Messages.Outcome.{FollowsToEnd, IsToldToEnd};
 ghost use Rattle.giop_msg.specs.Messages.Reply.{reply};
 
 use crate::messages::body::no_memory;
 use crate::messages::reply_body::ReplyBody;
-use crate::messages::reply_reading::{outs_for, read_reply_body};
+use crate::messages::reply_reading::{may_answer, outs_for, read_reply_body};
 use crate::messages::request::Request;
 use crate::reply_head::view_head;
 use crate::service_contexts::ServiceContexts;
 use crate::version::Version;
-use giop_cdr::{CdrFault, CdrIn, Octets, Order};
+use giop_cdr::{CdrFault, CdrIn, CdrKind, Octets, Order};
 use giop_types::Interface;
 use std::alloc::Global;
 
@@ -34,16 +35,17 @@ impl Reply {
     /// `RequestHead::view`. The body is where that of a Request is, and by the status: 0 the
     /// operation's outs, and none where the flags of the request are 1; 1 the id of an exception of
     /// the interface and its members; 2 an id, a minor code and a completion; 3 and 4 a reference; 5
-    /// a short.
+    /// a short. Without a request, as where it could not be decoded, it is of status 2.
     ///
     /// Refused as the first field that is refused, in reading order: each as its own reader says; a
     /// status or a completion that there isn't, and an id of an exception that the interface hasn't,
-    /// as BadLabel; then as Trailing at the first octet that is left. Want of memory is NoMemory,
-    /// which may stand in place of a refusal that is further on.
+    /// as BadLabel; a status other than 2 without a request as BadLabel at the end of the head; then
+    /// as Trailing at the first octet that is left. Want of memory is NoMemory, which may stand in
+    /// place of a refusal that is further on.
     pub fn decode<S: Octets>(
         alloc: Global,
         interface: &Interface,
-        request: &Request,
+        request: Option<&Request>,
         octets: &S,
         version: Version,
         order: Order,
@@ -51,13 +53,16 @@ impl Reply {
         requires { length (S.octets octets.now) ≤ 2 ^ 62 }
         // What is answered is what the octets spell, and what they spell is answered.
         ensures found { IfOk result (λ r.
-            (reply interface.now request.now version).spells order 12 r (S.octets octets.now)) }
+            (reply interface.now (option_copied request.entry) version).spells order 12 r
+            (S.octets octets.now)) }
         ensures only { (r : _)
-            → (reply interface.now request.now version).spells order 12 r (S.octets octets.now)
+            → (reply interface.now (option_copied request.entry) version).spells order 12 r
+            (S.octets octets.now)
             → IsToldToEnd result r }
 
         // Which refusal it is.
-        ensures exact { FollowsToEnd result ((reply interface.now request.now version).read
+        ensures exact { FollowsToEnd result
+            ((reply interface.now (option_copied request.entry) version).read
             (joined_from order (S.octets octets.now))) }
     {
         read_reply(alloc, interface, request, octets, version, order)
@@ -68,17 +73,24 @@ impl Reply {
 fn read_reply<S: Octets>(
     alloc: Global,
     interface: &Interface,
-    request: &Request,
+    request: Option<&Request>,
     octets: &S,
     version: Version,
     order: Order,
 ) -> Result<Reply, CdrFault>
     requires { length (S.octets octets.now) ≤ 2 ^ 62 }
-    ensures { FollowsToEnd result ((reply interface.now request.now version).read
+    ensures { FollowsToEnd result
+        ((reply interface.now (option_copied request.entry) version).read
         (joined_from order (S.octets octets.now))) }
 {
     let mut input = CdrIn::new(octets, order, 12);
     let head = view_head(version, &mut input)?;
+    if !may_answer(request, head.status) {
+        return Err(CdrFault {
+            at: input.position(),
+            kind: CdrKind::BadLabel,
+        });
+    }
     let Ok(contexts) = head.contexts.to_vec(alloc) else {
         return Err(no_memory());
     };

@@ -1,14 +1,15 @@
 //! Reading the body of a Reply, by its status.
 #![tactic(auto, unfolding(crate::specs::Messages::Reply::completion, crate::specs::Messages::Reply::no_exception, crate::specs::Messages::Reply::user_exception, crate::specs::Messages::Reply::system_exception, crate::specs::Messages::Reply::forward, crate::specs::Messages::Reply::needs_addressing, crate::specs::Messages::Reply::reply_body, crate::specs::Messages::Body::values, giop_cdr::specs::Layout::field, giop_cdr::specs::Layout::such, giop_cdr::specs::Layout::number, giop_cdr::specs::Layout::signed, giop_cdr::specs::Layout::text, giop_cdr::specs::Layout::gives, giop_cdr::specs::Layout::chosen, giop_cdr::specs::Reading::Values::such_at))]
 
-ghost use Rattle.std.specs.Prelude.{◌≡◌};
+ghost use Rattle.std.specs.Prelude.{◌≡◌, Some};
+ghost use Rattle.std.specs.Option.{option_copied};
 ghost use Rattle.giop_cdr.specs.Reading.Outcome.{Exactly, Follows};
 ghost use Rattle.giop_cdr.specs.declared.fault.CdrKind.TheVariants.{BadLabel};
 ghost use Rattle.giop_cdr.specs.Ending.{ended};
 ghost use Rattle.giop_cdr.specs.Layout.{such, text};
 ghost use Rattle.giop_msg.specs.Messages.Body.{body_of};
 ghost use Rattle.giop_msg.specs.Messages.Outcome.{FollowsToEnd};
-ghost use Rattle.giop_msg.specs.Messages.Reply.{completion, exception_of, forward, is_known, listed, needs_addressing, no_exception, outs_for, reply_body, system_exception, user_exception};
+ghost use Rattle.giop_msg.specs.Messages.Reply.{completion, exception_of, forward, is_known, listed, may_answer, needs_addressing, no_exception, outs_for, reply_body, system_exception, user_exception};
 ghost use Rattle.giop_msg.specs.declared.messages.reply_body.ReplyBody.TheVariants.{Forward, ForwardPerm};
 
 use crate::messages::body::{align_body, no_memory, read_values};
@@ -120,8 +121,8 @@ fn read_exception_id<S: Octets>(
     Ok(id)
 }
 
-// Whether the interface has an exception of this id.
-fn is_known(interface: &Interface, id: &[u8]) -> bool
+/// Whether the interface has an exception of this id.
+pub fn is_known(interface: &Interface, id: &[u8]) -> bool
     ensures { result ≡ is_known (exception_of interface.now id.now) }
 {
     match interface.exception(id) {
@@ -223,9 +224,19 @@ pub fn read_reply_body<S: Octets>(
 }
 
 /// The outs that a reply to a request brings where there is no exception: none where the flags of
-/// the request are 1.
-pub fn outs_for<'a>(interface: &'a Interface, request: &Request) -> &'a [Parameter]
-    ensures { result.now ≡ outs_for interface.now request.now }
+/// the request are 1, or where it could not be decoded.
+pub fn outs_for<'a>(interface: &'a Interface, request: Option<&Request>) -> &'a [Parameter]
+    ensures { result.now ≡ outs_for interface.now (option_copied request.entry) }
+{
+    match request {
+        Some(request) => outs_of(interface, request),
+        None => &[],
+    }
+}
+
+// The outs of the operation of a request; none where its flags are 1.
+fn outs_of<'a>(interface: &'a Interface, request: &Request) -> &'a [Parameter]
+    ensures { result.now ≡ outs_for interface.now (Some request.now) }
 {
     if request.head.flags == 1 {
         return &[];
@@ -233,5 +244,15 @@ pub fn outs_for<'a>(interface: &'a Interface, request: &Request) -> &'a [Paramet
     match interface.operation(request.head.operation.as_slice()) {
         Some(operation) => operation.outs.as_slice(),
         None => &[],
+    }
+}
+
+/// Whether a status answers a request: to one that could not be decoded SYSTEM_EXCEPTION alone does.
+pub fn may_answer(request: Option<&Request>, status: u32) -> bool
+    ensures { result ≡ may_answer (option_copied request.entry) status }
+{
+    match request {
+        Some(_) => true,
+        None => status == 2,
     }
 }

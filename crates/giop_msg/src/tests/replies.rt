@@ -6,6 +6,23 @@ use giop_types::{Interface, Value};
 use std::alloc::Global;
 use std::test::Fail;
 
+// Decodes, again where memory was wanting.
+pub fn again(
+    alloc: Global,
+    interface: &Interface,
+    request: Option<&Request>,
+    joined: &SliceOctets,
+    version: Version,
+    order: Order,
+) -> Result<Reply, CdrFault> {
+    match Reply::decode(alloc, interface, request, joined, version, order) {
+        Err(fault) if fault.kind == CdrKind::NoMemory => {
+            Reply::decode(alloc, interface, request, joined, version, order)
+        }
+        answer => answer,
+    }
+}
+
 // Decodes a reply to `add`, again where memory was wanting.
 fn reply(
     alloc: Global,
@@ -15,12 +32,14 @@ fn reply(
     version: Version,
 ) -> Result<Reply, CdrFault> {
     let joined = SliceOctets::new(&octets[..octets.len().min(64)]);
-    match Reply::decode(alloc, interface, request, &joined, version, Order::Big) {
-        Err(fault) if fault.kind == CdrKind::NoMemory => {
-            Reply::decode(alloc, interface, request, &joined, version, Order::Big)
-        }
-        answer => answer,
-    }
+    again(
+        alloc,
+        interface,
+        Some(request),
+        &joined,
+        version,
+        Order::Big,
+    )
 }
 
 // Whether it is the reply 7 under this id.

@@ -1,4 +1,4 @@
-use Rattle.std.proofs.Common.{◌≡◌, map}
+use Rattle.std.proofs.Common.{map}
 use Rattle.giop_cdr.proofs.Writing.WriterLemmas.{grows_then}
 use Rattle.giop_types.specs.Coding.Written.{fields_out}
 use Rattle.giop_types.specs.Values.Views.{value_view}

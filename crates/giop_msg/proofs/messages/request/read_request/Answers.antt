@@ -1,4 +1,4 @@
-use Rattle.std.proofs.Common.{◌≡◌, inl, inr, sym, ap, ◌∙◌}
+use Rattle.std.proofs.Common.{inl, inr, sym, ap, ◌∙◌}
 use Rattle.giop_msg.specs.RequestHead.{request_head}
 use Rattle.giop_msg.proofs.WholeMessages.RequestLemmas.{unknown_answer, body_told, body_refused}
 use Rattle.giop_msg.proofs.messages.request.read_request.Goals as goal

@@ -1,4 +1,4 @@
-use Rattle.std.proofs.Common.{◌≡◌, length, map, sym, ap, ◌∙◌}
+use Rattle.std.proofs.Common.{length, map, sym, ap, ◌∙◌}
 use Rattle.std.proofs.lemmas.List.{length-map}
 use Rattle.giop_types.specs.Values.Views.{value_view}
 use Rattle.giop_msg.proofs.WholeMessages.RequestLemmas.{appends_then, fits_head, fits_many, parts_written, written_unknown}

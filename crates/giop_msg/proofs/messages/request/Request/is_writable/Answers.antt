@@ -1,4 +1,4 @@
-use Rattle.std.proofs.Common.{◌≡◌, ◌&&◌, Bool, true, false, map, sym, ap, ◌∙◌, refl}
+use Rattle.std.proofs.Common.{◌≡◌, ◌&&◌, true, false, map, sym, ap, ◌∙◌}
 use Rattle.giop_types.specs.Values.Fits.{fields_fit}
 use Rattle.giop_types.specs.Values.Views.{value_view}
 use Rattle.giop_msg.specs.Messages.Body.{fields_in}

@@ -1,0 +1,175 @@
+//! Writing the body of a Reply, by its kind.
+#![tactic(auto, unfolding(crate::specs::Messages::Reply::completion, crate::specs::Messages::Reply::no_exception, crate::specs::Messages::Reply::user_exception, crate::specs::Messages::Reply::system_exception, crate::specs::Messages::Reply::forward, crate::specs::Messages::Reply::needs_addressing, crate::specs::Messages::Reply::reply_body, crate::specs::Messages::Body::values, giop_cdr::specs::Layout::field, giop_cdr::specs::Layout::such, giop_cdr::specs::Layout::number, giop_cdr::specs::Layout::signed, giop_cdr::specs::Layout::text, giop_cdr::specs::Layout::gives, giop_cdr::specs::Layout::chosen), using(giop_cdr::proofs::Writing::WriterLemmas::grows_then, giop_cdr::proofs::Writing::WriterLemmas::grows_not))]
+
+ghost use Rattle.std.specs.Prelude.{◌≡◌, true, length, map};
+ghost use Rattle.giop_cdr.specs.Ending.{ended, unless_empty};
+ghost use Rattle.giop_cdr.specs.Layout.{is_spellable};
+ghost use Rattle.giop_cdr.specs.Writing.Output.{padding_out};
+ghost use Rattle.giop_cdr.specs.Writing.Outcome.{Appends};
+ghost use Rattle.giop_types.specs.Values.Views.{value_view};
+ghost use Rattle.giop_msg.specs.Messages.Body.{body_of};
+ghost use Rattle.giop_msg.specs.Messages.Reply.{completion_number, exception_of, listed, no_exception, reply_body, status_of, system_exception, user_exception};
+ghost use Rattle.giop_msg.specs.declared.messages.reply_body.ReplyBody.TheVariants.{NoException, SystemException, UserException};
+
+use crate::messages::body_writing::{append_values, are_fitting};
+use crate::messages::completion::Completion;
+use crate::messages::reply_body::ReplyBody;
+use crate::messages::reply_reading::{is_known, members_of};
+use crate::request_head_writing::is_text;
+use crate::version::Version;
+use giop_cdr::{CdrOut, EncodeFault};
+use giop_ior::write_ior;
+use giop_types::{Interface, Parameter, Value};
+
+impl ReplyBody {
+    /// The reply status of the body (CORBA 3.3 Part 2, 9.4.3.1).
+    pub fn status(&self) -> u32
+        ensures { result ≡ status_of self.now }
+    {
+        match self {
+            ReplyBody::NoException(_) => 0,
+            ReplyBody::UserException { .. } => 1,
+            ReplyBody::SystemException { .. } => 2,
+            ReplyBody::Forward(_) => 3,
+            ReplyBody::ForwardPerm(_) => 4,
+            ReplyBody::NeedsAddressing(_) => 5,
+        }
+    }
+}
+
+// The number of a completion.
+fn completion_number(completion: Completion) -> u32
+    ensures { result ≡ completion_number completion }
+{
+    match completion {
+        Completion::Yes => 0,
+        Completion::No => 1,
+        Completion::Maybe => 2,
+    }
+}
+
+// Whether an exception of the interface has this id, and these members.
+fn is_fitting_exception(interface: &Interface, id: &[u8], members: &[Value]) -> bool
+    ensures { result ≡ (user_exception interface.now).fits
+        (UserException id.now (map value_view members.now)) }
+{
+    is_text(id) && is_known(interface, id) && are_fitting(members_of(interface, id), members)
+}
+
+/// Whether octets spell a body: its values are of their descriptions, an exception of the interface
+/// is known, no null is in an id, and each text and list is short enough for its count.
+pub fn is_fitting_body(interface: &Interface, outs: &[Parameter], body: &ReplyBody) -> bool
+    ensures { result ≡ (reply_body interface.now outs.now (status_of body.now)).fits body.now }
+{
+    match body {
+        ReplyBody::NoException(values) => are_fitting(outs, values.as_slice()),
+        ReplyBody::UserException { id, members } => {
+            is_fitting_exception(interface, id.as_slice(), members.as_slice())
+        }
+        ReplyBody::SystemException { id, .. } => is_text(id.as_slice()),
+        ReplyBody::Forward(ior) | ReplyBody::ForwardPerm(ior) => ior.is_writable(),
+        ReplyBody::NeedsAddressing(_) => true,
+    }
+}
+
+// An exception of the interface: its id and its members.
+fn append_user_exception(
+    interface: &Interface,
+    id: &[u8],
+    members: &[Value],
+    out: &mut CdrOut,
+) -> Result<(), EncodeFault>
+    requires { (user_exception interface.now).fits
+        (UserException id.now (map value_view members.now)) ≡ true }
+    ensures { Appends out.old result out.new ((user_exception interface.now).written
+        (UserException id.now (map value_view members.now)) out.old) }
+{
+    out.write_string(id)?;
+    append_values(members_of(interface, id), members, out)
+}
+
+// An exception of the broker: its id, its minor code and the completion.
+fn append_system_exception(
+    id: &[u8],
+    minor: u32,
+    completion: Completion,
+    out: &mut CdrOut,
+) -> Result<(), EncodeFault>
+    requires { is_spellable id.now ≡ true }
+    ensures { Appends out.old result out.new
+        (system_exception.written (SystemException id.now minor completion) out.old) }
+{
+    out.write_string(id)?;
+    out.write_ulong(minor)?;
+    out.write_ulong(completion_number(completion))?;
+    Ok(())
+}
+
+// The fields of a body, by its kind. Where memory is wanting a part of them is left.
+fn append_fields(
+    interface: &Interface,
+    outs: &[Parameter],
+    body: &ReplyBody,
+    out: &mut CdrOut,
+) -> Result<(), EncodeFault>
+    requires { (reply_body interface.now outs.now (status_of body.now)).fits body.now ≡ true }
+    ensures { Appends out.old result out.new
+        ((reply_body interface.now outs.now (status_of body.now)).written body.now out.old) }
+{
+    match body {
+        ReplyBody::NoException(values) => append_values(outs, values.as_slice(), out),
+        ReplyBody::UserException { id, members } => {
+            append_user_exception(interface, id.as_slice(), members.as_slice(), out)
+        }
+        ReplyBody::SystemException {
+            id,
+            minor,
+            completion,
+        } => append_system_exception(id.as_slice(), *minor, *completion, out),
+        ReplyBody::Forward(ior) | ReplyBody::ForwardPerm(ior) => write_ior(out, ior),
+        ReplyBody::NeedsAddressing(disposition) => Ok(out.write_short(*disposition)?),
+    }
+}
+
+// The body from the next multiple of 8 on, and no padding where it takes no octets.
+#[tactic(auto, using(giop_cdr::proofs::Writing::WriterLemmas::grows_then, giop_cdr::proofs::Writing::WriterLemmas::grows_not))]
+fn append_aligned(
+    interface: &Interface,
+    outs: &[Parameter],
+    body: &ReplyBody,
+    out: &mut CdrOut,
+) -> Result<(), EncodeFault>
+    requires { (reply_body interface.now outs.now (status_of body.now)).fits body.now ≡ true }
+    ensures { Appends out.old result out.new (unless_empty out.old (padding_out 8 out.old)
+        ((reply_body interface.now outs.now (status_of body.now)).written body.now
+        (padding_out 8 out.old))) }
+{
+    let point = out.checkpoint();
+    out.align(8)?;
+    let padded = out.as_slice().len();
+    append_fields(interface, outs, body, out)?;
+    if out.as_slice().len() == padded {
+        out.back_to(point);
+    }
+    Ok(())
+}
+
+/// The body behind a head, where its version has it. Where memory is wanting a part of it is left.
+#[tactic(auto, unfolding(crate::specs::Messages::Body::body_of, giop_cdr::specs::Ending::ended, giop_cdr::specs::Ending::from_multiple_of_8))]
+pub fn append_reply_body(
+    version: Version,
+    interface: &Interface,
+    outs: &[Parameter],
+    body: &ReplyBody,
+    out: &mut CdrOut,
+) -> Result<(), EncodeFault>
+    requires { (reply_body interface.now outs.now (status_of body.now)).fits body.now ≡ true }
+    ensures { Appends out.old result out.new
+        ((body_of version (ended (reply_body interface.now outs.now (status_of body.now)))).written
+        body.now out.old) }
+{
+    match version {
+        Version::V10 | Version::V11 => append_fields(interface, outs, body, out),
+        Version::V12 => append_aligned(interface, outs, body, out),
+    }
+}

@@ -1,0 +1,98 @@
+ghost use Rattle.std.specs.Prelude.{◌≡◌, ◌↔◌, false, true, ℕ, List, IfOk, IsErrOf};
+ghost use Rattle.std.specs.Option.{option_copied};
+ghost use Rattle.giop_cdr.specs.declared.order.Order.{Order};
+ghost use Rattle.giop_cdr.specs.Layout.{AreOctets};
+ghost use Rattle.giop_cdr.specs.Writing.Outcome.{Appends};
+ghost use Rattle.giop_msg.specs.Messages.Outcome.{joined_into};
+ghost use Rattle.giop_msg.specs.Messages.Reply.{reply};
+
+use crate::messages::reply::Reply;
+use crate::messages::reply_body_writing::{append_reply_body, is_fitting_body};
+use crate::messages::reply_reading::{may_answer, outs_for};
+use crate::messages::request::Request;
+use crate::reply_head_writing::{append_parts, are_writable_parts};
+use giop_cdr::{CdrOut, EncodeFault, Order};
+use giop_types::Interface;
+use std::alloc::Global;
+
+impl Reply {
+    /// Whether octets spell the Reply to a Request of an interface in its version, which has its
+    /// status: the outs are as many as the operation's, or none where the flags of the request are
+    /// 1, and each is of its description; an exception of the interface is known, and so are its
+    /// members; no null is in an id, and each text and list is short enough for its count. Without
+    /// a request, as where it could not be decoded, a system exception alone is. It takes no
+    /// memory.
+    pub fn is_writable(&self, interface: &Interface, request: Option<&Request>) -> bool
+        ensures { result ≡ (reply interface.now (option_copied request.entry)
+            self.now.version).fits self.now }
+    {
+        let status = self.body.status();
+        if !may_answer(request, status) {
+            return false;
+        }
+        are_writable_parts(self.version, status, self.contexts.as_slice())
+            && is_fitting_body(interface, outs_for(interface, request), &self.body)
+    }
+
+    /// The joined octets of the Reply to a Request of an interface, in an order: its head, and its
+    /// body by its status, padded with zeros. In 1.2 a body that has octets begins at a multiple of
+    /// 8, and an empty one is written without padding.
+    ///
+    /// Refused as Unfit where `is_writable` is false, and then no octets spell it; else as NoMemory
+    /// where memory is wanting.
+    #[tactic(auto, using(crate::proofs::WholeMessages::ReplyWritingLemmas::reply_unspelled))]
+    pub fn encode(
+        &self,
+        alloc: Global,
+        interface: &Interface,
+        request: Option<&Request>,
+        order: Order,
+    ) -> Result<Vec<u8>, EncodeFault>
+        ensures value { IfOk result (λ octets. octets.items
+            ≡ ((reply interface.now (option_copied request.entry) self.now.version).written
+            self.now (joined_into order)).octets) }
+        ensures err { IsErrOf result EncodeFault.Unfit
+            ↔ ((reply interface.now (option_copied request.entry) self.now.version).fits self.now
+            ≡ false) }
+        ensures unfit { IsErrOf result EncodeFault.Unfit
+            → (order : Order) (at : ℕ) (octets : List ℕ)
+            → AreOctets octets
+            → (reply interface.now (option_copied request.entry) self.now.version).spells
+            order at self.now octets → ⊥ }
+    {
+        if !self.is_writable(interface, request) {
+            return Err(EncodeFault::Unfit);
+        }
+        let mut out = CdrOut::new(alloc, order, 12);
+        if append_reply(self, interface, request, &mut out).is_err() {
+            return Err(EncodeFault::NoMemory);
+        }
+        Ok(out.into_bytes())
+    }
+}
+
+// The head, and the body behind it. Where memory is wanting a part of them is left.
+#[tactic(auto, using(giop_cdr::proofs::Writing::WriterLemmas::grows_then, giop_cdr::proofs::Writing::WriterLemmas::grows_not))]
+fn append_reply(
+    answer: &Reply,
+    interface: &Interface,
+    request: Option<&Request>,
+    out: &mut CdrOut,
+) -> Result<(), EncodeFault>
+    requires { (reply interface.now (option_copied request) answer.now.version).fits
+        answer.now ≡ true }
+    ensures { Appends out.old result out.new
+        ((reply interface.now (option_copied request.entry) answer.now.version).written
+        answer.now out.old) }
+{
+    let status = answer.body.status();
+    append_parts(
+        answer.version,
+        answer.id,
+        status,
+        answer.contexts.as_slice(),
+        out,
+    )?;
+    let outs = outs_for(interface, request);
+    append_reply_body(answer.version, interface, outs, &answer.body, out)
+}
