@@ -1,3 +1,5 @@
+mod ClientGathers
 mod ClientStands
-mod EqualCalls
+mod EqualItems
+mod ServerGathers
 mod ServerStands

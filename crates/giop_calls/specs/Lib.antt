@@ -7,5 +7,7 @@ pub mod ClientTable
 pub mod ClientKeeps
 pub mod Histories
 pub mod ServerStanding
+pub mod Items
 pub mod ServerItems
+pub mod ClientItems
 pub mod ClientStanding
