@@ -11,3 +11,4 @@ pub mod Items
 pub mod ServerItems
 pub mod ClientItems
 pub mod ClientStanding
+pub mod Lane

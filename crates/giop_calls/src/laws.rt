@@ -8,6 +8,7 @@ ghost use Rattle.giop_calls.specs.ClientTable as client;
 ghost use Rattle.giop_calls.specs.Items.{Says, AreAlike};
 ghost use Rattle.giop_calls.specs.ServerItems as server_said;
 ghost use Rattle.giop_calls.specs.ClientItems as client_said;
+ghost use Rattle.giop_calls.specs.Lane.{Codec, Act, IsSound};
 ghost use Rattle.giop_calls.specs.ServerStanding as server_acts;
 ghost use Rattle.giop_calls.specs.ClientStanding as client_acts;
 ghost use Rattle.giop_calls.specs.declared.server.entry.ServerEntry.{ServerEntry};
@@ -46,4 +47,12 @@ pub fn equal_items_equal_at_client()
         → Says client_said.client_turn client_said.client_words None items one
         → Says client_said.client_turn client_said.client_words None items other
         → AreAlike client_said.client_turn client_said.client_words None one other }
+{}
+
+/// Whatever a client and a server do under one id, in whatever order, an id used again included,
+/// and however their messages travel, as long as each pipe keeps its order: no message is refused;
+/// once nothing is on its way and nothing unsent, both ends tell the same outcome; and a reply that
+/// stands at the client is the one that the server gave to that very call.
+pub fn ends_of_one_lane_agree()
+    ensures value { (codec : Codec) (acts : List Act) → IsSound codec acts }
 {}
