@@ -1,6 +1,5 @@
 -- What stands at a client is what its steps leave.
-use Rattle.std.specs.Prelude.{◌≡◌, ℕ, ◌+◌, ◌-◌, ◌==◌, Bool, true, false, if◌then◌else◌, List, [], ◌∷◌, Option, Some, None, Result, Ok, Err, IsOk, refl}
-use Rattle.std.specs.Option.{option_map}
+use Rattle.std.specs.Prelude.{◌≡◌, ℕ, ◌-◌, ◌==◌, Bool, true, false, if◌then◌else◌, List, [], ◌∷◌, Option, Some, None, Result, Ok, Err, IsOk, refl}
 use Rattle.std.specs.List.{AllByRecursion}
 use Rattle.std.proofs.Common.{arith, sym}
 use Rattle.giop_ids.specs.Runs.{alone, told_alone, told, left}
@@ -9,10 +8,9 @@ use Rattle.giop_mux.specs.Runs.{Happening, Hears, IsTaken, turn, stepped, taken}
 use Rattle.giop_msg.specs.declared.version.Version.{Version}
 use Rattle.giop_calls.specs.declared.kind.CallKind.{CallKind}
 use Rattle.giop_calls.specs.declared.fault.CallFault.{CallFault}
-use Rattle.giop_calls.specs.declared.fault.CallFault.TheVariants.{IdInUse, WrongKind, OrderDiffers}
+use Rattle.giop_calls.specs.declared.fault.CallFault.TheVariants.{IdInUse}
 use Rattle.giop_calls.specs.declared.client.call.Call.{Call}
 use Rattle.giop_calls.specs.declared.client.call.Call.TheVariants as asked
-use Rattle.giop_calls.specs.declared.client.late.Late.{Late}
 use Rattle.giop_calls.specs.declared.client.late.Late.TheVariants as late
 use Rattle.giop_calls.specs.declared.client.heard.HeardReply.{HeardReply}
 use Rattle.giop_calls.specs.declared.client.heard.HeardReply.TheVariants as heard
@@ -20,10 +18,10 @@ use Rattle.giop_calls.specs.declared.client.entry.ClientEntry.{ClientEntry}
 use Rattle.giop_calls.specs.declared.client.entry.ClientEntry.TheVariants.{Sending, Waiting, Gathering, Done, LocateDone, Undecoded, OnewaySent, Cancelled}
 use Rattle.giop_calls.specs.declared.client.event.ClientEvent.{ClientEvent}
 use Rattle.giop_calls.specs.declared.client.event.ClientEvent.TheVariants as event
-use Rattle.giop_calls.specs.Messages.{is_oneway, is_same_version}
-use Rattle.giop_calls.specs.ClientTable.{ClientStep, becomes, refused, is_free, is_closed, sent, sending, begins, send, cancel, answers, settles, first, whole, more, last, client_step}
+use Rattle.giop_calls.specs.Messages.{is_oneway}
+use Rattle.giop_calls.specs.ClientTable.{becomes, refused, is_free, is_closed, sent, sending, send, cancel, answers, settles, first, whole, more, last, client_step}
 use Rattle.giop_calls.specs.Histories.{latest, latest_first, onto}
-use Rattle.giop_calls.specs.ClientStanding.{Past, Came, Nothing, Begun, Ended, begins_call, call_of, pieces_of, sends_of, was_cancelled, ended_by, came_of, was_taken, late_of, replied, answered, shown, shown_by, shown_of, standing}
+use Rattle.giop_calls.specs.ClientStanding.{Past, Came, Nothing, Begun, Ended, begins_call, call_of, pieces_of, sends_of, was_cancelled, ended_by, came_of, was_taken, late_of, replied, shown, shown_by, shown_of, standing}
 
 -- what the acts of a call that stands tell of it
 record Tells (past : Past) (c : Bool) (called : Call) (m : Came) : Type 0 where

@@ -1,3 +1,10 @@
+mod ClientGathers
 mod ClientStands
-mod EqualCalls
+mod EqualItems
+mod LaneClient
+mod LanePipes
+mod LaneServer
+mod LaneSound
+mod LaneStands
+mod ServerGathers
 mod ServerStands

@@ -1,6 +1,5 @@
 -- What stands at a server is what its steps leave.
-use Rattle.std.specs.Prelude.{◌≡◌, ℕ, ◌+◌, ◌-◌, ◌==◌, ◌&&◌, ◌||◌, Bool, true, false, not, if◌then◌else◌, List, [], ◌∷◌, Option, Some, None, is_some, is_none, Result, Ok, Err, IsOk, refl}
-use Rattle.std.specs.Option.{option_map}
+use Rattle.std.specs.Prelude.{◌≡◌, ℕ, ◌-◌, ◌==◌, ◌&&◌, ◌||◌, Bool, true, false, if◌then◌else◌, List, [], ◌∷◌, Option, Some, None, is_some, Result, Ok, Err, IsOk, refl}
 use Rattle.std.specs.List.{AllByRecursion}
 use Rattle.std.proofs.Common.{arith, sym}
 use Rattle.giop_ids.specs.Runs.{alone, told_alone, told, left}
@@ -20,9 +19,9 @@ use Rattle.giop_calls.specs.declared.server.entry.ServerEntry.TheVariants.{Gathe
 use Rattle.giop_calls.specs.declared.server.event.ServerEvent.{ServerEvent}
 use Rattle.giop_calls.specs.declared.server.event.ServerEvent.TheVariants as event
 use Rattle.giop_calls.specs.Messages.{is_oneway, is_same_version, is_system_exception}
-use Rattle.giop_calls.specs.ServerTable.{ServerStep, becomes, refused, becomes_if, is_free, is_closed, arrived, begins, more, last, cancel, answer, answer_undecoded, answer_locate, answer_locate_undecoded, send, server_step}
+use Rattle.giop_calls.specs.ServerTable.{becomes, refused, becomes_if, is_free, is_closed, arrived, more, last, cancel, answer, answer_undecoded, answer_locate, answer_locate_undecoded, send, server_step}
 use Rattle.giop_calls.specs.Histories.{earlier, latest, latest_first, onto}
-use Rattle.giop_calls.specs.ServerStanding.{Past, begins_call, kind_of, whole_of, may_cancel, was_cancelled, reply_of, pieces_of, here_of, sends_of, was_taken, answered, gathered, shown, shown_of, standing}
+use Rattle.giop_calls.specs.ServerStanding.{Past, begins_call, kind_of, whole_of, may_cancel, was_cancelled, reply_of, pieces_of, here_of, sends_of, was_taken, answered, shown, shown_of, standing}
 
 -- what the acts of a call that stands tell of it
 record Tells (past : Past) (c : Bool) (w : Option HeardCall) (r : Option Reply) (h : Option Bool)

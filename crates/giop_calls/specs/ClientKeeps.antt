@@ -1,7 +1,6 @@
 -- A refused event leaves the entry at a client.
-use Rattle.std.specs.Prelude.{◌≡◌, ◌==◌, Bool, true, false, Option, Some, None, IsErr, refl, if◌then◌else◌}
+use Rattle.std.specs.Prelude.{◌≡◌, Bool, true, false, Option, Some, None, IsErr, refl, if◌then◌else◌}
 use Rattle.giop_mux.specs.Faults.{no_fault}
-use Rattle.giop_calls.specs.declared.kind.CallKind.TheVariants as kind
 use Rattle.giop_calls.specs.declared.fault.CallFault.{CallFault}
 use Rattle.giop_calls.specs.declared.client.call.Call.TheVariants as asked
 use Rattle.giop_calls.specs.declared.client.late.Late.TheVariants as late
@@ -10,8 +9,7 @@ use Rattle.giop_calls.specs.declared.client.entry.ClientEntry.{ClientEntry}
 use Rattle.giop_calls.specs.declared.client.entry.ClientEntry.TheVariants.{Sending, Waiting, Gathering, Done, LocateDone, Undecoded, OnewaySent, Cancelled}
 use Rattle.giop_calls.specs.declared.client.event.ClientEvent.{ClientEvent}
 use Rattle.giop_calls.specs.declared.client.event.ClientEvent.TheVariants as event
-use Rattle.giop_calls.specs.Messages.{is_same_version, is_oneway}
-use Rattle.giop_calls.specs.ClientTable.{ClientStep, becomes, refused, is_free, begins, send, sending, cancel, answers, settles, first, whole, more, last, client_step}
+use Rattle.giop_calls.specs.ClientTable.{ClientStep, becomes, refused, is_free, send, cancel, answers, settles, first, whole, more, last, client_step}
 
 -- a step leaves the entry where it is refused
 abbrev pub Keeps : Option ClientEntry → ClientStep → Type 0

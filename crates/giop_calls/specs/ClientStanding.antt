@@ -1,5 +1,5 @@
 -- What stands under an id at a client, told without steps: by what befell its latest call.
-use Rattle.std.specs.Prelude.{◌≡◌, ℕ, ◌+◌, ◌-◌, ◌==◌, Bool, true, false, if◌then◌else◌, List, [], ◌∷◌, Option, Some, None}
+use Rattle.std.specs.Prelude.{ℕ, ◌+◌, ◌-◌, ◌==◌, Bool, true, false, if◌then◌else◌, List, [], ◌∷◌, Option, Some, None}
 use Rattle.giop_mux.specs.Runs.{Happening, Hears, IsTaken}
 use Rattle.giop_calls.specs.declared.client.call.Call.{Call}
 use Rattle.giop_calls.specs.declared.client.call.Call.TheVariants as asked

@@ -1,5 +1,5 @@
 -- The table of a client's steps: what each event does to one call (CORBA 3.3 Part 2, 9.4 and 9.6).
-use Rattle.std.specs.Prelude.{ℕ, ◌==◌, ◌-◌, ◌&&◌, Bool, true, false, if◌then◌else◌, Option, Some, None, Ok, Err}
+use Rattle.std.specs.Prelude.{ℕ, ◌==◌, ◌-◌, Bool, true, false, if◌then◌else◌, Option, Some, None, Ok, Err}
 use Rattle.giop_mux.specs.declared.step.Step.{Step}
 use Rattle.giop_msg.specs.declared.version.Version.{Version}
 use Rattle.giop_msg.specs.declared.messages.reply.Reply.{Reply}
@@ -11,7 +11,6 @@ use Rattle.giop_calls.specs.declared.outcome.Outcome.{Outcome}
 use Rattle.giop_calls.specs.declared.outcome.Outcome.TheVariants as ended
 use Rattle.giop_calls.specs.declared.client.call.Call.{Call}
 use Rattle.giop_calls.specs.declared.client.call.Call.TheVariants as asked
-use Rattle.giop_calls.specs.declared.client.late.Late.{Late}
 use Rattle.giop_calls.specs.declared.client.late.Late.TheVariants as late
 use Rattle.giop_calls.specs.declared.client.heard.HeardReply.{HeardReply}
 use Rattle.giop_calls.specs.declared.client.heard.HeardReply.TheVariants as heard

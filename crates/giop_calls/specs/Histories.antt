@@ -1,5 +1,5 @@
 -- What befell one call, the latest first, and what each act of it is.
-use Rattle.std.specs.Prelude.{Bool, true, false, if◌then◌else◌, List, [], ◌∷◌, Option, Some, None}
+use Rattle.std.specs.Prelude.{Bool, if◌then◌else◌, List, [], ◌∷◌, Option, Some, None}
 
 -- acts in the order in which they happened, put before those that happened earlier
 abbrev pub latest_first : {A : Type 0} → List A → List A → List A

@@ -7,5 +7,8 @@ pub mod ClientTable
 pub mod ClientKeeps
 pub mod Histories
 pub mod ServerStanding
+pub mod Items
 pub mod ServerItems
+pub mod ClientItems
 pub mod ClientStanding
+pub mod Lane

@@ -1,58 +1,53 @@
--- What a client said of one call, told in items, and the events of a server that spell them.
-use Rattle.std.specs.Prelude.{◌≡◌, ◌⊎◌, Bool, true, List, [], ◌∷◌, ◌++◌, Option, Some, None, IsOk}
+-- The events of a server that spell what a client said of one call.
+use Rattle.std.specs.Prelude.{◌≡◌, ◌⊎◌, Bool, true, false, Option, Some}
+use Rattle.giop_mux.specs.Runs.{Happening, Hears, IsTaken, Turned, turn}
 use Rattle.giop_calls.specs.declared.kind.CallKind.{CallKind}
+use Rattle.giop_calls.specs.declared.fault.CallFault.{CallFault}
 use Rattle.giop_calls.specs.declared.server.heard.HeardCall.{HeardCall}
 use Rattle.giop_calls.specs.declared.server.entry.ServerEntry.{ServerEntry}
-use Rattle.giop_calls.specs.declared.server.entry.ServerEntry.TheVariants.{Gathering, Cancelled}
+use Rattle.giop_calls.specs.declared.server.entry.ServerEntry.TheVariants.{Cancelled}
 use Rattle.giop_calls.specs.declared.server.event.ServerEvent.{ServerEvent}
 use Rattle.giop_calls.specs.declared.server.event.ServerEvent.TheVariants as event
-use Rattle.giop_calls.specs.ServerTable.{server_step}
+use Rattle.giop_calls.specs.ServerTable.{server_step, is_closed}
+use Rattle.giop_calls.specs.Items.{Wording, Item}
 
--- a message that came whole; the beginning of one that didn't; the Fragments that came behind a
--- cancel; and a cancel, or an act of the server itself
-pub data Item : Type 0 where
-  Got : HeardCall → Item
-  Began : CallKind → Item
-  Rest : Item
-  Acts : ServerEvent → Item
+-- what may befall a call
+abbrev pub Act : Type 0
+Act = Happening ServerEvent
 
--- further pieces in the order of the first, any number of them
-abbrev pub AreMore : List ServerEvent → Type 0
-AreMore [] = Unit {0}
-AreMore (e ∷ events) = (e ≡ event.More true) × AreMore events
+-- and what it does
+abbrev pub server_turn : Option ServerEntry → Act → Turned ServerEntry (Unit {0}) CallFault
+server_turn = turn server_step is_closed
 
--- Fragments, in any order
-abbrev pub IsFragment : ServerEvent → Type 0
-IsFragment e = ((in_order : Bool) × (e ≡ event.More in_order))
-    ⊎ ((in_order : Bool) × (call : HeardCall) × (e ≡ event.Last in_order call))
+-- a Fragment behind which more come: in the order of the first, else it is refused
+abbrev pub IsMore : Act → Type 0
+IsMore act = (in_order : Bool) × (act ≡ Hears (event.More in_order))
 
-abbrev pub AreFragments : List ServerEvent → Type 0
-AreFragments [] = Unit {0}
-AreFragments (e ∷ events) = IsFragment e × AreFragments events
+-- the last one, with what they all are together
+abbrev pub IsLast : HeardCall → Act → Type 0
+IsLast call act = (in_order : Bool) × (act ≡ Hears (event.Last in_order call))
 
--- the call was cancelled
-abbrev pub WasCancelled : Option ServerEntry → Type 0
-WasCancelled before = (answered : Bool) × (left : _) × (before ≡ Some (Cancelled answered left))
+-- the server answers, sends, or takes the entry out
+abbrev pub is_own : Act → Bool
+is_own (Hears (event.Answer reply pieces)) = true
+is_own (Hears (event.AnswerLocate here)) = true
+is_own (Hears event.Send) = true
+is_own IsTaken = true
+is_own _ = false
 
--- these events spell the item, where this stands: a message comes in one piece or in many
-abbrev pub Spells : Option ServerEntry → Item → List ServerEvent → Type 0
-Spells before (Got call) events = (events ≡ event.Whole call ∷ [])
-    ⊎ ((kind : CallKind) × (more : List ServerEvent) × AreMore more
-    × (events ≡ event.First kind ∷ more ++ event.Last true call ∷ []))
-Spells before (Began kind) events =
-    (more : List ServerEvent) × AreMore more × (events ≡ event.First kind ∷ more)
-Spells before Rest events = WasCancelled before × AreFragments events
-Spells before (Acts e) events = events ≡ e ∷ []
+-- how a server is told: a first piece by its kind; behind a cancel any Fragment as one of many
+abbrev pub server_words : Wording (Option ServerEntry) Act CallKind HeardCall
+server_words = record {
+  whole = λ call. Hears (event.Whole call);
+  first = λ kind. Hears (event.First kind);
+  Begins = λ kind call. Unit {0};
+  Further = IsMore;
+  Last = IsLast;
+  Ends = λ act. IsMore act ⊎ ((call : HeardCall) × IsLast call act);
+  WasCancelled = λ v. (answered : Bool) × (left : _) × (v ≡ Some (Cancelled answered left));
+  is_own = is_own;
+}
 
--- these events, of which none is refused, lead from one entry to another
-abbrev pub Leads : Option ServerEntry → List ServerEvent → Option ServerEntry → Type 0
-Leads before [] after = after ≡ before
-Leads before (e ∷ events) after =
-    IsOk (server_step before e).outcome × Leads (server_step before e).entry events after
-
--- these events, of which none is refused, spell the items in turn, and leave this
-abbrev pub Carries : Option ServerEntry → List Item → List ServerEvent → Option ServerEntry → Type 0
-Carries before [] events after = (events ≡ []) × (after ≡ before)
-Carries before (item ∷ items) events after = (one rest : List ServerEvent)
-    × (mid : Option ServerEntry) × (events ≡ one ++ rest) × Spells before item one
-    × Leads before one mid × Carries mid items rest after
+-- what was said of one call
+abbrev pub Items : Type 0
+Items = Item Act CallKind HeardCall

@@ -7,9 +7,9 @@ use Rattle.giop_calls.specs.declared.server.entry.ServerEntry.{ServerEntry}
 use Rattle.giop_calls.specs.declared.server.entry.ServerEntry.TheVariants.{Gathering, Asked, Undecoded, LocateAsked, Answered, LocateAnswered, Delivered, Cancelled}
 use Rattle.giop_calls.specs.declared.server.event.ServerEvent.{ServerEvent}
 use Rattle.giop_calls.specs.declared.server.event.ServerEvent.TheVariants as event
-use Rattle.giop_calls.specs.Messages.{is_same_version, is_system_exception, is_oneway}
-use Rattle.giop_calls.specs.ServerTable.{ServerStep, becomes, refused, becomes_if, is_free, begins, more, last, cancel, answer, answer_undecoded, answer_locate, answer_locate_undecoded, send, server_step}
-use Rattle.std.specs.Prelude.{◌&&◌, not, if◌then◌else◌}
+use Rattle.giop_calls.specs.Messages.{is_same_version, is_system_exception}
+use Rattle.giop_calls.specs.ServerTable.{ServerStep, becomes, refused, is_free, more, last, cancel, answer, answer_undecoded, answer_locate, answer_locate_undecoded, send, server_step}
+use Rattle.std.specs.Prelude.{◌&&◌, if◌then◌else◌}
 
 -- a step leaves the entry where it is refused
 abbrev pub Keeps : Option ServerEntry → ServerStep → Type 0

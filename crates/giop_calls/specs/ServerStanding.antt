@@ -1,5 +1,5 @@
 -- What stands under an id at a server, told without steps: by what befell its latest call.
-use Rattle.std.specs.Prelude.{◌≡◌, ℕ, ◌+◌, ◌-◌, ◌&&◌, ◌||◌, Bool, true, false, not, if◌then◌else◌, List, [], ◌∷◌, Option, Some, None, is_some}
+use Rattle.std.specs.Prelude.{ℕ, ◌+◌, ◌-◌, ◌||◌, Bool, true, false, not, if◌then◌else◌, List, [], ◌∷◌, Option, Some, None, is_some}
 use Rattle.giop_mux.specs.Runs.{Happening, Hears, IsTaken}
 use Rattle.giop_msg.specs.declared.messages.reply.Reply.{Reply}
 use Rattle.giop_calls.specs.declared.kind.CallKind.{CallKind}
@@ -8,7 +8,7 @@ use Rattle.giop_calls.specs.declared.server.question.Question.TheVariants as que
 use Rattle.giop_calls.specs.declared.server.heard.HeardCall.{HeardCall}
 use Rattle.giop_calls.specs.declared.server.heard.HeardCall.TheVariants as heard
 use Rattle.giop_calls.specs.declared.server.entry.ServerEntry.{ServerEntry}
-use Rattle.giop_calls.specs.declared.server.entry.ServerEntry.TheVariants.{Gathering, Asked, Undecoded, LocateAsked, Answered, LocateAnswered, Delivered, Cancelled}
+use Rattle.giop_calls.specs.declared.server.entry.ServerEntry.TheVariants.{Gathering, Answered, LocateAnswered, Cancelled}
 use Rattle.giop_calls.specs.declared.server.event.ServerEvent.{ServerEvent}
 use Rattle.giop_calls.specs.declared.server.event.ServerEvent.TheVariants as event
 use Rattle.giop_calls.specs.Messages.{is_oneway}

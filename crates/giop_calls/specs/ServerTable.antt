@@ -8,7 +8,6 @@ use Rattle.giop_calls.specs.declared.fault.CallFault.{CallFault}
 use Rattle.giop_calls.specs.declared.fault.CallFault.TheVariants.{IdInUse, Stray, OrderDiffers, WrongKind, NotOpen, Unfit, NothingToSend}
 use Rattle.giop_calls.specs.declared.outcome.Outcome.{Outcome}
 use Rattle.giop_calls.specs.declared.outcome.Outcome.TheVariants as ended
-use Rattle.giop_calls.specs.declared.server.question.Question.{Question}
 use Rattle.giop_calls.specs.declared.server.question.Question.TheVariants as question
 use Rattle.giop_calls.specs.declared.server.undecoded.UndecodedCall.{UndecodedCall}
 use Rattle.giop_calls.specs.declared.server.heard.HeardCall.{HeardCall}

@@ -5,7 +5,10 @@ ghost use Rattle.giop_ids.specs.Runs.{alone, told_alone};
 ghost use Rattle.giop_mux.specs.Runs.{Happening, turn};
 ghost use Rattle.giop_calls.specs.ServerTable as server;
 ghost use Rattle.giop_calls.specs.ClientTable as client;
-ghost use Rattle.giop_calls.specs.ServerItems.{Item, Carries};
+ghost use Rattle.giop_calls.specs.Items.{Says, AreAlike};
+ghost use Rattle.giop_calls.specs.ServerItems as server_said;
+ghost use Rattle.giop_calls.specs.ClientItems as client_said;
+ghost use Rattle.giop_calls.specs.Lane.{Codec, Act, IsSound};
 ghost use Rattle.giop_calls.specs.ServerStanding as server_acts;
 ghost use Rattle.giop_calls.specs.ClientStanding as client_acts;
 ghost use Rattle.giop_calls.specs.declared.server.entry.ServerEntry.{ServerEntry};
@@ -28,9 +31,28 @@ pub fn client_entry_stands()
         → alone (turn client.client_step client.is_closed) None acts ≡ client_acts.standing acts }
 {}
 
-/// Two lists of events of one id at a server that spell the same items in the same order, each
-/// message in one piece or in many, and of which none is refused, leave the same entry.
-pub fn equal_items_equal_entries()
-    ensures value { (items : List Item) (one other : List ServerEvent) (m n : Option ServerEntry)
-        → Carries None items one m → Carries None items other n → m ≡ n }
+/// Two lists of events and takes of one id at a server, of which none is refused and which spell the
+/// same items in the same order, each message in one piece or in many, leave the same entry; and the
+/// server's own acts among them are told the same.
+pub fn equal_items_equal_at_server()
+    ensures value { (items : List server_said.Items) (one other : List (Happening ServerEvent))
+        → Says server_said.server_turn server_said.server_words None items one
+        → Says server_said.server_turn server_said.server_words None items other
+        → AreAlike server_said.server_turn server_said.server_words None one other }
+{}
+
+/// The same at a client.
+pub fn equal_items_equal_at_client()
+    ensures value { (items : List client_said.Items) (one other : List (Happening ClientEvent))
+        → Says client_said.client_turn client_said.client_words None items one
+        → Says client_said.client_turn client_said.client_words None items other
+        → AreAlike client_said.client_turn client_said.client_words None one other }
+{}
+
+/// Whatever a client and a server do under one id, in whatever order, an id used again included,
+/// and however their messages travel, as long as each pipe keeps its order: no message is refused;
+/// once nothing is on its way and nothing unsent, both ends tell the same outcome; and a reply that
+/// stands at the client is the one that the server gave to that very call.
+pub fn ends_of_one_lane_agree()
+    ensures value { (codec : Codec) (acts : List Act) → IsSound codec acts }
 {}
