@@ -5,7 +5,7 @@ use Rattle.std.proofs.lemmas.Bool.Decides.{nat_tests}
 use Rattle.giop_cdr.specs.declared.fault.CdrFault.{CdrFault}
 use Rattle.giop_msg.specs.declared.msg.Msg.{Msg}
 use Rattle.giop_msg.specs.RequestId.{request_id_of}
-use Rattle.giop_ids.specs.Runs.{Does, Rules, IsApart, became, left}
+use Rattle.giop_ids.specs.Runs.{Rules, left}
 use Rattle.giop_mux.specs.declared.step.Step.{Step}
 use Rattle.giop_session.specs.declared.session_fault.SessionFault.{SessionFault}
 use Rattle.giop_session.specs.declared.table_fault.TableFault.{TableFault}

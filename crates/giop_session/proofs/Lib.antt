@@ -2,3 +2,4 @@ mod TableLemmas
 mod ServerLemmas
 mod FeedingLemmas
 mod HeardLemmas
+mod ClientLemmas

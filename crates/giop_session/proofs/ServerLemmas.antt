@@ -1,12 +1,9 @@
 -- What is refused at a server before the table is asked.
-use Rattle.std.proofs.Common.{◌≡◌, ℕ, Bool, true, false, cond, List, length, drop, Option, Some, None, is_none, Result, Ok, Err, IsOk, refl, sym, ap, subst, ◌∙◌, ◌&&◌, ◌==◌, not, inl, inr}
+use Rattle.std.proofs.Common.{◌≡◌, ℕ, Bool, true, false, List, length, Option, Some, None, Err, IsOk, refl, sym, ap, subst, ◌∙◌, not, inl, inr}
 use Rattle.std.specs.FinMap as finite
-use Rattle.std.specs.Option.{option_or}
 use Rattle.giop_cdr.specs.declared.order.Order.{Order}
 use Rattle.giop_frag.specs.Gathered.{is_over}
 use Rattle.giop_msg.specs.declared.msg.Msg.{Msg}
-use Rattle.giop_mux.specs.Calls.{is_one_too_many}
-use Rattle.giop_calls.specs.declared.fault.CallFault.{CallFault}
 use Rattle.giop_calls.specs.declared.fault.CallFault.TheVariants.{IdInUse}
 use Rattle.giop_calls.specs.declared.kind.CallKind.{CallKind}
 use Rattle.giop_calls.specs.declared.server.heard.HeardCall.{HeardCall}
@@ -16,12 +13,12 @@ use Rattle.giop_calls.specs.declared.server.event.ServerEvent.TheVariants as eve
 use Rattle.giop_calls.specs.ServerTable.{server_step, is_closed, is_free, is_gathering}
 use Rattle.giop_session.specs.declared.session_fault.SessionFault.TheVariants.{Call as InCall, GatherFull}
 use Rattle.giop_session.specs.declared.slot.Slot.{Slot}
-use Rattle.giop_session.specs.declared.table_fault.TableFault.{TableFault}
 use Rattle.giop_session.specs.declared.table_fault.TableFault.TheVariants as table
-use Rattle.giop_session.specs.CallTable.{Held, First, More, Hears, rules_of, limit, gathers, calls_fault, room_fault}
+use Rattle.giop_session.specs.CallTable.{Held, First, More, Hears, limit}
 use Rattle.giop_session.specs.Heard.{Befalls}
 use Rattle.giop_session.specs.Sending.{entry_of, sending_step}
-use Rattle.giop_session.specs.ServerHears.{AtServer, gathered_kind, kept}
+use Rattle.giop_session.specs.ServerHears.{AtServer, gathered_kind}
+use Rattle.giop_session.specs.Heard.{kept}
 use Rattle.giop_session.proofs.TableLemmas.{does_own, does_over}
 
 -- a first piece for an id that is in use

@@ -5,21 +5,21 @@ use Rattle.std.specs.FinMap as finite
 use Rattle.giop_cdr.specs.declared.order.Order.{Order}
 use Rattle.giop_ids.specs.ById.{ById, put}
 use Rattle.giop_ids.specs.Runs.{Does, told, within, left, refusal_of, RefusedAs, IsApart, Distinguishes}
-use Rattle.giop_ids.proofs.Puts.{get-put, get-put_same, put_same, put-put, put_absent}
-use Rattle.giop_mux.specs.Calls.{Calls, is_one_too_many, room_refusal, by_rule, judged}
+use Rattle.giop_ids.proofs.Puts.{get-put, put_same, put-put, put_absent}
+use Rattle.giop_mux.specs.Calls.{Calls, is_one_too_many, by_rule, judged}
 use Rattle.giop_mux.specs.declared.step.Step.{Step}
 use Rattle.giop_mux.specs.declared.refusal.Refusal.{Refusal}
 use Rattle.giop_mux.specs.declared.refusal.Refusal.TheVariants as refusal
-use Rattle.giop_frag.specs.Gathered.{Gathered, Pieces, Lists, grown, is_over}
+use Rattle.giop_frag.specs.Gathered.{Gathered, Pieces, Lists, is_over}
 use Rattle.giop_frag.specs.declared.fault.GatherFault.{GatherFault}
 use Rattle.giop_frag.specs.declared.fault.GatherFault.TheVariants as gathering
 use Rattle.giop_session.specs.declared.slot.Slot.{Slot}
 use Rattle.giop_session.specs.declared.plan.Planned.{Planned}
 use Rattle.giop_session.specs.declared.sending.Sends.{Sends}
 use Rattle.giop_session.specs.declared.table_fault.TableFault.{TableFault}
-use Rattle.giop_session.specs.declared.table_fault.TableFault.TheVariants.{Rule, TooManyCalls, GatherFull, StillOpen, NoMemory}
+use Rattle.giop_session.specs.declared.table_fault.TableFault.TheVariants.{Rule, TooManyCalls, GatherFull, NoMemory}
 use Rattle.giop_session.specs.Sending.{sending_step}
-use Rattle.giop_session.specs.CallTable.{Held, Call, at, put_call, octets_fault, Brings, First, More, Nothing, Act, Hears, IsTaken, Reply, Answers, Gives, brought, fault_of, gather_fault, Turned, taken, gathers, IsTied, turned, turn, room_fault, calls_fault, limit, rules_of, is_of_call}
+use Rattle.giop_session.specs.CallTable.{Held, Call, at, put_call, Brings, First, More, Nothing, Act, Hears, IsTaken, Answers, Gives, brought, fault_of, gather_fault, Turned, taken, gathers, IsTied, turned, turn, room_fault, calls_fault, limit, rules_of, is_of_call}
 
 -- both structures, as the calls of an end
 abbrev pub held : {S R E : Type 0} → R → Calls S (Slot E) → Gathered → Held R E

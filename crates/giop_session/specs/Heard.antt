@@ -5,10 +5,14 @@ use Rattle.giop_ids.specs.Runs.{Does, Rules}
 use Rattle.giop_msg.specs.declared.msg.Msg.{Msg}
 use Rattle.giop_msg.specs.RequestId.{request_id_of}
 use Rattle.giop_mux.specs.declared.step.Step.{Step}
+use Rattle.giop_calls.specs.declared.fault.CallFault.{CallFault}
+use Rattle.giop_session.specs.declared.plan.Planned.{Planned}
+use Rattle.giop_session.specs.declared.plan.Plan.TheVariants.{Keep}
+use Rattle.giop_session.specs.declared.sending.Sends.{Sends}
 use Rattle.giop_session.specs.declared.session_fault.SessionFault.{SessionFault}
-use Rattle.giop_session.specs.declared.session_fault.SessionFault.TheVariants.{NoId, NoMemory, WrongDirection}
+use Rattle.giop_session.specs.declared.session_fault.SessionFault.TheVariants.{NoId, NoMemory, WrongDirection, Call as InCall}
 use Rattle.giop_session.specs.declared.table_fault.TableFault.{TableFault}
-use Rattle.giop_session.specs.CallTable.{Act, Call, Held, Reply, at, rules_of}
+use Rattle.giop_session.specs.CallTable.{Act, Call, Held, Reply, at, event_reply, rules_of}
 use Rattle.giop_session.specs.SessionFaults.{of_table}
 
 -- what a message does
@@ -17,9 +21,9 @@ pub data Heard (V : Type 0) : Type 0 where
   Befalls : ℕ → Act V → Heard V
 
 -- what an end tells of what befell a call
-abbrev pub told_of : {E A F : Type 0} → (F → SessionFault)
-    → Result (Reply E A) (TableFault F) → Result (Unit {0}) SessionFault
-told_of of_rule (Ok reply) = Ok tt
+abbrev pub told_of : {A F : Type 0} → (F → SessionFault)
+    → Result (Sends A) (TableFault F) → Result (Unit {0}) SessionFault
+told_of of_rule (Ok sends) = Ok tt
 told_of of_rule (Err why) = Err (of_table of_rule why)
 
 module _ {R E V A F : Type 0} (rules : Rules (Held R E) (Call E) (Act V) (Reply E A) (TableFault F))
@@ -29,20 +33,36 @@ module _ {R E V A F : Type 0} (rules : Rules (Held R E) (Call E) (Act V) (Reply 
   abbrev pub IsHeardAs : Heard V → Held R E → Result (Unit {0}) SessionFault → Held R E → Type 0
   IsHeardAs (Breaks why) h result k = (result ≡ Err why) × (k ≡ h)
   IsHeardAs (Befalls id act) h result k =
-      (reply : Result (Reply E A) (TableFault F))
-      × Does rules h (record { id = id; what = act }) reply k
-      × (result ≡ told_of (of_rule id) reply)
+      (answered : Result (Sends A) (TableFault F))
+      × Does rules h (record { id = id; what = act }) (event_reply answered) k
+      × (result ≡ told_of (of_rule id) answered)
 
   -- or memory was wanting to find out what it does
   abbrev pub IsHeard : Heard V → Held R E → Result (Unit {0}) SessionFault → Held R E → Type 0
   IsHeard heard h result k =
       ((result ≡ Err NoMemory) × (k ≡ h)) ⊎ IsHeardAs heard h result k
 
+-- an event that sends nothing
+abbrev pub kept : {V : Type 0} → V → Planned V
+kept event = record { event = event; plan = Keep }
+
+-- the fault of an end whose rule refuses what befalls a call
+abbrev pub in_call : ℕ → CallFault → SessionFault
+in_call id fault = InCall id fault
+
+-- the id that a message names, or why it names none
+abbrev pub id_named : Option (Result ℕ CdrFault) → Result ℕ SessionFault
+id_named (Some (Ok id)) = Ok id
+id_named (Some (Err fault)) = Err (NoId fault)
+id_named None = Err WrongDirection
+
 -- what befalls the call that a message names
+abbrev pub befalls_named : {V : Type 0} → Result ℕ SessionFault → (ℕ → Act V) → Heard V
+befalls_named (Ok id) act = Befalls id (act id)
+befalls_named (Err why) act = Breaks why
+
 abbrev pub named : {V : Type 0} → Option (Result ℕ CdrFault) → (ℕ → Act V) → Heard V
-named (Some (Ok id)) act = Befalls id (act id)
-named (Some (Err fault)) act = Breaks (NoId fault)
-named None act = Breaks WrongDirection
+named name act = befalls_named (id_named name) act
 
 -- a message ends the session, where something says why, or befalls the call that it names
 abbrev pub heard_by : {V : Type 0} → Option SessionFault → Option (Result ℕ CdrFault)

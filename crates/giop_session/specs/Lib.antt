@@ -1,5 +1,7 @@
 pub mod Alone
+pub mod Begun
 pub mod CallTable
+pub mod ClientHears
 pub mod Codes
 pub mod Decoding
 pub mod Feeding

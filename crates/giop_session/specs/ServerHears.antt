@@ -6,26 +6,19 @@ use Rattle.giop_msg.specs.declared.kind.Kind.{Kind}
 use Rattle.giop_msg.specs.declared.kind.Kind.TheVariants as message
 use Rattle.giop_msg.specs.declared.msg.Msg.{Msg}
 use Rattle.giop_frag.specs.Gathered.{Pieces, same_order}
-use Rattle.giop_calls.specs.declared.fault.CallFault.{CallFault}
 use Rattle.giop_calls.specs.declared.kind.CallKind.{CallKind}
 use Rattle.giop_calls.specs.declared.kind.CallKind.TheVariants as kind
 use Rattle.giop_calls.specs.declared.server.entry.ServerEntry.{ServerEntry}
 use Rattle.giop_calls.specs.declared.server.entry.ServerEntry.TheVariants.{Gathering}
 use Rattle.giop_calls.specs.declared.server.event.ServerEvent.{ServerEvent}
 use Rattle.giop_calls.specs.declared.server.event.ServerEvent.TheVariants as event
-use Rattle.giop_session.specs.declared.plan.Planned.{Planned}
-use Rattle.giop_session.specs.declared.plan.Plan.TheVariants.{Keep}
 use Rattle.giop_session.specs.declared.session_fault.SessionFault.{SessionFault}
-use Rattle.giop_session.specs.declared.session_fault.SessionFault.TheVariants.{WrongDirection, PeerError, Closed, Call as InCall}
+use Rattle.giop_session.specs.declared.session_fault.SessionFault.TheVariants.{WrongDirection, PeerError, Closed}
 use Rattle.giop_session.specs.declared.slot.Slot.{Slot}
 use Rattle.giop_calls.specs.ServerTable.{server_step, is_closed, is_gathering}
 use Rattle.giop_session.specs.CallTable.{Act, Call, Hears, First, More, Nothing, Held, rules_of}
 use Rattle.giop_session.specs.Decoding.{heard_call}
-use Rattle.giop_session.specs.Heard.{Heard, IsHeard}
-
--- an event that sends nothing
-abbrev pub kept : {V : Type 0} → V → Planned V
-kept event = record { event = event; plan = Keep }
+use Rattle.giop_session.specs.Heard.{Heard, IsHeard, in_call, kept}
 
 -- a Request or a LocateRequest comes: its first piece, whose octets are gathered, or all of it
 abbrev pub comes : Interface → CallKind → Msg → Act ServerEvent
@@ -84,10 +77,6 @@ befalls_by interface m call _ = Hears (kept event.Cancel) Nothing
 
 abbrev pub server_befalls : Interface → Msg → Call ServerEntry → Act ServerEvent
 server_befalls interface m call = befalls_by interface m call m.kind
-
--- the fault of an end whose rule refuses what befalls a call
-abbrev pub in_call : ℕ → CallFault → SessionFault
-in_call id fault = InCall id fault
 
 -- a server hears a message that does this, and leaves these calls
 abbrev pub AtServer : {R : Type 0} → Heard ServerEvent → Held R ServerEntry

@@ -3,6 +3,7 @@ ghost use Rattle.std.specs.FinMap as finite;
 ghost use Rattle.std.specs.Option.{option_map};
 ghost use Rattle.giop_ids.specs.ById.{put};
 ghost use Rattle.giop_session.specs.declared.session_fault.SessionFault.TheVariants.{StillOpen};
+ghost use Rattle.giop_session.specs.Begun.{no_calls};
 ghost use Rattle.giop_session.specs.Feeding.{Fed, standing, with_octets};
 ghost use Rattle.giop_session.specs.Heard.{hears_by};
 ghost use Rattle.giop_session.specs.Sending.{entry_of};
@@ -13,7 +14,7 @@ use crate::hearing::Hearing;
 use crate::limits::Limits;
 use crate::session_fault::SessionFault;
 use crate::slot::Slot;
-use giop_calls::ServerRule;
+use giop_calls::{ClientRule, ServerRule};
 use giop_msg::Framer;
 use giop_mux::CallRule;
 use giop_types::Interface;
@@ -35,32 +36,53 @@ pub struct End<'a, R: Hearing> {
 /// The end of a connection that answers calls of an interface.
 pub type ServerEnd<'a> = End<'a, ServerRule>;
 
+/// The end of a connection that calls.
+pub type ClientEnd<'a> = End<'a, ClientRule>;
+
 impl<'a> End<'a, ServerRule> {
     /// A server's end without calls. It takes no memory.
     pub fn new(alloc: Global, interface: &'a Interface, limits: Limits) -> ServerEnd<'a>
         requires { limits.gathered ≤ 2 ^ 62 }
         ensures interface { result.interface.now ≡ interface.now }
-        ensures calls { result.calls ≡ record {
-          rule = record {};
-          calls = limits.calls;
-          room = limits.gathered;
-          table = finite.empty;
-          gathered = finite.empty;
-        } }
+        ensures calls { result.calls ≡ no_calls (record {}) limits }
+        ensures unread { result.framer ≡ record { limit = limits.message; octets = [] } }
+        ensures fault { result.fault ≡ None }
+    {
+        End::begun(alloc, ServerRule, interface, limits)
+    }
+}
+
+impl<'a> End<'a, ClientRule> {
+    /// A client's end without calls. It takes no memory.
+    pub fn new(alloc: Global, interface: &'a Interface, limits: Limits) -> ClientEnd<'a>
+        requires { limits.gathered ≤ 2 ^ 62 }
+        ensures interface { result.interface.now ≡ interface.now }
+        ensures calls { result.calls ≡ no_calls (record {}) limits }
+        ensures unread { result.framer ≡ record { limit = limits.message; octets = [] } }
+        ensures fault { result.fault ≡ None }
+    {
+        End::begun(alloc, ClientRule, interface, limits)
+    }
+}
+
+impl<'a, R: Hearing> End<'a, R> {
+    // An end by this rule, which heard nothing.
+    fn begun(alloc: Global, rule: R, interface: &'a Interface, limits: Limits) -> End<'a, R>
+        requires { limits.gathered ≤ 2 ^ 62 }
+        ensures interface { result.interface.now ≡ interface.now }
+        ensures calls { result.calls ≡ no_calls rule limits }
         ensures unread { result.framer ≡ record { limit = limits.message; octets = [] } }
         ensures fault { result.fault ≡ None }
     {
         End {
             interface,
             framer: Framer::new(alloc, limits.message),
-            calls: CallTable::new(alloc, ServerRule, limits.calls, limits.gathered as usize),
+            calls: CallTable::new(alloc, rule, limits.calls, limits.gathered as usize),
             fault: None,
             alloc,
         }
     }
-}
 
-impl<'a, R: Hearing> End<'a, R> {
     /// Takes octets of the peer in, of any number: each message that is whole is heard, in their
     /// order, and does what it does to the call that it names.
     ///

@@ -1,17 +1,22 @@
 //! Both ends of a GIOP connection: what a session is made of.
 //!
-//! What stands today is the part that both ends share: a rule of calls (`giop_mux::CallRule`)
-//! wrapped so that a call's entry and its messages that are still to be sent stand in one slot of
-//! the table, and one event changes both or neither (`Sending`).
+//! An `End` hears what it is fed with: a `Framer` cuts it into messages, and each does to its call
+//! in the `CallTable` what the rule of that side says. The two sides differ in what they hear
+//! (`Hearing`). A rule of calls (`giop_mux::CallRule`) is wrapped so that a call's entry and its
+//! messages that are still to be sent stand in one slot of the table, and one event changes both or
+//! neither (`Sending`). What an end sends is to come.
 #![tactic(auto)]
 
 mod call_table;
+mod client_hearing;
 mod decoding;
 mod end;
+mod heard;
 mod hearing;
 pub mod laws;
 mod limits;
 mod plan;
+mod reply_decoding;
 mod sending;
 mod server_hearing;
 mod session_fault;
@@ -25,7 +30,7 @@ mod unsent;
 mod with_last;
 
 pub use call_table::CallTable;
-pub use end::{End, ServerEnd};
+pub use end::{ClientEnd, End, ServerEnd};
 pub use hearing::Hearing;
 pub use limits::Limits;
 pub use plan::{Plan, Planned};

@@ -9,15 +9,14 @@ ghost use Rattle.giop_calls.specs.ServerTable.{is_free};
 ghost use Rattle.giop_calls.specs.declared.server.event.ServerEvent.{ServerEvent};
 ghost use Rattle.giop_session.specs.CallTable.{Act, First, Hears, More, Nothing, at, event_reply};
 ghost use Rattle.giop_session.specs.Decoding.{heard_call};
-ghost use Rattle.giop_session.specs.Heard.{Befalls, Breaks, named, told_of};
+ghost use Rattle.giop_session.specs.Heard.{Befalls, kept, named};
 ghost use Rattle.giop_session.specs.Sending.{entry_of};
-ghost use Rattle.giop_session.specs.ServerHears.{AtServer, comes, continued, continues, gathered_kind, in_call, kept, kind_in};
+ghost use Rattle.giop_session.specs.ServerHears.{AtServer, comes, continued, continues, gathered_kind, kind_in};
 
 use crate::call_table::CallTable;
 use crate::decoding::heard_call;
+use crate::heard::{behind_id, kept, named, told};
 use crate::hearing::Hearing;
-use crate::plan::{Plan, Planned};
-use crate::sending::Sends;
 use crate::session_fault::SessionFault;
 use crate::table_fault::TableFault;
 use crate::with_last::WithLast;
@@ -30,7 +29,8 @@ use std::alloc::Global;
 type Calls = CallTable<ServerRule>;
 
 impl Hearing for ServerRule {
-    ghost use Rattle.giop_session.specs.ServerHears.{in_call, server_befalls, server_breaks};
+    ghost use Rattle.giop_session.specs.Heard.{in_call};
+    ghost use Rattle.giop_session.specs.ServerHears.{server_befalls, server_breaks};
 
     ghost breaks = { server_breaks };
 
@@ -53,20 +53,6 @@ impl Hearing for ServerRule {
             Kind::CloseConnection => Err(SessionFault::Closed),
             Kind::MessageError => Err(SessionFault::PeerError),
         }
-    }
-}
-
-// The id of the call that a message names, whose kind has one.
-fn named(message: &Msg) -> Result<u32, SessionFault>
-    requires { length message.now.payload ≤ 2 ^ 62 }
-    ensures ok { IfOk result (λ id. request_id_of message.now ≡ Some (Ok id)) }
-    ensures err { IfErr result (λ why. (act : ℕ → Act ServerEvent)
-        → named (request_id_of message.now) act ≡ Breaks why) }
-{
-    match message.request_id() {
-        Some(Ok(id)) => Ok(id),
-        Some(Err(fault)) => Err(SessionFault::NoId(fault)),
-        None => Err(SessionFault::WrongDirection),
     }
 }
 
@@ -247,16 +233,6 @@ fn joined_call(
     heard_call(alloc, interface, kind, version, order, &joined)
 }
 
-// The octets of a Fragment behind its request id.
-fn behind_id(message: &Msg) -> &[u8]
-    ensures { result.now ≡ drop 4 message.now.payload }
-{
-    match message.payload.as_slice().get(4..) {
-        Some(octets) => octets,
-        None => &[],
-    }
-}
-
 // Whether a call may begin under the id.
 fn is_free(calls: &Calls, id: u32) -> bool
     ensures { result ≡ is_free (entry_of (finite.get calls.now.table id)) }
@@ -264,29 +240,5 @@ fn is_free(calls: &Calls, id: u32) -> bool
     match calls.slot(id) {
         Some(slot) => slot.entry.is_closed(),
         None => true,
-    }
-}
-
-// An event that sends nothing.
-fn kept(event: ServerEvent) -> Planned<ServerEvent>
-    ensures { result ≡ kept event }
-{
-    Planned {
-        event,
-        plan: Plan::Keep,
-    }
-}
-
-// What an end tells of what befell a call.
-fn told(id: u32, answered: Result<Sends<()>, TableFault<CallFault>>) -> Result<(), SessionFault>
-    ensures { result ≡ told_of (in_call id) (event_reply {E = ServerEntry} answered) }
-{
-    match answered {
-        Ok(_) => Ok(()),
-        Err(TableFault::Rule(fault)) => Err(SessionFault::Call { id, fault }),
-        Err(TableFault::TooManyCalls) => Err(SessionFault::TooManyCalls),
-        Err(TableFault::GatherFull) => Err(SessionFault::GatherFull),
-        Err(TableFault::StillOpen) => Err(SessionFault::StillOpen),
-        Err(TableFault::NoMemory) => Err(SessionFault::NoMemory),
     }
 }

@@ -1,4 +1,8 @@
-use giop_msg::{LocateRequest, Request};
+ghost use Rattle.std.specs.Prelude.{◌≡◌};
+ghost use Rattle.giop_calls.specs.ClientTable.{answers};
+
+use crate::kind::CallKind;
+use giop_msg::{LocateRequest, Request, Version};
 
 /// What a client asks of a server.
 #[derive(Debug, Drop)]
@@ -7,4 +11,20 @@ pub enum Call {
     Request(Request),
     /// Whether it has an object.
     Locate(LocateRequest),
+}
+
+impl Call {
+    /// Whether a message of this kind and version answers the call: a Reply a Request, a LocateReply
+    /// a LocateRequest, in its version. It takes no memory.
+    pub fn is_answered_by(&self, kind: CallKind, version: Version) -> bool
+        ensures { result ≡ answers kind version self.now }
+    {
+        match (kind, self) {
+            (CallKind::Request, Call::Request(request)) => {
+                request.head.version.minor() == version.minor()
+            }
+            (CallKind::Locate, Call::Locate(request)) => request.version.minor() == version.minor(),
+            _ => false,
+        }
+    }
 }

@@ -120,19 +120,6 @@ fn dropped(late: Late) -> ClientStep
     becomes(ClientEntry::Cancelled { late })
 }
 
-// Whether a message of this kind and version answers the call.
-fn answers(kind: CallKind, version: Version, call: &Call) -> bool
-    ensures { result ≡ table.answers kind version call.now }
-{
-    match (kind, call) {
-        (CallKind::Request, Call::Request(request)) => {
-            request.head.version.minor() == version.minor()
-        }
-        (CallKind::Locate, Call::Locate(request)) => request.version.minor() == version.minor(),
-        _ => false,
-    }
-}
-
 /// The first piece of a Reply or a LocateReply comes, and more are to come. Refused as WrongKind
 /// where the call waits for another kind or version, and as UnknownReply where it waits for none.
 pub fn first(entry: Option<ClientEntry>, kind: CallKind, version: Version) -> ClientStep
@@ -148,7 +135,7 @@ pub fn first(entry: Option<ClientEntry>, kind: CallKind, version: Version) -> Cl
 fn begin_reply(call: Call, kind: CallKind, version: Version) -> ClientStep
     ensures { result ≡ table.first (Some (Waiting call)) kind version }
 {
-    if answers(kind, version, &call) {
+    if call.is_answered_by(kind, version) {
         becomes(ClientEntry::Gathering { call })
     } else {
         refused(Some(ClientEntry::Waiting { call }), CallFault::WrongKind)
@@ -174,7 +161,7 @@ pub fn whole(
 fn settle_whole(call: Call, kind: CallKind, version: Version, reply: HeardReply) -> ClientStep
     ensures { result ≡ table.whole (Some (Waiting call)) kind version reply }
 {
-    if answers(kind, version, &call) {
+    if call.is_answered_by(kind, version) {
         settle(false, call, reply)
     } else {
         refused(Some(ClientEntry::Waiting { call }), CallFault::WrongKind)

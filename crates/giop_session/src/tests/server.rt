@@ -1,9 +1,8 @@
 //! What a server's end makes of octets: tables written by hand.
 use super::sessions::{fed, interface, table};
-use crate::{Limits, ServerEnd, SessionFault};
-use giop_calls::ServerEntry;
+use crate::{ClientEnd, Limits, ServerEnd, SessionFault};
+use giop_calls::{CallFault, ServerEntry};
 use giop_types::Value;
-use std::alloc::Global;
 use std::test::Fail;
 
 // A Request of `ping` in four pieces, as id 1 and big-endian.
@@ -217,5 +216,22 @@ fn what_is_over_is_taken_out(rt: HostRuntime) -> Result<(), Fail> {
     assert!(rt; matches!(end.take(1), Ok(None)));
     end.feed(&ping)?;
     assert_eq!(rt; table(alloc, &end)?.as_str(), "1 Asked, rest 0");
+    Ok(())
+}
+
+#[test]
+fn a_client_without_calls_hears_no_reply(rt: HostRuntime) -> Result<(), Fail> {
+    let alloc = rt.alloc();
+    let interface = interface(alloc)?;
+    let reply = hex::decode(alloc, REPLY)?;
+    let mut end = ClientEnd::new(alloc, &interface, Limits::default());
+    let unknown = SessionFault::Call {
+        id: 1,
+        fault: CallFault::UnknownReply,
+    };
+    assert_eq!(rt; end.feed(&reply), Err(unknown));
+    let ping = hex::decode(alloc, PING)?;
+    let mut end = ClientEnd::new(alloc, &interface, Limits::default());
+    assert_eq!(rt; end.feed(&ping), Err(SessionFault::WrongDirection));
     Ok(())
 }

@@ -1,7 +1,8 @@
 use Rattle.std.proofs.Common.{subst, sym, ◌∙◌}
 use Rattle.giop_session.specs.CallTable.{First, Hears}
 use Rattle.giop_session.specs.Heard.{Befalls}
-use Rattle.giop_session.specs.ServerHears.{AtServer, kept}
+use Rattle.giop_session.specs.ServerHears.{AtServer}
+use Rattle.giop_session.specs.Heard.{kept}
 use Rattle.giop_calls.specs.declared.server.event.ServerEvent.TheVariants as event
 use Rattle.giop_session.proofs.ServerLemmas.{begin_refused}
 use Rattle.giop_session.proofs.server_hearing.begin.Goals as goal

@@ -1,12 +1,9 @@
-use Rattle.std.proofs.Common.{◌≡◌, true, false, None, Some, Err, is_some, sym, ap, subst, ◌∙◌, refl, inr, length}
+use Rattle.std.proofs.Common.{◌≡◌, true, Some, sym, ap, subst, ◌∙◌, refl, inr, length}
 use Rattle.std.specs.FinMap as finite
-use Rattle.giop_ids.specs.ById.{put}
-use Rattle.giop_ids.specs.Runs.{Does}
-use Rattle.giop_ids.proofs.Puts.{put-put, put_absent, get-put_same}
 use Rattle.giop_frag.specs.Gathered.{is_over}
 use Rattle.giop_session.specs.Sending.{sending_step}
 use Rattle.giop_session.specs.declared.table_fault.TableFault.TheVariants.{NoMemory}
-use Rattle.giop_session.specs.CallTable.{Held, gathers, rules_of, Hears, First}
+use Rattle.giop_session.specs.CallTable.{Held, gathers, First}
 use Rattle.giop_session.proofs.TableLemmas.{tied_after, put_itself, no_pieces, dropped, none_wanting, many_is, does_over, not_over}
 use Rattle.giop_session.proofs.call_table.CallTable.begin.Goals as goal
 

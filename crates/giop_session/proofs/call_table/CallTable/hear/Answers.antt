@@ -1,4 +1,4 @@
-use Rattle.std.proofs.Common.{◌≡◌, true, false, cond, None, Some, Ok, is_some, sym, ap, subst, ◌∙◌, refl}
+use Rattle.std.proofs.Common.{◌≡◌, false, cond, None, Ok, sym, ap, subst, ◌∙◌, refl}
 use Rattle.std.specs.FinMap as finite
 use Rattle.giop_ids.specs.ById.{put}
 use Rattle.giop_ids.specs.Runs.{Does}

@@ -1,8 +1,7 @@
-use Rattle.std.proofs.Common.{◌≡◌, false, None, Ok, sym, ap, subst, ◌∙◌, refl}
+use Rattle.std.proofs.Common.{None, Ok, ap, subst, ◌∙◌}
 use Rattle.std.specs.FinMap as finite
-use Rattle.giop_ids.specs.ById.{put}
 use Rattle.giop_ids.specs.Runs.{Does}
-use Rattle.giop_session.specs.CallTable.{Held, gathers, rules_of, IsTaken, Gives}
+use Rattle.giop_session.specs.CallTable.{Held, rules_of, IsTaken, Gives}
 use Rattle.giop_session.proofs.TableLemmas.{held, tied_after, put_itself, does_take, over_is_away}
 use Rattle.giop_session.proofs.call_table.CallTable.take.Goals as goal
 

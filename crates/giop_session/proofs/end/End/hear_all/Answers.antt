@@ -1,11 +1,8 @@
-use Rattle.std.proofs.Common.{◌≡◌, ℕ, Option, Some, Result, Ok, Err, IfSome, List, length, subst, sym, ap, ◌∙◌}
+use Rattle.std.proofs.Common.{Ok, Err, IfSome, subst}
 use Rattle.std.specs.Borrow.{Bor}
 use Rattle.giop_types.specs.declared.json.interface.Interface.{Interface}
-use Rattle.giop_msg.specs.declared.msg.Msg.{Msg}
 use Rattle.giop_msg.specs.Stream.{TakesMessage}
 use Rattle.giop_msg.proofs.FramerLemmas.{takes_fewer}
-use Rattle.giop_session.specs.declared.session_fault.SessionFault.TheVariants.{NoMemory}
-use Rattle.giop_session.specs.CallTable.{Held}
 use Rattle.giop_session.specs.Feeding.{Fed, with_octets}
 use Rattle.giop_session.specs.Heard.{hears_by}
 use Rattle.giop_session.proofs.FeedingLemmas.{so_far_none, so_far_more, wanting, of_want, passed_on, refused_fed}

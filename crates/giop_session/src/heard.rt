@@ -1,0 +1,57 @@
+//! What hearing a message has in common at both sides.
+ghost use Rattle.std.specs.Prelude.{◌≡◌, ◌≤◌, ◌^◌, drop, length};
+ghost use Rattle.giop_msg.specs.RequestId.{request_id_of};
+ghost use Rattle.giop_session.specs.Heard.{id_named, in_call, kept, told_of};
+
+use crate::plan::{Plan, Planned};
+use crate::sending::Sends;
+use crate::session_fault::SessionFault;
+use crate::table_fault::TableFault;
+use giop_calls::CallFault;
+use giop_msg::Msg;
+
+/// The id of the call that a message names, whose kind has one.
+pub fn named(message: &Msg) -> Result<u32, SessionFault>
+    requires { length message.now.payload ≤ 2 ^ 62 }
+    ensures { result ≡ id_named (request_id_of message.now) }
+{
+    match message.request_id() {
+        Some(Ok(id)) => Ok(id),
+        Some(Err(fault)) => Err(SessionFault::NoId(fault)),
+        None => Err(SessionFault::WrongDirection),
+    }
+}
+
+/// The octets of a Fragment behind its request id.
+pub fn behind_id(message: &Msg) -> &[u8]
+    ensures { result.now ≡ drop 4 message.now.payload }
+{
+    match message.payload.as_slice().get(4..) {
+        Some(octets) => octets,
+        None => &[],
+    }
+}
+
+/// An event that sends nothing.
+pub fn kept<V>(event: V) -> Planned<V>
+    ensures { result ≡ kept event }
+{
+    Planned {
+        event,
+        plan: Plan::Keep,
+    }
+}
+
+/// What an end tells of what befell a call.
+pub fn told(id: u32, answered: Result<Sends<()>, TableFault<CallFault>>) -> Result<(), SessionFault>
+    ensures { result ≡ told_of (in_call id) answered }
+{
+    match answered {
+        Ok(_) => Ok(()),
+        Err(TableFault::Rule(fault)) => Err(SessionFault::Call { id, fault }),
+        Err(TableFault::TooManyCalls) => Err(SessionFault::TooManyCalls),
+        Err(TableFault::GatherFull) => Err(SessionFault::GatherFull),
+        Err(TableFault::StillOpen) => Err(SessionFault::StillOpen),
+        Err(TableFault::NoMemory) => Err(SessionFault::NoMemory),
+    }
+}
