@@ -1,9 +1,10 @@
 //! Writing a value in one pass, as far as it fits and memory is there.
-ghost use Rattle.std.specs.Prelude.{◌≡◌, ◌==◌, ◌&&◌, nat_lt, length, map};
+ghost use Rattle.std.specs.Prelude.{◌≡◌, ◌==◌, ◌&&◌, true, nat_lt, length, map};
 ghost use Rattle.std.specs.List.{list_all};
 ghost use Rattle.std.specs.Int.{w32};
 ghost use Rattle.giop_cdr.specs.Writing.Output.{number_out, octets_out, string_out, items_out, sequence_out};
 ghost use Rattle.giop_types.specs.Coding.Encoding.{AppendsFitting, AppendsCase};
+ghost use Rattle.giop_types.specs.Descriptions.Shape.{is_leaf};
 ghost use Rattle.giop_types.specs.Values.Fits.{fits, fields_fit, branches_fit, fits_label, is_unsigned, is_counted, is_octets_of, is_text_of};
 ghost use Rattle.giop_types.specs.Values.Views.{desc_view, named_view, case_view, fallback_view, value_view, member_view, fields_of, branches_of};
 ghost use Rattle.giop_types.specs.Coding.Written.{value_out, fields_out, branches_out, label_out};
@@ -18,6 +19,47 @@ use giop_cdr::{CdrOut, EncodeFault};
 #[cycle(append)]
 #[tactic(auto, unfolding(crate::specs::Values::Fits::fits, crate::specs::Coding::Written::value_out))]
 pub fn append(out: &mut CdrOut, desc: &Desc, value: &Value) -> Result<(), EncodeFault>
+    ensures { AppendsFitting (fits (desc_view desc.now) (value_view value.now))
+        out.old result out.new (value_out (desc_view desc.now) (value_view value.now) out.old) }
+{
+    match desc {
+        Desc::Members(members) => match value {
+            Value::Members(values) => append_members(out, members, values),
+            _ => Err(EncodeFault::Unfit),
+        },
+        Desc::Choice {
+            disc,
+            cases,
+            fallback,
+        } => match value {
+            Value::Choice {
+                disc: label,
+                member,
+            } => {
+                append_label(out, disc, label)?;
+                if append_case(out, label, cases, member)? {
+                    return Ok(());
+                }
+                append_default(out, fallback, member)
+            }
+            _ => Err(EncodeFault::Unfit),
+        },
+        Desc::Items(item, bound) => match value {
+            Value::Items(values) => append_items(out, item, *bound, values),
+            _ => Err(EncodeFault::Unfit),
+        },
+        Desc::Row(item, n) => match value {
+            Value::Row(values) => append_row(out, item, *n, values),
+            _ => Err(EncodeFault::Unfit),
+        },
+        _ => append_leaf(out, desc, value),
+    }
+}
+
+// A value within which no other stands.
+#[tactic(auto, unfolding(crate::specs::Values::Fits::fits, crate::specs::Coding::Written::value_out))]
+fn append_leaf(out: &mut CdrOut, desc: &Desc, value: &Value) -> Result<(), EncodeFault>
+    requires { is_leaf (desc_view desc.now) ≡ true }
     ensures { AppendsFitting (fits (desc_view desc.now) (value_view value.now))
         out.old result out.new (value_out (desc_view desc.now) (value_view value.now) out.old) }
 {
@@ -36,26 +78,6 @@ pub fn append(out: &mut CdrOut, desc: &Desc, value: &Value) -> Result<(), Encode
             append_octets(out, *bound, octets.as_slice())
         }
         (Desc::Labels(names), Value::Label(ordinal)) => append_ordinal(out, names.len(), *ordinal),
-        (Desc::Members(members), Value::Members(values)) => append_members(out, members, values),
-        (
-            Desc::Choice {
-                disc,
-                cases,
-                fallback,
-            },
-            Value::Choice {
-                disc: label,
-                member,
-            },
-        ) => {
-            append_label(out, disc, label)?;
-            if append_case(out, label, cases, member)? {
-                return Ok(());
-            }
-            append_default(out, fallback, member)
-        }
-        (Desc::Items(item, bound), Value::Items(values)) => append_items(out, item, *bound, values),
-        (Desc::Row(item, n), Value::Row(values)) => append_row(out, item, *n, values),
         _ => Err(EncodeFault::Unfit),
     }
 }
