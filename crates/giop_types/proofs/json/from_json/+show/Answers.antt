@@ -42,19 +42,19 @@ show-returns-in_ok-show_items-in-Row t c =
     let part = rw c.deref-in-Row.ensures at c.in_ok-show_items-in-Row.ensures in
     rw (u.is, row_form u.item u.field-1 (view c.args.json.now), part) (ap (λ x. Some x) (sym (row_view c.in_ok-show_items-in-Row.field-0)))
 
-pub show-returns-in_ok-show_fallback-in-None-2 : goal.show-returns-in_ok-show_fallback-in-None-2
-show-returns-in_ok-show_fallback-in-None-2 t c =
+pub show-returns-in_ok-show_fallback-in-None : goal.show-returns-in_ok-show_fallback-in-None
+show-returns-in_ok-show_fallback-in-None t c =
     let u = c.in-Choice in
     let label = c.in_ok-label-in-Choice-2.label in
     let same : to_z w128 (of_z w128 label) ≡ label = grind (arith, to_z-of_z) in
     let named : label_shown (desc_view u.disc.value) (view c.in_ok-label-in-Choice.label.now)
     ≡ Some label = rw c.deref-in-Choice.ensures at c.in_ok-label-in-Choice-2.ensures in
-    let passed = rw (same, c.deref-in-Choice-2.ensures.value) at (case_absent c.in_ok-value-in-Choice.field-0 _ _ c.in-None-2.is
+    let passed = rw (same, c.deref-in-Choice-2.ensures.value) at (case_absent c.in_ok-value-in-Choice.field-0 _ _ c.in-None.is
     (c.in_ok-value-in-Choice.ensures (fallback_shown (fallback_view u.fallback)))) in
-    let made = rw same at c.chosen-in-None-2.ensures.ok in
+    let made = rw same at c.chosen-in-None.ensures.ok in
     rw u.is (choice_shows u.disc u.cases u.fallback (view c.args.json.now) (view c.in_ok-label-in-Choice.label.now) (view c.in_ok-label-in-Choice.member.now)
-    label (one_or_none c.in_ok-show_fallback-in-None-2.field-0) c.chosen-in-None-2.result c.in_ok-label-in-Choice.ensures named
-    (passed ∙ c.in_ok-show_fallback-in-None-2.ensures) made c.chosen-in-None-2.ensures.err)
+    label (one_or_none c.in_ok-show_fallback-in-None.field-0) c.chosen-in-None.result c.in_ok-label-in-Choice.ensures named
+    (passed ∙ c.in_ok-show_fallback-in-None.ensures) made c.chosen-in-None.ensures.err)
 
 pub show_case-returns : goal.show_case-returns
 show_case-returns t c other =
