@@ -41,6 +41,22 @@ pub fn build<S: Octets>(alloc: Global, desc: &Desc, input: &mut CdrIn<S>) -> Res
     }
 }
 
+// A value within another: a number, a char or a boolean without a call.
+#[cycle(build)]
+#[inline(always)]
+fn build_part<S: Octets>(
+    alloc: Global,
+    desc: &Desc,
+    input: &mut CdrIn<S>,
+) -> Result<Value, CdrFault>
+    ensures { Follows value_view result input.new (decode_at (desc_view desc.now) input.old) }
+{
+    if is_primitive(desc) {
+        return read_primitive(desc, input);
+    }
+    build(alloc, desc, input)
+}
+
 // Want of memory, told here.
 fn wanting<S: Octets>(input: &CdrIn<S>) -> CdrFault
     ensures { result.kind ≡ CdrKind.NoMemory }
@@ -91,7 +107,7 @@ fn build_members<S: Octets>(
         return Err(wanting);
     };
     for member in members {
-        let value = build(alloc, &member.desc, input)?;
+        let value = build_part(alloc, &member.desc, input)?;
         if values.push(value).is_err() {
             return Err(wanting);
         }

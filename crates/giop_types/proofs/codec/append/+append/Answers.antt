@@ -197,25 +197,25 @@ pub append_members-returns-then-members-values : goal.append_members-returns-the
 append_members-returns-then-members-values t c =
     (λ unfit. fields_differ c.args.members.now c.args.values.now c.if-members-values.true, grows_not c.args.out.now)
 
-pub append_members-returns-in_err-append : goal.append_members-returns-in_err-append
-append_members-returns-in_err-append t c =
+pub append_members-returns-in_err-append_part : goal.append_members-returns-in_err-append_part
+append_members-returns-in_err-append_part t c =
     let p = err_from_is_err_and c.from_residual.result c.from_residual.ensures.1 in
     let l = c.loop-i.invariant in
-    let put = rw (← c.index-members-i.is) at c.in_err-append.ensures in
-    rw (p.1, p.2) (puts_fails _ _ c.args.out.now c.loop-i.out c.append.new.out c.in_err-append.field-0.0
+    let put = rw (← c.index-members-i.is) at c.in_err-append_part.ensures in
+    rw (p.1, p.2) (puts_fails _ _ c.args.out.now c.loop-i.out c.append_part.new.out c.in_err-append_part.field-0.0
     (λ fails. sym (fields_failed c.args.members.now c.args.values.now c.loop-i.i c.index-members-i.result c.index-values-i.result _ c.loop-i-test.true l.as_many
     c.index-members-i.is c.index-values-i.is fails l.fit)) l.grows put)
 
 pub append_members-loop-i-preserved : goal.append_members-loop-i-preserved
 append_members-loop-i-preserved t c =
     let l = c.loop-i.invariant in
-    let put = rw (← c.index-members-i.is) at c.in_ok-append.ensures in
+    let put = rw (← c.index-members-i.is) at c.in_ok-append_part.ensures in
     record {
       fit = fields_passed c.args.members.now c.args.values.now c.loop-i.i c.index-members-i.result c.index-values-i.result _ c.loop-i-test.true l.as_many
           c.index-members-i.is c.index-values-i.is put.0 l.fit;
-      written = fields_on c.args.members.now c.args.values.now c.loop-i.i c.index-members-i.result c.index-values-i.result c.loop-i.out c.append.new.out _
+      written = fields_on c.args.members.now c.args.values.now c.loop-i.i c.index-members-i.result c.index-values-i.result c.loop-i.out c.append_part.new.out _
           c.loop-i-test.true l.as_many c.index-members-i.is c.index-values-i.is put.1 l.written;
-      grows = grows_then c.args.out.now c.loop-i.out c.append.new.out l.grows put.2;
+      grows = grows_then c.args.out.now c.loop-i.out c.append_part.new.out l.grows put.2;
       as_many = l.as_many;
     }
 

@@ -53,7 +53,7 @@ pub build_members-loop-member-preserved : goal.build_members-loop-member-preserv
 build_members-loop-member-preserved g t c =
     let pushed : c.push.new.self.items ≡ c.loop-member.values.items ++ c.in_ok-value.value ∷ [] = grind (arith, common_steps) in
     rw (pushed, one_more c.loop-member.values.items c.in_ok-value.value) (members_read_on (map value_view c.loop-member.values.items) c.args.members.now
-    c.loop-member.member-index c.member-item.result c.loop-member.input (value_view c.in_ok-value.value) c.build.new.input
+    c.loop-member.member-index c.member-item.result c.loop-member.input (value_view c.in_ok-value.value) c.build_part.new.input
     (fields_at (fields_of
     (map named_view c.args.members.now)) c.args.input.now) c.loop-member-test.true c.member-item.is c.in_ok-value.ensures c.loop-member.invariant)
 
