@@ -4,15 +4,15 @@ use Rattle.std.proofs.lemmas.Int.{to_z-of_z}
 use Rattle.giop_types.specs.Coding.Outcome.{one_or_none}
 use Rattle.std.proofs.lemmas.Grind.{common_steps}
 use Rattle.std.proofs.lemmas.Result.{err_from_is_err_and}
-use Rattle.serde_json.specs.View.{view}
+use Rattle.serde_json.specs.View.{view, items_view as json_items}
 use Rattle.giop_types.specs.Coding.Decoding.{is_label}
 use Rattle.giop_types.specs.Values.Tree.{items_of, row_of}
-use Rattle.giop_types.specs.JsonForms.FromJson.{fields_shown, one_shown, is_object_of, label_shown, fallback_shown}
+use Rattle.giop_types.specs.JsonForms.FromJson.{shown, fields_shown, items_shown, one_shown, is_object_of, label_shown, fallback_shown}
 use Rattle.giop_types.specs.Values.Views.{desc_view, named_view, fallback_view, value_view, fields_of, trees_of}
 use Rattle.giop_types.proofs.Values.FitLemmas.{items_view, row_view}
 use Rattle.giop_types.proofs.Coding.MemberLoops.{one_more}
 use Rattle.giop_types.proofs.Coding.PartLoops.{part_made, part_missing, parts_made}
-use Rattle.giop_types.proofs.JsonForms.FromJsonLemmas.{members-each, field_count_is, case_shown, case_passed, no_case, items_form, row_form}
+use Rattle.giop_types.proofs.JsonForms.FromJsonLemmas.{members-each, items-each, field_count_is, case_shown, case_passed, no_case, items_form, row_form}
 use Rattle.giop_types.proofs.JsonForms.FromJsonLemmas.{refused_along, no_form, default_shown, null_shown, case_absent, choice_shows}
 use Rattle.giop_types.proofs.json.from_json.+show.Goals as goal
 
@@ -132,3 +132,27 @@ pub show_members-returns-else-is_object_of : goal.show_members-returns-else-is_o
 show_members-returns-else-is_object_of t c =
     let test : is_object_of (length c.args.members.now) (view c.args.json.now) ≡ false = sym c.is_object_of.ensures ∙ c.if-is_object_of.false in
     rw (field_count_is c.args.members.now, test) (inl (refl, refl))
+
+pub show_each-loop-json-preserved : goal.show_each-loop-json-preserved
+show_each-loop-json-preserved t c =
+    let p = shown (desc_view c.args.item.now) in
+    let l = c.loop-json in
+    let pushed : c.push.new.self.items ≡ l.values.items ++ c.in_ok-value.value ∷ [] = grind (arith, common_steps) in
+    rw (pushed, one_more l.values.items c.in_ok-value.value) (part_made (items-each p) (map value_view l.values.items) c.args.list.now l.json-index
+    c.json-item.result (value_view c.in_ok-value.value) (items_shown p (json_items c.args.list.now)) c.loop-json-test.true c.json-item.is
+    c.in_ok-value.ensures l.invariant)
+
+pub show_each-returns : goal.show_each-returns
+show_each-returns t c =
+    let p = shown (desc_view c.args.item.now) in
+    let l = c.loop-json in
+    parts_made (items-each p) (map value_view l.values.items) c.args.list.now l.json-index (items_shown p (json_items c.args.list.now))
+    c.loop-json-test.false l.invariant
+
+pub show_each-returns-in_err-value : goal.show_each-returns-in_err-value
+show_each-returns-in_err-value t c =
+    let p = shown (desc_view c.args.item.now) in
+    let l = c.loop-json in
+    let e = err_from_is_err_and c.from_residual-in_err-value.result c.from_residual-in_err-value.ensures.1 in
+    rw (e.1, e.2) (refused_along _ _ _ (λ none. part_missing (items-each p) (map value_view l.values.items) c.args.list.now l.json-index c.json-item.result
+    (items_shown p (json_items c.args.list.now)) c.loop-json-test.true c.json-item.is none l.invariant) c.in_err-value.ensures)
