@@ -15,7 +15,8 @@ members_of-loop-pair-preserved t c =
     let p = member_in (desc_in c.args.levels) in
     let l = c.loop-pair in
     let pushed : c.push.new.self.items ≡ l.members.items ++ c.in_ok-member.member ∷ [] = grind (arith, common_steps) in
-    rw (pushed, map-append named_view l.members.items (c.in_ok-member.member ∷ [])) (part_made (items-each p) (map named_view l.members.items) c.in_ok-list.list.now l.pair-index
+    rw (pushed, map-append named_view l.members.items (c.in_ok-member.member ∷ []))
+    (part_made (items-each p) (map named_view l.members.items) c.in_ok-list.list.now l.pair-index
     c.pair-item.result (named_view c.in_ok-member.member) (items_shown p (items_view c.in_ok-list.list.now)) c.loop-pair-test.true c.pair-item.is
     c.in_ok-member.ensures l.invariant)
 
@@ -40,7 +41,8 @@ cases_of-loop-form-preserved t c =
     let p = case_in (desc_in c.args.levels) (desc_view c.args.disc.now) in
     let l = c.loop-form in
     let pushed : c.push.new.self.items ≡ l.cases.items ++ c.in_ok-case.case ∷ [] = grind (arith, common_steps) in
-    rw (pushed, map-append case_view l.cases.items (c.in_ok-case.case ∷ [])) (part_made (items-each p) (map case_view l.cases.items) c.in_ok-list.list.now l.form-index
+    rw (pushed, map-append case_view l.cases.items (c.in_ok-case.case ∷ []))
+    (part_made (items-each p) (map case_view l.cases.items) c.in_ok-list.list.now l.form-index
     c.form-item.result (case_view c.in_ok-case.case) (items_shown p (items_view c.in_ok-list.list.now)) c.loop-form-test.true c.form-item.is
     c.in_ok-case.ensures l.invariant)
 
