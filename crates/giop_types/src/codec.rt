@@ -4,5 +4,6 @@ pub mod build;
 pub mod decoder;
 pub mod encoder;
 pub mod fitting;
+pub mod leaf;
 pub mod reading;
 pub mod skip;

@@ -68,8 +68,13 @@ pub members-each : (d : json.Data) → IsEachPart (member_shown d) (λ ms. field
 unfolding shown
 members-each d = record { none = refl; more = λ m ms. rw (view-Named m) refl }
 
-pub items-each : (s : Shape) → IsEachPart (λ j. shown s (view j)) (λ js. items_shown (shown s) (items_view js))
-items-each s = record { none = refl; more = λ j js. refl }
+pub items-each : {A : Type 0} (p : json.Data → Option A) → IsEachPart (λ j. p (view j)) (λ js. items_shown p (items_view js))
+items-each p = record { none = refl; more = λ j js. refl }
+
+-- what a list of items is
+pub listed : {A : Type 0} (p : json.Data → Option A) (d : json.Data) (js : List Json) (parts : Option (List A)) → as_array d ≡ Some (items_view js)
+    → items_shown p (items_view js) ≡ parts → option_and_then (items_shown p) (as_array d) ≡ parts
+listed p d js parts is made = rw is made
 
 pub field_count_is : (ms : List NamedDesc) → field_count (fields_of (map named_view ms)) ≡ length ms
 field_count_is [] = refl

@@ -1,6 +1,6 @@
 -- What a description says: a tree, without where it lies in memory (CORBA 3.3 Part 2, 9.3.1,
 -- 9.3.2).
-use Rattle.std.specs.Prelude.{ℕ, ℤ, List}
+use Rattle.std.specs.Prelude.{ℕ, ℤ, List, Bool, true, false}
 
 mutual
   -- a type of IDL, without its name
@@ -42,3 +42,24 @@ mutual
     no_branches : Branches
     -- labels, a name, what is there, and the cases behind it
     branch : List ℤ → List ℕ → Shape → Branches → Branches
+
+-- whether values are numbers, chars or booleans, which are read without memory
+abbrev pub is_primitive : Shape → Bool
+is_primitive boolean = true
+is_primitive octet = true
+is_primitive char = true
+is_primitive short = true
+is_primitive ushort = true
+is_primitive long = true
+is_primitive ulong = true
+is_primitive longlong = true
+is_primitive ulonglong = true
+is_primitive _ = false
+
+-- whether no other value stands within a value
+abbrev pub is_leaf : Shape → Bool
+is_leaf (members fs) = false
+is_leaf (choice disc bs other) = false
+is_leaf (items s bound) = false
+is_leaf (row s n) = false
+is_leaf _ = true

@@ -1,14 +1,16 @@
 //! Writing a value in one pass, as far as it fits and memory is there.
-ghost use Rattle.std.specs.Prelude.{◌≡◌, ◌==◌, ◌&&◌, nat_lt, length, map};
+ghost use Rattle.std.specs.Prelude.{◌≡◌, ◌==◌, ◌&&◌, true, nat_lt, length, map};
 ghost use Rattle.std.specs.List.{list_all};
 ghost use Rattle.std.specs.Int.{w32};
 ghost use Rattle.giop_cdr.specs.Writing.Output.{number_out, octets_out, string_out, items_out, sequence_out};
 ghost use Rattle.giop_types.specs.Coding.Encoding.{AppendsFitting, AppendsCase};
+ghost use Rattle.giop_types.specs.Descriptions.Shape.{is_primitive, is_leaf};
 ghost use Rattle.giop_types.specs.Values.Fits.{fits, fields_fit, branches_fit, fits_label, is_unsigned, is_counted, is_octets_of, is_text_of};
 ghost use Rattle.giop_types.specs.Values.Views.{desc_view, named_view, case_view, fallback_view, value_view, member_view, fields_of, branches_of};
 ghost use Rattle.giop_types.specs.Coding.Written.{value_out, fields_out, branches_out, label_out};
 
 use crate::codec::fitting::{fits_label, is_counted, is_octets_of, is_text_of};
+use crate::codec::leaf::is_primitive;
 use crate::codec::reading::has_label;
 use crate::description::desc::{CaseDesc, Desc, NamedDesc};
 use crate::value::Value;
@@ -18,6 +20,72 @@ use giop_cdr::{CdrOut, EncodeFault};
 #[cycle(append)]
 #[tactic(auto, unfolding(crate::specs::Values::Fits::fits, crate::specs::Coding::Written::value_out))]
 pub fn append(out: &mut CdrOut, desc: &Desc, value: &Value) -> Result<(), EncodeFault>
+    ensures { AppendsFitting (fits (desc_view desc.now) (value_view value.now))
+        out.old result out.new (value_out (desc_view desc.now) (value_view value.now) out.old) }
+{
+    match desc {
+        Desc::Members(members) => match value {
+            Value::Members(values) => append_members(out, members, values),
+            _ => Err(EncodeFault::Unfit),
+        },
+        Desc::Choice {
+            disc,
+            cases,
+            fallback,
+        } => match value {
+            Value::Choice {
+                disc: label,
+                member,
+            } => {
+                append_label(out, disc, label)?;
+                if append_case(out, label, cases, member)? {
+                    return Ok(());
+                }
+                append_default(out, fallback, member)
+            }
+            _ => Err(EncodeFault::Unfit),
+        },
+        Desc::Items(item, bound) => match value {
+            Value::Items(values) => append_items(out, item, *bound, values),
+            _ => Err(EncodeFault::Unfit),
+        },
+        Desc::Row(item, n) => match value {
+            Value::Row(values) => append_row(out, item, *n, values),
+            _ => Err(EncodeFault::Unfit),
+        },
+        _ => append_leaf(out, desc, value),
+    }
+}
+
+// A value within which no other stands.
+#[tactic(auto, unfolding(crate::specs::Values::Fits::fits, crate::specs::Coding::Written::value_out))]
+fn append_leaf(out: &mut CdrOut, desc: &Desc, value: &Value) -> Result<(), EncodeFault>
+    requires { is_leaf (desc_view desc.now) ≡ true }
+    ensures { AppendsFitting (fits (desc_view desc.now) (value_view value.now))
+        out.old result out.new (value_out (desc_view desc.now) (value_view value.now) out.old) }
+{
+    match desc {
+        Desc::Text(bound) => match value {
+            Value::Text(text) => append_text(out, *bound, text.as_slice()),
+            _ => Err(EncodeFault::Unfit),
+        },
+        Desc::Octets(bound) => match value {
+            Value::Octets(octets) => append_octets(out, *bound, octets.as_slice()),
+            _ => Err(EncodeFault::Unfit),
+        },
+        Desc::Labels(names) => match value {
+            Value::Label(ordinal) => append_ordinal(out, names.len(), *ordinal),
+            _ => Err(EncodeFault::Unfit),
+        },
+        _ => append_primitive(out, desc, value),
+    }
+}
+
+// A number, a char or a boolean.
+#[inline(always)]
+#[tactic(auto, unfolding(crate::specs::Values::Fits::fits, crate::specs::Coding::Written::value_out))]
+fn append_primitive(out: &mut CdrOut, desc: &Desc, value: &Value) -> Result<(), EncodeFault>
+    requires { is_primitive (desc_view desc.now) ≡ true }
     ensures { AppendsFitting (fits (desc_view desc.now) (value_view value.now))
         out.old result out.new (value_out (desc_view desc.now) (value_view value.now) out.old) }
 {
@@ -31,33 +99,34 @@ pub fn append(out: &mut CdrOut, desc: &Desc, value: &Value) -> Result<(), Encode
         (Desc::ULong, Value::ULong(number)) => Ok(out.write_ulong(*number)?),
         (Desc::LongLong, Value::LongLong(number)) => Ok(out.write_longlong(*number)?),
         (Desc::ULongLong, Value::ULongLong(number)) => Ok(out.write_ulonglong(*number)?),
-        (Desc::Text(bound), Value::Text(text)) => append_text(out, *bound, text.as_slice()),
-        (Desc::Octets(bound), Value::Octets(octets)) => {
-            append_octets(out, *bound, octets.as_slice())
-        }
-        (Desc::Labels(names), Value::Label(ordinal)) => append_ordinal(out, names.len(), *ordinal),
-        (Desc::Members(members), Value::Members(values)) => append_members(out, members, values),
-        (
-            Desc::Choice {
-                disc,
-                cases,
-                fallback,
-            },
-            Value::Choice {
-                disc: label,
-                member,
-            },
-        ) => {
-            append_label(out, disc, label)?;
-            if append_case(out, label, cases, member)? {
-                return Ok(());
-            }
-            append_default(out, fallback, member)
-        }
-        (Desc::Items(item, bound), Value::Items(values)) => append_items(out, item, *bound, values),
-        (Desc::Row(item, n), Value::Row(values)) => append_row(out, item, *n, values),
         _ => Err(EncodeFault::Unfit),
     }
+}
+
+// Numbers, chars or booleans one after the other, without a call for each.
+fn append_primitives(out: &mut CdrOut, item: &Desc, values: &[Value]) -> Result<(), EncodeFault>
+    requires { is_primitive (desc_view item.now) ≡ true }
+    ensures { AppendsFitting (list_all (fits (desc_view item.now)) (map value_view values.now))
+        out.old result out.new
+        (items_out (value_out (desc_view item.now)) (map value_view values.now) out.old) }
+{
+    for value in values {
+        append_primitive(out, item, value)?;
+    }
+    Ok(())
+}
+
+// A value within another: a number, a char or a boolean without a call.
+#[cycle(append)]
+#[inline(always)]
+fn append_part(out: &mut CdrOut, desc: &Desc, value: &Value) -> Result<(), EncodeFault>
+    ensures { AppendsFitting (fits (desc_view desc.now) (value_view value.now))
+        out.old result out.new (value_out (desc_view desc.now) (value_view value.now) out.old) }
+{
+    if is_primitive(desc) {
+        return append_primitive(out, desc, value);
+    }
+    append(out, desc, value)
 }
 
 // A text within its bound.
@@ -146,7 +215,7 @@ fn append_members(
         return Err(EncodeFault::Unfit);
     }
     for i in 0..members.len() {
-        append(out, &members[i].desc, &values[i])?;
+        append_part(out, &members[i].desc, &values[i])?;
     }
     Ok(())
 }
@@ -192,6 +261,9 @@ fn append_each(out: &mut CdrOut, item: &Desc, values: &[Value]) -> Result<(), En
         out.old result out.new
         (items_out (value_out (desc_view item.now)) (map value_view values.now) out.old) }
 {
+    if is_primitive(item) {
+        return append_primitives(out, item, values);
+    }
     for value in values {
         append(out, item, value)?;
     }

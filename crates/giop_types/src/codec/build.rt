@@ -1,16 +1,18 @@
 //! Reading a value in one pass, as long as memory is there.
-ghost use Rattle.std.specs.Prelude.{◌≡◌, ◌≤◌, ◌/◌, min, length, map, [], IfOk};
+ghost use Rattle.std.specs.Prelude.{◌≡◌, ◌≤◌, ◌/◌, true, min, length, map, [], IfOk};
 ghost use Rattle.std.specs.Vec.{vec_capacity};
 ghost use Rattle.giop_cdr.specs.Reading.Values.{items_at};
 ghost use Rattle.giop_cdr.specs.Reading.Outcome.{Follows};
 ghost use Rattle.giop_types.specs.Coding.Decoding.{decode_at, fields_at, branches_at, bounded_at, row_at};
+ghost use Rattle.giop_types.specs.Descriptions.Shape.{is_primitive};
 ghost use Rattle.giop_types.specs.Coding.Outcome.{FollowsCase, MakesChoice, one_or_none};
 ghost use Rattle.giop_types.specs.Values.Views.{desc_view, named_view, case_view, fallback_view, value_view, fields_of, branches_of};
 
-use crate::codec::reading::{has_label, read_label, read_ordinal, row_length};
+use crate::codec::leaf::{build_leaf, is_primitive, read_primitive};
+use crate::codec::reading::{has_label, read_label, row_length};
 use crate::description::desc::{CaseDesc, Desc, NamedDesc};
 use crate::value::Value;
-use giop_cdr::{CdrFault, CdrIn, CdrKind, OctetList, Octets};
+use giop_cdr::{CdrFault, CdrIn, CdrKind, Octets};
 use std::alloc::{AllocError, Global};
 
 /// A value.
@@ -20,20 +22,6 @@ pub fn build<S: Octets>(alloc: Global, desc: &Desc, input: &mut CdrIn<S>) -> Res
     ensures { Follows value_view result input.new (decode_at (desc_view desc.now) input.old) }
 {
     match desc {
-        Desc::Boolean => Ok(Value::Boolean(input.read_boolean()?)),
-        Desc::Octet => Ok(Value::Octet(input.read_octet()?)),
-        Desc::Char => Ok(Value::Char(input.read_char()?)),
-        Desc::Short => Ok(Value::Short(input.read_short()?)),
-        Desc::UShort => Ok(Value::UShort(input.read_ushort()?)),
-        Desc::Long => Ok(Value::Long(input.read_long()?)),
-        Desc::ULong => Ok(Value::ULong(input.read_ulong()?)),
-        Desc::LongLong => Ok(Value::LongLong(input.read_longlong()?)),
-        Desc::ULongLong => Ok(Value::ULongLong(input.read_ulonglong()?)),
-        Desc::Text(bound) => Ok(Value::Text(OctetList::from(input.read_string(alloc, *bound)?))),
-        Desc::Octets(bound) => Ok(Value::Octets(OctetList::from(input.read_octets(
-            alloc, *bound,
-        )?))),
-        Desc::Labels(names) => Ok(Value::Label(read_ordinal(names.len(), input)?)),
         Desc::Members(members) => Ok(Value::Members(build_members(alloc, members, input)?)),
         Desc::Choice {
             disc,
@@ -49,7 +37,24 @@ pub fn build<S: Octets>(alloc: Global, desc: &Desc, input: &mut CdrIn<S>) -> Res
         }
         Desc::Items(item, bound) => Ok(Value::Items(build_items(alloc, item, *bound, input)?)),
         Desc::Row(item, n) => Ok(Value::Row(build_row(alloc, item, *n, input)?)),
+        _ => build_leaf(alloc, desc, input),
     }
+}
+
+// A value within another: a number, a char or a boolean without a call.
+#[cycle(build)]
+#[inline(always)]
+fn build_part<S: Octets>(
+    alloc: Global,
+    desc: &Desc,
+    input: &mut CdrIn<S>,
+) -> Result<Value, CdrFault>
+    ensures { Follows value_view result input.new (decode_at (desc_view desc.now) input.old) }
+{
+    if is_primitive(desc) {
+        return read_primitive(desc, input);
+    }
+    build(alloc, desc, input)
 }
 
 // Want of memory, told here.
@@ -102,7 +107,7 @@ fn build_members<S: Octets>(
         return Err(wanting);
     };
     for member in members {
-        let value = build(alloc, &member.desc, input)?;
+        let value = build_part(alloc, &member.desc, input)?;
         if values.push(value).is_err() {
             return Err(wanting);
         }
@@ -188,6 +193,31 @@ fn room<S: Octets>(alloc: Global, count: usize, input: &CdrIn<S>) -> Result<Vec<
     Vec::with_capacity(alloc, count.min(input.remaining() / 8))
 }
 
+// As many numbers, chars or booleans, without a call for each.
+fn build_primitives<S: Octets>(
+    alloc: Global,
+    item: &Desc,
+    count: usize,
+    input: &mut CdrIn<S>,
+) -> Result<Vec<Value>, CdrFault>
+    requires primitive { is_primitive (desc_view item.now) ≡ true }
+    requires left { count ≤ length input.old.rest }
+    ensures { Follows (λ values. map value_view values.items) result input.new
+        (items_at (decode_at (desc_view item.now)) count input.old) }
+{
+    let wanting = wanting(input);
+    let Ok(mut values) = room(alloc, count, input) else {
+        return Err(wanting);
+    };
+    for _ in 0..count {
+        let value = read_primitive(item, input)?;
+        if values.push(value).is_err() {
+            return Err(wanting);
+        }
+    }
+    Ok(values)
+}
+
 // As many values.
 #[cycle(build)]
 fn build_counted<S: Octets>(
@@ -200,6 +230,9 @@ fn build_counted<S: Octets>(
     ensures { Follows (λ values. map value_view values.items) result input.new
         (items_at (decode_at (desc_view item.now)) count input.old) }
 {
+    if is_primitive(item) {
+        return build_primitives(alloc, item, count, input);
+    }
     let wanting = wanting(input);
     let Ok(mut values) = room(alloc, count, input) else {
         return Err(wanting);

@@ -7,7 +7,8 @@ ghost use Rattle.giop_types.specs.Descriptions.Shape.{items, row};
 ghost use Rattle.giop_types.specs.Coding.Outcome.{SkipsCase};
 ghost use Rattle.giop_types.specs.Values.Views.{desc_view, named_view, case_view, fallback_view, fields_of, branches_of};
 
-use crate::codec::reading::{has_label, read_label, read_ordinal, row_length};
+use crate::codec::leaf::skip_leaf;
+use crate::codec::reading::{has_label, read_label, row_length};
 use crate::description::desc::{CaseDesc, Desc, NamedDesc};
 use giop_cdr::{CdrFault, CdrIn, Octets};
 
@@ -18,18 +19,6 @@ pub fn skip<S: Octets>(desc: &Desc, input: &mut CdrIn<S>) -> Result<(), CdrFault
     ensures { Skips result input.new (decode_at (desc_view desc.now) input.old) }
 {
     match desc {
-        Desc::Boolean => drop(input.read_boolean()?),
-        Desc::Octet => drop(input.read_octet()?),
-        Desc::Char => drop(input.read_char()?),
-        Desc::Short => drop(input.read_short()?),
-        Desc::UShort => drop(input.read_ushort()?),
-        Desc::Long => drop(input.read_long()?),
-        Desc::ULong => drop(input.read_ulong()?),
-        Desc::LongLong => drop(input.read_longlong()?),
-        Desc::ULongLong => drop(input.read_ulonglong()?),
-        Desc::Text(bound) => input.skip_string(*bound)?,
-        Desc::Octets(bound) => input.skip_octets(*bound)?,
-        Desc::Labels(names) => drop(read_ordinal(names.len(), input)?),
         Desc::Members(members) => skip_members(members, input)?,
         Desc::Choice {
             disc,
@@ -43,6 +32,7 @@ pub fn skip<S: Octets>(desc: &Desc, input: &mut CdrIn<S>) -> Result<(), CdrFault
         }
         Desc::Items(item, bound) => skip_items(item, *bound, input)?,
         Desc::Row(item, n) => skip_row(item, *n, input)?,
+        _ => skip_leaf(desc, input)?,
     }
     Ok(())
 }

@@ -1,10 +1,11 @@
 //! Values read from JSON.
-ghost use Rattle.std.specs.Prelude.{◌≡◌, map, option_and_then, IfOk, IfErr};
+ghost use Rattle.std.specs.Prelude.{◌≡◌, true, map, option_and_then, IfOk, IfErr};
 ghost use Rattle.giop_types.specs.declared.json.form_fault.FormFault.TheVariants.{NoMemory};
 ghost use Rattle.giop_types.specs.Descriptions.CheckedShape.{checked_shape};
 ghost use Rattle.giop_types.specs.JsonForms.FromJson.{Shows, ShowsCase, Reads, shown, members_shown, fields_shown, branches_shown, fallback_shown, items_shown, is_object_of, union_parts, from_data};
 ghost use Rattle.giop_types.specs.JsonForms.JsonText.{text_of};
 ghost use Rattle.giop_types.specs.Coding.Outcome.{one_or_none};
+ghost use Rattle.giop_types.specs.Descriptions.Shape.{is_leaf};
 ghost use Rattle.giop_types.specs.Values.Tree.{choice_of};
 ghost use Rattle.giop_types.specs.Values.Views.{desc_view, named_view, case_view, fallback_view, value_view, trees_of, fields_of, branches_of};
 ghost use Rattle.serde_json.specs.Find.{get, as_array};
@@ -45,14 +46,6 @@ pub fn show(alloc: Global, desc: &Desc, json: &Json) -> Result<Value, FormFault>
     ensures { Shows value_view result (shown (desc_view desc.now) (view json.now)) }
 {
     match desc {
-        Desc::Boolean => match json.as_bool() {
-            Some(boolean) => Ok(Value::Boolean(boolean)),
-            None => Err(FormFault::BadShape),
-        },
-        Desc::Char => Ok(Value::Char(char_of(alloc, json)?)),
-        Desc::Text(_) => Ok(Value::Text(octets_of(alloc, json)?)),
-        Desc::Octets(_) => Ok(Value::Octets(hex_of(alloc, json)?)),
-        Desc::Labels(names) => Ok(ordinal_value(ordinal_of(alloc, names, json)?)),
         Desc::Members(members) => {
             if is_reference(members) {
                 reference_of(alloc, desc, json)
@@ -74,13 +67,26 @@ pub fn show(alloc: Global, desc: &Desc, json: &Json) -> Result<Value, FormFault>
         }
         Desc::Items(item, _) => Ok(Value::Items(show_items(alloc, item, json)?)),
         Desc::Row(item, _) => Ok(Value::Row(show_items(alloc, item, json)?)),
-        Desc::Octet => number_of(desc, json),
-        Desc::Short => number_of(desc, json),
-        Desc::UShort => number_of(desc, json),
-        Desc::Long => number_of(desc, json),
-        Desc::ULong => number_of(desc, json),
-        Desc::LongLong => number_of(desc, json),
-        Desc::ULongLong => number_of(desc, json),
+        _ => show_leaf(alloc, desc, json),
+    }
+}
+
+// A value within which no other stands.
+#[tactic(auto, unfolding(crate::specs::JsonForms::FromJson::shown))]
+fn show_leaf(alloc: Global, desc: &Desc, json: &Json) -> Result<Value, FormFault>
+    requires { is_leaf (desc_view desc.now) ≡ true }
+    ensures { Shows value_view result (shown (desc_view desc.now) (view json.now)) }
+{
+    match desc {
+        Desc::Boolean => match json.as_bool() {
+            Some(boolean) => Ok(Value::Boolean(boolean)),
+            None => Err(FormFault::BadShape),
+        },
+        Desc::Char => Ok(Value::Char(char_of(alloc, json)?)),
+        Desc::Text(_) => Ok(Value::Text(octets_of(alloc, json)?)),
+        Desc::Octets(_) => Ok(Value::Octets(hex_of(alloc, json)?)),
+        Desc::Labels(names) => Ok(ordinal_value(ordinal_of(alloc, names, json)?)),
+        _ => number_of(desc, json),
     }
 }
 

@@ -1,9 +1,10 @@
 //! Values written as JSON.
-ghost use Rattle.std.specs.Prelude.{◌≡◌, ◌⊎◌, map, option_map, false, Ok, IfOk, IfErr, IsErrOf};
+ghost use Rattle.std.specs.Prelude.{◌≡◌, ◌⊎◌, map, option_map, true, false, Ok, IfOk, IfErr, IsErrOf};
 ghost use Rattle.serde_json.specs.Data.{array, object, no_members};
 ghost use Rattle.serde_json.specs.View.{view, items_of};
 ghost use Rattle.giop_types.specs.declared.json.form_fault.FormFault.TheVariants.{Unfit, NoMemory};
 ghost use Rattle.giop_types.specs.Descriptions.CheckedShape.{checked_shape};
+ghost use Rattle.giop_types.specs.Descriptions.Shape.{is_leaf};
 ghost use Rattle.giop_types.specs.Values.Fits.{fits};
 ghost use Rattle.giop_types.specs.JsonForms.FromJson.{from_data};
 ghost use Rattle.giop_types.specs.JsonForms.ToJson.{to_data, fields_data, choice_data, selected, selected_data};
@@ -47,6 +48,51 @@ pub fn to_json(alloc: Global, value: &Value, desc: &Desc) -> Result<Json, AllocE
     ensures { IfOk result
         (λ json. view json ≡ to_data (desc_view desc.now) (value_view value.now)) }
 {
+    match desc {
+        Desc::Members(members) => match value {
+            Value::Members(values) => {
+                if is_reference(members) {
+                    reference_json(alloc, value, desc)
+                } else {
+                    members_json(alloc, values, members)
+                }
+            }
+            _ => Ok(Json::Null),
+        },
+        Desc::Choice {
+            disc,
+            cases,
+            fallback,
+        } => match value {
+            Value::Choice {
+                disc: label,
+                member,
+            } => choice_json(
+                alloc,
+                label_json(alloc, disc, label)?,
+                member_json(alloc, member, selected(cases, fallback, label))?,
+            ),
+            _ => Ok(Json::Null),
+        },
+        Desc::Items(item, _) => match value {
+            Value::Items(values) => items_json(alloc, values, item),
+            _ => Ok(Json::Null),
+        },
+        Desc::Row(item, _) => match value {
+            Value::Row(values) => items_json(alloc, values, item),
+            _ => Ok(Json::Null),
+        },
+        _ => leaf_json(alloc, value, desc),
+    }
+}
+
+// A value within which no other stands.
+#[tactic(auto, unfolding(crate::specs::JsonForms::ToJson::to_data))]
+fn leaf_json(alloc: Global, value: &Value, desc: &Desc) -> Result<Json, AllocError>
+    requires { is_leaf (desc_view desc.now) ≡ true }
+    ensures { IfOk result
+        (λ json. view json ≡ to_data (desc_view desc.now) (value_view value.now)) }
+{
     match (desc, value) {
         (Desc::Boolean, Value::Boolean(boolean)) => Ok(Json::from(*boolean)),
         (Desc::Octet, Value::Octet(number)) => Ok(Json::from(*number)),
@@ -62,30 +108,6 @@ pub fn to_json(alloc: Global, value: &Value, desc: &Desc) -> Result<Json, AllocE
             Ok(Json::String(hex::encode(alloc, octets.as_slice())?))
         }
         (Desc::Labels(names), Value::Label(ordinal)) => name_json(alloc, names, *ordinal as usize),
-        (Desc::Members(members), Value::Members(values)) => {
-            if is_reference(members) {
-                reference_json(alloc, value, desc)
-            } else {
-                members_json(alloc, values, members)
-            }
-        }
-        (
-            Desc::Choice {
-                disc,
-                cases,
-                fallback,
-            },
-            Value::Choice {
-                disc: label,
-                member,
-            },
-        ) => choice_json(
-            alloc,
-            label_json(alloc, disc, label)?,
-            member_json(alloc, member, selected(cases, fallback, label))?,
-        ),
-        (Desc::Items(item, _), Value::Items(values)) => items_json(alloc, values, item),
-        (Desc::Row(item, _), Value::Row(values)) => items_json(alloc, values, item),
         _ => Ok(Json::Null),
     }
 }

@@ -13,72 +13,78 @@ use Rattle.giop_types.proofs.Coding.EncodeLemmas.{items_fits, row_fits, each_on,
 use Rattle.giop_types.proofs.Coding.EncodeLemmas.{case_put, case_refused, sequence_is, case_over, choice_by_case, choice_by_default, default_written, nothing_written}
 use Rattle.giop_types.proofs.codec.append.+append.Goals as goal
 
-pub append-returns-in-Members-Members : goal.append-returns-in-Members-Members
-append-returns-in-Members-Members t c =
-    let u = c.in-Members-Members in
-    let h = rw (c.deref.ensures.value, c.deref-in-Members-Members.ensures.value) at c.append_members.ensures in
-    rw (u.is-0, u.is-1) (puts_as _ _ c.args.out.now c.append_members.new.out _ _ c.append_members.result
-    (sym (members_fitting u.members u.values)) (sym (members_written u.members u.values c.args.out.now)) h)
+pub append-returns-in-Members-value : goal.append-returns-in-Members-value
+append-returns-in-Members-value t c =
+    let u = c.in-Members in
+    let v = c.in-Members-value in
+    let h = rw (c.deref.ensures.value, c.deref-in-Members-value.ensures.value) at c.append_members.ensures in
+    rw (u.is, v.is) (puts_as _ _ c.args.out.now c.append_members.new.out _ _ c.append_members.result
+    (sym (members_fitting u.members v.values)) (sym (members_written u.members v.values c.args.out.now)) h)
 
-pub append-returns-in-Items-Items : goal.append-returns-in-Items-Items
-append-returns-in-Items-Items t c =
-    let u = c.in-Items-Items in
-    let h = rw (c.deref-in-Items-Items.ensures, c.deref-in-Items-Items-2.ensures.value) at c.append_items.ensures in
-    rw (u.is-0, u.is-1) (puts_as _ _ c.args.out.now c.append_items.new.out _ _ c.append_items.result
-    (items_fits u.item u.bound u.values) (sym (items_written u.item u.bound u.values c.args.out.now)) h)
+pub append-returns-in-Items-value : goal.append-returns-in-Items-value
+append-returns-in-Items-value t c =
+    let u = c.in-Items in
+    let v = c.in-Items-value in
+    let h = rw (c.deref-in-Items-value.ensures, c.deref-in-Items-value-2.ensures.value) at c.append_items.ensures in
+    rw (u.is, v.is) (puts_as _ _ c.args.out.now c.append_items.new.out _ _ c.append_items.result
+    (items_fits u.item u.bound v.values) (sym (items_written u.item u.bound v.values c.args.out.now)) h)
 
-pub append-returns-in-Row-Row : goal.append-returns-in-Row-Row
-append-returns-in-Row-Row t c =
-    let u = c.in-Row-Row in
-    let h = rw (c.deref-in-Row-Row.ensures, c.deref-in-Row-Row-2.ensures.value) at c.append_row.ensures in
-    rw (u.is-0, u.is-1) (puts_as _ _ c.args.out.now c.append_row.new.out _ _ c.append_row.result
-    (row_fits u.item u.n u.values) (sym (row_written u.item u.n u.values c.args.out.now)) h)
+pub append-returns-in-Row-value : goal.append-returns-in-Row-value
+append-returns-in-Row-value t c =
+    let u = c.in-Row in
+    let v = c.in-Row-value in
+    let h = rw (c.deref-in-Row-value.ensures, c.deref-in-Row-value-2.ensures.value) at c.append_row.ensures in
+    rw (u.is, v.is) (puts_as _ _ c.args.out.now c.append_row.new.out _ _ c.append_row.result
+    (row_fits u.item u.n v.values) (sym (row_written u.item u.n v.values c.args.out.now)) h)
 
-pub append-returns-in_err-append_case-in-Choice-Choice : goal.append-returns-in_err-append_case-in-Choice-Choice
-append-returns-in_err-append_case-in-Choice-Choice t c =
-    let u = c.in-Choice-Choice in
-    let p = err_from_is_err_and c.from_residual-in_err-append_case-in-Choice-Choice.result c.from_residual-in_err-append_case-in-Choice-Choice.ensures.1 in
-    let label = rw c.deref-in-Choice-Choice.ensures at c.in_ok-append_label-in-Choice-Choice.ensures in
-    let h = case_over c.deref-in-Choice-Choice-2.ensures.value (fields_fit (fallback_view u.fallback)) (fields_out (fallback_view u.fallback)) u.label
-    (member_view u.member)
-    c.append_label.new.out c.append_case.new.out (Err c.in_err-append_case-in-Choice-Choice.field-0.0)
-    (c.in_err-append_case-in-Choice-Choice.ensures (fields_fit (fallback_view u.fallback)) (fields_out (fallback_view u.fallback))) in
-    rw (p.1, p.2, u.is-0, u.is-1) (puts_fails _ _ c.args.out.now c.append_label.new.out c.append_case.new.out c.in_err-append_case-in-Choice-Choice.field-0.0
-    (λ fails. sym (choice_judged u.disc u.cases u.fallback u.label u.member false label.0 fails)) label.2 h)
+pub append-returns-in_err-append_case-in-Choice-value : goal.append-returns-in_err-append_case-in-Choice-value
+append-returns-in_err-append_case-in-Choice-value t c =
+    let u = c.in-Choice in
+    let v = c.in-Choice-value in
+    let p = err_from_is_err_and c.from_residual-in_err-append_case-in-Choice-value.result c.from_residual-in_err-append_case-in-Choice-value.ensures.1 in
+    let label = rw c.deref-in-Choice-value.ensures at c.in_ok-append_label-in-Choice-value.ensures in
+    let h = case_over c.deref-in-Choice-value-2.ensures.value (fields_fit (fallback_view u.fallback)) (fields_out (fallback_view u.fallback)) v.label
+    (member_view v.member)
+    c.append_label.new.out c.append_case.new.out (Err c.in_err-append_case-in-Choice-value.field-0.0)
+    (c.in_err-append_case-in-Choice-value.ensures (fields_fit (fallback_view u.fallback)) (fields_out (fallback_view u.fallback))) in
+    rw (p.1, p.2, u.is, v.is) (puts_fails _ _ c.args.out.now c.append_label.new.out c.append_case.new.out c.in_err-append_case-in-Choice-value.field-0.0
+    (λ fails. sym (choice_judged u.disc u.cases u.fallback v.label v.member false label.0 fails)) label.2 h)
 
 pub append-returns-then-branch : goal.append-returns-then-branch
 append-returns-then-branch t c =
-    let u = c.in-Choice-Choice in
+    let u = c.in-Choice in
+    let v = c.in-Choice-value in
     let bs = branches_of (map case_view u.cases.items) in
-    let label = rw c.deref-in-Choice-Choice.ensures at c.in_ok-append_label-in-Choice-Choice.ensures in
-    let h = case_over c.deref-in-Choice-Choice-2.ensures.value (fields_fit (fallback_view u.fallback)) (fields_out (fallback_view u.fallback)) u.label
-    (member_view u.member)
-    c.append_label.new.out c.append_case.new.out (Ok c.in_ok-append_case-in-Choice-Choice.field-0)
-    (c.in_ok-append_case-in-Choice-Choice.ensures (fields_fit (fallback_view u.fallback)) (fields_out (fallback_view u.fallback))) in
-    rw (u.is-0, u.is-1) (puts_as _ _ c.args.out.now c.append_case.new.out _ _ (Ok (tt {0}))
-    (sym (choice_fitting u.disc u.cases u.fallback u.label u.member))
-    (ap (branches_out bs (fields_out (fallback_view u.fallback)) u.label (member_view u.member)) label.1
-    ∙ sym (choice_written u.disc u.cases u.fallback u.label u.member c.args.out.now))
+    let label = rw c.deref-in-Choice-value.ensures at c.in_ok-append_label-in-Choice-value.ensures in
+    let h = case_over c.deref-in-Choice-value-2.ensures.value (fields_fit (fallback_view u.fallback)) (fields_out (fallback_view u.fallback)) v.label
+    (member_view v.member)
+    c.append_label.new.out c.append_case.new.out (Ok c.in_ok-append_case-in-Choice-value.field-0)
+    (c.in_ok-append_case-in-Choice-value.ensures (fields_fit (fallback_view u.fallback)) (fields_out (fallback_view u.fallback))) in
+    rw (u.is, v.is) (puts_as _ _ c.args.out.now c.append_case.new.out _ _ (Ok (tt {0}))
+    (sym (choice_fitting u.disc u.cases u.fallback v.label v.member))
+    (ap (branches_out bs (fields_out (fallback_view u.fallback)) v.label (member_view v.member)) label.1
+    ∙ sym (choice_written u.disc u.cases u.fallback v.label v.member c.args.out.now))
     (choice_by_case ⊤ (tt {0})
-    (fits_label (desc_view u.disc.value) u.label) _ _ c.in_ok-append_case-in-Choice-Choice.field-0 c.args.out.now c.append_label.new.out
+    (fits_label (desc_view u.disc.value) v.label) _ _ c.in_ok-append_case-in-Choice-value.field-0 c.args.out.now c.append_label.new.out
     c.append_case.new.out _ _ label.0 label.2 c.if-branch.true h))
 
 pub append-returns-else-branch : goal.append-returns-else-branch
 append-returns-else-branch t c =
-    let u = c.in-Choice-Choice in
+    let u = c.in-Choice in
+    let v = c.in-Choice-value in
     let bs = branches_of (map case_view u.cases.items) in
-    let label = rw c.deref-in-Choice-Choice.ensures at c.in_ok-append_label-in-Choice-Choice.ensures in
-    let h = case_over c.deref-in-Choice-Choice-2.ensures.value (fields_fit (fallback_view u.fallback)) (fields_out (fallback_view u.fallback)) u.label
-    (member_view u.member)
-    c.append_label.new.out c.append_case.new.out (Ok c.in_ok-append_case-in-Choice-Choice.field-0)
-    (c.in_ok-append_case-in-Choice-Choice.ensures (fields_fit (fallback_view u.fallback)) (fields_out (fallback_view u.fallback))) in
-    rw (u.is-0, u.is-1) (puts_as _ _ c.args.out.now c.append_default.new.out _ _ c.append_default.result
-    (sym (choice_fitting u.disc u.cases u.fallback u.label u.member))
-    (ap (branches_out bs (fields_out (fallback_view u.fallback)) u.label (member_view u.member)) label.1
-    ∙ sym (choice_written u.disc u.cases u.fallback u.label u.member c.args.out.now))
-    (choice_by_default (fits_label (desc_view u.disc.value) u.label) _
-    (fields_fit (fallback_view u.fallback) (member_view u.member)) c.in_ok-append_case-in-Choice-Choice.field-0
-    c.args.out.now c.append_label.new.out c.append_case.new.out c.append_default.new.out _ (fields_out (fallback_view u.fallback) (member_view u.member))
+    let label = rw c.deref-in-Choice-value.ensures at c.in_ok-append_label-in-Choice-value.ensures in
+    let h = case_over c.deref-in-Choice-value-2.ensures.value (fields_fit (fallback_view u.fallback)) (fields_out (fallback_view u.fallback)) v.label
+    (member_view v.member)
+    c.append_label.new.out c.append_case.new.out (Ok c.in_ok-append_case-in-Choice-value.field-0)
+    (c.in_ok-append_case-in-Choice-value.ensures (fields_fit (fallback_view u.fallback)) (fields_out (fallback_view u.fallback))) in
+    rw (u.is, v.is) (puts_as _ _ c.args.out.now c.append_default.new.out _ _ c.append_default.result
+    (sym (choice_fitting u.disc u.cases u.fallback v.label v.member))
+    (ap (branches_out bs (fields_out (fallback_view u.fallback)) v.label (member_view v.member)) label.1
+    ∙ sym (choice_written u.disc u.cases u.fallback v.label v.member c.args.out.now))
+    (choice_by_default (fits_label (desc_view u.disc.value) v.label) _
+    (fields_fit (fallback_view u.fallback) (member_view v.member)) c.in_ok-append_case-in-Choice-value.field-0
+    c.args.out.now c.append_label.new.out c.append_case.new.out c.append_default.new.out _ (fields_out (fallback_view u.fallback) (member_view v.member))
     c.append_default.result label.0 label.2 c.if-branch.false h c.append_default.ensures))
 
 pub append_items-returns : goal.append_items-returns
@@ -191,25 +197,25 @@ pub append_members-returns-then-members-values : goal.append_members-returns-the
 append_members-returns-then-members-values t c =
     (λ unfit. fields_differ c.args.members.now c.args.values.now c.if-members-values.true, grows_not c.args.out.now)
 
-pub append_members-returns-in_err-append : goal.append_members-returns-in_err-append
-append_members-returns-in_err-append t c =
+pub append_members-returns-in_err-append_part : goal.append_members-returns-in_err-append_part
+append_members-returns-in_err-append_part t c =
     let p = err_from_is_err_and c.from_residual.result c.from_residual.ensures.1 in
     let l = c.loop-i.invariant in
-    let put = rw (← c.index-members-i.is) at c.in_err-append.ensures in
-    rw (p.1, p.2) (puts_fails _ _ c.args.out.now c.loop-i.out c.append.new.out c.in_err-append.field-0.0
+    let put = rw (← c.index-members-i.is) at c.in_err-append_part.ensures in
+    rw (p.1, p.2) (puts_fails _ _ c.args.out.now c.loop-i.out c.append_part.new.out c.in_err-append_part.field-0.0
     (λ fails. sym (fields_failed c.args.members.now c.args.values.now c.loop-i.i c.index-members-i.result c.index-values-i.result _ c.loop-i-test.true l.as_many
     c.index-members-i.is c.index-values-i.is fails l.fit)) l.grows put)
 
 pub append_members-loop-i-preserved : goal.append_members-loop-i-preserved
 append_members-loop-i-preserved t c =
     let l = c.loop-i.invariant in
-    let put = rw (← c.index-members-i.is) at c.in_ok-append.ensures in
+    let put = rw (← c.index-members-i.is) at c.in_ok-append_part.ensures in
     record {
       fit = fields_passed c.args.members.now c.args.values.now c.loop-i.i c.index-members-i.result c.index-values-i.result _ c.loop-i-test.true l.as_many
           c.index-members-i.is c.index-values-i.is put.0 l.fit;
-      written = fields_on c.args.members.now c.args.values.now c.loop-i.i c.index-members-i.result c.index-values-i.result c.loop-i.out c.append.new.out _
+      written = fields_on c.args.members.now c.args.values.now c.loop-i.i c.index-members-i.result c.index-values-i.result c.loop-i.out c.append_part.new.out _
           c.loop-i-test.true l.as_many c.index-members-i.is c.index-values-i.is put.1 l.written;
-      grows = grows_then c.args.out.now c.loop-i.out c.append.new.out l.grows put.2;
+      grows = grows_then c.args.out.now c.loop-i.out c.append_part.new.out l.grows put.2;
       as_many = l.as_many;
     }
 

@@ -53,7 +53,7 @@ pub build_members-loop-member-preserved : goal.build_members-loop-member-preserv
 build_members-loop-member-preserved g t c =
     let pushed : c.push.new.self.items ≡ c.loop-member.values.items ++ c.in_ok-value.value ∷ [] = grind (arith, common_steps) in
     rw (pushed, one_more c.loop-member.values.items c.in_ok-value.value) (members_read_on (map value_view c.loop-member.values.items) c.args.members.now
-    c.loop-member.member-index c.member-item.result c.loop-member.input (value_view c.in_ok-value.value) c.build.new.input
+    c.loop-member.member-index c.member-item.result c.loop-member.input (value_view c.in_ok-value.value) c.build_part.new.input
     (fields_at (fields_of
     (map named_view c.args.members.now)) c.args.input.now) c.loop-member-test.true c.member-item.is c.in_ok-value.ensures c.loop-member.invariant)
 
@@ -148,7 +148,7 @@ build-returns-in_ok-member-in-Choice-2 g t c =
     let same : to_z w128 (of_z w128 label) ≡ label = grind (arith, to_z-of_z) in
     let read : label_at (desc_view u.disc.value) c.args.input.now ≡ Ok (label, middle) = rw c.deref-in-Choice.ensures at c.in_ok-label-in-Choice.ensures in
     let passed : (branches_at (branches_of (map case_view u.cases.items)) other label middle ≡ other middle) × (c.build_case.new.input ≡ middle)
-    = rw (same, c.deref-in-Choice-2.ensures.value) at (value_absent middle c.build_case.new.input _ _ c.in_ok-member-in-Choice.field-0 c.in_default.is
+    = rw (same, c.deref-in-Choice-2.ensures.value) at (value_absent middle c.build_case.new.input _ _ c.in_ok-member-in-Choice.field-0 c.in_default-2.is
     (c.in_ok-member-in-Choice.ensures other)) in
     let default : other middle ≡ Ok (one_or_none member, c.build_fallback.new.input) = rw passed.1 at c.in_ok-member-in-Choice-2.ensures in
     let made = rw same at c.choice-in-Choice.ensures in

@@ -4,15 +4,15 @@ use Rattle.std.proofs.lemmas.Int.{to_z-of_z}
 use Rattle.giop_types.specs.Coding.Outcome.{one_or_none}
 use Rattle.std.proofs.lemmas.Grind.{common_steps}
 use Rattle.std.proofs.lemmas.Result.{err_from_is_err_and}
-use Rattle.serde_json.specs.View.{view}
+use Rattle.serde_json.specs.View.{view, items_view as json_items}
 use Rattle.giop_types.specs.Coding.Decoding.{is_label}
 use Rattle.giop_types.specs.Values.Tree.{items_of, row_of}
-use Rattle.giop_types.specs.JsonForms.FromJson.{fields_shown, one_shown, is_object_of, label_shown, fallback_shown}
+use Rattle.giop_types.specs.JsonForms.FromJson.{shown, fields_shown, items_shown, one_shown, is_object_of, label_shown, fallback_shown}
 use Rattle.giop_types.specs.Values.Views.{desc_view, named_view, fallback_view, value_view, fields_of, trees_of}
 use Rattle.giop_types.proofs.Values.FitLemmas.{items_view, row_view}
 use Rattle.giop_types.proofs.Coding.MemberLoops.{one_more}
 use Rattle.giop_types.proofs.Coding.PartLoops.{part_made, part_missing, parts_made}
-use Rattle.giop_types.proofs.JsonForms.FromJsonLemmas.{members-each, field_count_is, case_shown, case_passed, no_case, items_form, row_form}
+use Rattle.giop_types.proofs.JsonForms.FromJsonLemmas.{members-each, items-each, field_count_is, case_shown, case_passed, no_case, items_form, row_form}
 use Rattle.giop_types.proofs.JsonForms.FromJsonLemmas.{refused_along, no_form, default_shown, null_shown, case_absent, choice_shows}
 use Rattle.giop_types.proofs.json.from_json.+show.Goals as goal
 
@@ -42,19 +42,19 @@ show-returns-in_ok-show_items-in-Row t c =
     let part = rw c.deref-in-Row.ensures at c.in_ok-show_items-in-Row.ensures in
     rw (u.is, row_form u.item u.field-1 (view c.args.json.now), part) (ap (λ x. Some x) (sym (row_view c.in_ok-show_items-in-Row.field-0)))
 
-pub show-returns-in_ok-show_fallback-in-None-2 : goal.show-returns-in_ok-show_fallback-in-None-2
-show-returns-in_ok-show_fallback-in-None-2 t c =
+pub show-returns-in_ok-show_fallback-in-None : goal.show-returns-in_ok-show_fallback-in-None
+show-returns-in_ok-show_fallback-in-None t c =
     let u = c.in-Choice in
     let label = c.in_ok-label-in-Choice-2.label in
     let same : to_z w128 (of_z w128 label) ≡ label = grind (arith, to_z-of_z) in
     let named : label_shown (desc_view u.disc.value) (view c.in_ok-label-in-Choice.label.now)
     ≡ Some label = rw c.deref-in-Choice.ensures at c.in_ok-label-in-Choice-2.ensures in
-    let passed = rw (same, c.deref-in-Choice-2.ensures.value) at (case_absent c.in_ok-value-in-Choice.field-0 _ _ c.in-None-2.is
+    let passed = rw (same, c.deref-in-Choice-2.ensures.value) at (case_absent c.in_ok-value-in-Choice.field-0 _ _ c.in-None.is
     (c.in_ok-value-in-Choice.ensures (fallback_shown (fallback_view u.fallback)))) in
-    let made = rw same at c.chosen-in-None-2.ensures.ok in
+    let made = rw same at c.chosen-in-None.ensures.ok in
     rw u.is (choice_shows u.disc u.cases u.fallback (view c.args.json.now) (view c.in_ok-label-in-Choice.label.now) (view c.in_ok-label-in-Choice.member.now)
-    label (one_or_none c.in_ok-show_fallback-in-None-2.field-0) c.chosen-in-None-2.result c.in_ok-label-in-Choice.ensures named
-    (passed ∙ c.in_ok-show_fallback-in-None-2.ensures) made c.chosen-in-None-2.ensures.err)
+    label (one_or_none c.in_ok-show_fallback-in-None.field-0) c.chosen-in-None.result c.in_ok-label-in-Choice.ensures named
+    (passed ∙ c.in_ok-show_fallback-in-None.ensures) made c.chosen-in-None.ensures.err)
 
 pub show_case-returns : goal.show_case-returns
 show_case-returns t c other =
@@ -132,3 +132,27 @@ pub show_members-returns-else-is_object_of : goal.show_members-returns-else-is_o
 show_members-returns-else-is_object_of t c =
     let test : is_object_of (length c.args.members.now) (view c.args.json.now) ≡ false = sym c.is_object_of.ensures ∙ c.if-is_object_of.false in
     rw (field_count_is c.args.members.now, test) (inl (refl, refl))
+
+pub show_each-loop-json-preserved : goal.show_each-loop-json-preserved
+show_each-loop-json-preserved t c =
+    let p = shown (desc_view c.args.item.now) in
+    let l = c.loop-json in
+    let pushed : c.push.new.self.items ≡ l.values.items ++ c.in_ok-value.value ∷ [] = grind (arith, common_steps) in
+    rw (pushed, one_more l.values.items c.in_ok-value.value) (part_made (items-each p) (map value_view l.values.items) c.args.list.now l.json-index
+    c.json-item.result (value_view c.in_ok-value.value) (items_shown p (json_items c.args.list.now)) c.loop-json-test.true c.json-item.is
+    c.in_ok-value.ensures l.invariant)
+
+pub show_each-returns : goal.show_each-returns
+show_each-returns t c =
+    let p = shown (desc_view c.args.item.now) in
+    let l = c.loop-json in
+    parts_made (items-each p) (map value_view l.values.items) c.args.list.now l.json-index (items_shown p (json_items c.args.list.now))
+    c.loop-json-test.false l.invariant
+
+pub show_each-returns-in_err-value : goal.show_each-returns-in_err-value
+show_each-returns-in_err-value t c =
+    let p = shown (desc_view c.args.item.now) in
+    let l = c.loop-json in
+    let e = err_from_is_err_and c.from_residual-in_err-value.result c.from_residual-in_err-value.ensures.1 in
+    rw (e.1, e.2) (refused_along _ _ _ (λ none. part_missing (items-each p) (map value_view l.values.items) c.args.list.now l.json-index c.json-item.result
+    (items_shown p (json_items c.args.list.now)) c.loop-json-test.true c.json-item.is none l.invariant) c.in_err-value.ensures)

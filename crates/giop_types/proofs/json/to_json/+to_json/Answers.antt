@@ -12,37 +12,42 @@ use Rattle.giop_types.proofs.json.to_json.+to_json.Goals as goal
 
 pub to_json-returns-then-is_reference : goal.to_json-returns-then-is_reference
 to_json-returns-then-is_reference t c =
-    let u = c.in-Members-Members in
-    let is = rw c.deref-in-Members-Members.ensures.value at (sym c.is_reference.ensures ∙ c.if-is_reference.true) in
-    let same = rw (u.is-0, u.is-1) at c.reference_json.ensures in
-    rw (u.is-0, u.is-1, ← reference_written u.members u.values is) same
+    let u = c.in-Members in
+    let v = c.in-Members-value in
+    let is = rw c.deref.ensures.value at (sym c.is_reference.ensures ∙ c.if-is_reference.true) in
+    let same = rw (u.is, v.is) at c.reference_json.ensures in
+    rw (u.is, v.is, ← reference_written u.members v.values is) same
 
 pub to_json-returns-else-is_reference : goal.to_json-returns-else-is_reference
 to_json-returns-else-is_reference t c =
-    let u = c.in-Members-Members in
-    let plain = rw c.deref-in-Members-Members.ensures.value at (sym c.is_reference.ensures ∙ c.if-is_reference.false) in
+    let u = c.in-Members in
+    let v = c.in-Members-value in
+    let plain = rw c.deref.ensures.value at (sym c.is_reference.ensures ∙ c.if-is_reference.false) in
     let same = rw (c.deref-else-is_reference.ensures.value, c.deref-else-is_reference-2.ensures.value) at c.members_json.ensures in
-    rw (u.is-0, u.is-1, members_data u.members u.values plain) same
+    rw (u.is, v.is, members_data u.members v.values plain) same
 
-pub to_json-returns-in-Items-Items : goal.to_json-returns-in-Items-Items
-to_json-returns-in-Items-Items t c =
-    let u = c.in-Items-Items in
-    let same = rw (c.deref-in-Items-Items.ensures.value, c.deref-in-Items-Items-2.ensures) at c.items_json.ensures in
-    rw (u.is-0, u.is-1, items_data u.item u.field-1-0 u.values) same
+pub to_json-returns-in-Items-value : goal.to_json-returns-in-Items-value
+to_json-returns-in-Items-value t c =
+    let u = c.in-Items in
+    let v = c.in-Items-value in
+    let same = rw (c.deref-in-Items-value.ensures.value, c.deref-in-Items-value-2.ensures) at c.items_json.ensures in
+    rw (u.is, v.is, items_data u.item u.field-1 v.values) same
 
-pub to_json-returns-in-Row-Row : goal.to_json-returns-in-Row-Row
-to_json-returns-in-Row-Row t c =
-    let u = c.in-Row-Row in
-    let same = rw (c.deref-in-Row-Row.ensures.value, c.deref-in-Row-Row-2.ensures) at c.items_json-in-Row-Row.ensures in
-    rw (u.is-0, u.is-1, row_data u.item u.field-1-0 u.values) same
+pub to_json-returns-in-Row-value : goal.to_json-returns-in-Row-value
+to_json-returns-in-Row-value t c =
+    let u = c.in-Row in
+    let v = c.in-Row-value in
+    let same = rw (c.deref-in-Row-value.ensures.value, c.deref-in-Row-value-2.ensures) at c.items_json-in-Row-value.ensures in
+    rw (u.is, v.is, row_data u.item u.field-1 v.values) same
 
-pub to_json-returns-in_ok-member_json-in-Choice-Choice : goal.to_json-returns-in_ok-member_json-in-Choice-Choice
-to_json-returns-in_ok-member_json-in-Choice-Choice t c =
-    let u = c.in-Choice-Choice in
-    let label = rw c.deref-in-Choice-Choice.ensures at c.in_ok-label_json-in-Choice-Choice.ensures in
-    let which = rw c.deref-in-Choice-Choice-2.ensures.value at c.selected.ensures in
-    let member = rw which at c.in_ok-member_json-in-Choice-Choice.ensures in
-    rw (u.is-0, u.is-1, ← union_written u.disc u.cases u.fallback u.label u.member _ _ label member) c.choice_json.ensures
+pub to_json-returns-in_ok-member_json-in-Choice-value : goal.to_json-returns-in_ok-member_json-in-Choice-value
+to_json-returns-in_ok-member_json-in-Choice-value t c =
+    let u = c.in-Choice in
+    let v = c.in-Choice-value in
+    let label = rw c.deref-in-Choice-value.ensures at c.in_ok-label_json-in-Choice-value.ensures in
+    let which = rw c.deref-in-Choice-value-2.ensures.value at c.selected.ensures in
+    let member = rw which at c.in_ok-member_json-in-Choice-value.ensures in
+    rw (u.is, v.is, ← union_written u.disc u.cases u.fallback v.label v.member _ _ label member) c.choice_json.ensures
 
 pub members_json-loop-i-preserved : goal.members_json-loop-i-preserved
 members_json-loop-i-preserved t c =
