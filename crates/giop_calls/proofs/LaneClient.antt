@@ -82,7 +82,8 @@ module _ (codec : Codec) where
         i.no_rest,
         i.no_pipe,
         reach_on s ts i.comes_to (read_at call (uses + 1)) _ i.reaches i.still
-            (subst (λ x. served codec i.comes_to (Opens (kind_of call) (version_of call) true (codec.call_first call n)) ≡ Some (at (server.arrived x) [] (uses + 1)))
+            (subst (λ x. served codec i.comes_to (Opens (kind_of call) (version_of call) true (codec.call_first call n))
+            ≡ Some (at (server.arrived x) [] (uses + 1)))
             (subst (λ l. codec.read_call (codec.call_first call n ∷ l) ≡ heard_call call) e (codec.call_read call n fit))
             (begin_by (server.is_free i.comes_to.entry) i.comes_to.entry _ [] i.comes_to.uses uses i.free i.used)),
       ))
@@ -226,7 +227,8 @@ module _ (codec : Codec) where
   keeps_call lane call n st = call_if (codec.fits_call call) call n lane refl st
 
   -- the next piece of the call goes out
-  send_piece : (call : Call) (left n : ℕ) (before rest : List Piece) (p : Piece) (got : List Piece) (uses : ℕ) (ts : List Message) (s : Server) (ws tc : List Message)
+  send_piece : (call : Call) (left n : ℕ) (before rest : List Piece) (p : Piece)
+      (got : List Piece) (uses : ℕ) (ts : List Message) (s : Server) (ws tc : List Message)
       → codec.fits_call call ≡ true → before ++ p ∷ rest ≡ codec.call_first call n ∷ codec.call_rest call n → length (p ∷ rest) ≡ left
       → Quiet codec s ts ws tc (at (at_server.Gathering (kind_of call)) before uses)
       → Phase codec (Some (client.sending call (left - 1))) got uses (fragments rest) (ts ++ Continues (is_last rest) p ∷ []) s ws tc

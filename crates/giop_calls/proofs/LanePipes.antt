@@ -150,7 +150,8 @@ module _ (codec : Codec) where
 
   -- a step that becomes that
   became : (step : client.ClientStep) (next : ClientEntry) (pieces : List Piece) (uses : ℕ) → step ≡ client.becomes next
-      → taken {A = Standing ClientEntry} step.outcome (record { entry = step.entry; pieces = pieces; uses = uses }) ≡ Some (record { entry = Some next; pieces = pieces; uses = uses })
+      → taken {A = Standing ClientEntry} step.outcome (record { entry = step.entry; pieces = pieces; uses = uses })
+      ≡ Some (record { entry = Some next; pieces = pieces; uses = uses })
   became step next pieces uses e = subst (λ y. taken {A = Standing ClientEntry} y.outcome (record { entry = y.entry; pieces = pieces; uses = uses })
       ≡ Some (record { entry = Some next; pieces = pieces; uses = uses })) (sym e) refl
 
@@ -226,7 +227,8 @@ module _ (codec : Codec) where
   late_comes : (l : Late) (got : List Piece) (uses : ℕ) (us ts : List Message) (s : Server) (ws : List Message) (m : Message) (tc : List Message)
       (x : Later l got uses m (tc ++ ws)) → Phase codec (Some (at_client.Cancelled x.now)) x.pieces uses us ts s ws tc
       → Goes codec (to_client codec (lane_of (Some (at_client.Cancelled l)) got uses us ts s ws (m ∷ tc)) (m ∷ tc))
-  late_comes l got uses us ts s ws m tc x st = comes (at_client.Cancelled l) (at_client.Cancelled x.now) got x.pieces uses us ts (m ∷ tc) s ws m m tc refl x.heard st
+  late_comes l got uses us ts s ws m tc x st = comes (at_client.Cancelled l) (at_client.Cancelled x.now)
+      got x.pieces uses us ts (m ∷ tc) s ws m m tc refl x.heard st
 
   client_hears : (c : Option ClientEntry) (got : List Piece) (uses : ℕ) (us ts : List Message) (s : Server) (ws tc : List Message)
       → Phase codec c got uses us ts s ws tc → Goes codec (to_client codec (lane_of c got uses us ts s ws tc) tc)

@@ -50,7 +50,8 @@ still_silent (Some (at_server.Delivered request)) h = inr (_, refl, refl)
 still_silent (Some (at_server.Cancelled was left)) h = inr (_, refl, h)
 
 -- a call whose reply is waited for is asked at the server
-pub waits : (q : Request) (b : Bool) → (if b then at_client.OnewaySent q else at_client.Waiting (asked.Request q)) ≡ at_client.Waiting (asked.Request q) → b ≡ false
+pub waits : (q : Request) (b : Bool)
+    → (if b then at_client.OnewaySent q else at_client.Waiting (asked.Request q)) ≡ at_client.Waiting (asked.Request q) → b ≡ false
 waits q true e = absurd cc
 waits q false e = refl
 
@@ -369,7 +370,8 @@ module _ (codec : Codec) where
       → Goes codec (step codec (lane_of c got uses us ts s ws tc) SendsReply)
   unfolding Silent
   no_send c got uses us ts s ws tc (inl e) st = subst (λ y. Goes codec (tried (send y).outcome (lane_of c got uses us ts s ws tc)
-      (record (lane_of c got uses us ts s ws tc) { server = record s { entry = (send y).entry }; to_client = tc ++ next ws; unanswered = later ws }))) (sym e) st
+      (record (lane_of c got uses us ts s ws tc) { server = record s { entry = (send y).entry }; to_client = tc ++ next ws; unanswered = later ws })))
+      (sym e) st
   no_send c got uses us ts s ws tc (inr (one, e, h)) st = subst (λ y. Goes codec (tried (send y).outcome (lane_of c got uses us ts s ws tc)
       (record (lane_of c got uses us ts s ws tc) { server = record s { entry = (send y).entry }; to_client = tc ++ next ws; unanswered = later ws })))
       (sym e) (silent_send one _ _ h st)
@@ -395,7 +397,8 @@ module _ (codec : Codec) where
   quiet_send call c got uses us [] ts s ws tc r st = no_send c got uses us ts s ws tc (read_silent call uses s r) st
   quiet_send call c got uses us (m ∷ before) ts s ws tc r st = still_silent_send c got uses us ts s ws tc r.0 st
 
-  replying_send : (g : Given) (ms : List Message) (c : Option ClientEntry) (got : List Piece) (uses : ℕ) (us ts : List Message) (s : Server) (ws tc : List Message)
+  replying_send : (g : Given) (ms : List Message)
+      (c : Option ClientEntry) (got : List Piece) (uses : ℕ) (us ts : List Message) (s : Server) (ws tc : List Message)
       → Phase codec c got uses us ts s ws tc
       → ((t : Server) (xs ys : List Message) → Replying codec g t xs ys uses ms → Phase codec c got uses us ts t xs ys)
       → Silent s.entry ⊎ ((x : Sending s ws tc uses) × Replying codec g (at x.now [] uses) x.rest (tc ++ x.message ∷ []) uses ms)
@@ -403,7 +406,8 @@ module _ (codec : Codec) where
   replying_send g ms c got uses us ts s ws tc st k (inl h) = no_send c got uses us ts s ws tc h st
   replying_send g ms c got uses us ts s ws tc st k (inr (x, r)) = send_one c got uses us ts s ws tc x (k _ _ _ r)
 
-  replied_send : (g : Given) (ms : List Message) (c : Option ClientEntry) (got : List Piece) (uses : ℕ) (us ts : List Message) (s : Server) (ws tc : List Message)
+  replied_send : (g : Given) (ms : List Message)
+      (c : Option ClientEntry) (got : List Piece) (uses : ℕ) (us ts : List Message) (s : Server) (ws tc : List Message)
       → Replying codec g s ws tc uses ms → Phase codec c got uses us ts s ws tc
       → ((t : Server) (xs ys : List Message) → Replying codec g t xs ys uses ms → Phase codec c got uses us ts t xs ys)
       → Goes codec (step codec (lane_of c got uses us ts s ws tc) SendsReply)

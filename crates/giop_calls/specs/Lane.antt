@@ -190,7 +190,8 @@ module _ (codec : Codec) where
   client_event c (Continues false piece) = Some (at_client.More true)
   client_event c Stops = None
 
-  abbrev pub hears : Standing ClientEntry → Message → Option ClientEvent → Option (Standing ClientEntry)
+  abbrev pub hears : Standing ClientEntry → Message → Option ClientEvent
+      → Option (Standing ClientEntry)
   hears c m None = None
   hears c m (Some event) =
       let step = client.client_step c.entry event in

@@ -31,9 +31,9 @@ pub fn client_entry_stands()
         → alone (turn client.client_step client.is_closed) None acts ≡ client_acts.standing acts }
 {}
 
-/// Two lists of events and takes of one id at a server, of which none is refused and which spell the
-/// same items in the same order, each message in one piece or in many, leave the same entry; and the
-/// server's own acts among them are told the same.
+/// Two lists of events and takes of one id at a server, of which none is refused and which spell
+/// the same items in the same order, each message in one piece or in many, leave the same entry; and
+/// the server's own acts among them are told the same.
 pub fn equal_items_equal_at_server()
     ensures value { (items : List server_said.Items) (one other : List (Happening ServerEvent))
         → Says server_said.server_turn server_said.server_words None items one
