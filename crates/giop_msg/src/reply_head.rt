@@ -13,7 +13,7 @@ use std::alloc::{AllocError, Global};
 
 /// What a Reply says before its body (9.4.3): with its contexts on their own, or, as a
 /// `ReplyHeadAt`, where they lie. Contracts see both as one value.
-#[derive(Debug, Drop)]
+#[derive(Debug, Drop, PartialEq, Eq)]
 pub struct ReplyHead<C = ServiceContexts> {
     /// The version in which the head is laid out.
     pub version: Version,

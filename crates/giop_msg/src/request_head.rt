@@ -15,7 +15,7 @@ use std::alloc::{AllocError, Global};
 
 /// What a Request says before its body (9.4.2): with its octets and contexts on their own, or, as a
 /// `RequestHeadAt`, where they lie. Contracts see both as one value.
-#[derive(Debug, Drop)]
+#[derive(Debug, Drop, PartialEq, Eq)]
 pub struct RequestHead<O = OctetList, C = ServiceContexts, T = Target> {
     /// The version in which the head is laid out.
     pub version: Version,

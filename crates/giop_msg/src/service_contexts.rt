@@ -71,3 +71,28 @@ impl From<Vec<ServiceContext>> for ServiceContexts {
         ServiceContexts { contexts }
     }
 }
+
+/// Two lists are equal where they are as long and their contexts are equal one by one.
+impl PartialEq for ServiceContexts {
+    ghost use Rattle.std.specs.Prelude.{nat_eq};
+    ghost use Rattle.std.specs.Ordering.{on, eq_of_both};
+    ghost use Rattle.std.specs.Cmp.Lexicographic.{pointwise};
+    ghost use Rattle.std.specs.Cmp.Rules.{comparing};
+    ghost use Rattle.std.proofs.Common.{rules};
+
+    ghost eq = { pointwise
+        (eq_of_both (on (λ c. c.id) nat_eq) (on (λ c. c.octets) (pointwise nat_eq))) };
+
+    ghost laws = { Prim.search (comparing, rules) };
+
+    fn eq(&self, other: &ServiceContexts) -> bool {
+        self.contexts == other.contexts
+    }
+}
+
+impl Eq for ServiceContexts {
+    ghost use Rattle.std.specs.Cmp.Rules.{comparing};
+    ghost use Rattle.std.proofs.Common.{rules};
+
+    ghost laws = { Prim.search (comparing, rules) };
+}

@@ -9,7 +9,7 @@ use std::marker::Model;
 /// their own or, as a `TargetAt`, where they lie. Contracts see both as one value.
 ///
 /// Before 1.2 it is a key, without a disposition.
-#[derive(Debug, Drop)]
+#[derive(Debug, Drop, PartialEq, Eq)]
 pub enum Target<O = OctetList, P = TaggedProfile, I = Ior> {
     /// The object's key, as its own broker reads it: disposition 0, KeyAddr.
     Key(O),

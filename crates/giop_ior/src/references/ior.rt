@@ -6,7 +6,7 @@ use giop_cdr::{OctetList, OctetsAt, TaggedListAt};
 /// their own, or, as an `IorAt`, where they lie. Contracts see both as one value.
 ///
 /// The nil reference has an empty type id and no profiles.
-#[derive(Debug, Drop)]
+#[derive(Debug, Drop, PartialEq, Eq)]
 pub struct Ior<O = OctetList, P = Sequence<TaggedProfile>> {
     /// The repository id of the object's most derived interface, in octets; it may be empty.
     pub type_id: O,

@@ -65,3 +65,22 @@ impl<T: Drop> From<Vec<T>> for Sequence<T> {
         Sequence { values }
     }
 }
+
+/// Two sequences are equal where they are as long and their values are equal one by one.
+impl<T: PartialEq + Drop> PartialEq for Sequence<T> {
+    ghost use Rattle.std.specs.Cmp.Lexicographic.{pointwise, lists_per};
+
+    ghost eq = { pointwise T.eq };
+
+    ghost laws = { lists_per T.laws };
+
+    fn eq(&self, other: &Sequence<T>) -> bool {
+        self.values == other.values
+    }
+}
+
+impl<T: Eq + Drop> Eq for Sequence<T> {
+    ghost use Rattle.std.specs.Cmp.Lexicographic.{lists_equiv};
+
+    ghost laws = { lists_equiv T.Eq.laws };
+}

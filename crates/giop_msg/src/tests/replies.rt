@@ -11,13 +11,14 @@ pub fn again(
     alloc: Global,
     interface: &Interface,
     request: Option<&Request>,
-    joined: &SliceOctets,
+    octets: &[u8],
     version: Version,
     order: Order,
 ) -> Result<Reply, CdrFault> {
-    match Reply::decode(alloc, interface, request, joined, version, order) {
+    let joined = SliceOctets::new(&octets[..octets.len().min(64)]);
+    match Reply::decode(alloc, interface, request, &joined, version, order) {
         Err(fault) if fault.kind == CdrKind::NoMemory => {
-            Reply::decode(alloc, interface, request, joined, version, order)
+            Reply::decode(alloc, interface, request, &joined, version, order)
         }
         answer => answer,
     }
@@ -31,15 +32,7 @@ fn reply(
     octets: &[u8],
     version: Version,
 ) -> Result<Reply, CdrFault> {
-    let joined = SliceOctets::new(&octets[..octets.len().min(64)]);
-    again(
-        alloc,
-        interface,
-        Some(request),
-        &joined,
-        version,
-        Order::Big,
-    )
+    again(alloc, interface, Some(request), octets, version, Order::Big)
 }
 
 // Whether it is the reply 7 under this id.

@@ -3,7 +3,7 @@
 use super::messages::decode;
 use super::replies::again;
 use crate::{Reply, ReplyBody, Request, Version};
-use giop_cdr::{EncodeFault, OctetList, Order, SliceOctets};
+use giop_cdr::{EncodeFault, OctetList, Order};
 use giop_types::{FormFault, Interface, Value, ValueList};
 use std::alloc::{AllocError, Global};
 use std::process::Abort;
@@ -99,6 +99,11 @@ fn joined(version: Version, order: Order, status: u8, body: &[u8]) -> [u8; 40] {
     octets
 }
 
+// The first octets of these.
+fn front(octets: &[u8], len: usize) -> &[u8] {
+    &octets[..len.min(octets.len())]
+}
+
 // Decodes these octets and encodes what they are: the same octets.
 fn goes_both_ways(
     rt: &impl Abort,
@@ -109,8 +114,7 @@ fn goes_both_ways(
     version: Version,
     order: Order,
 ) -> Result<Reply, Fail> {
-    let from = SliceOctets::new(&octets[..octets.len().min(64)]);
-    let reply = again(alloc, interface, request, &from, version, order)?;
+    let reply = again(alloc, interface, request, octets, version, order)?;
     assert!(rt; reply.is_writable(interface, request));
     let written = encode(alloc, interface, request, &reply, order)
         .ok()
@@ -147,7 +151,7 @@ fn a_body_of_each_status_goes_both_ways(rt: HostRuntime) -> Result<(), Fail> {
                 rt.alloc(),
                 &interface,
                 Some(&request),
-                &octets[..len],
+                front(&octets, len),
                 version,
                 order,
             )?;
@@ -176,7 +180,7 @@ fn statuses_4_and_5_are_of_1_2_alone(rt: HostRuntime) -> Result<(), Fail> {
             rt.alloc(),
             &interface,
             Some(&request),
-            &octets[..12 + body.len().min(28)],
+            front(&octets, 12 + body.len().min(28)),
             Version::V12,
             order,
         )?;
@@ -202,7 +206,7 @@ fn the_members_of_an_exception_are_read(rt: HostRuntime) -> Result<(), Fail> {
         rt.alloc(),
         &interface,
         Some(&request),
-        &octets[..32],
+        front(&octets, 32),
         Version::V12,
         Order::Big,
     )?;
@@ -239,12 +243,12 @@ fn an_empty_body_of_a_reply_is_written_without_padding(rt: HostRuntime) -> Resul
         .ok()
         .ok_or("no request")?;
     for pads in 0..8 {
-        let from = SliceOctets::new(&PADDED[..21 + pads]);
+        let from = front(PADDED, 21 + pads);
         let reply = again(
             rt.alloc(),
             &interface,
             Some(&brief),
-            &from,
+            from,
             Version::V12,
             Order::Big,
         )?;
@@ -303,7 +307,7 @@ fn a_reply_that_no_octets_spell_is_unfit(rt: HostRuntime) -> Result<(), Fail> {
         rt.alloc(),
         &interface,
         Some(&request),
-        &raised[..18],
+        front(&raised, 18),
         Version::V12,
         Order::Big,
     )?;
@@ -331,7 +335,7 @@ fn without_a_request_a_system_exception_alone_is_a_reply(rt: HostRuntime) -> Res
         rt.alloc(),
         &interface,
         None,
-        &raised[..28],
+        front(&raised, 28),
         Version::V12,
         Order::Big,
     )?;
@@ -340,16 +344,8 @@ fn without_a_request_a_system_exception_alone_is_a_reply(rt: HostRuntime) -> Res
     let refused = encode(rt.alloc(), &interface, None, &reply, Order::Big).err();
     assert_eq!(rt; refused, Some(EncodeFault::Unfit));
     let sum = joined(Version::V12, Order::Big, 3, PLACE);
-    let from = SliceOctets::new(&sum[..34]);
-    let fault = again(
-        rt.alloc(),
-        &interface,
-        None,
-        &from,
-        Version::V12,
-        Order::Big,
-    )
-    .err();
+    let from = front(&sum, 34);
+    let fault = again(rt.alloc(), &interface, None, from, Version::V12, Order::Big).err();
     assert_eq!(rt;
         fault,
         Some(super::messages::at(24, giop_cdr::CdrKind::BadLabel))
