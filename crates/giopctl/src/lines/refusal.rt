@@ -30,7 +30,7 @@ impl fmt::Display for RefusalLine {
         match self {
             RefusalLine::IorText(fault) => write!(f, "fault {} {fault}", fault.number()),
             RefusalLine::Corbaloc(fault) => {
-                write!(f, "fault {} {fault} at {}", fault.number(), fault.at)
+                write!(f, "fault {} {} at {}", fault.number(), fault.kind, fault.at)
             }
             RefusalLine::Reference(fault) => write!(f, "fault {} {fault}", fault.number()),
             RefusalLine::Form(fault) => write!(f, "fault {} {fault}", fault.number()),
