@@ -4,7 +4,8 @@ use Rattle.std.proofs.lemmas.List.{length-take-le}
 use Rattle.giop_frag.specs.Gathered.{blocks_for}
 use Rattle.giop_frag.specs.Blocks.{Pooled, AreApart, AreChained, AreWhole, AreWritten, HasGrown, block, octets_at, times}
 use Rattle.giop_frag.specs.Placed.{Placed, IsFilled, lacking}
-use Rattle.giop_frag.proofs.BlockLemmas.{once_same, octets_at-append, times-append, times_parts}
+use Rattle.giop_frag.proofs.CountLemmas.{once_same, times-append, times_parts}
+use Rattle.giop_frag.proofs.LaidLemmas.{octets_at-append}
 use Rattle.giop_frag.proofs.TotalLemmas.{blocks_for_more, blocks_hold}
 
 -- numbers are apart where, with others behind them, they are

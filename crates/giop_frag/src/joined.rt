@@ -49,6 +49,7 @@ impl Joined {
     }
 
     /// Appends octets, where they come in the same order and `over` says that there is room.
+    #[inline(always)]
     pub fn append(
         &mut self,
         pool: &mut Pool,
@@ -83,6 +84,7 @@ impl Joined {
 
     /// Appends octets. It takes no memory: enough blocks are free, and there is room for their
     /// numbers.
+    #[inline(always)]
     pub fn fill(&mut self, pool: &mut Pool, octets: &[u8])
         requires count { length self.old.numbers ≡ blocks_for self.old.size }
         requires apart { AreApart pool.old.blocks (self.old.numbers ++ pool.old.free) }
@@ -128,6 +130,7 @@ impl Joined {
 }
 
 /// How many blocks of 512 octets these need.
+#[inline(always)]
 pub fn blocks_for(octets: usize) -> usize
     requires { octets ≤ 2 ^ 62 }
     ensures value { result ≡ blocks_for octets }

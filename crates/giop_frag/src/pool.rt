@@ -67,6 +67,7 @@ impl Pool {
     }
 
     /// Makes blocks until so many are free. Where memory is wanting, those that were made stay.
+    #[inline(always)]
     pub fn provide(&mut self, wanted: usize) -> Result<(), AllocError>
         ensures ok { OnOk result (wanted ≤ length self.new.free) }
         ensures provided { IsProvided wanted self.old self.new }
@@ -78,6 +79,7 @@ impl Pool {
     }
 
     /// Takes so many free blocks: their numbers go behind those in the list, which has room.
+    #[inline(always)]
     pub fn take(&mut self, n: usize, into: &mut Vec<usize>)
         requires free { n ≤ length self.old.free }
         requires room { vec_len into.old + n ≤ vec_capacity into.old }
@@ -104,6 +106,7 @@ impl Pool {
     }
 
     /// Writes octets from an index on, that counts over all these blocks, one behind the other.
+    #[inline(always)]
     pub fn write(&mut self, numbers: &[usize], at: usize, octets: &[u8])
         requires whole { AreWhole self.old.blocks }
         requires apart { AreApart self.old.blocks numbers.now }
@@ -124,7 +127,9 @@ impl Pool {
         }
     }
 
-    // Makes a block, which is free.
+    // Makes a block, which is free. Seldom called, and kept out of line, so that `provide` is short.
+    #[cold]
+    #[inline(never)]
     fn make(&mut self) -> Result<(), AllocError>
         ensures ok { OnOk result (self.new ≡ made self.old) }
         ensures err { OnErr result (self.new ≡ self.old) }
@@ -137,6 +142,7 @@ impl Pool {
     }
 
     // Writes octets into one block.
+    #[inline(always)]
     fn write_part(&mut self, number: usize, from: usize, octets: &[u8])
         requires number { number < length self.old.blocks }
         requires room { from + length octets.now ≤ 512 }
