@@ -87,6 +87,10 @@ nothing_written numbers blocks = record { others = λ n none. refl; number = ref
 pub place_within : (at done n size count : ℕ) → done < size → at + size ≤ 512 * count → (at + done) / 512 < count
 place_within at done n size count more room = let parts = div-add-mod' (at + done) 512 in omega arith
 
+-- a place behind others in a block is in the list
+pub place_behind : (at count : ℕ) → 0 < at % 512 → at ≤ 512 * count → at / 512 < count
+place_behind at count behind room = let parts = div-add-mod' at 512 in omega arith
+
 -- a step of writing: n octets more stand behind those before
 pub step_written : (first old new : List (List ℕ)) (numbers octets : List ℕ) (at done n : ℕ)
     → AreWhole old → AreApart first numbers → AreWritten numbers first old
