@@ -86,7 +86,8 @@ protocol_first left text before wrong =
           (no_address (length left) (piece other) (none other same (protocol_len (piece other)) refl)),
     )
 
-pub address_first : (left text : List ℕ) (e : CorbalocFault) → BeforeAddress left → address_at (length left) (piece text) ≡ Err e → IsFirstFault (left ++ text) e
+pub address_first : (left text : List ℕ) (e : CorbalocFault) → BeforeAddress left
+    → address_at (length left) (piece text) ≡ Err e → IsFirstFault (left ++ text) e
 unfolding address_at
 address_first left text e before is = go (ok_or_err (protocol_len (piece text)) (fault (length left) BadProtocol) _ e is)
   where

@@ -164,7 +164,8 @@ protocol_found text n is = go (begins (58 ∷ []) text) (begins (codes "iiop:") 
         let same : 5 ≡ n = cc in (codes "iiop:", inr refl, subst (λ k. text ≡ codes "iiop:" ++ drop k text) same (begins_found (codes "iiop:") text two))
     go false false one two h = absurd (cc)
 
-pub protocol_only : (front back : List ℕ) → ProtocolText front → (protocol_len (front ++ back) ≡ Some (length front)) × (drop (length front) (front ++ back) ≡ back)
+pub protocol_only : (front back : List ℕ) → ProtocolText front
+    → (protocol_len (front ++ back) ≡ Some (length front)) × (drop (length front) (front ++ back) ≡ back)
 protocol_only front back (inl colon) = rw colon (refl, refl)
 protocol_only front back (inr iiop) = rw iiop (refl, refl)
 

@@ -49,7 +49,8 @@ is_first left text part more c kind n named before end refused = record {
 
 -- what stands before the host of an address; Plain tells the pieces that are read from the host on
 pub record BeforeHost (minor : ℕ) (left : List ℕ) (Plain : List ℕ → Type 0) : Type 0 where
-  pub stops : (text : List ℕ) (e : CorbalocFault) → Plain (piece text) → endpoint_at minor (length left) (piece text) ≡ Err e → corbaloc_of (left ++ text) ≡ Err e
+  pub stops : (text : List ℕ) (e : CorbalocFault) → Plain (piece text) → endpoint_at minor (length left) (piece text) ≡ Err e
+      → corbaloc_of (left ++ text) ≡ Err e
   pub host_stops : (host back : List ℕ) → Free ends_host host → Plain host → is_host host ≡ false → RefusedAt (length left) (left ++ (host ++ 58 ∷ back))
   pub plain_front : (front back : List ℕ) → Plain (front ++ back) → Plain front
   pub listed : (a : Address) (text : List ℕ) → EndpointText minor a text → (c : Corbaloc) × CorbalocText c (left ++ text)
@@ -108,7 +109,8 @@ host_first minor left text Plain before plain wrong =
             let whole : text ≡ m.front ++ 58 ∷ m.back = m.whole ∙ ap (λ u. m.front ++ u ∷ m.back) colon in
             let parts : piece text ≡ m.front ++ 58 ∷ piece m.back = ap piece whole ∙ piece_behind m.front (58 ∷ m.back) free in
             let host : host_in (piece text) ≡ m.front =
-            ap host_in parts ∙ ap (host_of_parts (m.front ++ 58 ∷ piece m.back)) (cut_is 58 m.front (piece m.back) (free_lacks ends_host 58 m.front refl m.free)) in
+            ap host_in parts
+            ∙ ap (host_of_parts (m.front ++ 58 ∷ piece m.back)) (cut_is 58 m.front (piece m.back) (free_lacks ends_host 58 m.front refl m.free)) in
             let own : Plain m.front = before.plain_front m.front (58 ∷ piece m.back) (subst Plain parts plain) in
             let other_whole : other ≡ m.front ++ 58 ∷ m.other_back = m.other_whole ∙ ap (λ u. m.front ++ u ∷ m.other_back) colon in
             subst (λ u. RefusedAt (length left) (left ++ u)) (sym other_whole)

@@ -106,7 +106,8 @@ key_stops_at at (x ∷ y ∷ z ∷ text) e is = go (key_stops_at (at + 1) (y ∷
 
     go : (key_fault (at + 1) (y ∷ z ∷ text) ≡ Some e → KeyStops (at + 1) (y ∷ z ∷ text) e)
         → (key_fault (at + 3) text ≡ Some e → KeyStops (at + 3) text e) → (kept : Bool) → is_key_octet x ≡ kept
-        → (if kept then key_fault (at + 1) (y ∷ z ∷ text) else if is_escape x y z then key_fault (at + 3) text else Some (fault at (wrong_key_octet x))) ≡ Some e
+        → (if kept then key_fault (at + 1) (y ∷ z ∷ text)
+        else if is_escape x y z then key_fault (at + 3) text else Some (fault at (wrong_key_octet x))) ≡ Some e
         → KeyStops at (x ∷ y ∷ z ∷ text) e
     go one three true kept is = stops_later at 1 (x ∷ []) (y ∷ z ∷ text) e refl (kept_passes at x kept) (one is)
     go one three false kept is = by_escape three kept (is_escape x y z) refl is

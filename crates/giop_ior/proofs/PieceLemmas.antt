@@ -137,7 +137,10 @@ piece_splits front back text is = go (piece_and_rest text)
   where
     go : (text ≡ piece text) ⊎ IsEnded text → (rest : List ℕ) × (text ≡ front ++ rest)
     go (inl all) = (back, all ∙ is)
-    go (inr ended) = (back ++ ended.mark ∷ ended.back, ended.whole ∙ ap (λ u. u ++ ended.mark ∷ ended.back) is ∙ append_assoc front back (ended.mark ∷ ended.back))
+    go (inr ended) = (
+      back ++ ended.mark ∷ ended.back,
+      ended.whole ∙ ap (λ u. u ++ ended.mark ∷ ended.back) is ∙ append_assoc front back (ended.mark ∷ ended.back),
+    )
 
 -- ---- freedom from marks
 

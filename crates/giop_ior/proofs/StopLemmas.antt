@@ -27,7 +27,11 @@ pub record Done (at : ℕ) (done : List ℕ) : Type 0 where
   pub listed : (back : List ℕ) (more : List Address) → AddressesText more back → (all : List Address) × AddressesText all (done ++ back)
 
 pub nothing_done : (at : ℕ) → Done at []
-nothing_done at = record { lacks = All-nil (λ x. (x == 47) ≡ false); stops = λ back e is. ap (λ k. addresses_at k back) (sym (add-zero at)) ∙ is; listed = λ back more is. (more, is) }
+nothing_done at = record {
+  lacks = All-nil (λ x. (x == 47) ≡ false);
+  stops = λ back e is. ap (λ k. addresses_at k back) (sym (add-zero at)) ∙ is;
+  listed = λ back more is. (more, is);
+}
 
 onto : (a : Address) (more : List Address) (first rest : List ℕ) → AddressText a first → AddressesText more rest
     → (all : List Address) × AddressesText all (first ++ 44 ∷ rest)
@@ -57,7 +61,13 @@ pub record Stopped (at : ℕ) (text : List ℕ) (e : CorbalocFault) : Type 0 whe
   pub wrong : address_at (at + length done) (piece back) ≡ Err e
 
 stopped_here : (at : ℕ) (text : List ℕ) (e : CorbalocFault) → address_at at (piece text) ≡ Err e → Stopped at text e
-stopped_here at text e wrong = record { done = []; back = text; is_done = nothing_done at; whole = refl; wrong = ap (λ k. address_at k (piece text)) (add-zero at) ∙ wrong }
+stopped_here at text e wrong = record {
+  done = [];
+  back = text;
+  is_done = nothing_done at;
+  whole = refl;
+  wrong = ap (λ k. address_at k (piece text)) (add-zero at) ∙ wrong;
+}
 
 stopped_later : (at : ℕ) (first back : List ℕ) (a : Address) (e : CorbalocFault) → address_at at first ≡ Ok a → Lacks 44 first → Lacks 47 first
     → Stopped (at + length first + 1) back e → Stopped at (first ++ 44 ∷ back) e
@@ -155,7 +165,8 @@ list_stops_before list key e lacks is = rw (cut_is 47 list key lacks) (then_stop
 address_stops : (at : ℕ) (text : List ℕ) (e : CorbalocFault) → Lacks 44 text → address_at at text ≡ Err e → addresses_at at text ≡ Err e
 address_stops at text e lacks is = rw (slice_split_none (λ x. x == 44) text lacks) (then_stops (address_at at text) _ e is)
 
-address_stops_before : (at : ℕ) (text more : List ℕ) (e : CorbalocFault) → Lacks 44 text → address_at at text ≡ Err e → addresses_at at (text ++ 44 ∷ more) ≡ Err e
+address_stops_before : (at : ℕ) (text more : List ℕ) (e : CorbalocFault) → Lacks 44 text → address_at at text ≡ Err e
+    → addresses_at at (text ++ 44 ∷ more) ≡ Err e
 address_stops_before at text more e lacks is = rw (slice_split_at (λ x. x == 44) text 44 more lacks refl) (then_stops (address_at at text) _ e is)
 
 done_stops : (done text : List ℕ) (e : CorbalocFault) → Done 9 done → address_at (9 + length done) (piece text) ≡ Err e

@@ -94,7 +94,8 @@ versioned_before left version minor before is lacks free = record {
   plain_front = λ one two plain. tt;
   listed = λ a text there.
       let own : VersionText a.major a.minor version =
-      subst (λ m. VersionText m a.minor version) (sym there.is_major) (subst (λ m. VersionText 1 m version) (sym there.is_minor) (version_found version minor is)) in
+      subst (λ m. VersionText m a.minor version) (sym there.is_major)
+      (subst (λ m. VersionText 1 m version) (sym there.is_minor) (version_found version minor is)) in
       let all = before.listed a (front ++ text) (record {
         version = front;
         end = there.end;
@@ -109,7 +110,8 @@ versioned_before left version minor before is lacks free = record {
     front : List ℕ
     front = version ++ 64 ∷ []
 
-    stops : (text : List ℕ) (e : CorbalocFault) → endpoint_at minor (length (left ++ front)) (piece text) ≡ Err e → corbaloc_of ((left ++ front) ++ text) ≡ Err e
+    stops : (text : List ℕ) (e : CorbalocFault) → endpoint_at minor (length (left ++ front)) (piece text) ≡ Err e
+        → corbaloc_of ((left ++ front) ++ text) ≡ Err e
     stops text e wrong =
         let place : length left + length version + 1 ≡ length (left ++ front) =
         sym (length-append left front ∙ ap (λ k. length left + k) (length-append version (64 ∷ [])) ∙ omega arith) in
@@ -144,7 +146,11 @@ version_first left text version back before parts lacks wrong =
     free = free_front ends_address version (64 ∷ back) (subst (Free ends_address) parts (piece_free text))
 
     go : (other : List ℕ) → (other ≡ text) ⊎ AreMarked ends_version text other → RefusedAt (length left) (left ++ other)
-    go other (inl all) = (BadVersion, before.stops other (fault (length left) BadVersion) (ap (λ u. located_at (length left) (piece u)) all ∙ rw parts (refusal back)))
+    go other (inl all) = (
+      BadVersion,
+      before.stops other (fault (length left) BadVersion)
+          (ap (λ u. located_at (length left) (piece u)) all ∙ rw parts (refusal back)),
+    )
     go other (inr m) =
         let sign : m.mark ≡ 64 = eqb-true m.mark 64 m.marks in
         let split = piece_splits (version ++ 64 ∷ []) back text (parts ∙ sym (append_assoc version (64 ∷ []) back)) in
@@ -160,7 +166,8 @@ version_first left text version back before parts lacks wrong =
               (ap (located_at (length left)) (ap piece whole ∙ piece_behind version (64 ∷ m.other_back) free) ∙ refusal (piece m.other_back)),
         )
 
-pub located_first : (left text : List ℕ) (e : CorbalocFault) → BeforeVersion left → located_at (length left) (piece text) ≡ Err e → IsFirstFault (left ++ text) e
+pub located_first : (left text : List ℕ) (e : CorbalocFault) → BeforeVersion left
+    → located_at (length left) (piece text) ≡ Err e → IsFirstFault (left ++ text) e
 located_first left text e before is = go (cut 64 (piece text)) refl is
   where
     at : ℕ

@@ -34,8 +34,8 @@ ends_version octet = octet == 64
 abbrev pub behind : (ℕ → Bool) → ℕ → List ℕ → ℕ
 behind is_mark at text = at + position_or_len is_mark (drop at text) + 1
 
--- the place behind the part that begins at this place, and behind the mark that ends it: the longest
--- literal that might stand there, or up to its mark
+-- the place behind the part that begins at this place: behind as many octets as the longest that
+-- may stand there, or behind the mark that ends it
 abbrev pub part_end : CorbalocKind → ℕ → List ℕ → ℕ
 part_end BadPrefix at text = at + 9
 part_end BadProtocol at text = at + 5
