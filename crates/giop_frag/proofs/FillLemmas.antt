@@ -1,10 +1,15 @@
 -- One list that grows: free blocks become its own, and octets are written into them.
-use Rattle.std.proofs.Common.{◌≡◌, ℕ, ◌+◌, ◌-◌, ◌≤◌, ◌++◌, List, length, take, drop, ap, ◌∙◌, subst, arith, length-append, length-drop}
-use Rattle.std.proofs.lemmas.List.{length-take-le}
+use Rattle.std.proofs.Common.{◌≡◌, ℕ, ◌+◌, ◌-◌, ◌%◌, ◌<◌, ◌≤◌, ◌++◌, List, length, take, drop, sym, ap, ◌∙◌, subst, arith, lit<, append-nil, length-append, length-drop}
+use Rattle.std.proofs.Math.ListN.{drop_of_length-le}
+use Rattle.std.proofs.Math.Nat.{mod-lt}
+use Rattle.std.proofs.lemmas.List.{length-take-le, take_all}
+use Rattle.std.proofs.lemmas.Nat.{div-add-mod'}
 use Rattle.giop_frag.specs.Gathered.{blocks_for}
 use Rattle.giop_frag.specs.Blocks.{Pooled, AreApart, AreChained, AreWhole, AreWritten, HasGrown, block, octets_at, times}
-use Rattle.giop_frag.specs.Placed.{Placed, IsFilled, lacking}
-use Rattle.giop_frag.proofs.BlockLemmas.{once_same, octets_at-append, times-append, times_parts}
+use Rattle.giop_frag.specs.Placed.{Placed, IsFilled, IsJoinedTo, lacking}
+use Rattle.giop_frag.proofs.MadeLemmas.{no_growth}
+use Rattle.giop_frag.proofs.CountLemmas.{once_same, times-append, times_parts}
+use Rattle.giop_frag.proofs.LaidLemmas.{octets_at-append}
 use Rattle.giop_frag.proofs.TotalLemmas.{blocks_for_more, blocks_hold}
 
 -- numbers are apart where, with others behind them, they are
@@ -92,9 +97,47 @@ filled_by old new from taken to k more apart count is_k enough is now whole valu
       whole = whole_to;
     }
 
+-- octets were written behind its own, in its last block
+pub joined_last : (old new : Placed) (from to : Pooled) (more : List ℕ)
+    → AreApart from.blocks (old.numbers ++ from.free) → length old.numbers ≡ blocks_for old.size
+    → 0 < old.size % 512 → old.size % 512 + length more ≤ 512 → AreWhole from.blocks
+    → octets_at to.blocks old.numbers (old.size + length more) ≡ octets_at from.blocks old.numbers old.size ++ more
+    → AreWritten old.numbers from.blocks to.blocks → to.free ≡ from.free → AreWhole to.blocks
+    → new ≡ record old { size = old.size + length more } → IsJoinedTo old from new to more
+joined_last old new from to more apart count behind within whole value written free whole_to is =
+    let none = lacks_none old.size (length more) (length old.numbers) count behind within in
+    let kept : old.numbers ≡ old.numbers ++ drop (length from.free - 0) from.free =
+    sym (ap (λ l. old.numbers ++ l) (drop_of_length-le from.free (omega arith)) ∙ append-nil old.numbers) in
+    let taken : from ≡ record from { free = take (length from.free - 0) from.free } =
+    ap (λ l. record from { free = l }) (sym (take_all (length from.free - 0) from.free (omega arith))) in
+    let numbers : new.numbers ≡ old.numbers = ap (λ p. p.numbers) is in
+    record {
+      between = from;
+      provided = record { grown = no_growth from; few = omega arith; whole = whole };
+      filled =
+          filled_by old new from from to 0 more apart count none (omega arith) (numbers ∙ kept) taken whole
+          (subst (λ l. octets_at to.blocks l (old.size + length more) ≡ octets_at from.blocks l old.size ++ more) (sym numbers) value)
+          (subst (λ l. AreWritten l from.blocks to.blocks) (sym numbers) written)
+          free whole_to (ap (λ p. p.order) is) (ap (λ p. p.size) is);
+    }
+  where
+    lacks_none : (size more count : ℕ) → count ≡ blocks_for size → 0 < size % 512 → size % 512 + more ≤ 512 → 0 ≡ blocks_for (size + more) - count
+    lacks_none size more count is behind within =
+        let place = div-add-mod' size 512 in
+        let own = div-add-mod' (size + 511) 512 in
+        let all = div-add-mod' (size + more + 511) 512 in
+        let one = mod-lt (size + 511) {m = 512} (lit< tt) in
+        omega arith
+
 -- a list that is another grows as it does
 pub filled_as : (inside old new : Placed) (from to : Pooled) (more : List ℕ) → inside ≡ old → IsFilled inside from new to more
     → IsFilled old from new to more
 filled_as inside old new from to more is filled =
     let P : Placed → Type 0 = λ p. IsFilled p from new to more in
     subst P is filled
+
+pub joined_as : (inside old new : Placed) (from to : Pooled) (more : List ℕ) → inside ≡ old → IsJoinedTo inside from new to more
+    → IsJoinedTo old from new to more
+joined_as inside old new from to more is joined =
+    let P : Placed → Type 0 = λ p. IsJoinedTo p from new to more in
+    subst P is joined

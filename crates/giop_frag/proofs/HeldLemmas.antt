@@ -13,7 +13,8 @@ use Rattle.giop_ids.proofs.Sums.{weight_within}
 use Rattle.giop_frag.specs.Gathered.{Pieces, Lists, grown, octets_in, blocks_for, blocks_of}
 use Rattle.giop_frag.specs.Blocks.{Pooled, AreApart, AreChained, AreWhole, HasGrown, octets_at, once, times}
 use Rattle.giop_frag.specs.Placed.{Placed, AreHeld, IsFilled, IsProvided, lists_at, pieces_at, times_in}
-use Rattle.giop_frag.proofs.BlockLemmas.{laid_same, length-chained, once_same, times-append}
+use Rattle.giop_frag.proofs.CountLemmas.{once_same, times-append}
+use Rattle.giop_frag.proofs.LaidLemmas.{laid_same, length-chained}
 use Rattle.giop_frag.proofs.TotalLemmas.{blocks_in, blocks_put}
 use Rattle.giop_frag.proofs.PlacedLemmas.{IsMoved, below_once, chained_at, held_again, lists-get, lists_put, times_within}
 

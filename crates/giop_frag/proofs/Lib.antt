@@ -1,6 +1,9 @@
 pub mod TotalLemmas
 pub mod RunLemmas
-mod BlockLemmas
+mod CountLemmas
+mod MadeLemmas
+mod WrittenLemmas
+mod LaidLemmas
 mod ChunkLemmas
 mod FillLemmas
 mod PlacedLemmas

@@ -15,7 +15,8 @@ use Rattle.giop_ids.proofs.SlotLemmas as slots
 use Rattle.giop_frag.specs.Gathered.{octets_in, blocks_for, blocks_of}
 use Rattle.giop_frag.specs.Blocks.{Pooled, AreChained, AreWhole, block, once, times}
 use Rattle.giop_frag.specs.Placed.{Placed, AreHeld, AreStanding, lists_at, numbers_in, pieces_at, places_of, times_in}
-use Rattle.giop_frag.proofs.BlockLemmas.{at_most_once, laid_same, length-chained}
+use Rattle.giop_frag.proofs.CountLemmas.{at_most_once}
+use Rattle.giop_frag.proofs.LaidLemmas.{laid_same, length-chained}
 use Rattle.giop_frag.proofs.TotalLemmas.{blocks_hold, blocks_put}
 
 -- the place under an id is the one in its slot

@@ -30,6 +30,7 @@ impl Block {
     }
 
     /// Writes octets from an index on.
+    #[inline(always)]
     pub fn write(&mut self, from: usize, octets: &[u8])
         requires { from + length octets.now ≤ 512 }
         ensures { self.new

@@ -56,6 +56,7 @@ impl Blocks {
     }
 
     /// Writes octets into one block from an index on.
+    #[inline(always)]
     pub fn write(&mut self, number: usize, from: usize, octets: &[u8])
         requires number { number < length self.old }
         requires room { from + length octets.now ≤ 512 }

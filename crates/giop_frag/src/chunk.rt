@@ -51,6 +51,7 @@ impl Chunk {
     }
 
     /// Writes octets into one block from an index on.
+    #[inline(always)]
     pub fn write(&mut self, at: usize, from: usize, octets: &[u8])
         requires at { at < length self.old }
         requires room { from + length octets.now ≤ 512 }

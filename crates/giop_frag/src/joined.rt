@@ -1,4 +1,4 @@
-ghost use Rattle.std.specs.Prelude.{◌≡◌, ◌≤◌, ◌+◌, ◌-◌, ◌/◌, ◌^◌, ◌++◌, [], Some, None, false, length, IfOk, IfErr, OnOk, OnErr};
+ghost use Rattle.std.specs.Prelude.{◌≡◌, ◌≤◌, ◌<◌, ◌+◌, ◌-◌, ◌/◌, ◌%◌, ◌^◌, ◌++◌, [], Some, None, false, length, IfOk, IfErr, OnOk, OnErr};
 ghost use Rattle.giop_ids.specs.Runs.{RefusedAs};
 ghost use Rattle.giop_frag.specs.Blocks.{AreApart};
 ghost use Rattle.giop_frag.specs.Gathered.{add_fault_by, blocks_for};
@@ -49,6 +49,7 @@ impl Joined {
     }
 
     /// Appends octets, where they come in the same order and `over` says that there is room.
+    #[inline(always)]
     pub fn append(
         &mut self,
         pool: &mut Pool,
@@ -74,6 +75,11 @@ impl Joined {
         if over {
             return Err(GatherFault::GatherFull);
         }
+        let behind = self.size % 512;
+        if behind > 0 && octets.len() <= 512 - behind {
+            self.fill_last(pool, octets);
+            return Ok(());
+        }
         let lacking = blocks_for(self.size + octets.len()) - self.count();
         pool.provide(lacking)?;
         self.numbers.reserve(lacking)?;
@@ -83,6 +89,7 @@ impl Joined {
 
     /// Appends octets. It takes no memory: enough blocks are free, and there is room for their
     /// numbers.
+    #[inline(always)]
     pub fn fill(&mut self, pool: &mut Pool, octets: &[u8])
         requires count { length self.old.numbers ≡ blocks_for self.old.size }
         requires apart { AreApart pool.old.blocks (self.old.numbers ++ pool.old.free) }
@@ -96,6 +103,21 @@ impl Joined {
         pool.take(lacking, &mut self.numbers);
         pool.write(&self.numbers, self.size, octets);
         self.size = size;
+    }
+
+    // Appends octets behind those in the last block, which has room for them: the short way of a
+    // small piece.
+    #[inline(always)]
+    fn fill_last(&mut self, pool: &mut Pool, octets: &[u8])
+        requires count { length self.old.numbers ≡ blocks_for self.old.size }
+        requires apart { AreApart pool.old.blocks (self.old.numbers ++ pool.old.free) }
+        requires small { self.old.size + length octets.now ≤ 2 ^ 62 }
+        requires behind { 0 < self.old.size % 512 }
+        requires within { self.old.size % 512 + length octets.now ≤ 512 }
+        ensures { IsJoinedTo self.old pool.old self.new pool.new octets.now }
+    {
+        pool.write_behind(&self.numbers, self.size, octets);
+        self.size += octets.len();
     }
 
     /// Their byte order.
@@ -128,6 +150,7 @@ impl Joined {
 }
 
 /// How many blocks of 512 octets these need.
+#[inline(always)]
 pub fn blocks_for(octets: usize) -> usize
     requires { octets ≤ 2 ^ 62 }
     ensures value { result ≡ blocks_for octets }

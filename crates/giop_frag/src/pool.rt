@@ -1,4 +1,4 @@
-ghost use Rattle.std.specs.Prelude.{◌≡◌, ◌≤◌, ◌<◌, ◌+◌, ◌-◌, ◌*◌, ◌^◌, ◌++◌, [], OnOk, OnErr, length, take, drop, slice_set, vec_len, vec_capacity};
+ghost use Rattle.std.specs.Prelude.{◌≡◌, ◌≤◌, ◌<◌, ◌+◌, ◌-◌, ◌*◌, ◌%◌, ◌^◌, ◌++◌, [], OnOk, OnErr, length, take, drop, slice_set, vec_len, vec_capacity};
 ghost use Rattle.std.specs.List.{slice_range};
 ghost use Rattle.giop_frag.specs.Blocks.{AreApart, AreWhole, AreWritten, block, made, octets_at};
 ghost use Rattle.giop_frag.specs.Placed.{IsProvided};
@@ -67,6 +67,7 @@ impl Pool {
     }
 
     /// Makes blocks until so many are free. Where memory is wanting, those that were made stay.
+    #[inline(always)]
     pub fn provide(&mut self, wanted: usize) -> Result<(), AllocError>
         ensures ok { OnOk result (wanted ≤ length self.new.free) }
         ensures provided { IsProvided wanted self.old self.new }
@@ -78,6 +79,7 @@ impl Pool {
     }
 
     /// Takes so many free blocks: their numbers go behind those in the list, which has room.
+    #[inline(always)]
     pub fn take(&mut self, n: usize, into: &mut Vec<usize>)
         requires free { n ≤ length self.old.free }
         requires room { vec_len into.old + n ≤ vec_capacity into.old }
@@ -104,6 +106,7 @@ impl Pool {
     }
 
     /// Writes octets from an index on, that counts over all these blocks, one behind the other.
+    #[inline(always)]
     pub fn write(&mut self, numbers: &[usize], at: usize, octets: &[u8])
         requires whole { AreWhole self.old.blocks }
         requires apart { AreApart self.old.blocks numbers.now }
@@ -124,7 +127,26 @@ impl Pool {
         }
     }
 
-    // Makes a block, which is free.
+    /// The same where they go behind others into one block.
+    #[inline(always)]
+    pub fn write_behind(&mut self, numbers: &[usize], at: usize, octets: &[u8])
+        requires apart { AreApart self.old.blocks numbers.now }
+        requires behind { 0 < at % 512 }
+        requires within { at % 512 + length octets.now ≤ 512 }
+        requires room { at ≤ 512 * length numbers.now }
+        ensures value { octets_at self.new.blocks numbers.now (at + length octets.now)
+            ≡ octets_at self.old.blocks numbers.now at ++ octets.now }
+        ensures written { AreWritten numbers.now self.old.blocks self.new.blocks }
+        ensures free { self.new.free ≡ self.old.free }
+        ensures before { AreWhole self.old.blocks }
+        ensures whole { AreWhole self.new.blocks }
+    {
+        self.write_part(numbers[at / 512], at % 512, octets);
+    }
+
+    // Makes a block, which is free. Seldom called, and kept out of line, so that `provide` is short.
+    #[cold]
+    #[inline(never)]
     fn make(&mut self) -> Result<(), AllocError>
         ensures ok { OnOk result (self.new ≡ made self.old) }
         ensures err { OnErr result (self.new ≡ self.old) }
@@ -137,9 +159,11 @@ impl Pool {
     }
 
     // Writes octets into one block.
+    #[inline(always)]
     fn write_part(&mut self, number: usize, from: usize, octets: &[u8])
         requires number { number < length self.old.blocks }
         requires room { from + length octets.now ≤ 512 }
+        ensures before { AreWhole self.old.blocks }
         ensures whole { AreWhole self.new.blocks }
         ensures ok { let old = block self.old.blocks number in
             self.new ≡ record self.old {

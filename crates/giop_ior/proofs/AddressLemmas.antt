@@ -1,20 +1,18 @@
 -- An address is read as the grammar has it.
-use Rattle.std.proofs.Common.{◌≡◌, ℕ, ◌+◌, ◌<◌, ◌≤◌, ◌==◌, Bool, true, false, List, [], ◌∷◌, ◌++◌, length, take, drop, Option, Some, None, Ok, Err, if◌then◌else◌, nat_eq, codes, refl, sym, ap, subst, ◌∙◌, arith, append_assoc, append-nil, take-append-drop, inl, inr}
-use Rattle.std.specs.Cmp.Lexicographic.{pointwise, bytes_decides}
+use Rattle.std.proofs.Common.{◌≡◌, ℕ, ◌+◌, ◌==◌, Bool, true, false, List, [], ◌∷◌, ◌++◌, length, take, drop, Option, Some, None, Ok, if◌then◌else◌, codes, refl, sym, ap, subst, ◌∙◌, append_assoc, append-nil, take-append-drop, inl, inr}
+use Rattle.std.specs.Cmp.Lexicographic.{bytes_decides}
 use Rattle.std.specs.Char.{is_ascii_digit}
 use Rattle.std.specs.Option.{ok_or}
 use Rattle.std.proofs.Math.Seq.{take-append_seam}
-use Rattle.std.proofs.lemmas.Bool.{false≢true}
 use Rattle.std.proofs.lemmas.List.Elements.{All-nil}
 use Rattle.giop_ior.specs.declared.addresses.address.Address.{Address}
-use Rattle.giop_ior.specs.declared.addresses.corbaloc_fault.CorbalocFault.{CorbalocFault}
 use Rattle.giop_ior.specs.declared.addresses.corbaloc_fault.CorbalocKind.TheVariants.{BadProtocol, BadHost, BadPort, BadVersion}
-use Rattle.giop_ior.specs.Corbaloc.{AddressText, ProtocolText, VersionPartText, VersionText, IsHost, PortPartText, PortText, is_host_octet}
-use Rattle.giop_ior.specs.CorbalocFault.{Read, fault, ◌>>=◌}
+use Rattle.giop_ior.specs.Corbaloc.{AddressText, ProtocolText, VersionPartText, VersionText, IsHost, PortPartText, is_host_octet}
+use Rattle.giop_ior.specs.CorbalocFault.{fault}
 use Rattle.giop_ior.specs.CorbalocReading.{cut, begins, is_host, host_at, port_of, minor_of, endpoint_of_parts, endpoint_at, located_of_parts, located_at, protocol_len, address_at}
-use Rattle.giop_ior.proofs.CutLemmas.{Lacks, cut_some, cut_none, cut_is, cut_lacks}
+use Rattle.giop_ior.proofs.CutLemmas.{Lacks, cut_some, cut_is, cut_lacks}
 use Rattle.giop_ior.proofs.PartLemmas.{lacks_class, lacks_both, lacks_literal, port_found, port_only, version_found, version_only, version_lacks, host_found, host_only, port_part_lacks}
-use Rattle.giop_ior.proofs.StepLemmas.{if_ok, if_some, step_ok, ok_or_ok, ok_is, some_is}
+use Rattle.giop_ior.proofs.StepLemmas.{if_ok, step_ok, ok_or_ok, ok_is}
 
 -- ---- what a text begins with
 
@@ -28,13 +26,13 @@ begins_only front back = (bytes_decides (take (length front) (front ++ back)) fr
 -- ---- the host and the port
 
 -- the host and what follows it, of an address of this minor version
-record EndpointText (minor : ℕ) (a : Address) (text : List ℕ) : Type 0 where
-  end : List ℕ
-  parts : text ≡ a.host ++ end
-  is_major : a.major ≡ 1
-  is_minor : a.minor ≡ minor
-  is_host : IsHost a.host
-  is_port : PortPartText a.port end
+pub record EndpointText (minor : ℕ) (a : Address) (text : List ℕ) : Type 0 where
+  pub end : List ℕ
+  pub parts : text ≡ a.host ++ end
+  pub is_major : a.major ≡ 1
+  pub is_minor : a.minor ≡ minor
+  pub is_host : IsHost a.host
+  pub is_port : PortPartText a.port end
 
 address_of : ℕ → List ℕ → ℕ → Address
 address_of minor host port = record { major = 1; minor = minor; host = host; port = port }
@@ -94,13 +92,13 @@ seam : (front host end : List ℕ) → front ++ 64 ∷ [] ++ host ++ end ≡ fro
 seam front host end = simp append_assoc
 
 -- an address from its version on
-record LocatedText (a : Address) (text : List ℕ) : Type 0 where
-  version : List ℕ
-  end : List ℕ
-  parts : text ≡ version ++ a.host ++ end
-  is_version : VersionPartText a.major a.minor version
-  is_host : IsHost a.host
-  is_port : PortPartText a.port end
+pub record LocatedText (a : Address) (text : List ℕ) : Type 0 where
+  pub version : List ℕ
+  pub end : List ℕ
+  pub parts : text ≡ version ++ a.host ++ end
+  pub is_version : VersionPartText a.major a.minor version
+  pub is_host : IsHost a.host
+  pub is_port : PortPartText a.port end
 
 located_parts_found : (o : Option (List ℕ × List ℕ)) (at : ℕ) (text : List ℕ) (a : Address)
     → cut 64 text ≡ o → located_of_parts at text o ≡ Ok a → LocatedText a text
@@ -156,7 +154,7 @@ located_only at text a is = by_version is.is_version
 
 -- ---- the address
 
-protocol_found : (text : List ℕ) (n : ℕ) → protocol_len text ≡ Some n → (front : List ℕ) × ProtocolText front × (text ≡ front ++ drop n text)
+pub protocol_found : (text : List ℕ) (n : ℕ) → protocol_len text ≡ Some n → (front : List ℕ) × ProtocolText front × (text ≡ front ++ drop n text)
 protocol_found text n is = go (begins (58 ∷ []) text) (begins (codes "iiop:") text) refl refl is
   where
     go : (p q : Bool) → begins (58 ∷ []) text ≡ p → begins (codes "iiop:") text ≡ q
@@ -166,7 +164,8 @@ protocol_found text n is = go (begins (58 ∷ []) text) (begins (codes "iiop:") 
         let same : 5 ≡ n = cc in (codes "iiop:", inr refl, subst (λ k. text ≡ codes "iiop:" ++ drop k text) same (begins_found (codes "iiop:") text two))
     go false false one two h = absurd (cc)
 
-protocol_only : (front back : List ℕ) → ProtocolText front → (protocol_len (front ++ back) ≡ Some (length front)) × (drop (length front) (front ++ back) ≡ back)
+pub protocol_only : (front back : List ℕ) → ProtocolText front
+    → (protocol_len (front ++ back) ≡ Some (length front)) × (drop (length front) (front ++ back) ≡ back)
 protocol_only front back (inl colon) = rw colon (refl, refl)
 protocol_only front back (inr iiop) = rw iiop (refl, refl)
 

@@ -1,5 +1,5 @@
 -- A corbaloc text is read as the grammar has it.
-use Rattle.std.proofs.Common.{◌≡◌, ◌≢◌, ℕ, ◌+◌, ◌*◌, ◌<◌, ◌≤◌, ◌==◌, ◌&&◌, Bool, true, false, List, [], ◌∷◌, ◌++◌, length, take, drop, Option, Some, None, Ok, Err, if◌then◌else◌, codes, refl, sym, ap, subst, ◌∙◌, arith, append_assoc, append-nil, inl, inr, IfOk, IfErr, IsOk, ◌⊎◌}
+use Rattle.std.proofs.Common.{◌≡◌, ◌≢◌, ℕ, ◌+◌, ◌==◌, ◌&&◌, Bool, true, false, List, [], ◌∷◌, ◌++◌, length, drop, Option, Some, None, Ok, Err, if◌then◌else◌, codes, refl, sym, ap, subst, ◌∙◌, arith, append_assoc, append-nil, inl, inr, IfOk, IfErr, IsOk, ◌⊎◌}
 use Rattle.std.specs.Char.{is_digit, digit_value}
 use Rattle.std.specs.List.{slice_split, join_with_byte}
 use Rattle.std.proofs.lemmas.Bool.{false≢true, ltb-true, eqb-true}
@@ -10,15 +10,15 @@ use Rattle.giop_ior.specs.declared.addresses.address.Address.{Address}
 use Rattle.giop_ior.specs.declared.addresses.corbaloc.Corbaloc.{Corbaloc}
 use Rattle.giop_ior.specs.declared.addresses.corbaloc_fault.CorbalocFault.{CorbalocFault}
 use Rattle.giop_ior.specs.declared.addresses.corbaloc_fault.CorbalocKind.TheVariants.{BadPrefix}
-use Rattle.giop_ior.specs.Corbaloc.{CorbalocText, AddressesText, AddressText, KeyPartText, KeyText, KeyOctetText, EscapeText, is_key_octet}
-use Rattle.giop_ior.specs.CorbalocFault.{Read, fault, ◌>>=◌, IsAnswered, no_memory}
+use Rattle.giop_ior.specs.Corbaloc.{CorbalocText, AddressesText, AddressText, KeyPartText, KeyText, KeyOctetText, is_key_octet}
+use Rattle.giop_ior.specs.CorbalocFault.{Read, fault, IsAnswered, no_memory}
 use Rattle.giop_ior.specs.CorbalocReading.{cut, begins, address_at, each_at, addresses_at, key_fault, key_unless, key_at, is_escape, wrong_key_octet, corbaloc_of_parts, corbaloc_of}
-use Rattle.giop_ior.proofs.AddressLemmas.{begins_found, begins_only, address_found, address_only, address_lacks}
-use Rattle.giop_ior.proofs.CutLemmas.{Lacks, cut_some, cut_is, cut_lacks, split_none}
+use Rattle.giop_ior.proofs.AddressLemmas.{begins_found, address_found, address_only, address_lacks}
+use Rattle.giop_ior.proofs.CutLemmas.{Lacks, cut_some, cut_is, cut_lacks}
 use Rattle.giop_ior.proofs.KeyFaultLemmas.{kept_goes_on, escape_goes_on}
 use Rattle.giop_ior.proofs.NumberLemmas.{both}
 use Rattle.giop_ior.proofs.PartLemmas.{lacks_both, lacks_literal}
-use Rattle.giop_ior.proofs.StepLemmas.{then_none, if_ok, step_ok, ok_is}
+use Rattle.giop_ior.proofs.StepLemmas.{then_none, step_ok, ok_is}
 
 -- ---- the addresses
 

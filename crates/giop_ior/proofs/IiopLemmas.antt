@@ -1,5 +1,5 @@
 -- The table of the IIOP profile is lawful, and what follows for the octets of a tagged profile.
-use Rattle.std.proofs.Common.{◌≡◌, ◌≢◌, ℕ, ◌+◌, ◌==◌, Bool, true, false, List, [], ◌∷◌, ◌++◌, length, drop, slice_index, if◌then◌else◌, Result, Ok, Err, IfOk, IfErr, IsOk, ◌⊎◌, append-nil, inl, inr, refl, sym, ap, subst, ◌∙◌, arith}
+use Rattle.std.proofs.Common.{◌≡◌, ◌≢◌, ℕ, ◌+◌, ◌==◌, Bool, true, false, List, [], ◌∷◌, ◌++◌, length, drop, if◌then◌else◌, Result, Ok, Err, IfOk, IfErr, IsOk, ◌⊎◌, append-nil, inl, inr, refl, sym, ap, subst, ◌∙◌, arith}
 use Rattle.std.specs.Int.{w8, w16}
 use Rattle.std.proofs.lemmas.Bool.{eqb-true, ne_eqb}
 use Rattle.giop_cdr.specs.declared.order.Order.{Order}
@@ -8,13 +8,13 @@ use Rattle.giop_cdr.specs.declared.fault.CdrFault.{CdrFault}
 use Rattle.giop_cdr.specs.declared.fault.CdrKind.TheVariants.{BadOrder}
 use Rattle.giop_cdr.specs.Reading.Cursor.{Cursor}
 use Rattle.giop_cdr.specs.Encapsulation.Opened.{order_octet, content_of}
-use Rattle.giop_cdr.specs.Layout.{IsLawful, AreOctets, such, number, field, gives, chosen, sequence}
+use Rattle.giop_cdr.specs.Layout.{IsLawful, AreOctets, field, gives, chosen, sequence}
 use Rattle.giop_cdr.specs.Writing.Output.{Output, number_out}
 use Rattle.giop_cdr.specs.Reading.Exactness.{TakesOctets}
-use Rattle.giop_cdr.specs.Reading.Values.{Reading, fault, ◌>>=◌}
+use Rattle.giop_cdr.specs.Reading.Values.{fault, ◌>>=◌}
 use Rattle.giop_cdr.proofs.LayoutLemmas.{number_is, octets_is, text_is, such_is, field_is, gives_is, chosen_is, sequence_is, tagged_is, tagged_takes, unspelled}
 use Rattle.giop_ior.specs.declared.references.tagged_profile.TaggedComponent.{TaggedComponent}
-use Rattle.giop_ior.specs.Iiop.{Profile, major_version, tagged_component, no_components, components_of, iiop_layout, IiopOctets, order_of_octet, order_in, iiop_of, iiop_octets, no_memory, IsAnswered}
+use Rattle.giop_ior.specs.Iiop.{Profile, major_version, tagged_component, no_components, components_of, iiop_layout, IiopOctets, order_in, iiop_of, iiop_octets, no_memory, IsAnswered}
 
 -- ---- the table
 

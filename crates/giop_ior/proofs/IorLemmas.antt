@@ -1,5 +1,5 @@
 -- The table of a reference is lawful.
-use Rattle.std.proofs.Common.{◌≡◌, ℕ, false, List, refl, ap}
+use Rattle.std.proofs.Common.{◌≡◌, ℕ, false, List, refl}
 use Rattle.giop_cdr.specs.declared.order.Order.{Order}
 use Rattle.giop_cdr.specs.Layout.{IsLawful, AreOctets, field, gives}
 use Rattle.giop_cdr.specs.Reading.Exactness.{TakesOctets}

@@ -1,10 +1,9 @@
 -- The first fault of a key, octet by octet.
-use Rattle.std.proofs.Common.{◌≡◌, ◌≢◌, ℕ, ◌+◌, ◌-◌, ◌<◌, ◌≤◌, ◌==◌, Bool, true, false, List, [], ◌∷◌, length, take, drop, length-drop, Option, Some, None, if◌then◌else◌, refl, sym, ap, subst, ◌&&◌, ◌∙◌, arith, inl, inr, slice_index}
+use Rattle.std.proofs.Common.{◌≡◌, ◌≢◌, ℕ, ◌+◌, ◌-◌, ◌<◌, ◌≤◌, ◌==◌, Bool, true, false, List, [], ◌∷◌, length, take, drop, length-drop, Some, if◌then◌else◌, refl, sym, ap, subst, ◌&&◌, ◌∙◌, arith, slice_index}
 use Rattle.std.specs.Char.{is_digit}
 use Rattle.std.proofs.lemmas.Bool.{false≢true}
 use Rattle.std.proofs.lemmas.Grind.{common_steps}
 use Rattle.giop_ior.proofs.NumberLemmas.{both}
-use Rattle.giop_ior.specs.declared.addresses.corbaloc_fault.CorbalocFault.{CorbalocFault}
 use Rattle.giop_ior.specs.Corbaloc.{is_key_octet}
 use Rattle.giop_ior.specs.CorbalocFault.{fault}
 use Rattle.giop_ior.specs.CorbalocReading.{key_fault, key_octet_len, is_escape, wrong_key_octet}
@@ -43,10 +42,10 @@ pub key_goes_on : (at : ℕ) (text : List ℕ) (n : ℕ) → key_octet_len text 
     → (n ≤ length text) × (key_fault at text ≡ key_fault (at + n) (drop n text))
 key_goes_on at text n is above some = goes_on (first_kept text) (first_escaped text) at text n refl refl is above some
 
-abbrev spelling_len : Bool → Bool → ℕ
+abbrev pub spelling_len : Bool → Bool → ℕ
 spelling_len p q = if p then 1 else if q then 3 else 0
 
-not_spelled : (p q : Bool) → spelling_len p q ≡ 0 → (p ≡ false) × (q ≡ false)
+pub not_spelled : (p q : Bool) → spelling_len p q ≡ 0 → (p ≡ false) × (q ≡ false)
 not_spelled true q is = absurd (omega arith)
 not_spelled false true is = absurd (omega arith)
 not_spelled false false is = (refl, refl)

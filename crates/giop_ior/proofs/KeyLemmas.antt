@@ -1,7 +1,5 @@
 -- The octets of a key, as the crate that escapes them says them.
-use Rattle.std.proofs.Common.{◌≡◌, ℕ, ◌<◌, ◌≤◌, ◌==◌, Bool, true, false, not, ◌||◌, refl, ap, ◌∙◌, arith, inl, inr}
-use Rattle.std.specs.Char.{is_ascii_alphanumeric}
-use Rattle.std.specs.List.{list_any}
+use Rattle.std.proofs.Common.{◌≡◌, ℕ, ◌<◌, ◌≤◌, false, not, refl, arith, inl, inr}
 use Rattle.std.proofs.lemmas.Bool.{agree_below_at, cases_lt, lt-ltb, le-ltb}
 use Rattle.std.proofs.lemmas.Bool.Decides.{nat_tests}
 use Rattle.percent_encoding.specs.AsciiSet.{contains, should_percent_encode}

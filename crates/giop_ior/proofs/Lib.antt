@@ -7,6 +7,13 @@ pub mod StepLemmas
 pub mod PartLemmas
 pub mod AddressLemmas
 pub mod GrammarLemmas
+pub mod PieceLemmas
+pub mod StopLemmas
+pub mod HostFaultLemmas
+pub mod VersionFaultLemmas
+pub mod AddressFaultLemmas
+pub mod KeyFirstLemmas
+pub mod FirstFaultLemmas
 pub mod WritingLemmas
 pub mod WrittenLemmas
 pub mod IorLemmas

@@ -1,10 +1,9 @@
 -- A list of addresses, read one after the other.
-use Rattle.std.proofs.Common.{◌≡◌, ℕ, ◌+◌, ◌==◌, List, [], ◌∷◌, ◌++◌, length, Option, Some, None, Ok, Err, refl, sym, ap, ◌∙◌, ◌⊎◌, inl, inr, append_assoc}
-use Rattle.std.specs.List.{slice_split}
+use Rattle.std.proofs.Common.{◌≡◌, ℕ, ◌+◌, List, [], ◌∷◌, ◌++◌, length, Some, None, Ok, Err, refl, ◌∙◌, ◌⊎◌, inl, inr, append_assoc}
 use Rattle.giop_ior.specs.declared.addresses.address.Address.{Address}
 use Rattle.giop_ior.specs.declared.addresses.corbaloc_fault.CorbalocFault.{CorbalocFault}
 use Rattle.giop_ior.specs.CorbalocFault.{Read, ◌>>=◌, no_memory}
-use Rattle.giop_ior.specs.CorbalocReading.{cut, address_at, each_at, addresses_at}
+use Rattle.giop_ior.specs.CorbalocReading.{cut, address_at, addresses_at}
 use Rattle.giop_ior.proofs.CutLemmas.{split_some, split_none}
 
 -- addresses that were read, and those behind them

@@ -1,19 +1,18 @@
 -- A written corbaloc is a text of the grammar.
-use Rattle.std.proofs.Common.{◌≡◌, ◌≢◌, ℕ, ◌+◌, ◌*◌, ◌/◌, ◌%◌, ◌^◌, ◌<◌, ◌≤◌, ◌==◌, ◌&&◌, Bool, true, false, not, List, [], ◌∷◌, ◌++◌, length, map, codes, Ok, if◌then◌else◌, nat_lt, refl, sym, ap, subst, ◌∙◌, arith, append_assoc, inl, inr}
-use Rattle.std.specs.Char.{digit_value, is_digit}
+use Rattle.std.proofs.Common.{◌≡◌, ℕ, ◌/◌, ◌%◌, ◌^◌, ◌<◌, ◌==◌, ◌&&◌, Bool, true, false, not, List, [], ◌∷◌, ◌++◌, length, codes, Ok, if◌then◌else◌, refl, sym, ap, subst, ◌∙◌, arith, append_assoc, inl, inr}
+use Rattle.std.specs.Char.{digit_value}
 use Rattle.std.specs.Fmt.{decimal, digit_glyph}
-use Rattle.std.specs.List.{flat_map, list_all, join_with_byte, AllByRecursion}
-use Rattle.std.specs.Str.Parse.{IsNumeral, digits_value}
-use Rattle.std.proofs.lemmas.Bool.{eqb-true, eq-eqb, lt-ltb, ltb-true}
+use Rattle.std.specs.List.{flat_map, list_all, AllByRecursion}
+use Rattle.std.proofs.lemmas.Bool.{eqb-true, eq-eqb, lt-ltb}
 use Rattle.std.proofs.lemmas.Bool.Decides.{nat_tests}
 use Rattle.std.proofs.lemmas.Fmt.{decimal_is_IsNumeral, length-decimal-le}
 use Rattle.percent_encoding.specs.Percent.{percent_encode_byte}
 use Rattle.giop_ior.specs.declared.addresses.address.Address.{Address}
 use Rattle.giop_ior.specs.declared.addresses.corbaloc.Corbaloc.{Corbaloc}
-use Rattle.giop_ior.specs.Corbaloc.{CorbalocText, AddressesText, AddressText, NumberText, KeyPartText, KeyText, KeyOctetText, EscapeText, VersionPartText, IsHost, is_key_octet}
+use Rattle.giop_ior.specs.Corbaloc.{CorbalocText, AddressesText, AddressText, NumberText, KeyPartText, KeyText, KeyOctetText, VersionPartText, is_key_octet}
 use Rattle.giop_ior.specs.CorbalocReading.{is_host, corbaloc_of}
 use Rattle.giop_ior.specs.CorbalocWriting.{address_text, addresses_text, key_octet_text, key_text, corbaloc_text, is_writable_address, is_writable, IsInRange}
-use Rattle.giop_ior.proofs.GrammarLemmas.{corbaloc_found, corbaloc_only}
+use Rattle.giop_ior.proofs.GrammarLemmas.{corbaloc_only}
 use Rattle.giop_ior.proofs.NumberLemmas.{both}
 use Rattle.giop_ior.proofs.PartLemmas.{host_found, host_only}
 use Rattle.giop_ior.proofs.StepLemmas.{ok_is}

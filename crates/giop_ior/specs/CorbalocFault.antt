@@ -1,5 +1,6 @@
 -- What is wrong with a corbaloc text, and how it is told.
-use Rattle.std.specs.Prelude.{◌≡◌, ◌⊎◌, ℕ, List, codes, Result, Ok, Err, IsOk}
+use Rattle.std.specs.Prelude.{◌≡◌, ◌⊎◌, ℕ, List, ◌++◌, codes, Result, Ok, Err, IsOk}
+use Rattle.std.specs.Fmt.{decimal}
 use Rattle.giop_ior.specs.declared.addresses.corbaloc_fault.CorbalocFault.{CorbalocFault}
 use Rattle.giop_ior.specs.declared.addresses.corbaloc_fault.CorbalocKind.{CorbalocKind}
 use Rattle.giop_ior.specs.declared.addresses.corbaloc_fault.CorbalocKind.TheVariants.{BadPrefix, BadProtocol, BadHost, BadPort, BadVersion, BadEscape, BadChar, NoMemory}
@@ -25,6 +26,10 @@ corbaloc_kind_name BadVersion = codes "BadVersion"
 corbaloc_kind_name BadEscape = codes "BadEscape"
 corbaloc_kind_name BadChar = codes "BadChar"
 corbaloc_kind_name NoMemory = codes "NoMemory"
+
+-- what is shown of a fault: NAME at PLACE
+abbrev pub corbaloc_fault_text : CorbalocFault → List ℕ
+corbaloc_fault_text e = corbaloc_kind_name e.kind ++ (codes " at " ++ decimal e.at)
 
 -- a fault of this kind at this offset
 abbrev pub fault : ℕ → CorbalocKind → CorbalocFault

@@ -1,7 +1,7 @@
 -- A corbaloc text read from the left, and the first fault in it with its place (CORBA 3.3 Part 2,
 -- 7.6.10.1). The address list ends before the first "/"; commas part the addresses. Of an address
 -- the version is what stands before its first "@", the port what stands behind the next ":".
-use Rattle.std.specs.Prelude.{ℕ, ◌+◌, ◌-◌, Bool, true, ◌==◌, ◌&&◌, nat_lt, nat_le, nat_eq, if◌then◌else◌, List, [], ◌∷◌, length, take, drop, codes, Option, Some, None, option_map, Ok, Err, slice_index}
+use Rattle.std.specs.Prelude.{ℕ, ◌+◌, Bool, ◌==◌, ◌&&◌, nat_lt, nat_le, nat_eq, if◌then◌else◌, List, [], ◌∷◌, length, take, drop, codes, Option, Some, None, option_map, Ok, Err, slice_index}
 use Rattle.std.specs.Char.{is_digit, is_ascii_digit}
 use Rattle.std.specs.Cmp.Lexicographic.{pointwise}
 use Rattle.std.specs.List.{position, list_all, slice_split}

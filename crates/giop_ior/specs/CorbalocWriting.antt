@@ -1,6 +1,6 @@
 -- How a corbaloc is written (CORBA 3.3 Part 2, 7.6.10.1): each address in full, and the key where
 -- there is one.
-use Rattle.std.specs.Prelude.{◌≡◌, ℕ, ◌<◌, ◌^◌, ◌==◌, ◌&&◌, Bool, not, List, [], ◌∷◌, ◌++◌, length, map, All, codes, if◌then◌else◌}
+use Rattle.std.specs.Prelude.{ℕ, ◌<◌, ◌^◌, ◌==◌, ◌&&◌, Bool, not, List, [], ◌∷◌, ◌++◌, length, map, codes, if◌then◌else◌}
 use Rattle.std.specs.Fmt.{decimal}
 use Rattle.std.specs.List.{flat_map, list_all, join_with_byte, AllByRecursion}
 use Rattle.percent_encoding.specs.Percent.{percent_encode_byte}

@@ -1,6 +1,6 @@
 -- The IIOP profile (CORBA 3.3 Part 2, 9.7.2): an encapsulation, of which the first octet is the
 -- byte order and has offset 0; the fields begin at offset 1. Octets behind them are passed over.
-use Rattle.std.specs.Prelude.{◌≡◌, ℕ, ◌==◌, Bool, true, false, List, [], ◌∷◌, ◌++◌, length, drop, slice_index, if◌then◌else◌, Option, Some, None, Result, Ok, Err, ⊤}
+use Rattle.std.specs.Prelude.{◌≡◌, ℕ, ◌==◌, Bool, List, [], ◌∷◌, ◌++◌, length, drop, slice_index, if◌then◌else◌, Option, Some, None, Result, Ok, Err, ⊤}
 use Rattle.std.specs.Int.{w8, w16}
 use Rattle.giop_cdr.specs.declared.order.Order.{Order}
 use Rattle.giop_cdr.specs.declared.order.Order.TheVariants.{Big, Little}
@@ -8,7 +8,6 @@ use Rattle.giop_cdr.specs.declared.fault.CdrFault.{CdrFault}
 use Rattle.giop_cdr.specs.declared.fault.CdrKind.TheVariants.{BadLabel, BadOrder, Short, NoMemory}
 use Rattle.giop_cdr.specs.Encapsulation.Opened.{order_octet, content_of}
 use Rattle.giop_cdr.specs.Layout.{Layout, number, octets, text, such, field, gives, sequence, tagged, chosen}
-use Rattle.giop_cdr.specs.Writing.Output.{Output}
 use Rattle.giop_cdr.specs.Reading.Cursor.{Cursor}
 use Rattle.giop_cdr.specs.Reading.Values.{Reading, fault, ◌>>=◌}
 use Rattle.giop_cdr.specs.Reading.Exactness.{NeverRefused}

@@ -8,3 +8,4 @@ pub mod Written
 pub mod Iiop
 pub mod ToIor
 pub mod ServiceContext
+pub mod FirstFault

@@ -4,3 +4,4 @@
 mod corbaloc;
 mod ior;
 mod ior_text;
+mod recorded;

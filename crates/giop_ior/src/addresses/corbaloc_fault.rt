@@ -102,15 +102,15 @@ impl From<AllocError> for CorbalocFault {
     }
 }
 
-/// The name of its kind, as `BadPort`.
+/// The name of its kind and its place, as `BadPort at 12`.
 impl fmt::Display for CorbalocFault {
     ghost use Rattle.std.specs.Prelude.{Some};
-    ghost use Rattle.giop_ior.specs.CorbalocFault.{corbaloc_kind_name};
+    ghost use Rattle.giop_ior.specs.CorbalocFault.{corbaloc_fault_text};
 
-    ghost output = { λ e. Some (corbaloc_kind_name e.kind) };
+    ghost output = { λ e. Some (corbaloc_fault_text e) };
 
     fn fmt<W: fmt::Write>(&self, f: &mut fmt::Formatter<W>) -> fmt::Result {
-        write!(f, "{}", self.kind)
+        write!(f, "{} at {}", self.kind, self.at)
     }
 }
 

@@ -3,6 +3,7 @@ ghost use Rattle.std.specs.Prelude.{◌≡◌, ◌+◌, ◌<◌, ◌^◌, ◌⊎
 ghost use Rattle.giop_ior.specs.AddressAt.{address_view};
 ghost use Rattle.giop_ior.specs.Corbaloc.{CorbalocText};
 ghost use Rattle.giop_ior.specs.CorbalocFault.{AnswersOrWants, Tells, IsAnswered, no_memory};
+ghost use Rattle.giop_ior.specs.FirstFault.{IsFirstFault};
 ghost use Rattle.giop_ior.specs.CorbalocReading.{address_at, addresses_at, corbaloc_of};
 
 use crate::addresses::address::Address;
@@ -153,6 +154,9 @@ pub fn corbaloc_from_text(alloc: Global, text: &[u8]) -> Result<Corbaloc, Corbal
     ensures exact { IfOk result (λ c. corbaloc_of text.now ≡ Ok c) }
     ensures err { IfErr result (λ e. (corbaloc_of text.now ≡ Err e)
         ⊎ ((e ≡ no_memory) × IsOk (corbaloc_of text.now))) }
+
+    // What it says of the text, by the grammar.
+    ensures first { IfErr result (λ e. IsFirstFault text.now e ⊎ (e ≡ no_memory)) }
 {
     corbaloc_of(alloc, text)
 }

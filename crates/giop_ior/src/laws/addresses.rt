@@ -1,9 +1,11 @@
 // Laws of the definitions. Each function's contract is one of them; the bodies are empty, and no
 // program calls these.
-ghost use Rattle.std.specs.Prelude.{◌≡◌, List, ℕ, true, Ok};
+ghost use Rattle.std.specs.Prelude.{◌≡◌, List, ℕ, true, Ok, Err};
 ghost use Rattle.giop_ior.specs.declared.addresses.corbaloc.Corbaloc.{Corbaloc};
 ghost use Rattle.giop_ior.specs.Corbaloc.{CorbalocText};
+ghost use Rattle.giop_ior.specs.declared.addresses.corbaloc_fault.CorbalocFault.{CorbalocFault};
 ghost use Rattle.giop_ior.specs.CorbalocReading.{corbaloc_of};
+ghost use Rattle.giop_ior.specs.FirstFault.{IsFirstFault};
 ghost use Rattle.giop_ior.specs.CorbalocWriting.{corbaloc_text, is_writable, IsInRange};
 
 /// The grammar of corbaloc texts: the reading from the left answers exactly its values, and a text
@@ -13,6 +15,14 @@ pub fn corbalocs_are_read()
     ensures only { (text : List ℕ) (c : Corbaloc) → CorbalocText c text → corbaloc_of text ≡ Ok c }
     ensures alone { (text : List ℕ) (c d : Corbaloc) → CorbalocText c text → CorbalocText d text
         → c ≡ d }
+{}
+
+/// A refusal is the first fault from the left, by the grammar alone: what stands before its place
+/// can be gone on with to a text, by the part that its kind names; and no text that is the same up
+/// to the end of what stands there instead is one.
+pub fn faults_are_the_first()
+    ensures { (text : List ℕ) (e : CorbalocFault) → corbaloc_of text ≡ Err e
+        → IsFirstFault text e }
 {}
 
 /// Which values have a text: exactly those that `is_writable` tells; and the text that is written

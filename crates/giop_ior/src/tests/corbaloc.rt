@@ -325,7 +325,7 @@ fn many_addresses_are_read_in_their_order(rt: HostRuntime) -> Result<(), Fail> {
 }
 
 #[test]
-fn faults_have_a_number_and_a_name(rt: HostRuntime) -> Result<(), Fail> {
+fn faults_are_shown_with_their_names_and_places(rt: HostRuntime) -> Result<(), Fail> {
     let rows = [
         (CorbalocKind::BadPrefix, 1, "BadPrefix"),
         (CorbalocKind::BadProtocol, 2, "BadProtocol"),
@@ -345,8 +345,16 @@ fn faults_have_a_number_and_a_name(rt: HostRuntime) -> Result<(), Fail> {
         );
         assert_eq!(rt;
             format!(in rt.alloc(); "{fault}")?.as_bytes(),
-            name.as_bytes()
+            format!(in rt.alloc(); "{name} at 3")?.as_bytes()
         );
     }
+    let fault = CorbalocFault {
+        at: 1024,
+        kind: CorbalocKind::BadHost,
+    };
+    assert_eq!(rt;
+        format!(in rt.alloc(); "{fault}")?.as_str(),
+        "BadHost at 1024"
+    );
     Ok(())
 }

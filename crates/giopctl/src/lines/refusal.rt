@@ -29,9 +29,7 @@ impl fmt::Display for RefusalLine {
     fn fmt<W: fmt::Write>(&self, f: &mut fmt::Formatter<W>) -> fmt::Result {
         match self {
             RefusalLine::IorText(fault) => write!(f, "fault {} {fault}", fault.number()),
-            RefusalLine::Corbaloc(fault) => {
-                write!(f, "fault {} {fault} at {}", fault.number(), fault.at)
-            }
+            RefusalLine::Corbaloc(fault) => write!(f, "fault {} {fault}", fault.number()),
             RefusalLine::Reference(fault) => write!(f, "fault {} {fault}", fault.number()),
             RefusalLine::Form(fault) => write!(f, "fault {} {fault}", fault.number()),
             RefusalLine::BadHex => f.write_str("fault 2 BadHex"),

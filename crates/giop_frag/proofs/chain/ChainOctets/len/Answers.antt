@@ -1,5 +1,5 @@
 use Rattle.std.proofs.Common.{sym, ap, ◌∙◌, length}
-use Rattle.giop_frag.proofs.BlockLemmas.{length-chained}
+use Rattle.giop_frag.proofs.LaidLemmas.{length-chained}
 use Rattle.giop_frag.proofs.chain.ChainOctets.len.Goals as goal
 
 pub returns : goal.returns

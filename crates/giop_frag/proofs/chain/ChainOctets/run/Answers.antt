@@ -1,5 +1,5 @@
 use Rattle.std.proofs.Common.{◌≡◌, ◌<◌, length, take, drop, sym, ap, ◌∙◌, arith}
-use Rattle.giop_frag.proofs.BlockLemmas.{length-chained, named_at, run_part}
+use Rattle.giop_frag.proofs.LaidLemmas.{length-chained, named_at, run_part}
 use Rattle.giop_frag.proofs.chain.ChainOctets.run.Goals as goal
 
 pub part-requires-clause-number : goal.part-requires-clause-number

@@ -1,5 +1,5 @@
 use Rattle.std.proofs.Common.{length, arith, length-append, ◌∷◌, []}
-use Rattle.giop_frag.proofs.BlockLemmas.{no_growth, grown_more}
+use Rattle.giop_frag.proofs.MadeLemmas.{no_growth, grown_more}
 use Rattle.giop_frag.proofs.pool.Pool.provide.Goals as goal
 
 pub loop-self-init : goal.loop-self-init

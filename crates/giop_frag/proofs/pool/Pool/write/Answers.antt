@@ -1,5 +1,6 @@
 use Rattle.std.proofs.Common.{length, arith, ◌≡◌, ◌+◌, ap, sym, ◌∙◌, add-zero, append-nil, refl, ◌++◌, take}
-use Rattle.giop_frag.proofs.BlockLemmas.{nothing_written, step_written, place_within, apart_same, named, times_at}
+use Rattle.giop_frag.proofs.CountLemmas.{apart_same, named, times_at}
+use Rattle.giop_frag.proofs.WrittenLemmas.{nothing_written, step_written, place_within}
 use Rattle.giop_frag.specs.Blocks.{octets_at, AreWritten}
 use Rattle.giop_frag.proofs.pool.Pool.write.Goals as goal
 

@@ -1,4 +1,4 @@
-use Rattle.std.proofs.Common.{◌≡◌, ℕ, ◌+◌, length, rules, arith}
+use Rattle.std.proofs.Common.{rules, arith}
 use Rattle.giop_ior.proofs.CutLemmas.{cut_length}
 use Rattle.giop_ior.proofs.ListLemmas.{reads_on, stops, ends, stops_at_end}
 use Rattle.giop_ior.proofs.addresses.corbaloc_reading.judge_addresses.Goals as goal

@@ -1,6 +1,5 @@
-use Rattle.std.proofs.Common.{◌≡◌, not, ap, ◌∙◌, arith}
+use Rattle.std.proofs.Common.{not, ap, ◌∙◌}
 use Rattle.giop_ior.proofs.KeyLemmas.{keeps}
-use Rattle.giop_ior.specs.declared.addresses.key_text.TheConstants.{ESCAPED}
 use Rattle.giop_ior.proofs.addresses.key_text.is_key_octet.Goals as goal
 
 pub returns : goal.returns

@@ -1,5 +1,4 @@
-use Rattle.std.proofs.Common.{◌≡◌, ℕ, ◌+◌, ◌<◌, length, drop, Some, ap, sym, ◌∙◌, rules, arith}
-use Rattle.std.proofs.lemmas.Grind.{common_steps}
+use Rattle.std.proofs.Common.{◌+◌, Some, ap, sym, ◌∙◌, arith}
 use Rattle.giop_ior.proofs.KeyFaultLemmas.{key_goes_on_within, key_stops_within}
 use Rattle.giop_ior.specs.CorbalocFault.{fault}
 use Rattle.giop_ior.proofs.addresses.key_text.judge_key.Goals as goal
