@@ -9,6 +9,7 @@ mod ior;
 mod msg;
 mod mux;
 mod read;
+mod session;
 mod types;
 mod work;
 mod write;
@@ -22,6 +23,7 @@ or giop_bench (frag24|frag512|frag4096) IDS, where IDS is 1, 64 or 1024
 or giop_bench types-(structs|longs)-(read|write) or types-json-(write|again)[-10],
 or giop_bench msg-(add|put)-(read|write) or msg-cut or msg-join,
 or giop_bench ior-(text|corbaloc)[-10],
+or giop_bench session-calls[-512] or session-pieces,
 or giop_bench (read|write)-VALUES-(big|little) TIMES, where VALUES is ulong, string, octets or widths";
 
 // The checksum of a loop over CDR, or none where it isn't one or fails.
@@ -35,13 +37,17 @@ fn cdr(alloc: Global, name: &str, times: &str) -> Option<u64> {
     }
 }
 
-// The checksum of a loop over values by description, over references, over messages, or over CDR.
+// The checksum of a loop over values by description, over references, over a server's end, over
+// messages, or over CDR.
 fn named(alloc: Global, name: &str, times: &str) -> Option<u64> {
     if let Some(name) = name.strip_prefix("types-") {
         return types::run(alloc, name);
     }
     if let Some(name) = name.strip_prefix("ior-") {
         return ior::run(alloc, name);
+    }
+    if let Some(name) = name.strip_prefix("session-") {
+        return session::run(alloc, name);
     }
     match name.strip_prefix("msg-") {
         Some(name) => msg::run(alloc, name),

@@ -8,8 +8,6 @@ mod kind;
 pub mod laws;
 mod outcome;
 mod server;
-#[cfg(test)]
-mod tests;
 
 pub use client::call::Call;
 pub use client::entry::ClientEntry;

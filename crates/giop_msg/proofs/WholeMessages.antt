@@ -7,3 +7,4 @@ pub mod RequestLemmas
 pub mod ReplyLemmas
 pub mod ReplyWritingLemmas
 pub mod LawLemmas
+mod StandardReplies

@@ -8,7 +8,9 @@ pub use heads::{
     locate_reply_heads_are_spelled, locate_requests_are_spelled, reply_heads_are_spelled,
     request_heads_are_spelled,
 };
-pub use messages::{locate_replies_are_spelled, replies_are_spelled, requests_are_spelled};
+pub use messages::{
+    locate_replies_are_spelled, refusals_are_told, replies_are_spelled, requests_are_spelled,
+};
 pub use stream::{
     cuts_are_undone, every_stream_splits, faults_stand, header_round_trip, one_split, request_ids,
     split_on,

@@ -23,8 +23,6 @@ mod stream;
 mod target;
 mod target_reading;
 mod target_writing;
-#[cfg(test)]
-mod tests;
 mod version;
 
 pub use cutting::{can_cut, cut};

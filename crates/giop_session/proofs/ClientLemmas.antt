@@ -1,5 +1,5 @@
 -- What a client's call that gathers its reply does with the last piece of it.
-use Rattle.std.proofs.Common.{◌≡◌, ℕ, Bool, true, false, cond, List, length, drop, Option, Some, None, is_some, Result, Ok, Err, IsOk, refl, sym, ap, subst, ◌∙◌, ◌++◌, inl, inr}
+use Rattle.std.proofs.Common.{◌≡◌, ℕ, Bool, true, false, cond, List, length, Option, Some, None, is_some, Result, Ok, Err, IsOk, refl, sym, ap, subst, ◌∙◌, ◌++◌, inl, inr}
 use Rattle.std.specs.FinMap as finite
 use Rattle.giop_cdr.specs.declared.order.Order.{Order}
 use Rattle.giop_cdr.specs.declared.fault.CdrFault.{CdrFault}
@@ -24,7 +24,7 @@ use Rattle.giop_session.specs.declared.slot.Slot.{Slot}
 use Rattle.giop_session.specs.declared.table_fault.TableFault.TheVariants as table
 use Rattle.giop_session.specs.CallTable.{Held, More, Hears, gathers, limit}
 use Rattle.giop_session.specs.ClientHears.{AtClient, continued, continues, gathered_call, heard_located_by, heard_reply, heard_reply_by}
-use Rattle.giop_session.specs.Heard.{Befalls, kept}
+use Rattle.giop_session.specs.Heard.{Befalls, behind_id, kept}
 use Rattle.giop_session.specs.Sending.{sending_step}
 use Rattle.giop_session.proofs.TableLemmas.{does_over}
 
@@ -114,5 +114,5 @@ module _ {R : Type 0} (h : Held R ClientEntry) (id : ℕ) (call : Asked) (octets
 -- a Fragment that continues pieces, and with which no more come, is the last of them
 pub continues_last : (interface : Interface) (m : Msg) (call : Asked) (octets : List ℕ) → m.more ≡ false
     → continues interface m (Some (call, octets))
-    ≡ Hears (kept (event.Last true (heard_reply interface call m.version m.order (octets ++ drop 4 m.payload)))) (More (drop 4 m.payload))
+    ≡ Hears (kept (event.Last true (heard_reply interface call m.version m.order (octets ++ behind_id m)))) (More (behind_id m))
 continues_last interface m call octets last = rw last refl

@@ -1,5 +1,5 @@
 -- What a message of the server does at a client (CORBA 3.3 Part 2, 9.4).
-use Rattle.std.specs.Prelude.{ℕ, true, false, if◌then◌else◌, List, ◌++◌, drop, Option, Some, None, Result, Ok, Err}
+use Rattle.std.specs.Prelude.{ℕ, true, false, if◌then◌else◌, List, ◌++◌, Option, Some, None, Result, Ok, Err}
 use Rattle.giop_cdr.specs.declared.order.Order.{Order}
 use Rattle.giop_cdr.specs.declared.fault.CdrFault.{CdrFault}
 use Rattle.giop_types.specs.declared.json.interface.Interface.{Interface}
@@ -28,13 +28,14 @@ use Rattle.giop_session.specs.declared.session_fault.SessionFault.{SessionFault}
 use Rattle.giop_session.specs.declared.session_fault.SessionFault.TheVariants.{WrongDirection, PeerError, Closed}
 use Rattle.giop_session.specs.declared.slot.Slot.{Slot}
 use Rattle.giop_session.specs.CallTable.{Act, Call, Hears, First, More, Nothing, Held, rules_of}
-use Rattle.giop_session.specs.Heard.{Heard, IsHeard, in_call, kept}
+use Rattle.giop_session.specs.Heard.{Heard, IsHeard, behind_id, in_call, kept}
 
--- a Reply, and a LocateReply, by what reading it gives
+-- a Reply, by what reading it gives
 abbrev pub heard_reply_by : Result Reply CdrFault → HeardReply
 heard_reply_by (Ok reply) = heard.Reply reply
 heard_reply_by (Err e) = heard.Undecoded e
 
+-- a LocateReply likewise
 abbrev pub heard_located_by : Result LocateReply CdrFault → HeardReply
 heard_located_by (Ok reply) = heard.Locate reply
 heard_located_by (Err e) = heard.Undecoded e
@@ -46,11 +47,12 @@ heard_reply interface (asked.Request request) version order joined =
 heard_reply interface (asked.Locate request) version order joined =
     heard_located_by ((locate_reply version).read (joined_from order joined))
 
--- the call that waits for a message of this kind and version, if one does
+-- the call of an entry, where it waits for a message of this kind and version
 abbrev pub awaited_in : CallKind → Version → ClientEntry → Option Asked
 awaited_in kind version (Waiting call) = if answers kind version call then Some call else None
 awaited_in kind version _ = None
 
+-- the call that waits so under an id
 abbrev pub awaited : CallKind → Version → Option (Slot ClientEntry) → Option Asked
 awaited kind version None = None
 awaited kind version (Some slot) = awaited_in kind version slot.entry
@@ -66,11 +68,12 @@ comes interface kind m (Some call) =
     else Hears (kept (event.Whole kind m.version
     (heard_reply interface call m.version m.order m.payload))) Nothing
 
--- the call whose reply is gathered, if one is
+-- the call of an entry, where its reply is gathered
 abbrev pub gathered_in : ClientEntry → Option Asked
 gathered_in (Gathering call) = Some call
 gathered_in _ = None
 
+-- the call under an id whose reply is gathered
 abbrev pub gathered_call : Option (Slot ClientEntry) → Option Asked
 gathered_call None = None
 gathered_call (Some slot) = gathered_in slot.entry
@@ -89,9 +92,9 @@ continues interface m None =
     else Hears (kept (event.Last false heard.Unread)) Nothing
 continues interface m (Some pieces) =
     if m.more
-    then Hears (kept (event.More true)) (More (drop 4 m.payload))
+    then Hears (kept (event.More true)) (More (behind_id m))
     else Hears (kept (event.Last true (heard_reply interface pieces.0 m.version m.order
-    (pieces.1 ++ drop 4 m.payload)))) (More (drop 4 m.payload))
+    (pieces.1 ++ behind_id m)))) (More (behind_id m))
 
 -- why a message ends the session, if it does: a server doesn't send it, or it says so
 abbrev pub breaks_by : Kind → Option SessionFault
@@ -104,6 +107,7 @@ breaks_by message.CancelRequest = Some WrongDirection
 breaks_by message.CloseConnection = Some Closed
 breaks_by message.MessageError = Some PeerError
 
+-- by its message type
 abbrev pub client_breaks : Msg → Option SessionFault
 client_breaks m = breaks_by m.kind
 
@@ -117,6 +121,7 @@ befalls_by interface m call message.Fragment =
     continues interface m (continued m.order (gathered_call call.slot) call.pieces)
 befalls_by interface m call _ = Hears (kept event.Cancel) Nothing
 
+-- by the message and that call
 abbrev pub client_befalls : Interface → Msg → Call ClientEntry → Act ClientEvent
 client_befalls interface m call = befalls_by interface m call m.kind
 

@@ -1,5 +1,5 @@
--- What feeding octets to an end does: its messages are heard one after another, up to the first that
--- is refused.
+-- What feeding octets to an end does: its messages are heard one after another, up to the first
+-- that is refused.
 use Rattle.std.specs.Prelude.{◌≡◌, ◌⊎◌, ℕ, ◌++◌, List, [], ◌∷◌, Option, Some, None, Result, Ok, Err}
 use Rattle.giop_msg.specs.declared.fault.WireFault.{WireFault}
 use Rattle.giop_msg.specs.declared.msg.Msg.{Msg}

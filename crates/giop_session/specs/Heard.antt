@@ -1,5 +1,5 @@
 -- What a message does at an end: it ends the session, or something befalls the call of one id.
-use Rattle.std.specs.Prelude.{◌≡◌, ◌⊎◌, ℕ, Bool, Option, Some, None, Result, Ok, Err}
+use Rattle.std.specs.Prelude.{◌≡◌, ◌⊎◌, ℕ, Bool, List, drop, Option, Some, None, Result, Ok, Err}
 use Rattle.giop_cdr.specs.declared.fault.CdrFault.{CdrFault}
 use Rattle.giop_ids.specs.Runs.{Does, Rules}
 use Rattle.giop_msg.specs.declared.msg.Msg.{Msg}
@@ -41,6 +41,10 @@ module _ {R E V A F : Type 0} (rules : Rules (Held R E) (Call E) (Act V) (Reply 
   abbrev pub IsHeard : Heard V → Held R E → Result (Unit {0}) SessionFault → Held R E → Type 0
   IsHeard heard h result k =
       ((result ≡ Err NoMemory) × (k ≡ h)) ⊎ IsHeardAs heard h result k
+
+-- the octets of a Fragment behind its request id, which is its first four (9.4.9)
+abbrev pub behind_id : Msg → List ℕ
+behind_id m = drop 4 m.payload
 
 -- an event that sends nothing
 abbrev pub kept : {V : Type 0} → V → Planned V

@@ -6,7 +6,7 @@ use Rattle.giop_msg.specs.declared.msg.Msg.{Msg}
 use Rattle.giop_session.specs.Unsent.{first_of}
 use Rattle.giop_session.specs.declared.slot.Slot.{Slot}
 use Rattle.giop_session.specs.declared.plan.Plan.{Plan}
-use Rattle.giop_session.specs.declared.plan.Plan.TheVariants.{Put, Next, Keep, Leave}
+use Rattle.giop_session.specs.declared.plan.Plan.TheVariants.{Put, Next, Keep}
 use Rattle.giop_session.specs.declared.plan.Planned.{Planned}
 use Rattle.giop_session.specs.declared.sending.Sends.{Sends}
 
@@ -25,14 +25,12 @@ abbrev pub unsent_after : Plan → List Msg → List Msg
 unsent_after (Put messages) unsent = drop 1 messages
 unsent_after Next unsent = drop 1 unsent
 unsent_after Keep unsent = unsent
-unsent_after Leave unsent = []
 
 -- the message that an accepted event puts out
 abbrev pub message_of : Plan → List Msg → Option Msg
 message_of (Put messages) unsent = first_of messages
 message_of Next unsent = first_of unsent
 message_of Keep unsent = None
-message_of Leave unsent = None
 
 -- the slot of an entry, if there is one; messages without an entry are dropped
 abbrev pub slot_of : {E : Type 0} → Option E → List Msg → Option (Slot E)

@@ -1,5 +1,5 @@
 -- What a message of the client does at a server (CORBA 3.3 Part 2, 9.4).
-use Rattle.std.specs.Prelude.{ℕ, true, false, if◌then◌else◌, List, ◌++◌, drop, Option, Some, None, Result}
+use Rattle.std.specs.Prelude.{ℕ, true, false, if◌then◌else◌, List, ◌++◌, Option, Some, None, Result}
 use Rattle.giop_cdr.specs.declared.order.Order.{Order}
 use Rattle.giop_types.specs.declared.json.interface.Interface.{Interface}
 use Rattle.giop_msg.specs.declared.kind.Kind.{Kind}
@@ -18,7 +18,7 @@ use Rattle.giop_session.specs.declared.slot.Slot.{Slot}
 use Rattle.giop_calls.specs.ServerTable.{server_step, is_closed, is_gathering}
 use Rattle.giop_session.specs.CallTable.{Act, Call, Hears, First, More, Nothing, Held, rules_of}
 use Rattle.giop_session.specs.Decoding.{heard_call}
-use Rattle.giop_session.specs.Heard.{Heard, IsHeard, in_call, kept}
+use Rattle.giop_session.specs.Heard.{Heard, IsHeard, behind_id, in_call, kept}
 
 -- a Request or a LocateRequest comes: its first piece, whose octets are gathered, or all of it
 abbrev pub comes : Interface → CallKind → Msg → Act ServerEvent
@@ -32,6 +32,7 @@ abbrev pub kind_in : ServerEntry → Option CallKind
 kind_in (Gathering kind) = Some kind
 kind_in _ = None
 
+-- under an id
 abbrev pub gathered_kind : Option (Slot ServerEntry) → Option CallKind
 gathered_kind None = None
 gathered_kind (Some slot) = kind_in slot.entry
@@ -48,9 +49,9 @@ abbrev pub continues : Interface → Msg → Option (CallKind × List ℕ) → A
 continues interface m None = Hears (kept (event.More false)) Nothing
 continues interface m (Some pieces) =
     if m.more
-    then Hears (kept (event.More true)) (More (drop 4 m.payload))
+    then Hears (kept (event.More true)) (More (behind_id m))
     else Hears (kept (event.Last true (heard_call interface pieces.0 m.version m.order
-    (pieces.1 ++ drop 4 m.payload)))) (More (drop 4 m.payload))
+    (pieces.1 ++ behind_id m)))) (More (behind_id m))
 
 -- why a message ends the session, if it does: a client doesn't send it, or it says so
 abbrev pub breaks_by : Kind → Option SessionFault
@@ -63,6 +64,7 @@ breaks_by message.LocateReply = Some WrongDirection
 breaks_by message.CloseConnection = Some Closed
 breaks_by message.MessageError = Some PeerError
 
+-- by its message type
 abbrev pub server_breaks : Msg → Option SessionFault
 server_breaks m = breaks_by m.kind
 
@@ -75,6 +77,7 @@ befalls_by interface m call message.Fragment =
     continues interface m (continued m.order (gathered_kind call.slot) call.pieces)
 befalls_by interface m call _ = Hears (kept event.Cancel) Nothing
 
+-- by the message and that call
 abbrev pub server_befalls : Interface → Msg → Call ServerEntry → Act ServerEvent
 server_befalls interface m call = befalls_by interface m call m.kind
 

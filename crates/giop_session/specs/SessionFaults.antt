@@ -46,4 +46,5 @@ abbrev pub error_message_of : Option SessionFault → Option (List ℕ)
 error_message_of (Some (Wire fault)) = Some message_error
 error_message_of (Some (Call id fault)) = Some message_error
 error_message_of (Some WrongDirection) = Some message_error
+error_message_of (Some (NoId fault)) = Some message_error
 error_message_of _ = None

@@ -1,5 +1,5 @@
 //! What a message of the server does at a client, a function for each kind.
-ghost use Rattle.std.specs.Prelude.{◌≡◌, ◌≤◌, ◌^◌, ◌+◌, ◌++◌, drop, length, option_copied, is_some, true, Some, IfSome};
+ghost use Rattle.std.specs.Prelude.{◌≡◌, ◌≤◌, ◌^◌, ◌+◌, ◌++◌, length, option_copied, is_some, true, Some, IfSome};
 ghost use Rattle.std.specs.FinMap as finite;
 ghost use Rattle.giop_frag.specs.Gathered.{octets_in, order_fault};
 ghost use Rattle.giop_msg.specs.RequestId.{request_id_of};
@@ -7,7 +7,7 @@ ghost use Rattle.giop_calls.specs.declared.client.event.ClientEvent.TheVariants 
 ghost use Rattle.giop_calls.specs.declared.client.heard.HeardReply.TheVariants as heard;
 ghost use Rattle.giop_session.specs.CallTable.{First, Hears, More, Nothing, at};
 ghost use Rattle.giop_session.specs.ClientHears.{AtClient, awaited, awaited_in, comes, continued, continues, gathered_call, gathered_in, heard_reply};
-ghost use Rattle.giop_session.specs.Heard.{Befalls, kept, named};
+ghost use Rattle.giop_session.specs.Heard.{Befalls, behind_id, kept, named};
 
 use crate::call_table::CallTable;
 use crate::heard::{behind_id, kept, named, told};
@@ -222,7 +222,7 @@ fn add(calls: &mut Calls, id: u32, message: &Msg) -> Result<(), SessionFault>
     requires { is_some (continued message.now.order (gathered_call (finite.get calls.old.table id))
         (finite.get calls.old.gathered id)) ≡ true }
     ensures { AtClient (Befalls id (Hears (kept (event.More true))
-        (More (drop 4 message.now.payload)))) calls.old result calls.new }
+        (More (behind_id message.now)))) calls.old result calls.new }
 {
     let more = kept(ClientEvent::More { in_order: true });
     told(id, calls.go_on(id, more, message.order, behind_id(message)))
@@ -242,8 +242,8 @@ fn complete(
         → gathered_call (finite.get calls.old.table id) ≡ Some call
         → finite.get calls.old.gathered id ≡ Some pieces
         → AtClient (Befalls id (Hears (kept (event.Last true (heard_reply interface.now call
-        message.now.version message.now.order (pieces.octets ++ drop 4 message.now.payload))))
-        (More (drop 4 message.now.payload)))) calls.old result calls.new }
+        message.now.version message.now.order (pieces.octets ++ behind_id message.now))))
+        (More (behind_id message.now)))) calls.old result calls.new }
 {
     let octets = behind_id(message);
     if !calls.has_room(octets.len()) {
@@ -279,12 +279,12 @@ fn joined_reply(
     message: &Msg,
 ) -> Option<HeardReply>
     requires { octets_in (finite.get calls.now.gathered id)
-        + length (drop 4 message.now.payload) ≤ 2 ^ 62 }
+        + length (behind_id message.now) ≤ 2 ^ 62 }
     ensures { IfSome result (λ reply. (call pieces : _)
         → gathered_call (finite.get calls.now.table id) ≡ Some call
         → finite.get calls.now.gathered id ≡ Some pieces
         → reply ≡ heard_reply interface.now call message.now.version message.now.order
-        (pieces.octets ++ drop 4 message.now.payload)) }
+        (pieces.octets ++ behind_id message.now)) }
 {
     let call = gathered_in(&calls.slot(id)?.entry)?;
     let (_, gathered) = calls.pieces(id)?;

@@ -1,34 +1,44 @@
-ghost use Rattle.std.specs.Prelude.{◌≡◌, ◌≤◌, ◌^◌, [], false, None, Some, Err, length, option_copied, IfErr, IfOk};
+ghost use Rattle.std.specs.Prelude.{◌≡◌, ◌≤◌, ◌^◌, ◌++◌, [], drop, false, None, Some, Err, length, option_copied, IfErr, IfOk, OnErr, OnOk};
 ghost use Rattle.std.specs.FinMap as finite;
 ghost use Rattle.std.specs.Option.{option_map};
+ghost use Rattle.giop_cdr.specs.declared.order.Order.TheVariants.{Big};
 ghost use Rattle.giop_ids.specs.ById.{put};
-ghost use Rattle.giop_session.specs.declared.session_fault.SessionFault.TheVariants.{StillOpen};
+ghost use Rattle.giop_msg.specs.Msg.{message_octets};
+ghost use Rattle.giop_session.specs.declared.session_fault.SessionFault.TheVariants.{Closed, NoMemory, StillOpen};
 ghost use Rattle.giop_session.specs.Begun.{no_calls};
 ghost use Rattle.giop_session.specs.Feeding.{Fed, standing, with_octets};
 ghost use Rattle.giop_session.specs.Heard.{hears_by};
 ghost use Rattle.giop_session.specs.Sending.{entry_of};
+ghost use Rattle.giop_session.specs.Sent.{close_connection};
 ghost use Rattle.giop_session.specs.SessionFaults.{error_message_of};
+
+mod answering;
+mod calling;
 
 use crate::call_table::CallTable;
 use crate::hearing::Hearing;
 use crate::limits::Limits;
+use crate::outgoing::Outgoing;
 use crate::session_fault::SessionFault;
 use crate::slot::Slot;
 use giop_calls::{ClientRule, ServerRule};
-use giop_msg::Framer;
+use giop_cdr::{OctetList, Order};
+use giop_msg::{Framer, Kind, Msg, Version};
 use giop_mux::CallRule;
 use giop_types::Interface;
 use std::alloc::{AllocError, Global};
 
 /// One end of a connection: octets of the peer go in, and a table of calls stands.
 ///
-/// Contracts see the interface, the octets that are unread, the calls, and the fault that stands,
-/// if one does.
+/// Contracts see the interface, the octets that are unread, the calls, the octets that are outgoing,
+/// the limits, and the fault that stands, if one does.
 #[derive(Drop)]
 pub struct End<'a, R: Hearing> {
     interface: &'a Interface,
     framer: Framer,
     calls: CallTable<R>,
+    outgoing: Outgoing,
+    limits: Limits,
     fault: Option<SessionFault>,
     alloc: Global,
 }
@@ -46,6 +56,8 @@ impl<'a> End<'a, ServerRule> {
         ensures interface { result.interface.now ≡ interface.now }
         ensures calls { result.calls ≡ no_calls (record {}) limits }
         ensures unread { result.framer ≡ record { limit = limits.message; octets = [] } }
+        ensures outgoing { result.outgoing ≡ [] }
+        ensures limits { result.limits ≡ limits }
         ensures fault { result.fault ≡ None }
     {
         End::begun(alloc, ServerRule, interface, limits)
@@ -59,6 +71,8 @@ impl<'a> End<'a, ClientRule> {
         ensures interface { result.interface.now ≡ interface.now }
         ensures calls { result.calls ≡ no_calls (record {}) limits }
         ensures unread { result.framer ≡ record { limit = limits.message; octets = [] } }
+        ensures outgoing { result.outgoing ≡ [] }
+        ensures limits { result.limits ≡ limits }
         ensures fault { result.fault ≡ None }
     {
         End::begun(alloc, ClientRule, interface, limits)
@@ -72,12 +86,16 @@ impl<'a, R: Hearing> End<'a, R> {
         ensures interface { result.interface.now ≡ interface.now }
         ensures calls { result.calls ≡ no_calls rule limits }
         ensures unread { result.framer ≡ record { limit = limits.message; octets = [] } }
+        ensures outgoing { result.outgoing ≡ [] }
+        ensures limits { result.limits ≡ limits }
         ensures fault { result.fault ≡ None }
     {
         End {
             interface,
             framer: Framer::new(alloc, limits.message),
             calls: CallTable::new(alloc, rule, limits.calls, limits.gathered as usize),
+            outgoing: Outgoing::new(alloc),
+            limits,
             fault: None,
             alloc,
         }
@@ -99,12 +117,22 @@ impl<'a, R: Hearing> End<'a, R> {
             (with_octets self.old.framer octets.now) self.old.calls result
             self.new.framer self.new.calls }
         ensures stands { self.old.fault ≡ None → self.new.fault ≡ standing result }
-        ensures interface { self.new.interface ≡ self.old.interface }
+        ensures others { self.new ≡ record self.old {
+          framer = self.new.framer;
+          calls = self.new.calls;
+          fault = self.new.fault;
+        } }
     {
         if let Some(fault) = self.fault {
             return Err(fault);
         }
-        let fed = self.hear_all(octets);
+        let fed = hear_all(
+            self.alloc,
+            self.interface,
+            &mut self.framer,
+            &mut self.calls,
+            octets,
+        );
         self.fault = fed.err();
         fed
     }
@@ -123,6 +151,54 @@ impl<'a, R: Hearing> End<'a, R> {
         self.calls.ids(alloc)
     }
 
+    /// The octets that this end has put out and its program has still to write, in one slice. It
+    /// takes no memory.
+    pub fn outgoing(&self) -> &[u8]
+        ensures { result.now ≡ self.now.outgoing }
+    {
+        self.outgoing.as_slice()
+    }
+
+    /// The first `n` of the outgoing octets are written: they are outgoing no longer. It takes no
+    /// memory.
+    pub fn wrote(&mut self, n: usize)
+        requires { n ≤ length self.old.outgoing }
+        ensures { self.new ≡ record self.old { outgoing = drop n self.old.outgoing } }
+    {
+        self.outgoing.wrote(n);
+    }
+
+    /// Closes the connection: a CloseConnection is put out (9.4.7), big-endian and in 1.2, and the
+    /// end answers `Closed` from then on.
+    ///
+    /// A failed end answers its fault; else `NoMemory` where memory is wanting. A refusal changes
+    /// nothing.
+    pub fn close(&mut self) -> Result<(), SessionFault>
+        ensures failed { (why : _) → self.old.fault ≡ Some why → result ≡ Err why }
+        ensures ok { OnOk result ((self.old.fault ≡ None) × (self.new ≡ record self.old {
+          outgoing = self.old.outgoing ++ message_octets (close_connection Big);
+          fault = Some Closed;
+        })) }
+        ensures want { self.old.fault ≡ None → IfErr result (λ why. why ≡ NoMemory) }
+        ensures kept { OnErr result (self.new ≡ self.old) }
+    {
+        if let Some(fault) = self.fault {
+            return Err(fault);
+        }
+        let message = Msg {
+            version: Version::V12,
+            order: Order::Big,
+            more: false,
+            kind: Kind::CloseConnection,
+            payload: OctetList::new(self.alloc),
+        };
+        if self.outgoing.put(&message).is_err() {
+            return Err(SessionFault::NoMemory);
+        }
+        self.fault = Some(SessionFault::Closed);
+        Ok(())
+    }
+
     /// How many octets are unread: those of a message that isn't whole, and of a failed end those
     /// behind the message that failed it. It takes no memory.
     pub fn rest(&self) -> usize
@@ -138,16 +214,17 @@ impl<'a, R: Hearing> End<'a, R> {
         self.fault
     }
 
-    /// The MessageError to be sent to a peer whose octets are no message, or of the wrong
-    /// direction, or befall a call as none may (9.4.8); none after any other fault. It takes no
-    /// memory.
+    /// The MessageError to be sent to a peer whose octets are no message, or have no request id, or
+    /// are of the wrong direction, or befall a call as none may (9.4.8); none after any other fault.
+    /// It takes no memory.
     pub fn error_message(&self) -> Option<[u8; 12]>
         ensures { result ≡ error_message_of self.now.fault }
     {
         match self.fault? {
-            SessionFault::Wire(_) | SessionFault::Call { .. } | SessionFault::WrongDirection => {
-                Some(*b"GIOP\x01\x02\x00\x06\x00\x00\x00\x00")
-            }
+            SessionFault::Wire(_)
+            | SessionFault::Call { .. }
+            | SessionFault::WrongDirection
+            | SessionFault::NoId(_) => Some(*b"GIOP\x01\x02\x00\x06\x00\x00\x00\x00"),
             _ => None,
         }
     }
@@ -178,18 +255,23 @@ impl<'a, R: Hearing> End<'a, R> {
             Err(_) => Err(SessionFault::StillOpen),
         }
     }
+}
 
-    // Hears what is whole behind the octets that are unread and these.
-    fn hear_all(&mut self, octets: &[u8]) -> Result<(), SessionFault>
-        ensures fed { Fed (hears_by R.next R.closed R.gathering R.in_call R.breaks
-            (R.befalls self.old.interface.now)) (with_octets self.old.framer octets.now)
-            self.old.calls result self.new.framer self.new.calls }
-        ensures interface { self.new.interface ≡ self.old.interface }
-    {
-        self.framer.feed(octets)?;
-        while let Some(message) = self.framer.next()? {
-            R::hear(self.alloc, self.interface, &mut self.calls, &message)?;
-        }
-        Ok(())
+// Hears what is whole behind the octets that are unread and these.
+fn hear_all<R: Hearing>(
+    alloc: Global,
+    interface: &Interface,
+    framer: &mut Framer,
+    calls: &mut CallTable<R>,
+    octets: &[u8],
+) -> Result<(), SessionFault>
+    ensures { Fed (hears_by R.next R.closed R.gathering R.in_call R.breaks
+        (R.befalls interface.now)) (with_octets framer.old octets.now) calls.old result framer.new
+        calls.new }
+{
+    framer.feed(octets)?;
+    while let Some(message) = framer.next()? {
+        R::hear(alloc, interface, calls, &message)?;
     }
+    Ok(())
 }

@@ -1,7 +1,7 @@
 //! What hearing a message has in common at both sides.
-ghost use Rattle.std.specs.Prelude.{◌≡◌, ◌≤◌, ◌^◌, drop, length};
+ghost use Rattle.std.specs.Prelude.{◌≡◌, ◌≤◌, ◌^◌, length};
 ghost use Rattle.giop_msg.specs.RequestId.{request_id_of};
-ghost use Rattle.giop_session.specs.Heard.{id_named, in_call, kept, told_of};
+ghost use Rattle.giop_session.specs.Heard.{behind_id, id_named, in_call, kept, told_of};
 
 use crate::plan::{Plan, Planned};
 use crate::sending::Sends;
@@ -24,7 +24,7 @@ pub fn named(message: &Msg) -> Result<u32, SessionFault>
 
 /// The octets of a Fragment behind its request id.
 pub fn behind_id(message: &Msg) -> &[u8]
-    ensures { result.now ≡ drop 4 message.now.payload }
+    ensures { result.now ≡ behind_id message.now }
 {
     match message.payload.as_slice().get(4..) {
         Some(octets) => octets,

@@ -2,21 +2,28 @@
 //!
 //! An `End` hears what it is fed with: a `Framer` cuts it into messages, and each does to its call
 //! in the `CallTable` what the rule of that side says. The two sides differ in what they hear
-//! (`Hearing`). A rule of calls (`giop_mux::CallRule`) is wrapped so that a call's entry and its
-//! messages that are still to be sent stand in one slot of the table, and one event changes both or
-//! neither (`Sending`). What an end sends is to come.
+//! (`Hearing`), and in what their own programs do: a `ClientEnd` calls, locates and cancels, a
+//! `ServerEnd` answers. A rule of calls (`giop_mux::CallRule`) is wrapped so that a call's entry and
+//! its messages that are still to be sent stand in one slot of the table, and one event changes both
+//! or neither (`Sending`); the message that an accepted event sends is put out behind what is
+//! `Outgoing`. What all of it comes to is said by `laws`.
 #![tactic(auto)]
 
 mod call_table;
 mod client_hearing;
 mod decoding;
 mod end;
+mod form;
 mod heard;
 mod hearing;
 pub mod laws;
 mod limits;
+mod local;
+mod outgoing;
 mod plan;
+mod putting;
 mod reply_decoding;
+mod sendable;
 mod sending;
 mod server_hearing;
 mod session_fault;
@@ -24,15 +31,15 @@ mod side;
 mod sides;
 mod slot;
 mod table_fault;
-#[cfg(test)]
-mod tests;
 mod unsent;
 mod with_last;
 
 pub use call_table::CallTable;
 pub use end::{ClientEnd, End, ServerEnd};
+pub use form::Form;
 pub use hearing::Hearing;
 pub use limits::Limits;
+pub use outgoing::Outgoing;
 pub use plan::{Plan, Planned};
 pub use sending::{Sending, Sends};
 pub use session_fault::SessionFault;

@@ -56,7 +56,7 @@ impl<R: CallRule> CallRule for Sending<R> {
     {
         let (entry, unsent) = parts(self.alloc, entry);
         let step = self.rule.step(entry, event.event);
-        settle(self.alloc, step.entry, event.plan, unsent, step.outcome)
+        settle(step.entry, event.plan, unsent, step.outcome)
     }
 
     fn is_closed(&self, entry: &Slot<R::Entry>) -> bool {
@@ -78,7 +78,6 @@ fn parts<E: Drop>(alloc: Global, slot: Option<Slot<E>>) -> (Option<E>, Unsent)
 // A step with its messages beside it, as the plan says where it is accepted, and as they were where
 // it is refused.
 fn settle<E: Drop, A: Drop, F: Drop>(
-    alloc: Global,
     entry: Option<E>,
     plan: Plan,
     unsent: Unsent,
@@ -88,7 +87,7 @@ fn settle<E: Drop, A: Drop, F: Drop>(
 {
     match outcome {
         Ok(answer) => {
-            let (message, unsent) = carry_out(alloc, plan, unsent);
+            let (message, unsent) = carry_out(plan, unsent);
             Step {
                 entry: beside(entry, unsent),
                 outcome: Ok(Sends { answer, message }),
@@ -102,7 +101,7 @@ fn settle<E: Drop, A: Drop, F: Drop>(
 }
 
 // The message that is put out, and the messages that are left.
-fn carry_out(alloc: Global, plan: Plan, unsent: Unsent) -> (Option<Msg>, Unsent)
+fn carry_out(plan: Plan, unsent: Unsent) -> (Option<Msg>, Unsent)
     ensures message { result.0 ≡ message_of plan unsent }
     ensures left { result.1 ≡ unsent_after plan unsent }
 {
@@ -110,7 +109,6 @@ fn carry_out(alloc: Global, plan: Plan, unsent: Unsent) -> (Option<Msg>, Unsent)
         Plan::Put(messages) => first_taken(messages),
         Plan::Next => first_taken(unsent),
         Plan::Keep => (None, unsent),
-        Plan::Leave => (None, Unsent::new(alloc)),
     }
 }
 

@@ -1,5 +1,5 @@
 //! What a message of the client does at a server, a function for each kind.
-ghost use Rattle.std.specs.Prelude.{◌≡◌, ℕ, ◌≤◌, ◌^◌, ◌+◌, ◌++◌, drop, length, Ok, Err, None, Some, true, false, IfOk, IfErr, IfSome, IfNone};
+ghost use Rattle.std.specs.Prelude.{◌≡◌, ℕ, ◌≤◌, ◌^◌, ◌+◌, ◌++◌, length, Ok, Err, None, Some, true, false, IfOk, IfErr, IfSome, IfNone};
 ghost use Rattle.std.specs.FinMap as finite;
 ghost use Rattle.giop_frag.specs.Gathered.{octets_in, order_fault};
 ghost use Rattle.giop_msg.specs.RequestId.{request_id_of};
@@ -9,7 +9,7 @@ ghost use Rattle.giop_calls.specs.ServerTable.{is_free};
 ghost use Rattle.giop_calls.specs.declared.server.event.ServerEvent.{ServerEvent};
 ghost use Rattle.giop_session.specs.CallTable.{Act, First, Hears, More, Nothing, at, event_reply};
 ghost use Rattle.giop_session.specs.Decoding.{heard_call};
-ghost use Rattle.giop_session.specs.Heard.{Befalls, kept, named};
+ghost use Rattle.giop_session.specs.Heard.{Befalls, behind_id, kept, named};
 ghost use Rattle.giop_session.specs.Sending.{entry_of};
 ghost use Rattle.giop_session.specs.ServerHears.{AtServer, comes, continued, continues, gathered_kind, kind_in};
 
@@ -176,7 +176,7 @@ fn add(calls: &mut Calls, id: u32, kind: CallKind, message: &Msg) -> Result<(), 
     requires gathered { gathered_kind (finite.get calls.old.table id) ≡ Some kind }
     requires in_order { order_fault (finite.get calls.old.gathered id) message.now.order ≡ None }
     ensures { AtServer (Befalls id (Hears (kept (event.More true))
-        (More (drop 4 message.now.payload)))) calls.old result calls.new }
+        (More (behind_id message.now)))) calls.old result calls.new }
 {
     let more = kept(ServerEvent::More { in_order: true });
     told(id, calls.go_on(id, more, message.order, behind_id(message)))
@@ -194,8 +194,8 @@ fn complete(
     requires gathered { gathered_kind (finite.get calls.old.table id) ≡ Some kind }
     ensures { (pieces : _) → finite.get calls.old.gathered id ≡ Some pieces
         → AtServer (Befalls id (Hears (kept (event.Last true (heard_call interface.now kind
-        message.now.version message.now.order (pieces.octets ++ drop 4 message.now.payload))))
-        (More (drop 4 message.now.payload)))) calls.old result calls.new }
+        message.now.version message.now.order (pieces.octets ++ behind_id message.now))))
+        (More (behind_id message.now)))) calls.old result calls.new }
 {
     let octets = behind_id(message);
     if !calls.has_room(octets.len()) {
@@ -222,10 +222,10 @@ fn joined_call(
     message: &Msg,
 ) -> Option<HeardCall>
     requires { octets_in (finite.get calls.now.gathered id)
-        + length (drop 4 message.now.payload) ≤ 2 ^ 62 }
+        + length (behind_id message.now) ≤ 2 ^ 62 }
     ensures { IfSome result (λ call. (pieces : _) → finite.get calls.now.gathered id ≡ Some pieces
         → call ≡ heard_call interface.now kind message.now.version message.now.order
-        (pieces.octets ++ drop 4 message.now.payload)) }
+        (pieces.octets ++ behind_id message.now)) }
 {
     let (_, gathered) = calls.pieces(id)?;
     let joined = WithLast::new(&gathered, behind_id(message));

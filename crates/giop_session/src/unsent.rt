@@ -1,5 +1,6 @@
 ghost use Rattle.std.specs.Prelude.{◌≡◌, ◌==◌, [], length, drop};
-ghost use Rattle.giop_session.specs.Unsent.{first_of};
+ghost use Rattle.std.specs.Option.{option_copied};
+ghost use Rattle.giop_session.specs.Unsent.{AreSized, IsSized, first_of};
 
 use giop_msg::Msg;
 use std::alloc::Global;
@@ -7,7 +8,7 @@ use std::collections::VecDeque;
 use std::marker::Model;
 
 /// The messages of one call that are not put out yet, the next one first: a queue that contracts
-/// see as a plain list.
+/// see as a plain list. Each has a size that its header can tell.
 #[derive(Drop)]
 pub struct Unsent {
     messages: VecDeque<Msg>,
@@ -16,10 +17,13 @@ pub struct Unsent {
 impl Model for Unsent {
     ghost use Rattle.std.specs.Prelude.{List};
     ghost use Rattle.giop_msg.specs.declared.msg.Msg.{Msg};
+    ghost use Rattle.giop_session.specs.Unsent.{AreSized};
 
     ghost Value = { List Msg };
 
     ghost view = { λ u. u.messages.items };
+
+    ghost invariant = { λ u. AreSized u.messages.items };
 }
 
 impl Unsent {
@@ -32,7 +36,26 @@ impl Unsent {
         }
     }
 
+    /// These messages, each of fewer than 2^32 octets behind its header. It takes no memory.
+    pub fn of(messages: Vec<Msg>) -> Unsent
+        requires { AreSized messages.items }
+        ensures { result ≡ messages.items }
+    {
+        Unsent {
+            messages: VecDeque::from(messages),
+        }
+    }
+
+    /// The next message, if there is one. It takes no memory.
+    pub fn first(&self) -> Option<&Msg>
+        ensures value { option_copied result ≡ first_of self.now }
+        ensures sized { IsSized (option_copied result) }
+    {
+        self.messages.front()
+    }
+
     /// Takes the next message out. It takes no memory.
+    #[tactic(auto, using(crate::proofs::UnsentLemmas::rest_sized))]
     pub fn take_first(&mut self) -> Option<Msg>
         ensures value { result ≡ first_of self.old }
         ensures rest { self.new ≡ drop 1 self.old }
@@ -52,15 +75,5 @@ impl Unsent {
         ensures { result ≡ (length self.now == 0) }
     {
         self.messages.is_empty()
-    }
-}
-
-impl From<Vec<Msg>> for Unsent {
-    ghost from_gives = { λ messages unsent. unsent ≡ messages.items };
-
-    fn from(messages: Vec<Msg>) -> Unsent {
-        Unsent {
-            messages: VecDeque::from(messages),
-        }
     }
 }

@@ -10,3 +10,4 @@ pub mod JsonFloatLemmas
 pub mod ViewedPlain
 pub mod ReferenceBack
 pub mod ParseLemmas
+pub mod InterfaceLemmas

@@ -4,7 +4,8 @@ pub mod ToJson
 pub mod FormFault
 pub mod FromJson
 pub mod DescFromJson
-pub mod InterfaceFaults
+pub mod InterfaceFromJson
+pub mod InterfaceForms
 pub mod Plain
 pub mod Parse
 pub mod Reference

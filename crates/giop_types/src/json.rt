@@ -4,6 +4,7 @@ mod desc_json;
 pub mod form_fault;
 mod from_json;
 pub mod interface;
+mod interface_form;
 mod interface_json;
 mod leaves;
 pub mod parameters;
@@ -15,7 +16,6 @@ mod to_json;
 
 pub use desc_json::desc_from_json;
 pub use from_json::value_from_json;
-pub use interface_json::interface_from_json;
 pub use parse::parse as parse_json;
 pub use reference::reference_desc;
 pub use to_json::value_to_json;

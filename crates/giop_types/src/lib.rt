@@ -8,10 +8,9 @@ mod ior_text_fault;
 mod json;
 pub mod laws;
 mod same;
-#[cfg(test)]
-mod tests;
 mod value;
 mod value_list;
+mod without_memory;
 
 pub use codec::decoder::decode;
 pub use codec::encoder::encode;

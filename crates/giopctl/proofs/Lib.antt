@@ -2,3 +2,5 @@ pub mod DumpLemmas
 pub mod OctetsLemmas
 pub mod PiecesLemmas
 pub mod ConvertLemmas
+pub mod BodiesLemmas
+pub mod CheckLemmas

@@ -1,5 +1,5 @@
 -- Escaped and hexadecimal octets, as the crates that write them say them.
-use Rattle.std.proofs.Common.{◌≡◌, ℕ, ◌<◌, ◌≤◌, ◌==◌, Bool, true, false, not, ◌&&◌, List, [], ◌∷◌, ◌++◌, length, refl, ap, ◌∙◌, if◌then◌else◌, arith, inl, inr, leb, ◌/◌, ◌%◌, slice_index, ltb}
+use Rattle.std.proofs.Common.{◌≡◌, ℕ, ◌<◌, ◌≤◌, ◌==◌, Bool, true, false, not, ◌&&◌, List, [], ◌∷◌, ◌++◌, length, refl, ap, ◌∙◌, if◌then◌else◌, arith, inl, inr, leb, ◌/◌, ◌%◌, slice_index, ltb, codes}
 use Rattle.std.specs.List.{flat_map}
 use Rattle.std.proofs.lemmas.Bool.{agree_below_at, cases_lt, lt-ltb, le-ltb, ltb-true}
 use Rattle.std.proofs.lemmas.Bool.Decides.{nat_tests}
@@ -69,3 +69,9 @@ ascii_digits =
 
 pub IsAscii-encode_lower : (bs : List ℕ) → IsAscii (encode_lower bs)
 IsAscii-encode_lower bs = IsAscii-encode_with lower_digits bs ascii_digits
+
+pub IsAscii-ior : IsAscii (codes "IOR:")
+IsAscii-ior =
+    IsAscii-from_all (codes "IOR:")
+    (All-weaker (λ b. ltb b 128 ≡ true) (λ b. b < 128) (λ b h. ltb-true b 128 h) (codes "IOR:")
+    (AllPass-from_list_all (λ b. ltb b 128) (codes "IOR:") refl))

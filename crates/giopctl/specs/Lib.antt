@@ -4,3 +4,8 @@ pub mod Lines
 pub mod Dump
 pub mod ConvertLines
 pub mod Convert
+pub mod SessionLines
+pub mod TableLines
+pub mod Bodies
+pub mod Table
+pub mod Check

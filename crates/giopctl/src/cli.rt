@@ -13,6 +13,13 @@ pub enum Task<'a> {
         /// The file's name, or `-` for the standard input.
         file: &'a str,
     },
+    /// Show what becomes of the calls of a file.
+    Check {
+        /// The name of the interface's file, or `-` for the standard input.
+        interface: &'a str,
+        /// The file's name, or `-` for the standard input.
+        file: &'a str,
+    },
     /// Write what a file holds in another form.
     Convert {
         /// The file's name, or `-` for the standard input.
@@ -50,7 +57,34 @@ Exit statuses:
 
 Examples:
   giopctl dump examples/ping.giop
+  giopctl check --interface examples/calculator.json examples/add.giop
   giopctl convert ior examples/printer.ior";
+
+const CHECK_HELP: &str = "\
+The file is what a client sent on one connection. A server's end hears it, which answers nothing:
+each of its calls has a line, in ascending order of the request id, with what stands under it:
+  Gathering             fragments of it are still to come
+  Asked OPERATION INS   a Request that waits for its reply, and its values as a JSON list
+  Delivered OPERATION INS   a Request without a reply
+  Undecoded FAULT       a whole message that can't be decoded: header, operation or body, and where,
+                        from the message's first octet on
+  LocateAsked           a LocateRequest
+  Cancelled             a call that was cancelled
+The last line tells how many octets are left, or the fault that ends the session. What stands in the
+table then came before it.
+The interface is a JSON object of operations, each with its ins and outs:
+  {\"operations\":{\"add\":{
+    \"ins\":[[\"a\",\"long\"],[\"b\",\"long\"]],\"outs\":[[\"sum\",\"long\"]]}}}
+
+Exit statuses:
+  0  no octets are left, or the client closed the connection
+  1  octets are left, or there is another fault; or the interface is refused
+  2  usage
+  3  reading or writing failed
+  4  out of memory
+
+Example:
+  giopctl check --interface examples/calculator.json examples/add.giop";
 
 const DUMP_HELP: &str = "\
 Each message has a line: its offset in the file, its kind, its version where that is 1.0 or 1.1,
@@ -121,6 +155,9 @@ pub fn task_of<'a>(alloc: Global, words: &'a [String]) -> Result<Option<Task<'a>
     if let Some(dump) = matches.subcommand_matches("dump") {
         return Ok(dump.get_str("FILE").map(|file| Task::Dump { file }));
     }
+    if let Some(check) = matches.subcommand_matches("check") {
+        return Ok(checked(check));
+    }
     let Some(convert) = matches.subcommand_matches("convert") else {
         return Ok(None);
     };
@@ -137,6 +174,12 @@ pub fn task_of<'a>(alloc: Global, words: &'a [String]) -> Result<Option<Task<'a>
         Some(decode) => Ok(converted(decode, value_of(decode, Way::Decode))),
         None => Ok(None),
     }
+}
+
+fn checked<'a>(matches: &ArgMatches<'a>) -> Option<Task<'a>> {
+    let interface = matches.get_str("interface")?;
+    let file = matches.get_str("FILE")?;
+    Some(Task::Check { interface, file })
 }
 
 fn converted<'a>(matches: &ArgMatches<'a>, kind: Option<ConvertKind<'a>>) -> Option<Task<'a>> {
@@ -157,12 +200,13 @@ fn value_of<'a>(matches: &ArgMatches<'a>, way: Way) -> Option<ConvertKind<'a>> {
 
 fn giopctl<'a>(alloc: Global) -> Result<Command<'a>, AllocError> {
     Command::new(alloc, "giopctl")
-        .about("Shows what GIOP messages, references and CDR values hold")
+        .about("Shows what GIOP messages, references and CDR values hold, and checks sessions")
         .version("0.1.0")
         .subcommand_required(true)
         .arg_required_else_help(true)
         .after_help(STATUSES)
         .subcommand(dump(alloc)?)?
+        .subcommand(check(alloc)?)?
         .subcommand(convert(alloc)?)
 }
 
@@ -173,6 +217,22 @@ fn dump<'a>(alloc: Global) -> Result<Command<'a>, AllocError> {
     Command::new(alloc, "dump")
         .about("Shows each message of a file")
         .after_help(DUMP_HELP)
+        .arg(file)
+}
+
+fn check<'a>(alloc: Global) -> Result<Command<'a>, AllocError> {
+    let interface = Arg::new(alloc, "interface")
+        .long("interface")
+        .required(true)
+        .value_name("FILE")
+        .help("The file of the interface, in JSON");
+    let file = Arg::new(alloc, "FILE").required(true).help(
+        "A file of what a client sent, or - for the standard input",
+    );
+    Command::new(alloc, "check")
+        .about("Shows what becomes of the calls of a file")
+        .after_help(CHECK_HELP)
+        .arg(interface)?
         .arg(file)
 }
 

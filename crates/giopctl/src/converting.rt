@@ -3,14 +3,12 @@
 use crate::cli::ConvertKind;
 use crate::commands::{Way, convert_corbaloc, convert_ior, convert_value};
 use crate::failure::Failure;
+use crate::files::{OUTPUT_BUFFER, read};
 use crate::report;
 use crate::status::Status;
 use giop_cdr::Order;
-use std::io::{BufWriter, Read, Write};
-use std::{fs, io};
-
-// The output is written in pieces of so many octets.
-const OUTPUT_BUFFER: usize = 65_536;
+use std::io;
+use std::io::{BufWriter, Write};
 
 /// Reads the file, then that of the description where the kind has one, and writes what becomes of
 /// it.
@@ -29,18 +27,6 @@ pub fn convert(rt: &HostRuntime, file: &str, kind: ConvertKind) -> Status {
         },
     };
     report::answer(rt, file, answered)
-}
-
-// The octets of a file, or of the standard input.
-fn read(rt: &HostRuntime, file: &str) -> Result<Vec<u8>, Failure> {
-    if file != "-" {
-        return fs::read(rt, file).map_err(Failure::input);
-    }
-    let mut octets = Vec::new(rt.alloc());
-    match rt.reader().read_to_end(&mut octets) {
-        Ok(_) => Ok(octets),
-        Err(error) => Err(Failure::input(error)),
-    }
 }
 
 fn written_ior(rt: &HostRuntime, octets: &[u8]) -> Result<Status, Failure> {

@@ -1,5 +1,7 @@
 //! The lines that the commands write, without their newlines.
 
+mod cdr_fault;
+mod client_entry;
 mod end;
 mod locate;
 mod message;
@@ -8,8 +10,11 @@ mod reference;
 mod refusal;
 mod reply;
 mod request;
+mod server_entry;
+mod session_fault;
 mod target;
 
+pub use client_entry::ClientEntryLine;
 pub use end::{FaultLine, HeadFaultLine, RestLine};
 pub use locate::{LocateReplyLine, LocateRequestLine};
 pub use message::MessageLine;
@@ -18,3 +23,5 @@ pub use reference::{IiopLine, ProfileLine, TypeLine};
 pub use refusal::RefusalLine;
 pub use reply::ReplyLine;
 pub use request::RequestLine;
+pub use server_entry::ServerEntryLine;
+pub use session_fault::SessionFaultLine;

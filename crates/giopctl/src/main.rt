@@ -1,11 +1,13 @@
-//! The program giopctl: it shows what files of GIOP messages hold, and writes references and values
-//! in another form.
+//! The program giopctl: it shows what files of GIOP messages hold, checks sessions, and writes
+//! references and values in another form.
 #![tactic(auto)]
 
+mod checking;
 mod cli;
 mod commands;
 mod converting;
 mod failure;
+mod files;
 mod lines;
 mod pieces;
 mod report;
@@ -16,13 +18,11 @@ mod tests;
 use cli::Task;
 use commands::BehindFault;
 use failure::Failure;
+use files::OUTPUT_BUFFER;
 use status::Status;
 use std::io::{BufWriter, Read, Write};
 use std::process::ExitCode;
-use std::{env, fs, io};
-
-// The output is written in pieces of so many octets.
-const OUTPUT_BUFFER: usize = 65_536;
+use std::{env, io};
 
 fn main(rt: HostRuntime) -> ExitCode {
     ExitCode::from(run(&rt).number())
@@ -35,6 +35,7 @@ fn run(rt: &HostRuntime) -> Status {
     };
     match cli::task_of(rt.alloc(), words.as_slice()) {
         Ok(Some(Task::Dump { file })) => report::answer(rt, file, dump(rt, file)),
+        Ok(Some(Task::Check { interface, file })) => checking::check(rt, interface, file),
         Ok(Some(Task::Convert { file, kind })) => converting::convert(rt, file, kind),
         Ok(None) => Status::Usage,
         Err(error) => report::usage(rt, &error),
@@ -46,24 +47,12 @@ fn words(rt: &HostRuntime) -> io::Result<Vec<String>> {
     Ok(env::args(rt)?.collect(rt.alloc())?)
 }
 
-// A regular file is read to its end even behind a fault; a pipe or a device may have none.
 fn dump(rt: &HostRuntime, file: &str) -> Result<Status, Failure> {
     if file == "-" {
         return dump_from(rt, &mut rt.reader(), BehindFault::Leave);
     }
-    match opened(rt, file) {
-        Ok((mut file, behind)) => dump_from(rt, &mut file, behind),
-        Err(error) => Err(Failure::input(error)),
-    }
-}
-
-fn opened(rt: &HostRuntime, file: &str) -> io::Result<(fs::File, BehindFault)> {
-    let file = fs::File::open(rt, file)?;
-    let behind = match file.metadata()?.is_file() {
-        true => BehindFault::Read,
-        false => BehindFault::Leave,
-    };
-    Ok((file, behind))
+    let (mut file, behind) = files::opened(rt, file)?;
+    dump_from(rt, &mut file, behind)
 }
 
 fn dump_from<R: Read>(

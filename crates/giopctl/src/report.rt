@@ -7,6 +7,9 @@ ghost use Rattle.giopctl.specs.Status.{answered_status, usage_status};
 use crate::failure::Failure;
 use crate::status::Status;
 use clap::error::ErrorKind as UsageKind;
+use giop_types::{FormFault, Interface};
+use serde_json::Value as Json;
+use std::alloc::Global;
 use std::io;
 use std::io::ErrorKind;
 
@@ -56,6 +59,29 @@ pub fn answer(rt: &impl Eprint, file: &str, answered: Result<Status, Failure>) -
         Failure::Output(error) => output_failed(rt, error),
     }
     failure.status()
+}
+
+/// What is wrong with the text of an interface, and where, as far as that is known; nothing where
+/// it is one.
+pub fn interface(rt: &impl Eprint, alloc: Global, file: &str, text: &[u8]) {
+    let _ = match Interface::from_json(alloc, text) {
+        Err(FormFault::BadJson) => bad_json(rt, alloc, file, text),
+        Err(FormFault::BadShape) => {
+            eprintln!(rt; "giopctl: {file}: JSON, but not in the form of an interface")
+        }
+        Err(FormFault::BadDesc(fault)) => {
+            eprintln!(rt; "giopctl: {file}: a description of no type: {fault}")
+        }
+        Err(FormFault::Unfit) | Err(FormFault::NoMemory) | Ok(_) => Ok(()),
+    };
+}
+
+// Where a text ceases to be JSON.
+fn bad_json(rt: &impl Eprint, alloc: Global, file: &str, text: &[u8]) -> io::Result<()> {
+    match Json::from_slice(alloc, text) {
+        Err(error) => eprintln!(rt; "giopctl: {file}: {error}"),
+        Ok(_) => Ok(()),
+    }
 }
 
 // The standard output can't be written. Nothing is said where nobody reads it any more.

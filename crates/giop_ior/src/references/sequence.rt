@@ -54,7 +54,8 @@ impl<T: Drop> Sequence<T> {
     pub fn into_vec(self) -> Vec<T>
         ensures { result.items ≡ self }
     {
-        self.values
+        let Sequence { values } = self;
+        values
     }
 }
 

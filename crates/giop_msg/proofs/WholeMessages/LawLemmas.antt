@@ -1,5 +1,5 @@
 -- The laws of whole messages.
-use Rattle.std.proofs.Common.{◌≡◌, ℕ, true, List, Option, Some, None, Result, Ok, Err, refl, sym, subst, ◌∙◌}
+use Rattle.std.proofs.Common.{◌≡◌, ℕ, true, inl, inr, List, Option, Some, None, Result, Ok, Err, IsOk, refl, sym, subst, ◌∙◌}
 use Rattle.giop_cdr.specs.declared.order.Order.{Order}
 use Rattle.giop_cdr.specs.declared.fault.CdrFault.{CdrFault}
 use Rattle.giop_cdr.specs.Reading.Cursor.{Cursor}
@@ -7,17 +7,20 @@ use Rattle.giop_cdr.specs.Reading.Values.{Reading}
 use Rattle.giop_cdr.specs.Ending.{Ending, IsLawfulEnding}
 use Rattle.giop_types.specs.declared.json.interface.Interface.{Interface}
 use Rattle.giop_types.specs.declared.json.interface.Operation.{Operation}
+use Rattle.giop_msg.specs.declared.messages.reply.Reply.{Reply}
 use Rattle.giop_msg.specs.declared.messages.request.Request.{Request}
 use Rattle.giop_msg.specs.declared.messages.request_fault.RequestFault.{RequestFault}
 use Rattle.giop_msg.specs.declared.messages.request_fault.RequestFault.TheVariants.{Header, Operation as NoOperation, Body}
 use Rattle.giop_msg.specs.declared.version.Version.{Version}
 use Rattle.giop_msg.specs.Joined.{joined_from}
-use Rattle.giop_msg.specs.Messages.Laws.{IsWhole, RequestsAreReadBack, RequestsAreRefused}
-use Rattle.giop_msg.specs.Messages.Outcome.{joined_into}
+use Rattle.giop_msg.specs.Messages.Laws.{IsWhole, ReplyRefusalsAreTold, RequestRefusalsAreTold, RequestsAreReadBack, RequestsAreRefused}
+use Rattle.giop_msg.specs.Messages.Outcome.{Decodes, joined_into}
+use Rattle.giop_msg.specs.Messages.Reply.{reply}
 use Rattle.giop_msg.specs.Messages.Request.{operation_of, request, request_body}
-use Rattle.giop_msg.specs.Messages.RequestAnswer.{RefusedRequest, body_answer, operation_answer, head_answer, request_of_joined}
+use Rattle.giop_msg.specs.Messages.RequestAnswer.{DecodesRequest, RefusedRequest, body_answer, operation_answer, head_answer, request_of_joined}
 use Rattle.giop_msg.specs.RequestHead.{Head, request_head}
 use Rattle.giop_msg.proofs.RequestHeadLemmas.{request_head_is}
+use Rattle.giop_msg.proofs.WholeMessages.ReplyLemmas.{reply_is}
 use Rattle.giop_msg.proofs.WholeMessages.RequestLemmas.{request_body_is, request_is, request_only}
 
 -- what was written from the front on spells the value
@@ -133,3 +136,31 @@ requests_refused interface version order octets e = (
       ((request_head version).read (joined_from order octets)) refl e,
   whole_refuses interface version (joined_from order octets) e,
 )
+
+-- ---- what is refused is told
+
+request_answer : (answer reading : Result Request RequestFault) (e : RequestFault)
+    → DecodesRequest answer reading → reading ≡ Err e → answer ≡ Err e
+request_answer (Ok q) reading e told read = absurd cc
+request_answer (Err d) reading e told read = elim told [
+  | inl refused ↦ cc
+  | inr want ↦ cc (subst (λ (r : Result Request RequestFault). IsOk r) read want.1)
+]
+
+pub request_refusals_told : RequestRefusalsAreTold
+request_refusals_told interface version order octets answer e told refused =
+    request_answer answer (request_of_joined interface version order octets) e told
+    ((requests_refused interface version order octets e).1 refused)
+
+reply_answer : (answer reading : Result Reply CdrFault) (e : CdrFault)
+    → Decodes answer reading → reading ≡ Err e → answer ≡ Err e
+reply_answer (Ok r) reading e told read = absurd cc
+reply_answer (Err d) reading e told read = elim told [
+  | inl refused ↦ cc
+  | inr want ↦ cc (subst (λ (r : Result Reply CdrFault). IsOk r) read want.1)
+]
+
+pub reply_refusals_told : ReplyRefusalsAreTold
+reply_refusals_told interface asked version order octets answer e told refused =
+    reply_answer answer ((reply interface asked version).read (joined_from order octets)) e told
+    (((reply_is interface asked version).exact (joined_from order octets)).refuses e refused)

@@ -5,7 +5,7 @@ use Rattle.giop_cdr.specs.declared.fault.CdrFault.{CdrFault}
 use Rattle.giop_cdr.specs.Ending.{Ending, IsLawfulEnding}
 use Rattle.giop_cdr.proofs.Reading.Answers.{ok_same}
 use Rattle.giop_msg.specs.Joined.{joined_from}
-use Rattle.giop_msg.specs.Messages.Outcome.{Decodes, FollowsToEnd, IsTold, IsToldToEnd}
+use Rattle.giop_msg.specs.Messages.Outcome.{Decodes, IsTold}
 
 abbrev value_of : {A : Type 0} → A → Result A CdrFault
 value_of x = Ok x
@@ -38,27 +38,3 @@ decodes_only {A} {f} one order octets (Err e) h v s =
 pub told_copy : {A : Type 0} (copy found v : A) → copy ≡ found → value_of found ≡ value_of v
     → copy ≡ v
 told_copy copy found v same told = same ∙ ok_same found v told
-
-pub follows_found : {A : Type 0} {f : Ending A} → IsLawfulEnding f
-    → (order : Order) (octets : List ℕ) (result : Result A CdrFault)
-    → FollowsToEnd result (f.read (joined_from order octets))
-    → IfOk result (λ v. f.spells order 12 v octets)
-follows_found one order octets (Ok v) h = (one.exact (joined_from order octets)).found v h
-follows_found one order octets (Err e) h = tt
-
-pub follows_only : {A : Type 0} {f : Ending A} → IsLawfulEnding f
-    → (order : Order) (octets : List ℕ) (result : Result A CdrFault)
-    → FollowsToEnd result (f.read (joined_from order octets)) → (v : A)
-    → f.spells order 12 v octets → IsToldToEnd result v
-follows_only one order octets (Ok w) h v s =
-    ok_same w v (sym h ∙ (one.exact (joined_from order octets)).only v s)
-follows_only {A} {f} one order octets (Err e) h v s =
-    let told : f.read (joined_from order octets)
-    ≡ Ok v = (one.exact (joined_from order octets)).only v s in
-    elim h [
-      | inl refused ↦ absurd (never v e (sym told ∙ refused))
-      | inr want ↦ want
-    ]
-  where
-    never : {B : Type 0} (x : B) (e : CdrFault) → value_of x ≡ Err e → ⊥
-    never x e h = absurd cc

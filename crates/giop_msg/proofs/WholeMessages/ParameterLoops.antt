@@ -4,7 +4,7 @@ use Rattle.std.proofs.lemmas.List.{append-nil}
 use Rattle.std.proofs.Math.ListN.{drop_of_length-le}
 use Rattle.giop_cdr.specs.declared.fault.CdrFault.{CdrFault}
 use Rattle.giop_cdr.specs.Reading.Cursor.{Cursor}
-use Rattle.giop_cdr.specs.Reading.Values.{Reading}
+use Rattle.giop_cdr.specs.Reading.Values.{Reading, past}
 use Rattle.giop_cdr.specs.Writing.Output.{Output}
 use Rattle.giop_cdr.proofs.Reading.ItemLoops.{with_front, regroup}
 use Rattle.giop_types.specs.declared.json.parameters.Parameter.{Parameter}
@@ -16,7 +16,7 @@ use Rattle.giop_types.specs.Descriptions.Shape.{field}
 use Rattle.giop_types.specs.Values.Fits.{fits, fields_fit}
 use Rattle.giop_types.specs.Values.Tree.{Tree}
 use Rattle.giop_types.specs.Values.Views.{value_view}
-use Rattle.giop_types.proofs.Coding.MemberLoops.{left_is}
+use Rattle.giop_types.proofs.Coding.MemberLoops.{left_is, past_fails, past_next}
 use Rattle.giop_msg.specs.Messages.Body.{fields_in}
 
 left : (ps : List Parameter) (i : ℕ) (p : Parameter) → i < length ps → p ≡ get_or ps i p
@@ -57,6 +57,38 @@ unfolding decode_at
 all_read front ps i c total le so_far =
     let one : with_front front (fields_at (fields_in (drop i ps)) c) ≡ Ok (front, c)
     = rw (none_left ps i le) (ap (λ (vs : List Tree). Ok (vs, c)) (append-nil front)) in
+    sym so_far ∙ one
+
+-- ---- passing over
+
+pub skip_on : (ps : List Parameter) (i : ℕ) (p : Parameter) (c d : Cursor)
+    (total : Reading (List Tree))
+    → i < length ps → p ≡ get_or ps i p → past (decode_at (checked_shape p.desc) c) ≡ Ok d
+    → past (fields_at (fields_in (drop i ps)) c) ≡ past total
+    → past (fields_at (fields_in (drop (i + 1) ps)) d) ≡ past total
+unfolding decode_at
+skip_on ps i p c d total lt is h so_far =
+    let one : past (fields_at (fields_in (drop i ps)) c)
+    ≡ past (fields_at (fields_in (drop (i + 1) ps)) d)
+    = rw (left ps i p lt is) (past_next (λ t ts. t ∷ ts) (fields_at (fields_in (drop (i + 1) ps)))
+    d (decode_at (checked_shape p.desc) c) h) in
+    sym one ∙ so_far
+
+pub skip_end : (ps : List Parameter) (i : ℕ) (p : Parameter) (c : Cursor) (e : CdrFault)
+    (total : Reading (List Tree))
+    → i < length ps → p ≡ get_or ps i p → decode_at (checked_shape p.desc) c ≡ Err e
+    → past (fields_at (fields_in (drop i ps)) c) ≡ past total → total ≡ Err e
+unfolding decode_at
+skip_end ps i p c e total lt is h so_far =
+    let one : past (fields_at (fields_in (drop i ps)) c)
+    ≡ Err e = rw (left ps i p lt is, h) refl in
+    past_fails total e (sym so_far ∙ one)
+
+pub all_skipped : (ps : List Parameter) (i : ℕ) (c : Cursor) (total : Reading (List Tree))
+    → length ps ≤ i → past (fields_at (fields_in (drop i ps)) c) ≡ past total → past total ≡ Ok c
+unfolding decode_at
+all_skipped ps i c total le so_far =
+    let one : past (fields_at (fields_in (drop i ps)) c) ≡ Ok c = rw (none_left ps i le) refl in
     sym so_far ∙ one
 
 -- ---- judging

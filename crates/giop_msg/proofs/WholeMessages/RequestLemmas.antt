@@ -140,7 +140,7 @@ decodes_only interface version order octets (Ok p) h q s =
 decodes_only interface version order octets (Err e) h q s = elim h [
   | inl refused ↦ absurd
       (no_answer q e (sym (request_only interface version order octets q s) ∙ refused))
-  | inr want ↦ want
+  | inr want ↦ want.0
 ]
 
 -- ---- the answer, by its steps

@@ -1,17 +1,20 @@
 -- What holds of whole messages.
-use Rattle.std.specs.Prelude.{◌≡◌, ℕ, ◌↔◌, true, List, Ok, Err}
+use Rattle.std.specs.Prelude.{◌≡◌, ℕ, ◌↔◌, true, List, Option, Result, Ok, Err}
 use Rattle.giop_cdr.specs.declared.order.Order.{Order}
+use Rattle.giop_cdr.specs.declared.fault.CdrFault.{CdrFault}
 use Rattle.giop_cdr.specs.Reading.Cursor.{Cursor}
 use Rattle.giop_cdr.specs.Layout.{AreOctets}
 use Rattle.giop_cdr.specs.Ending.{Ending, IsExactToEnd}
 use Rattle.giop_types.specs.declared.json.interface.Interface.{Interface}
+use Rattle.giop_msg.specs.declared.messages.reply.Reply.{Reply}
 use Rattle.giop_msg.specs.declared.messages.request.Request.{Request}
 use Rattle.giop_msg.specs.declared.messages.request_fault.RequestFault.{RequestFault}
 use Rattle.giop_msg.specs.declared.version.Version.{Version}
 use Rattle.giop_msg.specs.Joined.{joined_from}
-use Rattle.giop_msg.specs.Messages.Outcome.{joined_into}
+use Rattle.giop_msg.specs.Messages.Outcome.{Decodes, joined_into}
+use Rattle.giop_msg.specs.Messages.Reply.{reply}
 use Rattle.giop_msg.specs.Messages.Request.{request}
-use Rattle.giop_msg.specs.Messages.RequestAnswer.{RefusedRequest, request_of_joined}
+use Rattle.giop_msg.specs.Messages.RequestAnswer.{DecodesRequest, RefusedRequest, request_of_joined}
 
 -- what holds of a whole message
 pub record IsWhole {A : Type 0} (message : Ending A) : Type 0 where
@@ -34,6 +37,23 @@ RequestsAreRefused =
     (e : RequestFault) →
     (request_of_joined interface version order octets ≡ Err e)
     ↔ RefusedRequest interface version (joined_from order octets) e
+
+-- what is refused is told, whether memory is there or not: where joined octets are refused as a
+-- Request, each answer that a call may give of them is the refusal
+abbrev pub RequestRefusalsAreTold : Type 0
+RequestRefusalsAreTold =
+    (interface : Interface) (version : Version) (order : Order) (octets : List ℕ)
+    (answer : Result Request RequestFault) (e : RequestFault) →
+    DecodesRequest answer (request_of_joined interface version order octets) →
+    RefusedRequest interface version (joined_from order octets) e → answer ≡ Err e
+
+-- the same of a Reply
+abbrev pub ReplyRefusalsAreTold : Type 0
+ReplyRefusalsAreTold =
+    (interface : Interface) (asked : Option Request) (version : Version) (order : Order)
+    (octets : List ℕ) (answer : Result Reply CdrFault) (e : CdrFault) →
+    Decodes answer ((reply interface asked version).read (joined_from order octets)) →
+    (reply interface asked version).refused (joined_from order octets) e → answer ≡ Err e
 
 -- a Request is read back from the joined octets that are written of it
 abbrev pub RequestsAreReadBack : Type 0

@@ -25,7 +25,8 @@ abbrev pub FollowsToEnd : {A : Type 0} → Result A CdrFault → Result A CdrFau
 FollowsToEnd (Ok value) reading = reading ≡ Ok value
 FollowsToEnd (Err e) reading = (reading ≡ Err e) ⊎ (e.kind ≡ NoMemory)
 
--- this message is the answer, unless memory is wanting
-abbrev pub IsToldToEnd : {A : Type 0} → Result A CdrFault → A → Type 0
-IsToldToEnd (Ok told) message = told ≡ message
-IsToldToEnd (Err e) message = e.kind ≡ NoMemory
+-- a call that keeps no value: it goes well where reading gives a message, and else answers its
+-- refusal
+abbrev pub Checks : {X A E : Type 0} → Result X E → Result A E → Type 0
+Checks (Ok _) reading = IsOk reading
+Checks (Err e) reading = reading ≡ Err e

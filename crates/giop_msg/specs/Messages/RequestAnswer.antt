@@ -1,5 +1,5 @@
 -- What reading a Request answers, and in which part of it a fault lies.
-use Rattle.std.specs.Prelude.{◌≡◌, ◌⊎◌, ℕ, List, Option, Some, None, Result, Ok, Err}
+use Rattle.std.specs.Prelude.{◌≡◌, ◌⊎◌, ℕ, List, Option, Some, None, Result, Ok, Err, IsOk}
 use Rattle.giop_cdr.specs.declared.order.Order.{Order}
 use Rattle.giop_cdr.specs.declared.fault.CdrFault.{CdrFault}
 use Rattle.giop_cdr.specs.declared.fault.CdrKind.TheVariants.{NoMemory}
@@ -12,7 +12,7 @@ use Rattle.giop_msg.specs.declared.messages.request.Request.{Request}
 use Rattle.giop_msg.specs.declared.messages.request_fault.RequestFault.{RequestFault}
 use Rattle.giop_msg.specs.declared.messages.request_fault.RequestFault.TheVariants.{Header, Operation as NoOperation, Body}
 use Rattle.giop_msg.specs.declared.version.Version.{Version}
-use Rattle.giop_msg.specs.Joined.{joined_from}
+use Rattle.giop_msg.specs.Joined.{joined_from, no_memory}
 use Rattle.giop_msg.specs.Messages.Request.{operation_of, request_body}
 use Rattle.giop_msg.specs.RequestHead.{Head, request_head}
 
@@ -58,12 +58,23 @@ IsWant (Header e) = e.kind ≡ NoMemory
 IsWant NoOperation = ⊥
 IsWant (Body e) = e.kind ≡ NoMemory
 
+-- want of memory for its head or for its body, as it is told
+abbrev pub IsWholeWant : RequestFault → Type 0
+IsWholeWant (Header e) = e ≡ no_memory
+IsWholeWant NoOperation = ⊥
+IsWholeWant (Body e) = e ≡ no_memory
+
 -- this Request is the answer, unless memory is wanting
 abbrev pub IsRequestTold : Result Request RequestFault → Request → Type 0
 IsRequestTold (Ok told) request = told ≡ request
-IsRequestTold (Err e) request = IsWant e
+IsRequestTold (Err e) request = IsWholeWant e
 
--- a call answers what reading gives, or that memory is wanting
+-- a call answers what reading gives; or that memory is wanting, where reading gives a Request
 abbrev pub DecodesRequest : Result Request RequestFault → Result Request RequestFault → Type 0
 DecodesRequest (Ok request) reading = reading ≡ Ok request
-DecodesRequest (Err e) reading = (reading ≡ Err e) ⊎ IsWant e
+DecodesRequest (Err e) reading = (reading ≡ Err e) ⊎ (IsWholeWant e × IsOk reading)
+
+-- a step of such a call: where memory is wanting nothing else is known
+abbrev pub FollowsRequest : Result Request RequestFault → Result Request RequestFault → Type 0
+FollowsRequest (Ok request) reading = reading ≡ Ok request
+FollowsRequest (Err e) reading = (reading ≡ Err e) ⊎ IsWant e

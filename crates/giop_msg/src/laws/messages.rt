@@ -3,7 +3,7 @@
 ghost use Rattle.std.specs.Prelude.{Option};
 ghost use Rattle.giop_types.specs.declared.json.interface.Interface.{Interface};
 ghost use Rattle.giop_msg.specs.declared.version.Version.{Version};
-ghost use Rattle.giop_msg.specs.Messages.Laws.{IsWhole, RequestsAreReadBack, RequestsAreRefused};
+ghost use Rattle.giop_msg.specs.Messages.Laws.{IsWhole, ReplyRefusalsAreTold, RequestRefusalsAreTold, RequestsAreReadBack, RequestsAreRefused};
 ghost use Rattle.giop_msg.specs.Messages.LocateReply.{locate_reply};
 ghost use Rattle.giop_msg.specs.Messages.Reply.{reply};
 ghost use Rattle.giop_msg.specs.Messages.Request.{request};
@@ -31,4 +31,11 @@ pub fn locate_replies_are_spelled()
 pub fn replies_are_spelled()
     ensures { (interface : Interface) (asked : Option Request) (version : Version)
         → IsWhole (reply interface asked version) }
+{}
+
+/// Where joined octets are refused as a Request or a Reply, `decode` answers that refusal, whether
+/// memory is there or not: want of memory is told only where nothing is refused.
+pub fn refusals_are_told()
+    ensures requests { RequestRefusalsAreTold }
+    ensures replies { ReplyRefusalsAreTold }
 {}

@@ -3,11 +3,12 @@
 ghost use Rattle.std.specs.Prelude.{◌≡◌, ◌≤◌, ◌^◌, length, IfOk};
 ghost use Rattle.std.specs.Option.{option_copied};
 ghost use Rattle.giop_msg.specs.Joined.{joined_from};
-ghost use Rattle.giop_msg.specs.Messages.Outcome.{FollowsToEnd, IsToldToEnd};
+ghost use Rattle.giop_msg.specs.Messages.Outcome.{Checks, Decodes, FollowsToEnd, IsTold};
 ghost use Rattle.giop_msg.specs.Messages.Reply.{reply};
 
 use crate::messages::body::no_memory;
 use crate::messages::reply_body::ReplyBody;
+use crate::messages::reply_checking::check_reply_body;
 use crate::messages::reply_reading::{may_answer, outs_for, read_reply_body};
 use crate::messages::request::Request;
 use crate::reply_head::view_head;
@@ -40,8 +41,8 @@ impl Reply {
     /// Refused as the first field that is refused, in reading order: each as its own reader says; a
     /// status or a completion that there isn't, and an id of an exception that the interface hasn't,
     /// as BadLabel; a status other than 2 without a request as BadLabel at the end of the head; then
-    /// as Trailing at the first octet that is left. Want of memory is NoMemory, which may stand in
-    /// place of a refusal that is further on.
+    /// as Trailing at the first octet that is left; and as NoMemory at 12 where nothing is refused
+    /// and memory is wanting.
     pub fn decode<S: Octets>(
         alloc: Global,
         interface: &Interface,
@@ -58,14 +59,42 @@ impl Reply {
         ensures only { (r : _)
             → (reply interface.now (option_copied request.entry) version).spells order 12 r
             (S.octets octets.now)
-            → IsToldToEnd result r }
+            → IsTold result r }
 
         // Which refusal it is.
-        ensures exact { FollowsToEnd result
+        ensures exact { Decodes result
             ((reply interface.now (option_copied request.entry) version).read
             (joined_from order (S.octets octets.now))) }
     {
-        read_reply(alloc, interface, request, octets, version, order)
+        decode_reply(alloc, interface, request, octets, version, order)
+    }
+}
+
+// The Reply, in one pass where all goes well. Memory comes last: where it is wanting, a second pass
+// without memory looks for a fault.
+fn decode_reply<S: Octets>(
+    alloc: Global,
+    interface: &Interface,
+    request: Option<&Request>,
+    octets: &S,
+    version: Version,
+    order: Order,
+) -> Result<Reply, CdrFault>
+    requires { length (S.octets octets.now) ≤ 2 ^ 62 }
+    ensures { Decodes result
+        ((reply interface.now (option_copied request.entry) version).read
+        (joined_from order (S.octets octets.now))) }
+{
+    let fault = match read_reply(alloc, interface, request, octets, version, order) {
+        Ok(reply) => return Ok(reply),
+        Err(fault) => fault,
+    };
+    match fault.kind {
+        CdrKind::NoMemory => {
+            check_reply(interface, request, octets, version, order)?;
+            Err(no_memory())
+        }
+        _ => Err(fault),
     }
 }
 
@@ -104,4 +133,29 @@ fn read_reply<S: Octets>(
         }),
         Err(fault) => Err(fault),
     }
+}
+
+// The fault that `read_reply` answers where memory isn't wanting; none where it answers a Reply.
+fn check_reply<S: Octets>(
+    interface: &Interface,
+    request: Option<&Request>,
+    octets: &S,
+    version: Version,
+    order: Order,
+) -> Result<(), CdrFault>
+    requires { length (S.octets octets.now) ≤ 2 ^ 62 }
+    ensures { Checks result
+        ((reply interface.now (option_copied request.entry) version).read
+        (joined_from order (S.octets octets.now))) }
+{
+    let mut input = CdrIn::new(octets, order, 12);
+    let head = view_head(version, &mut input)?;
+    if !may_answer(request, head.status) {
+        return Err(CdrFault {
+            at: input.position(),
+            kind: CdrKind::BadLabel,
+        });
+    }
+    let outs = outs_for(interface, request);
+    check_reply_body(version, interface, outs, head.status, &mut input)
 }

@@ -36,8 +36,8 @@ fn read_no_exception<S: Octets>(
     }
 }
 
-// Whether the operation was completed.
-fn read_completion<S: Octets>(input: &mut CdrIn<S>) -> Result<Completion, CdrFault>
+/// Whether the operation was completed.
+pub fn read_completion<S: Octets>(input: &mut CdrIn<S>) -> Result<Completion, CdrFault>
     ensures { Exactly result input.new (completion.read input.old) }
 {
     let at = input.place::<4>();

@@ -1,12 +1,14 @@
-ghost use Rattle.std.specs.Prelude.{◌≡◌, ◌≤◌, ◌^◌, length, IfOk};
+ghost use Rattle.std.specs.Prelude.{◌≡◌, ◌≤◌, ◌^◌, length, IfOk, IfNone, IfSome};
+ghost use Rattle.giop_msg.specs.Messages.Outcome.{Checks};
 ghost use Rattle.giop_msg.specs.Messages.Request.{request};
-ghost use Rattle.giop_msg.specs.Messages.RequestAnswer.{DecodesRequest, IsRequestTold, request_of_joined};
+ghost use Rattle.giop_msg.specs.Messages.RequestAnswer.{DecodesRequest, FollowsRequest, IsRequestTold, IsWant, IsWholeWant, request_of_joined};
 
 use crate::messages::body::{no_memory, read_body};
+use crate::messages::body_checking::check_body;
 use crate::messages::request_fault::RequestFault;
 use crate::request_head::{RequestHead, view_head};
 use crate::version::Version;
-use giop_cdr::{CdrIn, Octets, Order};
+use giop_cdr::{CdrIn, CdrKind, Octets, Order};
 use giop_types::{Interface, ValueList};
 use std::alloc::Global;
 
@@ -28,7 +30,8 @@ impl Request {
     /// Refused by the first that holds: as Header at the first field of the head that is refused;
     /// as Operation where the interface hasn't the operation; as Body at the first field of the
     /// ins that is refused, in reading order, or as Trailing at the first octet that is left behind
-    /// them. Where memory is wanting for the head or for the body, it is NoMemory of that part.
+    /// them. Where nothing is refused and memory is wanting for the head or for the body, it is
+    /// NoMemory at 12 of that part.
     pub fn decode<S: Octets>(
         alloc: Global,
         interface: &Interface,
@@ -48,7 +51,47 @@ impl Request {
         ensures exact { DecodesRequest result
             (request_of_joined interface.now version order (S.octets octets.now)) }
     {
-        read_request(alloc, interface, octets, version, order)
+        decode_request(alloc, interface, octets, version, order)
+    }
+}
+
+// The Request, in one pass where all goes well. Memory comes last: where it is wanting, a second pass
+// without memory looks for a fault.
+fn decode_request<S: Octets>(
+    alloc: Global,
+    interface: &Interface,
+    octets: &S,
+    version: Version,
+    order: Order,
+) -> Result<Request, RequestFault>
+    requires { length (S.octets octets.now) ≤ 2 ^ 62 }
+    ensures { DecodesRequest result
+        (request_of_joined interface.now version order (S.octets octets.now)) }
+{
+    let fault = match read_request(alloc, interface, octets, version, order) {
+        Ok(request) => return Ok(request),
+        Err(fault) => fault,
+    };
+    let Some(want) = want_of(fault) else {
+        return Err(fault);
+    };
+    check_request(interface, octets, version, order)?;
+    Err(want)
+}
+
+// Want of memory as it is told, where a fault is that.
+fn want_of(fault: RequestFault) -> Option<RequestFault>
+    ensures some { IfSome result IsWholeWant }
+    ensures none { IfNone result (IsWant fault → ⊥) }
+{
+    match fault {
+        RequestFault::Header(fault) if fault.kind == CdrKind::NoMemory => {
+            Some(RequestFault::Header(no_memory()))
+        }
+        RequestFault::Body(fault) if fault.kind == CdrKind::NoMemory => {
+            Some(RequestFault::Body(no_memory()))
+        }
+        _ => None,
     }
 }
 
@@ -62,7 +105,7 @@ fn read_request<S: Octets>(
     order: Order,
 ) -> Result<Request, RequestFault>
     requires { length (S.octets octets.now) ≤ 2 ^ 62 }
-    ensures { DecodesRequest result
+    ensures { FollowsRequest result
         (request_of_joined interface.now version order (S.octets octets.now)) }
 {
     let mut input = CdrIn::new(octets, order, 12);
@@ -78,6 +121,32 @@ fn read_request<S: Octets>(
     };
     match read_body(alloc, version, operation.ins.as_slice(), &mut input) {
         Ok(body) => Ok(Request { head, body }),
+        Err(fault) => Err(RequestFault::Body(fault)),
+    }
+}
+
+// The fault that `read_request` answers where memory isn't wanting; none where it answers a Request.
+#[tactic(auto, unfolding(crate::specs::Messages::Request::request_body, crate::specs::Messages::RequestAnswer::request_of_joined, giop_cdr::specs::Ending::made_of))]
+fn check_request<S: Octets>(
+    interface: &Interface,
+    octets: &S,
+    version: Version,
+    order: Order,
+) -> Result<(), RequestFault>
+    requires { length (S.octets octets.now) ≤ 2 ^ 62 }
+    ensures { Checks result
+        (request_of_joined interface.now version order (S.octets octets.now)) }
+{
+    let mut passed = CdrIn::new(octets, order, 12);
+    let head = match view_head(version, &mut passed) {
+        Ok(head) => head,
+        Err(fault) => return Err(RequestFault::Header(fault)),
+    };
+    let Some(operation) = interface.operation_at(&head.operation) else {
+        return Err(RequestFault::Operation);
+    };
+    match check_body(version, operation.ins.as_slice(), &mut passed) {
+        Ok(()) => Ok(()),
         Err(fault) => Err(RequestFault::Body(fault)),
     }
 }

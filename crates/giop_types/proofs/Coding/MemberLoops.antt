@@ -26,14 +26,14 @@ past_as : {B C : Type 0} (f : B → C) (r : Reading B) → past (r >>= λ y. Ok 
 past_as f (Ok y) = refl
 past_as f (Err e) = refl
 
-past_next : {A B C : Type 0} (f : A → B → C) (g : Cursor → Reading B) (d : Cursor) (r : Reading A) → past r ≡ Ok d
+pub past_next : {A B C : Type 0} (f : A → B → C) (g : Cursor → Reading B) (d : Cursor) (r : Reading A) → past r ≡ Ok d
     → past (r >>= λ x. g x.1 >>= λ y. Ok (f x.0 y.0, y.1)) ≡ past (g d)
 past_next f g d (Ok x) h =
     let same : x.1 ≡ d = cc in
     rw (← same) (past_as (f x.0) (g x.1))
 past_next f g d (Err e) h = absurd cc
 
-past_fails : {A : Type 0} (r : Reading A) (e : CdrFault) → past r ≡ Err e → r ≡ Err e
+pub past_fails : {A : Type 0} (r : Reading A) (e : CdrFault) → past r ≡ Err e → r ≡ Err e
 past_fails (Ok x) e h = absurd cc
 past_fails (Err d) e h = cc
 

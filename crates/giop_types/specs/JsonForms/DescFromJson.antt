@@ -172,10 +172,10 @@ desc_in (suc levels) d = by_key (as_str d) named_shape (composed_in (desc_in lev
 abbrev pub json_in : List ℕ → Option json.Data
 json_in bytes = if is_utf8 bytes then read bytes else None
 
--- a description that is judged
-abbrev pub judged : Shape → Option DescFault → Result Shape FormFault
-judged s None = Ok s
-judged s (Some fault) = Err (BadDesc fault)
+-- what is judged, where nothing is wrong
+abbrev pub judged : {A : Type 0} → A → Option DescFault → Result A FormFault
+judged x None = Ok x
+judged x (Some fault) = Err (BadDesc fault)
 
 -- what a JSON value describes: another form is told before what is wrong with a description
 abbrev pub described : Option Shape → Result Shape FormFault

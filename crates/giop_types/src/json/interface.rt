@@ -2,13 +2,8 @@ ghost use Rattle.std.specs.Prelude.{◌≡◌, option_copied, length, true};
 ghost use Rattle.std.specs.BTreeMap.{get_by};
 ghost use Rattle.std.specs.Ordering.{nat_cmp};
 ghost use Rattle.std.specs.Cmp.Lexicographic.{slice_cmp};
-ghost use Rattle.giop_types.specs.JsonForms.DescFromJson.{json_in};
-ghost use Rattle.giop_types.specs.JsonForms.InterfaceFaults.{MakesOf};
 
-use crate::json::form_fault::FormFault;
-use crate::json::interface_from_json;
 use crate::json::parameters::Parameters;
-use std::alloc::Global;
 use std::collections::BTreeMap;
 
 /// An operation: what a request of it carries, and what its reply does (CORBA 3.3 Part 2, 9.4.2,
@@ -37,22 +32,14 @@ impl Interface {
     pub(crate) fn new(
         operations: BTreeMap<Vec<u8>, Operation>,
         exceptions: BTreeMap<Vec<u8>, Parameters>,
-    ) -> Interface {
+    ) -> Interface
+        ensures operations { result.operations ≡ operations }
+        ensures exceptions { result.exceptions ≡ exceptions }
+    {
         Interface {
             operations,
             exceptions,
         }
-    }
-
-    /// The interface that a JSON text is. Refused as BadJson where the text is none, or nests
-    /// arrays and objects more than 127 deep; else as BadShape where it, or a part of it, has
-    /// another form, a oneway operation has outs, a name or an id has a null, or two parameters of
-    /// one list have the same name; else as BadDesc with the fault of the first description that
-    /// has one; and as NoMemory where memory is wanting, in place of any.
-    pub fn from_json(alloc: Global, text: &[u8]) -> Result<Interface, FormFault>
-        ensures { MakesOf (json_in text.now) result }
-    {
-        interface_from_json(alloc, text)
     }
 
     /// The operation of this name. It takes no memory, and a time that grows with the logarithm of

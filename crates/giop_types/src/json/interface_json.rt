@@ -1,13 +1,22 @@
 //! Interfaces read from JSON.
-ghost use Rattle.std.specs.Prelude.{◌≡◌, IfOk, IfErr, length, true};
-ghost use Rattle.giop_types.specs.JsonForms.DescFromJson.{json_in};
-ghost use Rattle.giop_types.specs.JsonForms.InterfaceFaults.{IsOfForm, IsOfPart, MakesOf};
+ghost use Rattle.std.specs.Prelude.{◌≡◌, map, option_map, IfOk, length};
+ghost use Rattle.std.specs.List.{list_any};
+ghost use Rattle.serde_json.specs.Find.{as_object};
+ghost use Rattle.serde_json.specs.View.{view, members_view};
+ghost use Rattle.giop_cdr.specs.Reading.Values.{has_null};
+ghost use Rattle.giop_types.specs.JsonForms.DescFromJson.{json_in, judged};
+ghost use Rattle.giop_types.specs.JsonForms.FromJson.{Shows, Reads};
+ghost use Rattle.giop_types.specs.JsonForms.InterfaceForms.{parameters_form_view, operation_form_view, operation_entry, exception_entry};
+ghost use Rattle.giop_types.specs.JsonForms.InterfaceFromJson.{name_in, parameters_in, parameters_told, one_if, oneway_told, known_keys, signature_in, table_in, operations_in, exceptions_beside, parameters_fault, signature_fault, judged_table, parameters_view, operation_view, operations_view, exceptions_view, interface_view, interface_told};
+ghost use Rattle.giop_types.specs.Values.Views.{named_view};
 
 use crate::description::desc::NamedDesc;
 use crate::description::name_check::has_doubled_member;
 use crate::json::desc_json::{LEVELS, checked, members_of};
 use crate::json::form_fault::FormFault;
+use crate::json::from_json::is_object_of;
 use crate::json::interface::{Interface, Operation};
+use crate::json::interface_form::{OperationForm, ParametersForm};
 use crate::json::parameters::{Parameter, Parameters};
 use crate::json::parse::parse;
 use crate::json::texts::octets_in;
@@ -16,43 +25,29 @@ use serde_json::{Map, Value as Json};
 use std::alloc::Global;
 use std::collections::BTreeMap;
 
-// An operation whose descriptions are still to be checked.
-#[derive(Drop)]
-struct OperationForm {
-    name: OctetList,
-    oneway: bool,
-    ins: Vec<NamedDesc>,
-    outs: Vec<NamedDesc>,
-    ghost silent: { oneway ≡ true → length outs.items ≡ 0 },
-}
-
-// An exception whose descriptions are still to be checked.
-#[derive(Drop)]
-struct ExceptionForm {
-    id: OctetList,
-    members: Vec<NamedDesc>,
-}
-
-/// The interface that a JSON text is. Refused as BadJson where the text is none, or nests arrays
-/// and objects more than 127 deep; else as BadShape where it, or a part of it, has another form, a
-/// oneway operation has outs, a name or an id has a null, or two parameters of one list have the
-/// same name; else as BadDesc with the fault of the first description that has one; and as NoMemory
-/// where memory is wanting, in place of any.
-pub fn interface_from_json(alloc: Global, text: &[u8]) -> Result<Interface, FormFault>
-    ensures { MakesOf (json_in text.now) result }
-{
-    let json = parse(alloc, text)?;
-    let operations = operation_forms(alloc, &json)?;
-    let exceptions = exception_forms(alloc, &json)?;
-    Ok(Interface::new(
-        checked_operations(alloc, operations)?,
-        checked_exceptions(alloc, exceptions)?,
-    ))
+impl Interface {
+    /// The interface that a JSON text is. Refused as BadJson where the text is none, or nests
+    /// arrays and objects more than 127 deep; else as BadShape where it, or a part of it, has
+    /// another form, a oneway operation has outs, a name or an id has a null, or two parameters of
+    /// one list have the same name; else as BadDesc with the fault of the first description that
+    /// has one, those of operations before those of exceptions, each in the order of the names, ins
+    /// before outs; and as NoMemory where memory is wanting, in place of any.
+    pub fn from_json(alloc: Global, text: &[u8]) -> Result<Interface, FormFault>
+        ensures { Reads interface_view result (interface_told (json_in text.now)) }
+    {
+        let json = parse(alloc, text)?;
+        let operations = operation_forms(alloc, &json)?;
+        let exceptions = exception_forms(alloc, &json)?;
+        Ok(Interface::new(
+            checked_operations(alloc, operations)?,
+            checked_exceptions(alloc, exceptions)?,
+        ))
+    }
 }
 
 // The members of an object.
 fn object_of(json: &Json) -> Result<&Map<String, Json>, FormFault>
-    ensures err { IfErr result IsOfForm }
+    ensures { Shows (λ object. members_view object.now.entries) result (as_object (view json.now)) }
 {
     match json.as_object() {
         Some(object) => Ok(object),
@@ -62,59 +57,86 @@ fn object_of(json: &Json) -> Result<&Map<String, Json>, FormFault>
 
 // The octets of a name or an id, which has no null.
 fn name_of(alloc: Global, text: &str) -> Result<OctetList, FormFault>
-    ensures err { IfErr result IsOfForm }
+    ensures { Shows (λ name. name) result (name_in text.now) }
 {
-    match octets_in(alloc, text)? {
-        Some(name) if !name.as_slice().contains(&0) => Ok(name),
-        _ => Err(FormFault::BadShape),
+    let Some(name) = octets_in(alloc, text)? else {
+        return Err(FormFault::BadShape);
+    };
+    if has_null(name.as_slice()) {
+        return Err(FormFault::BadShape);
     }
+    Ok(name)
+}
+
+// Whether a null stands in octets.
+fn has_null(octets: &[u8]) -> bool
+    ensures { result ≡ has_null octets.now }
+{
+    octets.contains(&0)
 }
 
 // The operations of an interface.
-fn operation_forms(alloc: Global, json: &Json) -> Result<Vec<OperationForm>, FormFault>
-    ensures err { IfErr result IsOfForm }
+fn operation_forms(alloc: Global, json: &Json) -> Result<Vec<(OctetList, OperationForm)>, FormFault>
+    ensures { Shows (λ forms. map operation_entry forms.items) result
+        (operations_in (view json.now)) }
 {
-    let Some(operations) = json.get("operations") else {
-        return Err(FormFault::BadShape);
-    };
-    let operations = object_of(operations)?;
+    match json.get("operations") {
+        Some(operations) => operations_of(alloc, operations),
+        None => Err(FormFault::BadShape),
+    }
+}
+
+// Operations by their names.
+fn operations_of(alloc: Global, json: &Json) -> Result<Vec<(OctetList, OperationForm)>, FormFault>
+    ensures { Shows (λ forms. map operation_entry forms.items) result
+        (table_in signature_in (view json.now)) }
+{
+    let operations = object_of(json)?;
     let mut forms = Vec::with_capacity(alloc, operations.len())?;
-    for (name, form) in operations.iter() {
-        let operation = operation_form(alloc, name.as_str(), form)?;
-        forms.push(operation)?;
+    for (key, form) in operations.iter() {
+        let name = name_of(alloc, key.as_str())?;
+        let operation = operation_form(alloc, form)?;
+        forms.push((name, operation))?;
     }
     Ok(forms)
 }
 
 // An operation.
-fn operation_form(alloc: Global, name: &str, json: &Json) -> Result<OperationForm, FormFault>
-    ensures err { IfErr result IsOfForm }
+fn operation_form(alloc: Global, json: &Json) -> Result<OperationForm, FormFault>
+    ensures { Shows operation_form_view result (signature_in (view json.now)) }
 {
-    let name = name_of(alloc, name)?;
+    if !is_object_of(known_keys(json), json) {
+        return Err(FormFault::BadShape);
+    }
     let ins = parameter_forms(alloc, json.get("ins"))?;
     let outs = parameter_forms(alloc, json.get("outs"))?;
     let oneway = oneway_of(json.get("oneway"))?;
-    if object_of(json)?.len() != known_keys(json) || (oneway && !outs.is_empty()) {
+    if oneway && !outs.list.is_empty() {
         return Err(FormFault::BadShape);
     }
-    Ok(OperationForm {
-        name,
-        oneway,
-        ins,
-        outs,
-    })
+    Ok(OperationForm { oneway, ins, outs })
 }
 
 // How many of the keys of an operation are there.
-fn known_keys(json: &Json) -> usize {
-    usize::from(json.get("ins").is_some())
-        + usize::from(json.get("outs").is_some())
-        + usize::from(json.get("oneway").is_some())
+fn known_keys(json: &Json) -> usize
+    ensures { result ≡ known_keys (view json.now) }
+{
+    one_if(json.get("ins")) + one_if(json.get("outs")) + one_if(json.get("oneway"))
+}
+
+// One, where there is a value.
+fn one_if(json: Option<&Json>) -> usize
+    ensures { result ≡ one_if (option_map (λ j. view j.now) json.entry) }
+{
+    match json {
+        Some(_) => 1,
+        None => 0,
+    }
 }
 
 // Whether an operation is oneway, which it isn't where nothing is said.
 fn oneway_of(json: Option<&Json>) -> Result<bool, FormFault>
-    ensures err { IfErr result IsOfForm }
+    ensures { Shows (λ b. b) result (oneway_told (option_map (λ j. view j.now) json.entry)) }
 {
     match json {
         Some(json) => match json.as_bool() {
@@ -126,23 +148,35 @@ fn oneway_of(json: Option<&Json>) -> Result<bool, FormFault>
 }
 
 // Parameters, none of which is there where nothing is said.
-fn parameter_forms(alloc: Global, json: Option<&Json>) -> Result<Vec<NamedDesc>, FormFault>
-    ensures err { IfErr result IsOfForm }
+fn parameter_forms(alloc: Global, json: Option<&Json>) -> Result<ParametersForm, FormFault>
+    ensures { Shows parameters_form_view result
+        (parameters_told (option_map (λ j. view j.now) json.entry)) }
 {
-    let Some(json) = json else {
-        return Ok(Vec::new(alloc));
-    };
-    let parameters = members_of(alloc, json, LEVELS)?;
-    if has_doubled_member(&parameters) || has_null(&parameters) {
+    match json {
+        Some(json) => parameters_of(alloc, json),
+        None => Ok(ParametersForm {
+            list: Vec::new(alloc),
+        }),
+    }
+}
+
+// Parameters, no two of the same name, and no name with a null.
+fn parameters_of(alloc: Global, json: &Json) -> Result<ParametersForm, FormFault>
+    ensures { Shows parameters_form_view result (parameters_in (view json.now)) }
+{
+    let list = members_of(alloc, json, LEVELS)?;
+    if has_doubled_member(&list) || has_null_name(&list) {
         return Err(FormFault::BadShape);
     }
-    Ok(parameters)
+    Ok(ParametersForm { list })
 }
 
 // Whether a name has a null.
-fn has_null(parameters: &[NamedDesc]) -> bool {
+fn has_null_name(parameters: &[NamedDesc]) -> bool
+    ensures { result ≡ list_any (λ m. has_null m.name) (map named_view parameters.now) }
+{
     for parameter in parameters {
-        if parameter.name.as_slice().contains(&0) {
+        if has_null(parameter.name.as_slice()) {
             return true;
         }
     }
@@ -150,26 +184,31 @@ fn has_null(parameters: &[NamedDesc]) -> bool {
 }
 
 // The exceptions of an interface, none of which is there where nothing is said.
-fn exception_forms(alloc: Global, json: &Json) -> Result<Vec<ExceptionForm>, FormFault>
-    ensures err { IfErr result IsOfForm }
+fn exception_forms(
+    alloc: Global,
+    json: &Json,
+) -> Result<Vec<(OctetList, ParametersForm)>, FormFault>
+    ensures { Shows (λ forms. map exception_entry forms.items) result
+        (exceptions_beside (view json.now)) }
 {
-    let Some(exceptions) = json.get("exceptions") else {
-        return match object_of(json)?.len() {
-            1 => Ok(Vec::new(alloc)),
-            _ => Err(FormFault::BadShape),
-        };
-    };
-    if object_of(json)?.len() != 2 {
-        return Err(FormFault::BadShape);
+    match json.get("exceptions") {
+        Some(exceptions) if is_object_of(2, json) => exceptions_of(alloc, exceptions),
+        None if is_object_of(1, json) => Ok(Vec::new(alloc)),
+        _ => Err(FormFault::BadShape),
     }
-    let exceptions = object_of(exceptions)?;
+}
+
+// Exceptions by their ids.
+fn exceptions_of(alloc: Global, json: &Json) -> Result<Vec<(OctetList, ParametersForm)>, FormFault>
+    ensures { Shows (λ forms. map exception_entry forms.items) result
+        (table_in parameters_in (view json.now)) }
+{
+    let exceptions = object_of(json)?;
     let mut forms = Vec::with_capacity(alloc, exceptions.len())?;
-    for (id, form) in exceptions.iter() {
-        let exception = ExceptionForm {
-            id: name_of(alloc, id.as_str())?,
-            members: parameter_forms(alloc, Some(form))?,
-        };
-        forms.push(exception)?;
+    for (key, form) in exceptions.iter() {
+        let id = name_of(alloc, key.as_str())?;
+        let members = parameters_of(alloc, form)?;
+        forms.push((id, members))?;
     }
     Ok(forms)
 }
@@ -177,47 +216,59 @@ fn exception_forms(alloc: Global, json: &Json) -> Result<Vec<ExceptionForm>, For
 // The operations by their names, their descriptions checked.
 fn checked_operations(
     alloc: Global,
-    forms: Vec<OperationForm>,
+    forms: Vec<(OctetList, OperationForm)>,
 ) -> Result<BTreeMap<Vec<u8>, Operation>, FormFault>
-    ensures err { IfErr result IsOfPart }
+    ensures { Reads operations_view result
+        (judged_table signature_fault (map operation_entry forms.items)) }
 {
     let mut operations = BTreeMap::new(alloc);
-    for form in forms {
-        let operation = Operation {
-            oneway: form.oneway,
-            ins: checked_parameters(alloc, form.ins)?,
-            outs: checked_parameters(alloc, form.outs)?,
-        };
-        drop(operations.insert(form.name.into_vec(), operation)?);
+    for (name, form) in forms {
+        let operation = checked_operation(alloc, form)?;
+        drop(operations.insert(name.into_vec(), operation)?);
     }
     Ok(operations)
+}
+
+// An operation, its descriptions checked.
+fn checked_operation(alloc: Global, form: OperationForm) -> Result<Operation, FormFault>
+    ensures { Reads operation_view result
+        (judged (operation_form_view form) (signature_fault (operation_form_view form))) }
+{
+    Ok(Operation {
+        oneway: form.oneway,
+        ins: checked_parameters(alloc, form.ins)?,
+        outs: checked_parameters(alloc, form.outs)?,
+    })
 }
 
 // The exceptions by their ids, their descriptions checked.
 fn checked_exceptions(
     alloc: Global,
-    forms: Vec<ExceptionForm>,
+    forms: Vec<(OctetList, ParametersForm)>,
 ) -> Result<BTreeMap<Vec<u8>, Parameters>, FormFault>
-    ensures err { IfErr result IsOfPart }
+    ensures { Reads exceptions_view result
+        (judged_table parameters_fault (map exception_entry forms.items)) }
 {
     let mut exceptions = BTreeMap::new(alloc);
-    for form in forms {
-        let members = checked_parameters(alloc, form.members)?;
-        drop(exceptions.insert(form.id.into_vec(), members)?);
+    for (id, form) in forms {
+        let members = checked_parameters(alloc, form)?;
+        drop(exceptions.insert(id.into_vec(), members)?);
     }
     Ok(exceptions)
 }
 
 // Parameters, their descriptions checked.
-fn checked_parameters(alloc: Global, forms: Vec<NamedDesc>) -> Result<Parameters, FormFault>
-    ensures ok { IfOk result (λ parameters. length parameters.list.items ≡ length forms.items) }
-    ensures err { IfErr result IsOfPart }
+fn checked_parameters(alloc: Global, form: ParametersForm) -> Result<Parameters, FormFault>
+    ensures told { Reads parameters_view result
+        (judged (parameters_form_view form) (parameters_fault (parameters_form_view form))) }
+    ensures count { IfOk result
+        (λ parameters. length parameters.list.items ≡ length form.list.items) }
 {
-    let mut list = Vec::with_capacity(alloc, forms.len())?;
-    for form in forms {
-        let desc = checked(form.desc)?;
+    let mut list = Vec::with_capacity(alloc, form.list.len())?;
+    for named in form.list {
+        let desc = checked(named.desc)?;
         list.push(Parameter {
-            name: form.name,
+            name: named.name,
             desc,
         })?;
     }

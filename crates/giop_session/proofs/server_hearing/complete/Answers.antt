@@ -1,5 +1,6 @@
-use Rattle.std.proofs.Common.{drop, length, sym, ap, ◌∙◌, ◌++◌}
+use Rattle.std.proofs.Common.{length, sym, ap, ◌∙◌, ◌++◌}
 use Rattle.giop_frag.specs.Gathered.{is_over}
+use Rattle.giop_session.specs.Heard.{behind_id}
 use Rattle.giop_session.specs.Decoding.{heard_call}
 use Rattle.giop_session.proofs.ServerLemmas.{complete_refused, is_full}
 use Rattle.giop_session.proofs.server_hearing.complete.Goals as goal
@@ -8,6 +9,6 @@ pub returns-then-not-has_room : goal.returns-then-not-has_room
 returns-then-not-has_room c pieces is =
     let h = c.args.calls.now in
     let m = c.args.message.now in
-    complete_refused h c.args.id c.args.kind (heard_call c.args.interface.now c.args.kind m.version m.order (pieces.octets ++ drop 4 m.payload))
-    (drop 4 m.payload) c.requires.gathered
+    complete_refused h c.args.id c.args.kind (heard_call c.args.interface.now c.args.kind m.version m.order (pieces.octets ++ behind_id m))
+    (behind_id m) c.requires.gathered
     (ap (λ octets. is_over h.room h.gathered (length octets)) (sym c.behind_id-octets.ensures) ∙ is_full _ (sym c.has_room.ensures.value ∙ c.if-not-has_room.true))

@@ -1,0 +1,708 @@
+//! The plain Rust twin of the loops `session-..` of giop_bench.
+use std::collections::BTreeMap;
+
+const CALLS: u32 = 1_000_000;
+const IDS: u32 = 512;
+const TOGETHER: u32 = 64;
+const PUT: usize = 16_384;
+const ROUNDS: u32 = 640;
+const CALLS_LIMIT: usize = 1024;
+const MESSAGE_LIMIT: u32 = 1 << 20;
+const GATHERED_LIMIT: usize = 8 << 20;
+const PIECE: usize = 4096;
+
+enum Desc {
+    Long,
+    Octets(u32),
+}
+
+enum Value {
+    Long(i32),
+    Octets(Vec<u8>),
+}
+
+#[derive(Debug)]
+#[allow(dead_code)]
+enum Kind {
+    Short,
+    BadCount,
+    BadString,
+    BadLabel,
+    OverBound,
+    Trailing,
+}
+
+#[derive(Debug)]
+#[allow(dead_code)]
+struct Fault {
+    at: usize,
+    kind: Kind,
+}
+
+#[derive(Debug)]
+#[allow(dead_code)]
+enum SessionFault {
+    BadMagic,
+    BadVersion,
+    ReservedFlags,
+    BadKind,
+    TooLarge,
+    FragmentSize,
+    WrongDirection,
+    NoId,
+    IdInUse,
+    Stray,
+    NotOpen,
+    StillOpen,
+    Unfit,
+    TooManyCalls,
+    GatherFull,
+}
+
+struct Operation {
+    ins: Vec<(Vec<u8>, Desc)>,
+    outs: Vec<(Vec<u8>, Desc)>,
+}
+
+type Interface = BTreeMap<Vec<u8>, Operation>;
+
+#[allow(dead_code)]
+enum Target {
+    Key(Vec<u8>),
+    Profile(u32, Vec<u8>),
+    Reference(u32, Vec<u8>, Vec<(u32, Vec<u8>)>),
+}
+
+#[allow(dead_code)]
+struct Request {
+    id: u32,
+    flags: u8,
+    target: Target,
+    operation: Vec<u8>,
+    contexts: Vec<(u32, Vec<u8>)>,
+    body: Vec<Value>,
+}
+
+struct Reply {
+    id: u32,
+    contexts: Vec<(u32, Vec<u8>)>,
+    outs: Vec<Value>,
+}
+
+// The joined octets of a message, of which the first has offset 12.
+struct Input<'a> {
+    octets: &'a [u8],
+    at: usize,
+}
+
+impl Input<'_> {
+    #[inline]
+    fn align(&mut self, n: usize) {
+        self.at = ((self.at + 12 + n - 1) & !(n - 1)) - 12;
+    }
+
+    #[inline]
+    fn field<const N: usize>(&mut self) -> Result<[u8; N], Fault> {
+        self.align(N);
+        match self.octets.get(self.at..self.at + N) {
+            Some(octets) => {
+                self.at += N;
+                Ok(octets.try_into().unwrap())
+            }
+            None => Err(self.fault(0, Kind::Short)),
+        }
+    }
+
+    fn fault(&self, back: usize, kind: Kind) -> Fault {
+        Fault {
+            at: self.at + 12 - back,
+            kind,
+        }
+    }
+
+    fn ulong(&mut self) -> Result<u32, Fault> {
+        Ok(u32::from_be_bytes(self.field()?))
+    }
+
+    fn count(&mut self) -> Result<usize, Fault> {
+        let count = self.ulong()? as usize;
+        if self.octets.len() - self.at < count {
+            return Err(self.fault(4, Kind::BadCount));
+        }
+        Ok(count)
+    }
+
+    fn octets(&mut self) -> Result<Vec<u8>, Fault> {
+        let count = self.count()?;
+        let octets = self.octets[self.at..self.at + count].to_vec();
+        self.at += count;
+        Ok(octets)
+    }
+
+    fn text(&mut self) -> Result<Vec<u8>, Fault> {
+        let count = self.count()?;
+        let counted = &self.octets[self.at..self.at + count];
+        let text = match counted.split_last() {
+            None => counted,
+            Some((0, text)) if !text.contains(&0) => text,
+            _ => return Err(self.fault(4, Kind::BadString)),
+        };
+        self.at += count;
+        Ok(text.to_vec())
+    }
+
+    fn tagged(&mut self) -> Result<Vec<(u32, Vec<u8>)>, Fault> {
+        let count = self.count()?;
+        let mut all = Vec::new();
+        for _ in 0..count {
+            let tag = self.ulong()?;
+            all.push((tag, self.octets()?));
+        }
+        Ok(all)
+    }
+
+    fn target(&mut self) -> Result<Target, Fault> {
+        Ok(match u16::from_be_bytes(self.field()?) {
+            0 => Target::Key(self.octets()?),
+            1 => Target::Profile(self.ulong()?, self.octets()?),
+            2 => Target::Reference(self.ulong()?, self.text()?, self.tagged()?),
+            _ => return Err(self.fault(2, Kind::BadLabel)),
+        })
+    }
+
+    fn value(&mut self, desc: &Desc) -> Result<Value, Fault> {
+        Ok(match desc {
+            Desc::Long => Value::Long(i32::from_be_bytes(self.field()?)),
+            Desc::Octets(bound) => {
+                let octets = self.octets()?;
+                if *bound > 0 && octets.len() > *bound as usize {
+                    return Err(self.fault(octets.len() + 4, Kind::OverBound));
+                }
+                Value::Octets(octets)
+            }
+        })
+    }
+
+    fn head(&mut self) -> Result<Request, Fault> {
+        let id = self.ulong()?;
+        let [flags] = self.field::<1>()?;
+        if !matches!(flags, 0 | 1 | 3) {
+            return Err(self.fault(1, Kind::BadLabel));
+        }
+        for _ in 0..3 {
+            self.field::<1>()?;
+        }
+        Ok(Request {
+            id,
+            flags,
+            target: self.target()?,
+            operation: self.text()?,
+            contexts: self.tagged()?,
+            body: Vec::new(),
+        })
+    }
+
+    fn body(&mut self, operation: &Operation) -> Result<Vec<Value>, Fault> {
+        self.align(8);
+        let mut values = Vec::new();
+        for (_, desc) in &operation.ins {
+            values.push(self.value(desc)?);
+        }
+        if self.at < self.octets.len() {
+            return Err(self.fault(0, Kind::Trailing));
+        }
+        Ok(values)
+    }
+}
+
+#[derive(Debug)]
+#[allow(dead_code)]
+enum RequestFault {
+    Header(Fault),
+    Operation,
+    Body(Fault),
+}
+
+fn decode(interface: &Interface, octets: &[u8]) -> Result<Request, RequestFault> {
+    let mut input = Input { octets, at: 0 };
+    let mut request = input.head().map_err(RequestFault::Header)?;
+    let operation = interface.get(&request.operation).ok_or(RequestFault::Operation)?;
+    request.body = input.body(operation).map_err(RequestFault::Body)?;
+    Ok(request)
+}
+
+// What is written: the octets, in big-endian order from offset 12.
+#[derive(Default)]
+struct Output {
+    octets: Vec<u8>,
+}
+
+impl Output {
+    #[inline]
+    fn align(&mut self, n: usize) {
+        let end = ((self.octets.len() + 12 + n - 1) & !(n - 1)) - 12;
+        self.octets.resize(end, 0);
+    }
+
+    #[inline]
+    fn field<const N: usize>(&mut self, field: [u8; N]) {
+        self.align(N);
+        self.octets.extend_from_slice(&field);
+    }
+
+    fn counted(&mut self, octets: &[u8]) -> Result<(), SessionFault> {
+        let count = u32::try_from(octets.len()).map_err(|_| SessionFault::Unfit)?;
+        self.field(count.to_be_bytes());
+        self.octets.extend_from_slice(octets);
+        Ok(())
+    }
+
+    fn tagged(&mut self, all: &[(u32, Vec<u8>)]) -> Result<(), SessionFault> {
+        let count = u32::try_from(all.len()).map_err(|_| SessionFault::Unfit)?;
+        self.field(count.to_be_bytes());
+        for (tag, octets) in all {
+            self.field(tag.to_be_bytes());
+            self.counted(octets)?;
+        }
+        Ok(())
+    }
+
+    fn value(&mut self, desc: &Desc, value: &Value) -> Result<(), SessionFault> {
+        match (desc, value) {
+            (Desc::Long, Value::Long(n)) => self.field(n.to_be_bytes()),
+            (Desc::Octets(_), Value::Octets(octets)) => self.counted(octets)?,
+            _ => return Err(SessionFault::Unfit),
+        }
+        Ok(())
+    }
+}
+
+fn encode(operation: &Operation, reply: &Reply) -> Result<Vec<u8>, SessionFault> {
+    if operation.outs.len() != reply.outs.len() {
+        return Err(SessionFault::Unfit);
+    }
+    let mut out = Output::default();
+    out.field(reply.id.to_be_bytes());
+    out.field(0u32.to_be_bytes());
+    out.tagged(&reply.contexts)?;
+    let end = out.octets.len();
+    out.align(8);
+    let padded = out.octets.len();
+    for ((_, desc), value) in operation.outs.iter().zip(&reply.outs) {
+        out.value(desc, value)?;
+    }
+    if out.octets.len() == padded {
+        out.octets.truncate(end);
+    }
+    Ok(out.octets)
+}
+
+#[derive(Clone, Copy)]
+struct Header {
+    more: bool,
+    kind: u8,
+    size: u32,
+}
+
+impl Header {
+    fn judge(octets: &[u8]) -> Result<Header, SessionFault> {
+        if octets[..4] != *b"GIOP" {
+            return Err(SessionFault::BadMagic);
+        }
+        if octets[4] != 1 || octets[5] != 2 {
+            return Err(SessionFault::BadVersion);
+        }
+        if octets[6] & !2 != 0 {
+            return Err(SessionFault::ReservedFlags);
+        }
+        if octets[7] > 7 {
+            return Err(SessionFault::BadKind);
+        }
+        let size = u32::from_be_bytes(octets[8..12].try_into().unwrap());
+        if size > MESSAGE_LIMIT {
+            return Err(SessionFault::TooLarge);
+        }
+        let more = octets[6] & 2 != 0;
+        if more && size % 8 != 4 {
+            return Err(SessionFault::FragmentSize);
+        }
+        Ok(Header {
+            more,
+            kind: octets[7],
+            size,
+        })
+    }
+
+    fn octets(self) -> [u8; 12] {
+        let [a, b, c, d] = self.size.to_be_bytes();
+        let flags = if self.more { 2 } else { 0 };
+        [b'G', b'I', b'O', b'P', 1, 2, flags, self.kind, a, b, c, d]
+    }
+}
+
+#[allow(dead_code)]
+enum Entry {
+    Gathering(Vec<u8>),
+    Asked(Request),
+    Undecoded(RequestFault),
+    Answered {
+        request: Request,
+        reply: Reply,
+        // The messages that aren't put out yet.
+        left: Vec<Vec<u8>>,
+    },
+}
+
+impl Entry {
+    fn is_closed(&self) -> bool {
+        matches!(self, Entry::Answered { left, .. } if left.is_empty())
+    }
+}
+
+struct Server<'a> {
+    interface: &'a Interface,
+    unread: Vec<u8>,
+    table: BTreeMap<u32, Entry>,
+    gathered: usize,
+    outgoing: Vec<u8>,
+}
+
+impl<'a> Server<'a> {
+    fn new(interface: &'a Interface) -> Server<'a> {
+        Server {
+            interface,
+            unread: Vec::new(),
+            table: BTreeMap::new(),
+            gathered: 0,
+            outgoing: Vec::new(),
+        }
+    }
+
+    #[inline(never)]
+    fn feed(&mut self, octets: &[u8]) -> Result<(), SessionFault> {
+        self.unread.extend_from_slice(octets);
+        let unread = std::mem::take(&mut self.unread);
+        let mut at = 0;
+        let mut fed = Ok(());
+        while fed.is_ok() && unread.len() - at >= 12 {
+            match Header::judge(&unread[at..at + 12]) {
+                Ok(header) => {
+                    let end = at + 12 + header.size as usize;
+                    let Some(payload) = unread.get(at + 12..end) else {
+                        break;
+                    };
+                    fed = self.hear(header, payload);
+                    at = end;
+                }
+                Err(fault) => fed = Err(fault),
+            }
+        }
+        self.unread = unread;
+        self.unread.drain(..at);
+        fed
+    }
+
+    fn hear(&mut self, header: Header, payload: &[u8]) -> Result<(), SessionFault> {
+        let (id, behind) = payload.split_first_chunk::<4>().ok_or(SessionFault::NoId)?;
+        let id = u32::from_be_bytes(*id);
+        match (header.kind, header.more) {
+            (0, true) => self.begin(id, payload),
+            (0, false) => self.come(id, payload),
+            (7, true) => self.add(id, behind),
+            (7, false) => self.complete(id, behind),
+            _ => Err(SessionFault::WrongDirection),
+        }
+    }
+
+    fn is_free(&self, id: u32) -> Result<(), SessionFault> {
+        match self.table.get(&id) {
+            Some(entry) if !entry.is_closed() => Err(SessionFault::IdInUse),
+            None if self.table.len() >= CALLS_LIMIT => Err(SessionFault::TooManyCalls),
+            _ => Ok(()),
+        }
+    }
+
+    fn has_room(&self, more: usize) -> Result<(), SessionFault> {
+        if more > GATHERED_LIMIT - self.gathered {
+            return Err(SessionFault::GatherFull);
+        }
+        Ok(())
+    }
+
+    fn whole(&self, octets: &[u8]) -> Entry {
+        match decode(self.interface, octets) {
+            Ok(request) => Entry::Asked(request),
+            Err(fault) => Entry::Undecoded(fault),
+        }
+    }
+
+    fn begin(&mut self, id: u32, octets: &[u8]) -> Result<(), SessionFault> {
+        self.is_free(id)?;
+        self.has_room(octets.len())?;
+        self.table.insert(id, Entry::Gathering(octets.to_vec()));
+        self.gathered += octets.len();
+        Ok(())
+    }
+
+    fn come(&mut self, id: u32, octets: &[u8]) -> Result<(), SessionFault> {
+        self.is_free(id)?;
+        let entry = self.whole(octets);
+        self.table.insert(id, entry);
+        Ok(())
+    }
+
+    fn add(&mut self, id: u32, octets: &[u8]) -> Result<(), SessionFault> {
+        self.has_room(octets.len())?;
+        let Some(Entry::Gathering(gathered)) = self.table.get_mut(&id) else {
+            return Err(SessionFault::Stray);
+        };
+        gathered.extend_from_slice(octets);
+        self.gathered += octets.len();
+        Ok(())
+    }
+
+    fn complete(&mut self, id: u32, octets: &[u8]) -> Result<(), SessionFault> {
+        self.has_room(octets.len())?;
+        let Some(Entry::Gathering(gathered)) = self.table.get_mut(&id) else {
+            return Err(SessionFault::Stray);
+        };
+        let mut joined = std::mem::take(gathered);
+        self.gathered -= joined.len();
+        joined.extend_from_slice(octets);
+        let entry = self.whole(&joined);
+        self.table.insert(id, entry);
+        Ok(())
+    }
+
+    #[inline(never)]
+    fn answer(&mut self, reply: Reply) -> Result<(), SessionFault> {
+        let id = reply.id;
+        let Some(entry) = self.table.get_mut(&id) else {
+            return Err(SessionFault::NotOpen);
+        };
+        let Entry::Asked(request) = entry else {
+            return Err(SessionFault::NotOpen);
+        };
+        let operation = self.interface.get(&request.operation).ok_or(SessionFault::Unfit)?;
+        let joined = encode(operation, &reply)?;
+        if joined.len() > GATHERED_LIMIT {
+            return Err(SessionFault::Unfit);
+        }
+        let left = put(&joined, &mut self.outgoing);
+        let Some(Entry::Asked(request)) = self.table.remove(&id) else {
+            return Err(SessionFault::NotOpen);
+        };
+        let answered = Entry::Answered {
+            request,
+            reply,
+            left,
+        };
+        self.table.insert(id, answered);
+        Ok(())
+    }
+
+    fn take(&mut self, id: u32) -> Result<Option<Entry>, SessionFault> {
+        match self.table.get(&id) {
+            Some(entry) if !entry.is_closed() => Err(SessionFault::StillOpen),
+            _ => Ok(self.table.remove(&id)),
+        }
+    }
+}
+
+fn append(header: Header, id: &[u8], octets: &[u8], out: &mut Vec<u8>) {
+    out.extend_from_slice(&header.octets());
+    out.extend_from_slice(id);
+    out.extend_from_slice(octets);
+}
+
+// Puts out the first message of a Reply, and gives the others.
+fn put(joined: &[u8], out: &mut Vec<u8>) -> Vec<Vec<u8>> {
+    let whole = |more, size: usize| Header {
+        more,
+        kind: 1,
+        size: size as u32,
+    };
+    if joined.len() + 12 <= PIECE {
+        append(whole(false, joined.len()), &[], joined, out);
+        return Vec::new();
+    }
+    let (first, rest) = joined.split_at(PIECE - 12);
+    append(whole(true, first.len()), &[], first, out);
+    let count = rest.len().div_ceil(PIECE - 16);
+    let parts = rest.chunks(PIECE - 16).enumerate();
+    parts
+        .map(|(k, part)| {
+            let mut message = Vec::with_capacity(part.len() + 16);
+            let header = Header {
+                more: k + 1 < count,
+                kind: 7,
+                size: part.len() as u32 + 4,
+            };
+            append(header, &joined[..4], part, &mut message);
+            message
+        })
+        .collect()
+}
+
+fn interface() -> Interface {
+    let named = |name: &[u8], desc| (name.to_vec(), desc);
+    let mut interface = BTreeMap::new();
+    let mut insert = |name: &[u8], ins, outs| interface.insert(name.to_vec(), Operation { ins, outs });
+    insert(b"ping", Vec::new(), Vec::new());
+    let ins = vec![named(b"a", Desc::Long), named(b"b", Desc::Long)];
+    insert(b"add", ins, vec![named(b"sum", Desc::Long)]);
+    insert(b"put", vec![named(b"o", Desc::Octets(0))], Vec::new());
+    interface
+}
+
+fn mixed(sum: u64, value: u64) -> u64 {
+    sum.wrapping_mul(1_099_511_628_211) ^ value
+}
+
+fn leaf(value: &Value) -> u64 {
+    match value {
+        Value::Long(n) => u64::from(n.to_le_bytes()[0]),
+        Value::Octets(octets) => octets.last().map_or(0, |octet| u64::from(*octet)),
+    }
+}
+
+fn checksum(sum: u64, request: &Request) -> u64 {
+    let sum = mixed(sum, u64::from(request.id));
+    let sum = mixed(sum, request.operation.len() as u64);
+    request.body.iter().fold(sum, |sum, value| mixed(sum, leaf(value)))
+}
+
+fn outs(request: &Request) -> Vec<Value> {
+    if request.operation != b"add" {
+        return Vec::new();
+    }
+    let sum = request.body.iter().fold(0, |sum: i32, value| match value {
+        Value::Long(n) => sum.wrapping_add(*n),
+        Value::Octets(_) => sum,
+    });
+    vec![Value::Long(sum)]
+}
+
+fn serve(end: &mut Server, id: u32, sum: u64) -> u64 {
+    let Some(Entry::Asked(request)) = end.table.get(&id) else {
+        panic!("nothing is asked");
+    };
+    let sum = checksum(sum, request);
+    let reply = Reply {
+        id,
+        contexts: Vec::new(),
+        outs: outs(request),
+    };
+    end.answer(reply).unwrap();
+    let n = end.outgoing.len();
+    let sum = mixed(sum, u64::from(*end.outgoing.last().unwrap()));
+    end.outgoing.drain(..n);
+    let sum = mixed(sum, n as u64);
+    match end.take(id).unwrap() {
+        Some(Entry::Answered { left, .. }) => mixed(sum, left.len() as u64),
+        _ => panic!("nothing is answered"),
+    }
+}
+
+fn set_id(message: &mut [u8], id: u32) {
+    message[12..16].copy_from_slice(&id.to_be_bytes());
+}
+
+// A Request, of an operation and the octets of its body.
+fn request(operation: &[u8], body: &[u8]) -> Vec<u8> {
+    let mut out = Output::default();
+    out.octets.extend_from_slice(&[0, 0, 0, 0, 3, 0, 0, 0, 0, 0, 0, 0]);
+    out.counted(b"k").unwrap();
+    out.counted(operation).unwrap();
+    out.field([0u8; 4]);
+    if !body.is_empty() {
+        out.align(8);
+        out.octets.extend_from_slice(body);
+    }
+    out.octets
+}
+
+fn message(header: Header, id: &[u8], octets: &[u8]) -> Vec<u8> {
+    let mut message = Vec::new();
+    append(header, id, octets, &mut message);
+    message
+}
+
+fn calls(waiting: u32) -> u64 {
+    let whole = |joined: Vec<u8>| {
+        let size = joined.len() as u32;
+        let header = Header {
+            more: false,
+            kind: 0,
+            size,
+        };
+        message(header, &[], &joined)
+    };
+    let mut ping = whole(request(b"ping\0", &[]));
+    let mut add = whole(request(b"add\0", &[0, 0, 0, 2, 0, 0, 0, 5]));
+    let interface = interface();
+    let mut end = Server::new(&interface);
+    let mut sum = 0;
+    for k in 0..CALLS {
+        let next = if k % 2 == 0 { &mut ping } else { &mut add };
+        set_id(next, k % IDS);
+        end.feed(next).unwrap();
+        if k + 1 >= waiting {
+            sum = serve(&mut end, (k + 1 - waiting) % IDS, sum);
+        }
+    }
+    for k in CALLS + 1 - waiting..CALLS {
+        sum = serve(&mut end, k % IDS, sum);
+    }
+    mixed(sum, end.unread.len() as u64)
+}
+
+// The messages of a Request of `put`, of 512 octets each.
+fn pieces() -> Vec<Vec<u8>> {
+    let mut body = (PUT as u32).to_be_bytes().to_vec();
+    body.extend((0..PUT).map(|n| (n % 251) as u8));
+    let joined = request(b"put\0", &body);
+    let (first, rest) = joined.split_at(500);
+    let header = |kind, more, size: usize| Header {
+        more,
+        kind,
+        size: size as u32,
+    };
+    let mut pieces = vec![message(header(0, true, 500), &[], first)];
+    let count = rest.len().div_ceil(496);
+    for (k, part) in rest.chunks(496).enumerate() {
+        let header = header(7, k + 1 < count, part.len() + 4);
+        pieces.push(message(header, &[0; 4], part));
+    }
+    pieces
+}
+
+fn put_all() -> u64 {
+    let mut pieces = pieces();
+    let interface = interface();
+    let mut end = Server::new(&interface);
+    let mut sum = 0;
+    for _ in 0..ROUNDS {
+        for piece in &mut pieces {
+            for id in 0..TOGETHER {
+                set_id(piece, id);
+                end.feed(piece).unwrap();
+            }
+        }
+        for id in 0..TOGETHER {
+            sum = serve(&mut end, id, sum);
+        }
+    }
+    mixed(sum, end.unread.len() as u64)
+}
+
+fn main() {
+    let name = std::env::args().nth(1).unwrap();
+    let sum = match name.as_str() {
+        "calls" => calls(1),
+        "calls-512" => calls(IDS),
+        "pieces" => put_all(),
+        _ => panic!("no such loop"),
+    };
+    println!("{sum}");
+}

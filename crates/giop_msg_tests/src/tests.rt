@@ -1,0 +1,11 @@
+mod cutting;
+mod framer;
+mod header;
+mod heads;
+mod memory_last;
+mod messages;
+mod replies;
+mod replies_written;
+mod request_head;
+mod request_id;
+mod streams;

@@ -1,0 +1,246 @@
+// Whole messages: the worked octets of each version, both ways, and each refusal.
+use giop_cdr::{CdrFault, CdrKind, EncodeFault, Order, SliceOctets};
+use giop_msg::{LocateReply, LocateRequest, Request, RequestFault, Version};
+use giop_types::{FormFault, Interface, Value, ValueList};
+use std::alloc::Global;
+use std::process::Abort;
+use std::test::Fail;
+
+const J: &[u8] =
+    b"{\"operations\":{\"ping\":{},\"add\":{\"ins\":[[\"a\",\"long\"],[\"b\",\"long\"]],\"outs\":[[\"sum\",\"long\"]]},\"list\":{\"ins\":[[\"items\",{\"sequence\":\"long\"}]]},\"tell\":{\"oneway\":true,\"ins\":[[\"t\",\"string\"]]}}}";
+
+// Request 4 of 1.2: `add` of 2 and 5, whose head ends at 44 and whose body stands at 48.
+pub const ADD: &[u8] = &[
+    0, 0, 0, 4, 3, 0, 0, 0, 0, 0, 0, 0, 0, 0, 0, 1, 0x6B, 0, 0, 0, 0, 0, 0, 4, 0x61, 0x64, 0x64, 0,
+    0, 0, 0, 0, 0, 0, 0, 0, 0, 0, 0, 2, 0, 0, 0, 5,
+];
+
+// Request 1 of 1.0 and of 1.1: the same, whose body stands right behind the head, at 44.
+const EARLY_ADD: &[u8] = &[
+    0, 0, 0, 0, 0, 0, 0, 1, 1, 0, 0, 0, 0, 0, 0, 1, 0x6B, 0, 0, 0, 0, 0, 0, 4, 0x61, 0x64, 0x64, 0,
+    0, 0, 0, 0, 0, 0, 0, 2, 0, 0, 0, 5,
+];
+
+// Request 3: `list`, of more longs than there are octets.
+const LONG_LIST: &[u8] = &[
+    0, 0, 0, 3, 3, 0, 0, 0, 0, 0, 0, 0, 0, 0, 0, 1, 0x6B, 0, 0, 0, 0, 0, 0, 5, 0x6C, 0x69, 0x73,
+    0x74, 0, 0, 0, 0, 0, 0, 0, 0, 0xFF, 0xFF, 0xFF, 0xFF, 0, 0, 0, 0,
+];
+
+// Request 1: `ping` with a context (9, AA), whose head ends at 57; seven octets of padding, and one
+// more.
+const PADDED_PING: &[u8] = &[
+    0, 0, 0, 1, 3, 0, 0, 0, 0, 0, 0, 0, 0, 0, 0, 1, 0x6B, 0, 0, 0, 0, 0, 0, 5, 0x70, 0x69, 0x6E,
+    0x67, 0, 0, 0, 0, 0, 0, 0, 1, 0, 0, 0, 9, 0, 0, 0, 1, 0xAA, 0xFF, 0xFF, 0xFF, 0xFF, 0xFF, 0xFF,
+    0xFF, 0xFF,
+];
+
+// Reads the interface, again where memory was wanting.
+pub fn interface(alloc: Global) -> Result<Interface, FormFault> {
+    match Interface::from_json(alloc, J) {
+        Err(FormFault::NoMemory) => Interface::from_json(alloc, J),
+        answer => answer,
+    }
+}
+
+// Whether memory was wanting.
+fn is_want(fault: &RequestFault) -> bool {
+    match fault {
+        RequestFault::Header(fault) => fault.kind == CdrKind::NoMemory,
+        RequestFault::Operation => false,
+        RequestFault::Body(fault) => fault.kind == CdrKind::NoMemory,
+    }
+}
+
+// Decodes, again where memory was wanting.
+pub fn decode(
+    alloc: Global,
+    interface: &Interface,
+    octets: &[u8],
+    version: Version,
+) -> Result<Request, RequestFault> {
+    let octets = SliceOctets::new(&octets[..octets.len().min(64)]);
+    match Request::decode(alloc, interface, &octets, version, Order::Big) {
+        Err(fault) if is_want(&fault) => {
+            Request::decode(alloc, interface, &octets, version, Order::Big)
+        }
+        answer => answer,
+    }
+}
+
+// Encodes, again where memory was wanting.
+fn encode(
+    alloc: Global,
+    interface: &Interface,
+    request: &Request,
+    order: Order,
+) -> Result<Vec<u8>, EncodeFault> {
+    match request.encode(alloc, interface, order) {
+        Err(EncodeFault::NoMemory) => request.encode(alloc, interface, order),
+        answer => answer,
+    }
+}
+
+fn reply(alloc: Global, octets: &[u8]) -> Result<LocateReply, CdrFault> {
+    let joined = SliceOctets::new(&octets[..octets.len().min(64)]);
+    match LocateReply::decode(alloc, &joined, Version::V12, Order::Big) {
+        Err(fault) if fault.kind == CdrKind::NoMemory => {
+            LocateReply::decode(alloc, &joined, Version::V12, Order::Big)
+        }
+        answer => answer,
+    }
+}
+
+fn locate(alloc: Global, octets: &[u8]) -> Result<LocateRequest, CdrFault> {
+    let joined = SliceOctets::new(&octets[..octets.len().min(64)]);
+    match LocateRequest::decode(alloc, &joined, Version::V12, Order::Big) {
+        Err(fault) if fault.kind == CdrKind::NoMemory => {
+            LocateRequest::decode(alloc, &joined, Version::V12, Order::Big)
+        }
+        answer => answer,
+    }
+}
+
+pub fn at(at: usize, kind: CdrKind) -> CdrFault {
+    CdrFault { at, kind }
+}
+
+#[test]
+fn a_request_of_each_version_is_decoded_and_encoded(rt: HostRuntime) -> Result<(), Fail> {
+    let interface = interface(rt.alloc())?;
+    let cases: [(Version, &[u8], u32); 3] = [
+        (Version::V10, EARLY_ADD, 1),
+        (Version::V11, EARLY_ADD, 1),
+        (Version::V12, ADD, 4),
+    ];
+    for (version, octets, id) in cases {
+        let request = decode(rt.alloc(), &interface, octets, version)
+            .ok()
+            .ok_or("no request")?;
+        assert_eq!(rt; (request.head.id, request.head.flags), (id, 3));
+        assert_eq!(rt; request.head.operation.as_slice(), b"add".as_slice());
+        assert_eq!(rt; request.body.len(), 2);
+        assert_eq!(rt; request.body.as_slice()[0], Value::Long(2));
+        assert_eq!(rt; request.body.as_slice()[1], Value::Long(5));
+        assert!(rt; request.is_writable(&interface));
+        let again = encode(rt.alloc(), &interface, &request, Order::Big)
+            .ok()
+            .ok_or("not encoded")?;
+        assert_eq!(rt; again.as_slice(), octets);
+    }
+    Ok(())
+}
+
+#[test]
+fn an_empty_body_may_have_a_part_of_its_padding(rt: HostRuntime) -> Result<(), Fail> {
+    let interface = interface(rt.alloc())?;
+    for pads in 0..8 {
+        let request = decode(
+            rt.alloc(),
+            &interface,
+            &PADDED_PING[..45 + pads],
+            Version::V12,
+        )
+        .ok()
+        .ok_or("no request")?;
+        assert_eq!(rt; (request.head.id, request.body.len()), (1, 0));
+        let again = encode(rt.alloc(), &interface, &request, Order::Big)
+            .ok()
+            .ok_or("not encoded")?;
+        assert_eq!(rt; again.as_slice(), &PADDED_PING[..45]);
+    }
+    let behind = decode(rt.alloc(), &interface, PADDED_PING, Version::V12).err();
+    assert_eq!(rt; behind, Some(RequestFault::Body(at(64, CdrKind::Trailing))));
+    Ok(())
+}
+
+#[test]
+fn a_body_is_refused_at_its_first_field(rt: HostRuntime) -> Result<(), Fail> {
+    let interface = interface(rt.alloc())?;
+    // A body that isn't there is short at the multiple of 8, whatever of its padding is there.
+    for pads in 0..5 {
+        let missing = decode(rt.alloc(), &interface, &ADD[..32 + pads], Version::V12).err();
+        assert_eq!(rt; missing, Some(RequestFault::Body(at(48, CdrKind::Short))));
+    }
+    let second = decode(rt.alloc(), &interface, &ADD[..40], Version::V12).err();
+    assert_eq!(rt; second, Some(RequestFault::Body(at(52, CdrKind::Short))));
+    let early = decode(rt.alloc(), &interface, &EARLY_ADD[..32], Version::V10).err();
+    assert_eq!(rt; early, Some(RequestFault::Body(at(44, CdrKind::Short))));
+    let count = decode(rt.alloc(), &interface, LONG_LIST, Version::V12).err();
+    assert_eq!(rt; count, Some(RequestFault::Body(at(48, CdrKind::BadCount))));
+    Ok(())
+}
+
+#[test]
+fn octets_behind_a_body_are_refused(rt: HostRuntime) -> Result<(), Fail> {
+    let interface = interface(rt.alloc())?;
+    let mut octets = [0; 48];
+    octets[..44].copy_from_slice(ADD);
+    let behind = decode(rt.alloc(), &interface, &octets, Version::V12).err();
+    assert_eq!(rt; behind, Some(RequestFault::Body(at(56, CdrKind::Trailing))));
+    Ok(())
+}
+
+#[test]
+fn a_head_is_refused_before_its_operation(rt: HostRuntime) -> Result<(), Fail> {
+    let interface = interface(rt.alloc())?;
+    let mut octets = [0; 44];
+    octets.copy_from_slice(ADD);
+    octets[24] = 0x62;
+    let unknown = decode(rt.alloc(), &interface, &octets, Version::V12).err();
+    assert_eq!(rt; unknown, Some(RequestFault::Operation));
+    octets[4] = 2;
+    let flags = decode(rt.alloc(), &interface, &octets, Version::V12).err();
+    assert_eq!(rt;
+        flags,
+        Some(RequestFault::Header(at(16, CdrKind::BadLabel)))
+    );
+    Ok(())
+}
+
+#[test]
+fn a_request_that_no_octets_spell_is_unfit(rt: HostRuntime) -> Result<(), Fail> {
+    let interface = interface(rt.alloc())?;
+    let mut request = decode(rt.alloc(), &interface, ADD, Version::V12)
+        .ok()
+        .ok_or("no request")?;
+    request.head.version = Version::V10;
+    request.head.flags = 1;
+    let flags = encode(rt.alloc(), &interface, &request, Order::Big).err();
+    assert_eq!(rt; flags, Some(EncodeFault::Unfit));
+    request.head.flags = 0;
+    request.body = ValueList::new(rt.alloc());
+    let values = encode(rt.alloc(), &interface, &request, Order::Little).err();
+    assert_eq!(rt; values, Some(EncodeFault::Unfit));
+    Ok(())
+}
+
+#[test]
+fn a_locate_reply_keeps_the_octets_behind_its_status(rt: HostRuntime) -> Result<(), Fail> {
+    let reply = reply(rt.alloc(), &[0, 0, 0, 6, 0, 0, 0, 1, 7, 8, 9])
+        .ok()
+        .ok_or("no reply")?;
+    assert_eq!(rt; (reply.head.id, reply.head.status), (6, 1));
+    assert_eq!(rt; reply.rest.as_slice(), [7, 8, 9].as_slice());
+    let again = match reply.encode(rt.alloc(), Order::Little) {
+        Ok(again) => again,
+        Err(_) => reply.encode(rt.alloc(), Order::Little)?,
+    };
+    assert_eq!(rt;
+        again.as_slice(),
+        [6, 0, 0, 0, 1, 0, 0, 0, 7, 8, 9].as_slice()
+    );
+    Ok(())
+}
+
+#[test]
+fn a_locate_request_is_encoded(rt: HostRuntime) -> Result<(), Fail> {
+    let octets = [0, 0, 0, 6, 0, 0, 0, 0, 0, 0, 0, 1, 0x6B];
+    let request = locate(rt.alloc(), &octets).ok().ok_or("no request")?;
+    let again = match request.encode(rt.alloc(), Order::Big) {
+        Ok(again) => again,
+        Err(_) => request.encode(rt.alloc(), Order::Big)?,
+    };
+    assert_eq!(rt; again.as_slice(), octets.as_slice());
+    Ok(())
+}

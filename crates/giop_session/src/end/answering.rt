@@ -1,0 +1,245 @@
+//! What a server's own program answers.
+ghost use Rattle.std.specs.Prelude.{◌≡◌, ◌<◌, ◌^◌, [], ◌∷◌, true, Some, None, Err, length, IfErr, IfOk, IfSome, IfNone, option_copied};
+ghost use Rattle.std.specs.FinMap as finite;
+ghost use Rattle.std.specs.Option.{option_map};
+ghost use Rattle.giop_msg.specs.declared.kind.Kind.TheVariants as message;
+ghost use Rattle.giop_msg.specs.Cut.{IsCut};
+ghost use Rattle.giop_calls.specs.ServerTable as table;
+ghost use Rattle.giop_calls.specs.declared.server.event.ServerEvent.TheVariants as event;
+ghost use Rattle.giop_calls.specs.Outcomes.{copied};
+ghost use Rattle.giop_session.specs.declared.plan.Plan.TheVariants.{Next};
+ghost use Rattle.giop_session.specs.CallTable.{rules_of};
+ghost use Rattle.giop_session.specs.Form.{IsForm};
+ghost use Rattle.giop_session.specs.Heard.{in_call};
+ghost use Rattle.giop_session.specs.Putting.{Puts};
+ghost use Rattle.giop_session.specs.Refused.{IsRefusal, unfit_unless};
+ghost use Rattle.giop_session.specs.Sending.{entry_of};
+ghost use Rattle.giop_session.specs.ServerAnswers.{answer_fault, IsAnswer, IsLocateAnswer, is_reply_sendable, locate_in, locate_of, located, question_in, question_of, reply_octets};
+
+use crate::end::ServerEnd;
+use crate::form::Form;
+use crate::heard::kept;
+use crate::local::{done, one_message, sent};
+use crate::plan::{Plan, Planned};
+use crate::putting::put;
+use crate::session_fault::SessionFault;
+use crate::unsent::Unsent;
+use giop_calls::{CallKind, Outcome, ServerEntry, ServerEvent};
+use giop_cdr::{OctetList, Order};
+use giop_msg::{Kind, LocateReply, LocateReplyHead, Reply, Request, Version};
+
+impl<'a> ServerEnd<'a> {
+    /// Answers a Request: the Reply is sent in a form (9.4.3), of which the first piece is put out
+    /// now, and `send` puts out each of the others. A Request that couldn't be decoded is answered
+    /// by a system exception alone.
+    ///
+    /// A failed end answers its fault. Else the first of these holds, where `NoMemory` may stand in
+    /// place of any: `NotOpen`, where no Request of this id waits for a Reply, or `WrongKind`, where
+    /// a LocateRequest does; `Unfit`, where the Reply has another version than its Request, no
+    /// octets spell it as a reply to this Request, they are more than the limit `gathered`, or a
+    /// message of them is larger than the limit `message`. A refusal changes nothing.
+    #[tactic(auto, using(crate::proofs::QuietLemmas::answer_quiet, crate::proofs::LocalLemmas::refused_puts, crate::proofs::LocalLemmas::answer_puts))]
+    pub fn answer(&mut self, reply: Reply, form: Form) -> Result<(), SessionFault>
+        requires { IsForm form }
+        ensures failed { (why : _) → self.old.fault ≡ Some why
+            → (result ≡ Err why) × (self.new ≡ self.old) }
+        ensures answered { self.old.fault ≡ None
+            → Puts (rules_of table.server_step table.is_closed table.is_gathering) in_call reply.id
+            (answer_fault self.old.interface.now self.old.limits
+            (question_of (entry_of (finite.get self.old.calls.table reply.id))) reply form)
+            (IsAnswer self.old.interface.now
+            (question_of (entry_of (finite.get self.old.calls.table reply.id))) reply form)
+            self.old.calls self.old.outgoing result self.new.calls self.new.outgoing }
+        ensures others { self.new ≡ record self.old {
+          calls = self.new.calls;
+          outgoing = self.new.outgoing;
+        } }
+    {
+        if let Some(fault) = self.fault {
+            return Err(fault);
+        }
+        let id = reply.id;
+        let Some(question) = self.question(id) else {
+            let event = ServerEvent::Answer { reply, pieces: 1 };
+            let answered = put(&mut self.calls, &mut self.outgoing, id, kept(event));
+            return done(id, answered);
+        };
+        let unsent = self.pieces_of_reply(question, &reply, form)?;
+        let pieces = unsent.len() as u32;
+        let planned = Planned {
+            event: ServerEvent::Answer { reply, pieces },
+            plan: Plan::Put(unsent),
+        };
+        done(id, put(&mut self.calls, &mut self.outgoing, id, planned))
+    }
+
+    /// Answers a LocateRequest in its version: that the object is here, or that it isn't known
+    /// (9.4.6). One that couldn't be decoded has no object that could be here.
+    ///
+    /// A failed end answers its fault. Else the first of these holds: `NotOpen`, where no
+    /// LocateRequest of this id waits for a LocateReply, or `WrongKind`, where a Request does;
+    /// `Unfit`, where the object of one that couldn't be decoded is said to be here; `NoMemory`. A
+    /// refusal changes nothing.
+    #[tactic(auto, using(crate::proofs::QuietLemmas::answer_locate_quiet))]
+    pub fn answer_locate(&mut self, id: u32, here: bool, order: Order) -> Result<(), SessionFault>
+        ensures failed { (why : _) → self.old.fault ≡ Some why
+            → (result ≡ Err why) × (self.new ≡ self.old) }
+        ensures answered { self.old.fault ≡ None
+            → Puts (rules_of table.server_step table.is_closed table.is_gathering) in_call id None
+            (IsLocateAnswer id here order
+            (locate_of here (entry_of (finite.get self.old.calls.table id))))
+            self.old.calls self.old.outgoing result self.new.calls self.new.outgoing }
+        ensures others { self.new ≡ record self.old {
+          calls = self.new.calls;
+          outgoing = self.new.outgoing;
+        } }
+    {
+        if let Some(fault) = self.fault {
+            return Err(fault);
+        }
+        let event = ServerEvent::AnswerLocate { here };
+        let planned = match self.locate_version(id, here) {
+            Some(version) => {
+                let Some(unsent) = self.located(version, order, id, here) else {
+                    return Err(SessionFault::NoMemory);
+                };
+                Planned {
+                    event,
+                    plan: Plan::Put(unsent),
+                }
+            }
+            None => kept(event),
+        };
+        done(id, put(&mut self.calls, &mut self.outgoing, id, planned))
+    }
+
+    /// Puts out the next piece of a Reply.
+    ///
+    /// A failed end answers its fault, and an id of which no piece is left is `NothingToSend`; else
+    /// `NoMemory` where memory is wanting. A refusal changes nothing.
+    #[tactic(auto, using(crate::proofs::QuietLemmas::server_send_quiet))]
+    pub fn send(&mut self, id: u32) -> Result<(), SessionFault>
+        ensures failed { (why : _) → self.old.fault ≡ Some why
+            → (result ≡ Err why) × (self.new ≡ self.old) }
+        ensures sent { self.old.fault ≡ None
+            → Puts (rules_of table.server_step table.is_closed table.is_gathering) in_call id None
+            (λ planned. planned ≡ record { event = event.Send; plan = Next })
+            self.old.calls self.old.outgoing result self.new.calls self.new.outgoing }
+        ensures others { self.new ≡ record self.old {
+          calls = self.new.calls;
+          outgoing = self.new.outgoing;
+        } }
+    {
+        if let Some(fault) = self.fault {
+            return Err(fault);
+        }
+        let planned = Planned {
+            event: ServerEvent::Send,
+            plan: Plan::Next,
+        };
+        done(id, put(&mut self.calls, &mut self.outgoing, id, planned))
+    }
+
+    /// What the call of an id came to; `None` where nothing stands there. It takes no memory.
+    pub fn outcome(&self, id: u32) -> Option<Outcome<&Reply>>
+        ensures { option_map copied result ≡ option_map table.outcome
+            (entry_of (finite.get self.now.calls.table id)) }
+    {
+        match self.calls.slot(id) {
+            Some(slot) => Some(slot.entry.outcome()),
+            None => None,
+        }
+    }
+
+    // The Request that waits for a Reply, where one does; none inside where it couldn't be decoded.
+    fn question(&self, id: u32) -> Option<Option<&Request>>
+        ensures { option_map option_copied result
+            ≡ question_of (entry_of (finite.get self.now.calls.table id)) }
+    {
+        question_in(&self.calls.slot(id)?.entry)
+    }
+
+    // The messages that a Reply to a Request is sent in.
+    #[tactic(auto, using(crate::proofs::LocalLemmas::refused_unsent))]
+    fn pieces_of_reply(
+        &self,
+        question: Option<&Request>,
+        reply: &Reply,
+        form: Form,
+    ) -> Result<Unsent, SessionFault>
+        requires { IsForm form }
+        ensures ok { IfOk result (λ messages. unfit_unless
+            (is_reply_sendable self.now.interface.now self.now.limits
+            (option_copied question.entry) reply.now form) ≡ None) }
+        ensures cut { IfOk result (λ messages. IsCut reply.now.version message.Reply form.order
+            (reply_octets self.now.interface.now (option_copied question.entry) reply.now
+            form.order) form.piece messages) }
+        ensures few { IfOk result (λ messages. length messages < 2 ^ 32) }
+        ensures err { IfErr result (IsRefusal reply.now.id (unfit_unless
+            (is_reply_sendable self.now.interface.now self.now.limits
+            (option_copied question.entry) reply.now form))) }
+    {
+        let encoded = reply.encode(self.alloc, self.interface, question, form.order);
+        let (alloc, limits, version) = (self.alloc, self.limits, reply.version);
+        sent(alloc, limits, version, Kind::Reply, form, reply.id, encoded)
+    }
+
+    // The version of the LocateRequest that waits for this LocateReply, where one does.
+    fn locate_version(&self, id: u32, here: bool) -> Option<Version>
+        ensures { result ≡ locate_of here (entry_of (finite.get self.now.calls.table id)) }
+    {
+        locate_in(here, &self.calls.slot(id)?.entry)
+    }
+
+    // The LocateReply to a LocateRequest. `None` where memory is wanting.
+    #[tactic(auto, using(crate::proofs::LocatedLemmas::located_short))]
+    fn located(&self, version: Version, order: Order, id: u32, here: bool) -> Option<Unsent>
+        ensures { IfSome result (λ unsent. unsent ≡ located version order id here ∷ []) }
+    {
+        let reply = LocateReply {
+            head: LocateReplyHead {
+                version,
+                id,
+                status: here as u32,
+            },
+            rest: OctetList::new(self.alloc),
+        };
+        let Ok(joined) = reply.encode(self.alloc, order) else {
+            return None;
+        };
+        one_message(
+            self.alloc,
+            version,
+            Kind::LocateReply,
+            order,
+            joined.as_slice(),
+        )
+        .ok()
+    }
+}
+
+// The Request that waits for a Reply, where one does.
+fn question_in(entry: &ServerEntry) -> Option<Option<&Request>>
+    ensures { option_map option_copied result ≡ question_in entry.now }
+{
+    match entry {
+        ServerEntry::Asked { request } => Some(Some(request)),
+        ServerEntry::Undecoded { call } if call.expects == Some(CallKind::Request) => Some(None),
+        _ => None,
+    }
+}
+
+// The version of the LocateRequest that waits for this LocateReply, where one does: no object of one
+// that couldn't be decoded is here.
+fn locate_in(here: bool, entry: &ServerEntry) -> Option<Version>
+    ensures { result ≡ locate_in here entry.now }
+{
+    match entry {
+        ServerEntry::LocateAsked { request } => Some(request.version),
+        ServerEntry::Undecoded { call } => match call.expects {
+            Some(CallKind::Locate) if !here => Some(call.version),
+            _ => None,
+        },
+        _ => None,
+    }
+}

@@ -1,0 +1,111 @@
+// The headline: what a run of an end leaves is told by what was said of each call. Each function's
+// contract is a law; the bodies are empty, and no program calls these.
+ghost use Rattle.std.specs.Prelude.{◌≡◌, ℕ, false, List, map, None, Some};
+ghost use Rattle.std.specs.FinMap as finite;
+ghost use Rattle.giop_cdr.specs.declared.order.Order.{Order};
+ghost use Rattle.giop_cdr.specs.Ending.{ended};
+ghost use Rattle.giop_msg.specs.declared.kind.Kind.{Kind};
+ghost use Rattle.giop_msg.specs.declared.kind.Kind.TheVariants as message;
+ghost use Rattle.giop_msg.specs.declared.msg.Msg.{Msg};
+ghost use Rattle.giop_msg.specs.declared.version.Version.{Version};
+ghost use Rattle.giop_msg.specs.Cut.{CanCut, IsCut, joined};
+ghost use Rattle.giop_msg.specs.Locate.{locate_request};
+ghost use Rattle.giop_msg.specs.Messages.LocateReply.{locate_reply};
+ghost use Rattle.giop_msg.specs.Messages.Reply.{reply};
+ghost use Rattle.giop_msg.specs.Messages.Request.{request};
+ghost use Rattle.giop_calls.specs.declared.client.call.Call.TheVariants as question;
+ghost use Rattle.giop_calls.specs.declared.client.heard.HeardReply.TheVariants as answer;
+ghost use Rattle.giop_calls.specs.declared.server.heard.HeardCall.TheVariants as call;
+ghost use Rattle.giop_types.specs.declared.json.interface.Interface.{Interface};
+ghost use Rattle.giop_session.specs.declared.limits.Limits.{Limits};
+ghost use Rattle.giop_session.specs.CallTable.{at, Held, turn};
+ghost use Rattle.giop_session.specs.Carries.{CarriesItem, Got, IsSeries, IsWrittenAs, behind_all};
+ghost use Rattle.giop_session.specs.ClientCarries.{ClientItem, answered, client_telling, unknown};
+ghost use Rattle.giop_session.specs.EndRuns.{ClientTakes, ServerTakes};
+ghost use Rattle.giop_session.specs.Events.{Comes, Event, Follows, Meets, own_events};
+ghost use Rattle.giop_session.specs.Inputs.{Holds};
+ghost use Rattle.giop_session.specs.Sending.{entry_of};
+ghost use Rattle.giop_session.specs.ServerCarries.{ServerItem, server_telling};
+
+use crate::Hearing;
+
+/// Of messages that an end hears and what it does itself, of which none is refused, each call
+/// follows its own, one after another, and is refused none; whatever lies between them.
+pub fn each_call_of_a_run<R: Hearing>(rule: &R)
+    ensures { (interface : Interface) (h k : Held R R.Entry) (events : List (Event R.Event))
+        → Meets R.next R.closed R.gathering R.in_call R.breaks (R.befalls interface) h events k
+        → (id : ℕ) → Follows (turn (R.next h.rule) (R.closed h.rule) R.gathering)
+        (R.befalls interface) (at h id) (own_events id events) (at k id) }
+{}
+
+/// Of inputs to a server's end, octets in reads of any size and its own acts, of which none is
+/// refused: where they hold these items for each id, of messages in however many Fragments and in
+/// whatever byte order, interleaved in any way, the entry of each id is what its items alone leave.
+///
+/// So two runs that hold, for each id, the same calls in the same order end in the same entries,
+/// whatever their limits.
+pub fn same_calls_same_entries_at_server()
+    ensures value { (interface : Interface) (limits : Limits) (inputs : _) (left : _) (k : _)
+        (calls : ℕ → List ServerItem)
+        → ServerTakes interface limits inputs left k
+        → Holds (server_telling interface) None limits.message inputs calls
+        → (id : ℕ) → entry_of (finite.get k.table id)
+        ≡ behind_all (server_telling interface) None (calls id) }
+    ensures same { (interface : Interface) (limits limits' : Limits) (one other : _)
+        (left left' : _) (k k' : _) (calls : ℕ → List ServerItem)
+        → ServerTakes interface limits one left k → ServerTakes interface limits' other left' k'
+        → Holds (server_telling interface) None limits.message one calls
+        → Holds (server_telling interface) None limits'.message other calls
+        → (id : ℕ) → entry_of (finite.get k.table id) ≡ entry_of (finite.get k'.table id) }
+{}
+
+/// The same of a client's end, where a Reply counts by the value that it spells to the latest call
+/// of its id.
+pub fn same_calls_same_entries_at_client()
+    ensures value { (interface : Interface) (limits : Limits) (inputs : _) (left : _) (k : _)
+        (calls : ℕ → List ClientItem)
+        → ClientTakes interface limits inputs left k
+        → Holds (client_telling interface) unknown limits.message inputs calls
+        → (id : ℕ) → entry_of (finite.get k.table id)
+        ≡ (behind_all (client_telling interface) unknown (calls id)).entry }
+    ensures same { (interface : Interface) (limits limits' : Limits) (one other : _)
+        (left left' : _) (k k' : _) (calls : ℕ → List ClientItem)
+        → ClientTakes interface limits one left k → ClientTakes interface limits' other left' k'
+        → Holds (client_telling interface) unknown limits.message one calls
+        → Holds (client_telling interface) unknown limits'.message other calls
+        → (id : ℕ) → entry_of (finite.get k.table id) ≡ entry_of (finite.get k'.table id) }
+{}
+
+/// Whatever message is cut into pieces of any size, in either byte order, is one item: its pieces
+/// are a series whose joined octets are those that were cut. So a message of any of the four
+/// kinds that is written and cut is carried as the value that it is.
+pub fn what_is_cut_is_carried()
+    ensures series { (version : Version) (kind : Kind) (order : Order) (octets : List ℕ)
+        (piece : ℕ) (messages : List Msg)
+        → CanCut kind octets piece → IsCut version kind order octets piece messages
+        → IsSeries kind version order false messages × (joined messages ≡ octets) }
+    ensures request { (interface : Interface) (version : Version) (order : Order) (asked : _)
+        (piece : ℕ) (messages : List Msg) (entry : _)
+        → IsWrittenAs (request interface version) order asked message.Request piece version messages
+        → CarriesItem (server_telling interface) entry (Got (call.Request asked))
+        (map Comes messages) }
+    ensures locate { (interface : Interface) (version : Version) (order : Order) (asked : _)
+        (piece : ℕ) (messages : List Msg) (entry : _)
+        → IsWrittenAs (ended (locate_request version)) order asked message.LocateRequest piece
+        version messages
+        → CarriesItem (server_telling interface) entry (Got (call.Locate asked))
+        (map Comes messages) }
+    ensures reply { (interface : Interface) (version : Version) (order : Order) (asked told : _)
+        (piece : ℕ) (messages : List Msg) (known : _)
+        → answered known.entry known.latest ≡ Some (question.Request asked)
+        → IsWrittenAs (reply interface (Some asked) version) order told message.Reply piece version
+        messages
+        → CarriesItem (client_telling interface) known (Got (answer.Reply told))
+        (map Comes messages) }
+    ensures located { (interface : Interface) (version : Version) (order : Order) (asked told : _)
+        (piece : ℕ) (messages : List Msg) (known : _)
+        → answered known.entry known.latest ≡ Some (question.Locate asked)
+        → IsWrittenAs (locate_reply version) order told message.LocateReply piece version messages
+        → CarriesItem (client_telling interface) known (Got (answer.Locate told))
+        (map Comes messages) }
+{}

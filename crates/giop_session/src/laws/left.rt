@@ -1,0 +1,60 @@
+// As many messages are still to be sent as an entry says. Each function's contract is a law; the
+// bodies are empty, and no program calls these.
+ghost use Rattle.std.specs.Prelude.{◌≡◌, ℕ, List, Some};
+ghost use Rattle.std.specs.FinMap as finite;
+ghost use Rattle.giop_types.specs.declared.json.interface.Interface.{Interface};
+ghost use Rattle.giop_calls.specs.ClientTable as client;
+ghost use Rattle.giop_calls.specs.ServerTable as server;
+ghost use Rattle.giop_calls.specs.declared.client.entry.ClientEntry.{ClientEntry};
+ghost use Rattle.giop_calls.specs.declared.client.event.ClientEvent.{ClientEvent};
+ghost use Rattle.giop_calls.specs.declared.client.rule.ClientRule.{ClientRule};
+ghost use Rattle.giop_calls.specs.declared.server.entry.ServerEntry.{ServerEntry};
+ghost use Rattle.giop_calls.specs.declared.server.event.ServerEvent.{ServerEvent};
+ghost use Rattle.giop_calls.specs.declared.server.rule.ServerRule.{ServerRule};
+ghost use Rattle.giop_session.specs.declared.limits.Limits.{Limits};
+ghost use Rattle.giop_session.specs.Begun.{no_calls};
+ghost use Rattle.giop_session.specs.CallTable.{Held};
+ghost use Rattle.giop_session.specs.ClientCalls.{IsCall, IsCancel, IsLocate};
+ghost use Rattle.giop_session.specs.ClientHears.{client_befalls, client_breaks};
+ghost use Rattle.giop_session.specs.Events.{Event, Meets};
+ghost use Rattle.giop_session.specs.Heard.{in_call};
+ghost use Rattle.giop_session.specs.LeftToSend.{ArePlanned, ClientPlans, IsLeft, ServerPlans};
+ghost use Rattle.giop_session.specs.ServerAnswers.{IsAnswer, IsLocateAnswer};
+ghost use Rattle.giop_session.specs.ServerHears.{server_befalls, server_breaks};
+
+/// Of messages that a server's end hears and what it does itself, of which none is refused, where a
+/// Reply is planned in as many messages as its event says, a LocateReply in one, and a further piece
+/// as the next: of each call as many messages are still to be sent as its entry says to be left. So
+/// `send` has one wherever it is accepted. `ServerEnd::answer`, `answer_locate` and `send` plan so.
+pub fn what_is_left_is_unsent_at_server()
+    ensures answered { (interface : Interface) (question : _) (answer : _) (form : _) (planned : _)
+        → IsAnswer interface (Some question) answer form planned
+        → ServerPlans planned.event planned.plan }
+    ensures located { (id : ℕ) (here : _) (order : _) (version : _) (planned : _)
+        → IsLocateAnswer id here order (Some version) planned
+        → ServerPlans planned.event planned.plan }
+    ensures left { (interface : Interface) (limits : Limits) (events : List (Event ServerEvent))
+        (k : Held ServerRule ServerEntry)
+        → Meets (λ rule. server.server_step) (λ rule. server.is_closed) server.is_gathering in_call
+        server_breaks (server_befalls interface) (no_calls (record {}) limits) events k
+        → ArePlanned ServerPlans events → (id : ℕ)
+        → IsLeft server.left_of (finite.get k.table id) }
+{}
+
+/// The same of a client's end, where a call is planned in as many messages as its event says, a
+/// CancelRequest in one, in place of those that were left, and a further piece as the next.
+/// `ClientEnd::call`, `locate`, `cancel` and `send` plan so.
+pub fn what_is_left_is_unsent_at_client()
+    ensures called { (interface : Interface) (asked : _) (form : _) (planned : _)
+        → IsCall interface asked form planned → ClientPlans planned.event planned.plan }
+    ensures located { (asked : _) (form : _) (planned : _)
+        → IsLocate asked form planned → ClientPlans planned.event planned.plan }
+    ensures cancelled { (id : ℕ) (order : _) (version : _) (planned : _)
+        → IsCancel id order (Some version) planned → ClientPlans planned.event planned.plan }
+    ensures left { (interface : Interface) (limits : Limits) (events : List (Event ClientEvent))
+        (k : Held ClientRule ClientEntry)
+        → Meets (λ rule. client.client_step) (λ rule. client.is_closed) client.is_gathering in_call
+        client_breaks (client_befalls interface) (no_calls (record {}) limits) events k
+        → ArePlanned ClientPlans events → (id : ℕ)
+        → IsLeft client.left_of (finite.get k.table id) }
+{}

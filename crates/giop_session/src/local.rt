@@ -1,0 +1,99 @@
+//! What the calls of an end's own program have in common at both sides.
+ghost use Rattle.std.specs.Prelude.{◌≡◌, ◌⊎◌, ◌<◌, ◌^◌, [], ◌∷◌, false, true, length, IfErr, IfNone, IfOk, IfSome, IsOk, Err};
+ghost use Rattle.giop_msg.specs.Cut.{IsCut, is_continued, message_of};
+ghost use Rattle.giop_calls.specs.declared.fault.CallFault.TheVariants.{Unfit};
+ghost use Rattle.giop_session.specs.Form.{is_sendable, IsForm};
+ghost use Rattle.giop_session.specs.Heard.{in_call, told_of};
+ghost use Rattle.giop_session.specs.Refused.{IsNotSent};
+ghost use Rattle.giop_session.specs.declared.session_fault.SessionFault.TheVariants.{NoMemory};
+
+use crate::form::Form;
+use crate::heard::told;
+use crate::limits::Limits;
+use crate::sendable::messages;
+use crate::sending::Sends;
+use crate::session_fault::SessionFault;
+use crate::table_fault::TableFault;
+use crate::unsent::Unsent;
+use giop_calls::CallFault;
+use giop_cdr::{EncodeFault, OctetList, Order};
+use giop_msg::{Kind, Msg, Version};
+use std::alloc::{AllocError, Global};
+
+/// What an end tells of an event of its own; `None` where there was no memory for its message.
+pub fn done(
+    id: u32,
+    answered: Option<Result<Sends<()>, TableFault<CallFault>>>,
+) -> Result<(), SessionFault>
+    ensures told { IfSome answered (λ answered. result ≡ told_of (in_call id) answered) }
+    ensures want { IfNone answered (result ≡ Err NoMemory) }
+{
+    match answered {
+        Some(answered) => told(id, answered),
+        None => Err(SessionFault::NoMemory),
+    }
+}
+
+/// The message of these octets behind its header, to be sent alone.
+pub fn one_message(
+    alloc: Global,
+    version: Version,
+    kind: Kind,
+    order: Order,
+    octets: &[u8],
+) -> Result<Unsent, AllocError>
+    requires { length octets.now < 2 ^ 32 }
+    ensures { IfOk result (λ unsent.
+        unsent ≡ message_of version kind order false octets.now ∷ []) }
+{
+    let mut messages = Vec::new(alloc);
+    messages.push(Msg {
+        version,
+        order,
+        more: false,
+        kind,
+        payload: OctetList::from_slice(alloc, octets)?,
+    })?;
+    Ok(Unsent::of(messages))
+}
+
+/// The messages of a kind that encoded joined octets are sent in, within the limits of an end, for
+/// the call of an id. Refused as Unfit where there are no such octets, or where the end doesn't send
+/// them; as NoMemory where memory is wanting.
+pub fn sent(
+    alloc: Global,
+    limits: Limits,
+    version: Version,
+    kind: Kind,
+    form: Form,
+    id: u32,
+    encoded: Result<Vec<u8>, EncodeFault>,
+) -> Result<Unsent, SessionFault>
+    requires kind { is_continued kind ≡ true }
+    requires form { IsForm form }
+    ensures there { IsOk result → IsOk encoded }
+    ensures sendable { IfOk result (λ messages. IfOk encoded (λ octets.
+        is_sendable limits.gathered limits.message version (length octets.items) form.piece
+        ≡ true)) }
+    ensures cut { IfOk result (λ messages. IfOk encoded (λ octets.
+        IsCut version kind form.order octets.items form.piece messages)) }
+    ensures few { IfOk result (λ messages. length messages < 2 ^ 32) }
+    ensures err { IfErr result (λ e. (e ≡ NoMemory) ⊎ ((e ≡ in_call id Unfit)
+        × IsNotSent (λ octets. is_sendable limits.gathered limits.message version
+        (length octets.items) form.piece) encoded)) }
+{
+    let refused = SessionFault::Call {
+        id,
+        fault: CallFault::Unfit,
+    };
+    let joined = match encoded {
+        Ok(joined) => joined,
+        Err(EncodeFault::Unfit) => return Err(refused),
+        Err(EncodeFault::NoMemory) => return Err(SessionFault::NoMemory),
+    };
+    match messages(alloc, limits, version, kind, form, joined.as_slice()) {
+        Ok(Some(messages)) => Ok(messages),
+        Ok(None) => Err(refused),
+        Err(_) => Err(SessionFault::NoMemory),
+    }
+}

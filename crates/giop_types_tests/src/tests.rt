@@ -1,0 +1,9 @@
+mod check;
+mod decoding;
+mod encoding;
+mod interface;
+mod json;
+mod memory;
+mod recorded;
+mod samples;
+mod values;

@@ -1,0 +1,7 @@
+use Rattle.giopctl.proofs.CheckLemmas.{checked}
+use Rattle.giopctl.proofs.commands.check.check_stream.Goals as goal
+
+pub returns-clause-text : goal.returns-clause-text
+returns-clause-text g c =
+    let heard = rw (c.new-end.ensures.interface, c.new-end.ensures.unread, c.new-end.ensures.calls, c.default.ensures) at c.in_ok-hear.ensures.heard in
+    checked c.args.interface.now _ _ _ _ _ _ _ c.write_last.result heard c.in_ok-write_table.ensures c.write_last.ensures.text c.write_last.ensures.ok

@@ -1,0 +1,113 @@
+-- What a run of `check` does: a server's end hears the octets of a file.
+use Rattle.std.specs.Prelude.{◌≡◌, ◌⊎◌, ℕ, ◌==◌, List, [], ◌++◌, Option, Some, None, Result, Ok, Err, ⊤, if◌then◌else◌, length}
+use Rattle.std.specs.Io.KnownBytes.{Appends}
+use Rattle.giop_msg.specs.declared.msg.Msg.{Msg}
+use Rattle.giop_msg.specs.Stream.{Unread}
+use Rattle.giop_types.specs.declared.json.form_fault.FormFault.{FormFault}
+use Rattle.giop_types.specs.declared.json.interface.Interface.{Interface}
+use Rattle.giop_types.specs.JsonForms.DescFromJson.{json_in}
+use Rattle.giop_types.specs.JsonForms.InterfaceFromJson.{interface_told, interface_view}
+use Rattle.giop_calls.specs.declared.server.entry.ServerEntry.{ServerEntry}
+use Rattle.giop_calls.specs.declared.server.rule.ServerRule.{ServerRule}
+use Rattle.giop_calls.specs.ServerTable.{server_step, is_closed, is_gathering}
+use Rattle.giop_session.specs.declared.limits.Limits.{Limits}
+use Rattle.giop_session.specs.declared.session_fault.SessionFault.{SessionFault}
+use Rattle.giop_session.specs.declared.session_fault.SessionFault.TheVariants.{Closed}
+use Rattle.giop_session.specs.Begun.{no_calls}
+use Rattle.giop_session.specs.CallTable.{Held}
+use Rattle.giop_session.specs.Feeding.{Fed, with_octets}
+use Rattle.giop_session.specs.Heard.{hears_by, in_call}
+use Rattle.giop_session.specs.ServerHears.{server_befalls, server_breaks}
+use Rattle.giopctl.specs.declared.status.Status.{Status}
+use Rattle.giopctl.specs.declared.status.Status.TheVariants.{Done, Refused, InputOutput, Memory}
+use Rattle.giopctl.specs.declared.lines.refusal.RefusalLine.TheVariants.{Form}
+use Rattle.giopctl.specs.Convert.{Tells}
+use Rattle.giopctl.specs.Dump.{ended}
+use Rattle.giopctl.specs.SessionLines.{last_line}
+use Rattle.giopctl.specs.Table.{server_entry_line, table_text}
+
+-- the status of a session that ended with a fault: an orderly end is none of its own
+abbrev pub fault_status : SessionFault → Status
+fault_status Closed = Done
+fault_status _ = Refused
+
+-- the status of an end with this fault, or with so many octets unread
+abbrev pub last_status : Option SessionFault → ℕ → Status
+last_status (Some why) unread = fault_status why
+last_status None unread = if unread == 0 then Done else Refused
+
+-- what an end answers at which this fault stands
+abbrev pub answer_of : Option SessionFault → Result (Unit {0}) SessionFault
+answer_of (Some why) = Err why
+answer_of None = Ok tt
+
+-- an end that heard octets, by what its messages do: at first these are unread and these its calls,
+-- in the end this fault stands, and these are its calls; octets are unread then of which the number
+-- counts where no fault stands
+pub record Hears {S : Type 0} (hears : Msg → S → Result (Unit {0}) SessionFault → S → Type 0)
+    (octets : List ℕ) (unread : Unread) (calls : S) (fault : Option SessionFault) (left : Unread)
+    (after : S) : Type 0 where
+  pub behind : Unread
+  pub fed : Fed hears (with_octets unread octets) calls (answer_of fault) behind after
+  pub whole : fault ≡ None → behind ≡ left
+
+-- the same of the octets that a reader gives, where they are known
+abbrev pub HeardKnown : {S : Type 0} → (Msg → S → Result (Unit {0}) SessionFault → S → Type 0)
+    → Option (List ℕ) → Unread → S → Option SessionFault → Unread → S → Type 0
+HeardKnown hears None unread calls fault left after = ⊤
+HeardKnown hears (Some octets) unread calls fault left after =
+    Hears hears octets unread calls fault left after
+
+-- what a server of an interface does by a message
+abbrev pub server_hears : Interface → Msg → Held ServerRule ServerEntry
+    → Result (Unit {0}) SessionFault → Held ServerRule ServerEntry → Type 0
+server_hears interface =
+    hears_by (λ rule. server_step) (λ rule. is_closed) is_gathering in_call server_breaks
+    (server_befalls interface)
+
+-- the limits of an end where none are given
+abbrev pub default_limits : Limits
+default_limits = record { calls = 1024; message = 1048576; gathered = 8388608 }
+
+-- nothing is read
+abbrev pub nothing_read : Unread
+nothing_read = record { limit = default_limits.message; octets = [] }
+
+-- the text of a server's end: its table, and the last line
+abbrev pub end_text : Interface → Held ServerRule ServerEntry → Option SessionFault → ℕ → List ℕ
+end_text interface calls fault unread =
+    table_text (server_entry_line interface) calls.table ++ ended (last_line fault unread)
+
+-- a new server's end of an interface heard these octets, the writer's contents grew by its text,
+-- and this is its status
+pub record IsChecked (interface : Interface) (octets : List ℕ) (old new : Option (List ℕ))
+    (status : Status) : Type 0 where
+  pub fault : Option SessionFault
+  pub left : Unread
+  pub calls : Held ServerRule ServerEntry
+  pub heard :
+      Hears (server_hears interface) octets nothing_read (no_calls (record {}) default_limits) fault
+      left calls
+  pub text : Appends old new (end_text interface calls fault (length left.octets))
+  pub is : status ≡ last_status fault (length left.octets)
+
+-- what a check of these octets does to the writer's contents, by the status that it answers
+abbrev pub Checks : Interface → List ℕ → Option (List ℕ) → Option (List ℕ) → Status → Type 0
+Checks interface octets old new InputOutput = ⊤
+Checks interface octets old new Memory = ⊤
+Checks interface octets old new status = IsChecked interface octets old new status
+
+-- the same of the octets that a reader gives, where they are known and nothing failed
+abbrev pub ChecksKnown : Interface → Option (List ℕ) → Option (List ℕ) → Option (List ℕ) → Status
+    → Type 0
+ChecksKnown interface None old new status = ⊤
+ChecksKnown interface (Some octets) old new status = IsChecked interface octets old new status
+
+-- the same by the interface that a JSON text is; where it is none, its fault is told, and no other
+abbrev pub ChecksText : List ℕ → Option (List ℕ) → Option (List ℕ) → Option (List ℕ) → Status
+    → Type 0
+ChecksText text octets old new status =
+    ((interface : Interface) × (interface_told (json_in text) ≡ Ok (interface_view interface))
+    × ChecksKnown interface octets old new status)
+    ⊎ ((status ≡ Refused) × ((e : FormFault) × (interface_told (json_in text) ≡ Err e)
+    × Tells old new (Form e)))

@@ -1,0 +1,39 @@
+//! Files, and the standard input.
+
+use crate::commands::BehindFault;
+use crate::failure::Failure;
+use std::io::Read;
+use std::{fs, io};
+
+/// The output is written in pieces of so many octets.
+pub const OUTPUT_BUFFER: usize = 65_536;
+
+/// The octets of a file, or of the standard input where it is `-`.
+pub fn read(rt: &HostRuntime, file: &str) -> Result<Vec<u8>, Failure> {
+    if file != "-" {
+        return fs::read(rt, file).map_err(Failure::input);
+    }
+    let mut octets = Vec::new(rt.alloc());
+    match rt.reader().read_to_end(&mut octets) {
+        Ok(_) => Ok(octets),
+        Err(error) => Err(Failure::input(error)),
+    }
+}
+
+/// A file to be read piece by piece. A regular one is read to its end even behind a fault; a pipe
+/// or a device may have none.
+pub fn opened(rt: &HostRuntime, file: &str) -> Result<(fs::File, BehindFault), Failure> {
+    match open(rt, file) {
+        Ok(opened) => Ok(opened),
+        Err(error) => Err(Failure::input(error)),
+    }
+}
+
+fn open(rt: &HostRuntime, file: &str) -> io::Result<(fs::File, BehindFault)> {
+    let file = fs::File::open(rt, file)?;
+    let behind = match file.metadata()?.is_file() {
+        true => BehindFault::Read,
+        false => BehindFault::Leave,
+    };
+    Ok((file, behind))
+}
