@@ -79,6 +79,7 @@ pub record Lane : Type 0 where
   pub unanswered : List Message
   pub to_client : List Message
 
+-- where nothing was ever said
 abbrev pub new : Lane
 new = record {
   client = record { entry = None; pieces = []; uses = 0 };
@@ -89,56 +90,60 @@ new = record {
   to_client = [];
 }
 
--- the first piece of a message of which these come behind it, and those
+-- whether a message ends with the piece behind which these come
 abbrev pub is_last : List Piece → Bool
 is_last [] = true
 is_last (piece ∷ pieces) = false
 
+-- the pieces behind the first one, as the messages that bring them
 abbrev pub fragments : List Piece → List Message
 fragments [] = []
 fragments (piece ∷ pieces) = Continues (is_last pieces) piece ∷ fragments pieces
 
--- which message a call is, and in which version
+-- which message a call is
 abbrev pub kind_of : Call → CallKind
 kind_of (asked.Request request) = kind.Request
 kind_of (asked.Locate request) = kind.Locate
 
+-- in which version it is
 abbrev pub version_of : Call → Version
 version_of (asked.Request request) = request.head.version
 version_of (asked.Locate request) = request.version
 
--- what is gathered behind a message, and how many calls began by then
+-- what is gathered behind a message
 abbrev pub gathered : List Piece → Message → List Piece
 gathered pieces (Opens kind version false piece) = piece ∷ []
 gathered pieces (Continues false piece) = pieces ++ piece ∷ []
 gathered pieces _ = []
 
+-- how many calls began by then
 abbrev pub begun : ℕ → Message → ℕ
 begun uses (Opens kind version last piece) = uses + 1
 begun uses (Continues last piece) = uses
 begun uses Stops = uses
 
--- the next message, if any, and those behind it
+-- the next message, if any
 abbrev pub next : List Message → List Message
 next [] = []
 next (m ∷ ms) = m ∷ []
 
+-- those behind it
 abbrev pub later : List Message → List Message
 later [] = []
 later (m ∷ ms) = ms
 
--- what a server answers a LocateRequest
+-- in which version a LocateRequest that stands at a server is answered, if one stands there
 abbrev pub asked_in : Option ServerEntry → Option Version
 asked_in (Some (LocateAsked request)) = Some request.version
 asked_in (Some (Undecoded call)) = Some call.version
 asked_in _ = None
 
--- what an end comes to where it accepts what it is told: a refused message is nothing it could
--- come to, a refused act of its own changes nothing
+-- what an end comes to where it accepts a message: a refused one is nothing it could come to
 abbrev pub taken : {A : Type 0} → Result (Unit {0}) CallFault → A → Option A
 taken (Ok done) a = Some a
 taken (Err fault) a = None
 
+-- what the lane comes to by an act of an end's own: a refused one changes nothing
 abbrev pub tried : Result (Unit {0}) CallFault → (before after : Lane) → Option Lane
 tried (Ok done) before after = Some after
 tried (Err fault) before after = Some before
@@ -155,7 +160,7 @@ pub data Act : Type 0 where
   ToClient : Act
 
 module _ (codec : Codec) where
-  -- what a server is told by a message, and what it comes to
+  -- what a server is told by a message
   abbrev pub server_event : List Piece → Message → ServerEvent
   server_event pieces (Opens kind version true piece) =
       at_server.Whole (codec.read_call (piece ∷ []))
@@ -165,6 +170,7 @@ module _ (codec : Codec) where
   server_event pieces (Continues false piece) = at_server.More true
   server_event pieces Stops = at_server.Cancel
 
+  -- what it comes to by it
   abbrev pub served : Standing ServerEntry → Message → Option (Standing ServerEntry)
   served s m =
       let step = server.server_step s.entry (server_event s.pieces m) in
@@ -180,7 +186,7 @@ module _ (codec : Codec) where
   reading (Some (Gathering call)) pieces = codec.read_reply call pieces
   reading _ pieces = reply.Unread
 
-  -- what a client is told by a message, which is none that a client sends, and what it comes to
+  -- what a client is told by a message, but for a CancelRequest, which no server sends
   abbrev pub client_event : Standing ClientEntry → Message → Option ClientEvent
   client_event c (Opens kind version true piece) =
       Some (at_client.Whole kind version (reading c.entry (piece ∷ [])))
@@ -190,6 +196,7 @@ module _ (codec : Codec) where
   client_event c (Continues false piece) = Some (at_client.More true)
   client_event c Stops = None
 
+  -- what it comes to by it
   abbrev pub hears : Standing ClientEntry → Message → Option ClientEvent
       → Option (Standing ClientEntry)
   hears c m None = None
@@ -212,7 +219,7 @@ module _ (codec : Codec) where
   located (Some version) here =
       Opens kind.Locate version true (codec.locate_reply version here) ∷ []
 
-  -- the client calls, sends a further piece, cancels
+  -- the client calls, and puts the first piece on its way
   abbrev pub calls : Lane → Call → ℕ → Option Lane
   calls lane call n =
       let step = client.client_step lane.client.entry (at_client.Call call n) in
@@ -224,6 +231,7 @@ module _ (codec : Codec) where
         unsent = fragments rest;
       })
 
+  -- it sends a further piece
   abbrev pub sends : Lane → Option Lane
   sends lane =
       let step = client.client_step lane.client.entry at_client.Send in
@@ -233,6 +241,7 @@ module _ (codec : Codec) where
         unsent = later lane.unsent;
       })
 
+  -- it cancels, and sends no further piece
   abbrev pub cancels : Lane → Option Lane
   cancels lane =
       let step = client.client_step lane.client.entry at_client.Cancel in
@@ -242,7 +251,7 @@ module _ (codec : Codec) where
         unsent = [];
       })
 
-  -- the server answers, and sends a further piece
+  -- the server answers, and puts the first piece on its way
   abbrev pub answers : Lane → Reply → ℕ → Option Lane
   answers lane reply n =
       let step = server.server_step lane.server.entry (at_server.Answer reply n) in
@@ -254,6 +263,7 @@ module _ (codec : Codec) where
         unanswered = fragments rest;
       })
 
+  -- it answers a LocateRequest, in one message
   abbrev pub locates : Lane → Bool → Option Lane
   locates lane here =
       let step = server.server_step lane.server.entry (at_server.AnswerLocate here) in
@@ -263,6 +273,7 @@ module _ (codec : Codec) where
         unanswered = [];
       })
 
+  -- it sends a further piece
   abbrev pub sends_reply : Lane → Option Lane
   sends_reply lane =
       let step = server.server_step lane.server.entry at_server.Send in
@@ -272,17 +283,19 @@ module _ (codec : Codec) where
         unanswered = later lane.unanswered;
       })
 
-  -- what is on its way arrives, in order
+  -- the message that is longest on its way to the server arrives
   abbrev pub to_server : Lane → List Message → Option Lane
   to_server lane [] = Some lane
   to_server lane (m ∷ ms) =
       option_map (λ s. record lane { server = s; to_server = ms }) (served lane.server m)
 
+  -- and that to the client
   abbrev pub to_client : Lane → List Message → Option Lane
   to_client lane [] = Some lane
   to_client lane (m ∷ ms) = option_map (λ c. record lane { client = c; to_client = ms })
       (hears lane.client m (client_event lane.client m))
 
+  -- what an act leads to; where a value doesn't fit nothing is done
   abbrev pub step : Lane → Act → Option Lane
   step lane (Calls call n) = if codec.fits_call call then calls lane call n else Some lane
   step lane Sends = sends lane
@@ -311,6 +324,7 @@ IsRight lane = (q : Request) (r : Reply) → lane.client.entry ≡ Some (Done q 
     → (lane.server.entry ≡ Some (Answered (question.Request q) r 0))
     × (lane.server.uses ≡ lane.client.uses)
 
+-- and so the answer to a LocateRequest
 abbrev pub IsRightLocate : Lane → Type 0
 IsRightLocate lane = (q : _) (r : LocateReply) → lane.client.entry ≡ Some (LocateDone q r)
     → (here : Bool) × (lane.server.entry ≡ Some (LocateAnswered (Some q.target) here))
