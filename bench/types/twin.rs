@@ -2,6 +2,8 @@
 const VALUES: u32 = 100_000;
 const TIMES: u32 = 10;
 
+use std::collections::BTreeMap;
+
 #[allow(dead_code)]
 enum Desc {
     Boolean,
@@ -192,10 +194,65 @@ fn encode(desc: &Desc, value: &Value, out: &mut Output) -> Result<(), Unfit> {
     Ok(())
 }
 
-fn structs() -> Vec<u8> {
+// JSON, with the members of an object by the names' order.
+#[allow(dead_code)]
+enum Json {
+    Null,
+    Bool(bool),
+    Positive(u64),
+    Negative(i64),
+    Float(f64),
+    String(String),
+    Array(Vec<Json>),
+    Object(BTreeMap<String, Json>),
+}
+
+fn number(number: i64) -> Json {
+    match u64::try_from(number) {
+        Ok(number) => Json::Positive(number),
+        Err(_) => Json::Negative(number),
+    }
+}
+
+// The characters U+0000 to U+00FF stand for the octets.
+fn text_of(octets: &[u8]) -> String {
+    let mut text = String::with_capacity(octets.len());
+    for octet in octets {
+        text.push(char::from(*octet));
+    }
+    text
+}
+
+fn to_json(desc: &Desc, value: &Value) -> Json {
+    match (desc, value) {
+        (Desc::Boolean, Value::Boolean(b)) => Json::Bool(*b),
+        (Desc::Octet, Value::Octet(n)) => number(i64::from(*n)),
+        (Desc::UShort, Value::UShort(n)) => number(i64::from(*n)),
+        (Desc::Long, Value::Long(n)) => number(i64::from(*n)),
+        (Desc::LongLong, Value::LongLong(n)) => number(*n),
+        (Desc::Text(_), Value::Text(text)) => Json::String(text_of(text)),
+        (Desc::Members(members), Value::Members(values)) => {
+            let mut object = BTreeMap::new();
+            for ((name, member), value) in members.iter().zip(values) {
+                object.insert(text_of(name), to_json(member, value));
+            }
+            Json::Object(object)
+        }
+        (Desc::Items(item, _), Value::Items(values)) => {
+            let mut list = Vec::with_capacity(values.len());
+            for value in values {
+                list.push(to_json(item, value));
+            }
+            Json::Array(list)
+        }
+        _ => Json::Null,
+    }
+}
+
+fn structs(count: u32) -> Vec<u8> {
     let mut out = Output { octets: Vec::new() };
-    out.field(VALUES.to_be_bytes());
-    for i in 0..VALUES {
+    out.field(count.to_be_bytes());
+    for i in 0..count {
         out.field([7]);
         out.field(i64::from(i).to_be_bytes());
         out.field(17u32.to_be_bytes());
@@ -246,7 +303,12 @@ fn checksum(value: &Value) -> u64 {
 
 fn main() {
     let name = std::env::args().nth(1).unwrap();
-    let (item, message) = if name.starts_with("structs") {
+    let (item, message) = if name != "longs-read" && name != "longs-write" {
+        let count = match name.as_str() {
+            "json-write" => VALUES / 10,
+            "json-write-100" => VALUES * 10,
+            _ => VALUES,
+        };
         let members = vec![
             (b"a".to_vec(), Desc::Octet),
             (b"b".to_vec(), Desc::LongLong),
@@ -254,7 +316,7 @@ fn main() {
             (b"d".to_vec(), Desc::UShort),
             (b"e".to_vec(), Desc::Boolean),
         ];
-        (Desc::Members(members), structs())
+        (Desc::Members(members), structs(count))
     } else {
         (Desc::Long, longs())
     };
@@ -267,7 +329,13 @@ fn main() {
         decode(&desc, &mut input).unwrap()
     };
     let mut sum = 0;
-    if name.ends_with("read") {
+    if name.starts_with("json") {
+        let value = read();
+        sum = checksum(&value);
+        for _ in 0..TIMES {
+            std::hint::black_box(to_json(&desc, &value));
+        }
+    } else if name.ends_with("read") {
         for _ in 0..TIMES {
             sum = mixed(sum, checksum(&read()));
         }

@@ -1,7 +1,7 @@
 //! Values by their description: a sequence of 100,000 structs of an octet, a long long, a string of
 //! 16 octets, an unsigned short and a boolean, and a sequence of 100,000 longs, read and written.
-//! `bench/types/twin.rs` does the same in plain Rust. And 10,000 and 100,000 such structs as JSON,
-//! written, and written and read again, which have no twin.
+//! And 10,000 and 100,000 such structs as JSON, written, and written and read again.
+//! `bench/types/twin.rs` does the same in plain Rust, but for what reads JSON.
 use crate::work::mixed;
 use giop_cdr::{CdrIn, CdrOut, OctetList, Order, SliceOctets};
 use giop_types::{

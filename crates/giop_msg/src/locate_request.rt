@@ -205,7 +205,7 @@ fn view_request<'a, S: Octets>(
 }
 
 #[tactic(auto, unfolding(crate::specs::Locate::located), using(giop_cdr::proofs::Writing::WriterLemmas::grows_then, giop_cdr::proofs::Writing::WriterLemmas::grows_not))]
-fn append_located(version: Version, target: &Target, out: &mut CdrOut) -> Result<(), EncodeFault>
+fn append_located(version: Version, target: &Target, out: &mut CdrOut) -> Result<(), AllocError>
     requires { (located version).fits target.now ≡ true }
     ensures { Appends out.old result out.new ((located version).written target.now out.old) }
 {
@@ -218,7 +218,7 @@ fn append_located(version: Version, target: &Target, out: &mut CdrOut) -> Result
 
 // The fields in their order. Where memory is wanting a part of them is left.
 #[tactic(auto, unfolding(crate::specs::Locate::locate_request, giop_cdr::specs::Layout::field, giop_cdr::specs::Layout::number, giop_cdr::specs::Layout::gives), using(giop_cdr::proofs::Writing::WriterLemmas::grows_then, giop_cdr::proofs::Writing::WriterLemmas::grows_not))]
-fn append_request(request: &LocateRequest, out: &mut CdrOut) -> Result<(), EncodeFault>
+fn append_request(request: &LocateRequest, out: &mut CdrOut) -> Result<(), AllocError>
     requires { (locate_request request.now.version).fits request.now ≡ true }
     ensures { Appends out.old result out.new
         ((locate_request request.now.version).written request.now out.old) }

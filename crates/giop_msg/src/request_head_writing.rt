@@ -99,7 +99,7 @@ fn append_reserved_of(version: Version, out: &mut CdrOut) -> Result<(), AllocErr
 }
 
 // The fields of 1.2 in their order. Where memory is wanting a part of them is left.
-fn append_head_1_2(head: &RequestHead, out: &mut CdrOut) -> Result<(), EncodeFault>
+fn append_head_1_2(head: &RequestHead, out: &mut CdrOut) -> Result<(), AllocError>
     requires { request_head_1_2.fits head.now ≡ true }
     ensures { Appends out.old result out.new (request_head_1_2.written head.now out.old) }
 {
@@ -118,7 +118,7 @@ fn append_early_head(
     version: Version,
     head: &RequestHead,
     out: &mut CdrOut,
-) -> Result<(), EncodeFault>
+) -> Result<(), AllocError>
     requires { (early_request_head version).fits head.now ≡ true }
     ensures { Appends out.old result out.new
         ((early_request_head version).written head.now out.old) }
@@ -133,7 +133,7 @@ fn append_early_head(
     Ok(())
 }
 
-pub(crate) fn append_head(head: &RequestHead, out: &mut CdrOut) -> Result<(), EncodeFault>
+pub(crate) fn append_head(head: &RequestHead, out: &mut CdrOut) -> Result<(), AllocError>
     requires { (request_head head.now.version).fits head.now ≡ true }
     ensures { Appends out.old result out.new
         ((request_head head.now.version).written head.now out.old) }

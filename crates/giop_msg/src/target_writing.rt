@@ -7,7 +7,7 @@ ghost use Rattle.giop_ior.specs.Ior.{ior_layout, tagged_profile};
 ghost use Rattle.giop_msg.specs.Target.{object_key, target_layout};
 
 use crate::target::Target;
-use giop_cdr::{CdrOut, EncodeFault};
+use giop_cdr::CdrOut;
 use giop_ior::{Ior, TaggedProfile, write_ior};
 use std::alloc::AllocError;
 
@@ -47,15 +47,19 @@ fn append_profile(profile: &TaggedProfile, out: &mut CdrOut) -> Result<(), Alloc
     Ok(())
 }
 
-fn append_reference(ior: &Ior, out: &mut CdrOut) -> Result<(), EncodeFault>
+// A reference that is writable, so that it is refused for want of memory alone.
+pub(crate) fn append_reference(ior: &Ior, out: &mut CdrOut) -> Result<(), AllocError>
     requires { ior_layout.fits ior.now ≡ true }
     ensures { Appends out.old result out.new (ior_layout.written ior.now out.old) }
 {
-    write_ior(out, ior)
+    match write_ior(out, ior) {
+        Ok(()) => Ok(()),
+        Err(_) => Err(AllocError),
+    }
 }
 
 // A target of 1.2.
-pub(crate) fn append_target(target: &Target, out: &mut CdrOut) -> Result<(), EncodeFault>
+pub(crate) fn append_target(target: &Target, out: &mut CdrOut) -> Result<(), AllocError>
     requires { target_layout.fits target.now ≡ true }
     ensures { Appends out.old result out.new (target_layout.written target.now out.old) }
 {

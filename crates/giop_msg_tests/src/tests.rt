@@ -1,4 +1,5 @@
 mod cutting;
+mod early_bodies;
 mod framer;
 mod header;
 mod heads;

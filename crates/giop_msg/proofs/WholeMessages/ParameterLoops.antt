@@ -1,6 +1,6 @@
 -- Values of parameters that are read, judged or written one after the other by a loop.
 use Rattle.std.proofs.Common.{◌≡◌, ℕ, ◌+◌, ◌<◌, ◌≤◌, ◌&&◌, Bool, true, false, Ok, Err, List, [], ◌∷◌, ◌++◌, map, drop, get_or, length, refl, sym, ap, ◌∙◌, arith}
-use Rattle.std.proofs.lemmas.List.{append-nil}
+use Rattle.std.proofs.lemmas.List.{append-nil, length-map}
 use Rattle.std.proofs.Math.ListN.{drop_of_length-le}
 use Rattle.giop_cdr.specs.declared.fault.CdrFault.{CdrFault}
 use Rattle.giop_cdr.specs.Reading.Cursor.{Cursor}
@@ -161,6 +161,24 @@ as_many (p ∷ ps) (v ∷ vs) fit =
     second : (a b : Bool) → (a && b) ≡ true → b ≡ true
     second true b h = h
     second false b h = absurd cc
+
+pub fit_many : (ps : List Parameter) (vs : List Value)
+    → fields_fit (fields_in ps) (map value_view vs) ≡ true → length ps ≡ length vs
+fit_many ps vs fit = as_many ps (map value_view vs) fit ∙ length-map vs value_view
+
+-- of values that fit, the next one does
+pub fit_now : (ps : List Parameter) (vs : List Value) (i : ℕ) (p : Parameter) (v : Value)
+    → i < length ps → length ps ≡ length vs → p ≡ get_or ps i p → v ≡ get_or vs i v
+    → fields_fit (fields_in (drop i ps)) (map value_view (drop i vs)) ≡ true
+    → fits (checked_shape p.desc) (value_view v) ≡ true
+fit_now ps vs i p v lt many is has fit =
+    first (fits (checked_shape p.desc) (value_view v))
+    (fields_fit (fields_in (drop (i + 1) ps)) (map value_view (drop (i + 1) vs)))
+    (sym (fit_step ps vs i p v lt (omega arith) is has) ∙ fit)
+  where
+    first : (a b : Bool) → (a && b) ≡ true → a ≡ true
+    first true b h = refl
+    first false b h = absurd cc
 
 -- ---- writing
 

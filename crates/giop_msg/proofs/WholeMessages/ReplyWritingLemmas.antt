@@ -1,7 +1,6 @@
 -- What is written of a Reply, and which Replies fit.
 use Rattle.std.proofs.Common.{◌≡◌, ℕ, ◌==◌, ◌&&◌, Bool, true, false, if◌then◌else◌, List, length, map, Option, refl, sym, ap, subst, ◌∙◌, arith}
 use Rattle.std.proofs.lemmas.Bool.Decides.{nat_tests}
-use Rattle.std.proofs.lemmas.List.{length-map}
 use Rattle.giop_cdr.specs.declared.order.Order.{Order}
 use Rattle.giop_cdr.specs.Layout.{AreOctets, chosen, text, such, field, gives}
 use Rattle.giop_cdr.specs.declared.fault.CdrKind.TheVariants.{BadLabel}
@@ -26,27 +25,26 @@ use Rattle.giop_msg.specs.declared.version.Version.TheVariants.{V10, V11, V12}
 use Rattle.giop_msg.specs.Messages.Body.{body_of, fields_in, values}
 use Rattle.giop_msg.specs.Messages.Reply.{allowed, exception_of, head_in, is_known, listed, may_answer, no_exception, outs_for, reply, reply_body, status_of, user_exception}
 use Rattle.giop_msg.specs.ReplyHead.{reply_head}
-use Rattle.giop_msg.proofs.WholeMessages.ParameterLoops.{as_many}
 use Rattle.giop_msg.proofs.WholeMessages.ReplyLemmas.{reply_is}
 
--- as many values as outs
-pub outs_many : (interface : Interface) (outs : List Parameter) (body : ReplyBody) (vs : List Value) → body ≡ NoException (map value_view vs)
-    → (reply_body interface outs (status_of body)).fits body ≡ true → length outs ≡ length vs
+-- the outs fit
+pub outs_fit : (interface : Interface) (outs : List Parameter) (body : ReplyBody) (vs : List Value) → body ≡ NoException (map value_view vs)
+    → (reply_body interface outs (status_of body)).fits body ≡ true → fields_fit (fields_in outs) (map value_view vs) ≡ true
 unfolding reply_body chosen no_exception field gives values
-outs_many interface outs body vs is fit =
+outs_fit interface outs body vs is fit =
     let there : (fields_fit (fields_in outs) (map value_view vs) && true) ≡ true
     = subst (λ (b : ReplyBody). (reply_body interface outs (status_of b)).fits b ≡ true) is fit in
-    as_many outs (map value_view vs) (both _ _ there).0 ∙ length-map vs value_view
+    (both _ _ there).0
 
--- as many values as members
-pub members_many : (interface : Interface) (id : List ℕ) (members : List Parameter) (vs : List Value)
+-- the members fit
+pub members_fit : (interface : Interface) (id : List ℕ) (members : List Parameter) (vs : List Value)
     → members ≡ listed (exception_of interface id)
-    → (user_exception interface).fits (UserException id (map value_view vs)) ≡ true → length members ≡ length vs
+    → (user_exception interface).fits (UserException id (map value_view vs)) ≡ true → fields_fit (fields_in members) (map value_view vs) ≡ true
 unfolding user_exception field gives values
-members_many interface id members vs is fit =
+members_fit interface id members vs is fit =
     let known : Bool = (such (λ id. is_known (exception_of interface id)) 4 BadLabel text).fits id in
     let there = (both known (fields_fit (fields_in (listed (exception_of interface id))) (map value_view vs) && true) fit).1 in
-    ap length is ∙ as_many (listed (exception_of interface id)) (map value_view vs) (both _ _ there).0 ∙ length-map vs value_view
+    ap (λ ps. fields_fit (fields_in ps) (map value_view vs)) is ∙ (both _ _ there).0
 
 -- ---- which Replies fit
 

@@ -1,5 +1,5 @@
 -- The table of a Request is lawful, and what is read by it is answered, fault by fault.
-use Rattle.std.proofs.Common.{◌≡◌, inl, inr, ℕ, ◌&&◌, Bool, true, false, List, length, Option, Some, None, Result, Ok, Err, IfOk, refl, sym, ap, ◌∙◌}
+use Rattle.std.proofs.Common.{◌≡◌, inl, inr, ℕ, ◌&&◌, Bool, true, false, List, Option, Some, None, Result, Ok, Err, IfOk, refl, sym, ap, ◌∙◌}
 use Rattle.giop_cdr.specs.declared.order.Order.{Order}
 use Rattle.giop_cdr.specs.declared.fault.CdrFault.{CdrFault}
 use Rattle.giop_cdr.specs.Reading.Cursor.{Cursor}
@@ -27,7 +27,6 @@ use Rattle.giop_msg.specs.Messages.RequestAnswer.{DecodesRequest, IsRequestTold,
 use Rattle.giop_msg.specs.RequestHead.{Head, request_head}
 use Rattle.giop_msg.proofs.RequestHeadLemmas.{request_head_is}
 use Rattle.giop_msg.proofs.WholeMessages.BodyLemmas.{body_fits, body_is, values_are}
-use Rattle.giop_msg.proofs.WholeMessages.ParameterLoops.{as_many}
 
 pub request_body_is : (version : Version) (head : Head) (operation : Option Operation)
     → IsLawfulEnding (request_body version head operation)
@@ -233,12 +232,11 @@ pub fits_head : (interface : Interface) (version : Version) (q : Request)
 unfolding request leads
 fits_head interface version q fit = (both _ _ fit).0
 
-pub fits_many : (interface : Interface) (version : Version) (q : Request) (name : List ℕ)
+pub fits_body : (interface : Interface) (version : Version) (q : Request) (name : List ℕ)
     (operation : Operation) → name ≡ q.head.operation
     → Some operation ≡ operation_of interface name → (request interface version).fits q ≡ true
-    → length operation.ins.list.items ≡ length q.body
-fits_many interface version q name operation is found fit =
-    as_many operation.ins.list.items q.body
+    → fields_fit (fields_in operation.ins.list.items) q.body ≡ true
+fits_body interface version q name operation is found fit =
     (both _ _ (sym (fits_known interface version q name operation is found) ∙ fit)).1
 
 -- what is written of it

@@ -1,18 +1,20 @@
 //! Writing the bodies of Requests and Replies.
 #![tactic(auto, unfolding(crate::specs::Messages::Body::body_of, crate::specs::Messages::Body::values, giop_cdr::specs::Ending::ended, giop_cdr::specs::Ending::from_multiple_of_8), using(giop_cdr::proofs::Writing::WriterLemmas::grows_then, giop_cdr::proofs::Writing::WriterLemmas::grows_not))]
 
-ghost use Rattle.std.specs.Prelude.{◌≡◌, length, map};
+ghost use Rattle.std.specs.Prelude.{◌≡◌, true, map};
 ghost use Rattle.giop_cdr.specs.Ending.{ended, unless_empty};
 ghost use Rattle.giop_cdr.specs.Writing.Output.{padding_out};
-ghost use Rattle.giop_cdr.specs.Writing.Outcome.{Appends};
-ghost use Rattle.giop_types.specs.Coding.Written.{fields_out};
-ghost use Rattle.giop_types.specs.Values.Fits.{fields_fit};
+ghost use Rattle.giop_cdr.specs.Writing.Outcome.{Appends, Writes};
+ghost use Rattle.giop_types.specs.Coding.Written.{fields_out, value_out};
+ghost use Rattle.giop_types.specs.Descriptions.CheckedShape.{checked_shape};
+ghost use Rattle.giop_types.specs.Values.Fits.{fields_fit, fits};
 ghost use Rattle.giop_types.specs.Values.Views.{value_view};
 ghost use Rattle.giop_msg.specs.Messages.Body.{body_of, fields_in, values};
 
 use crate::version::Version;
-use giop_cdr::{CdrOut, EncodeFault};
-use giop_types::{Parameter, Value, encode, fits};
+use giop_cdr::CdrOut;
+use giop_types::{CheckedDesc, Parameter, Value, encode, fits};
+use std::alloc::AllocError;
 
 /// Whether there are as many values as parameters, each of its parameter's description.
 pub fn are_fitting(parameters: &[Parameter], values: &[Value]) -> bool
@@ -29,18 +31,31 @@ pub fn are_fitting(parameters: &[Parameter], values: &[Value]) -> bool
     true
 }
 
-/// The values, one after the other. Where memory is wanting a part of them is left.
+// A value of its description, which is refused for want of memory alone.
+fn append_value(desc: &CheckedDesc, value: &Value, out: &mut CdrOut) -> Result<(), AllocError>
+    requires { fits (checked_shape desc.now) (value_view value.now) ≡ true }
+    ensures { Writes out.old result out.new
+        (value_out (checked_shape desc.now) (value_view value.now) out.old) }
+{
+    match encode(out, desc, value) {
+        Ok(()) => Ok(()),
+        Err(_) => Err(AllocError),
+    }
+}
+
+/// The values, each of its parameter's description, one after the other. Where memory is wanting a
+/// part of them is left.
 pub fn append_values(
     parameters: &[Parameter],
     values: &[Value],
     out: &mut CdrOut,
-) -> Result<(), EncodeFault>
-    requires { length parameters.now ≡ length values.now }
+) -> Result<(), AllocError>
+    requires { fields_fit (fields_in parameters.now) (map value_view values.now) ≡ true }
     ensures { Appends out.old result out.new
         (fields_out (fields_in parameters.now) (map value_view values.now) out.old) }
 {
     for i in 0..parameters.len() {
-        encode(out, &parameters[i].desc, &values[i])?;
+        append_value(&parameters[i].desc, &values[i], out)?;
     }
     Ok(())
 }
@@ -50,8 +65,8 @@ fn append_aligned(
     parameters: &[Parameter],
     values: &[Value],
     out: &mut CdrOut,
-) -> Result<(), EncodeFault>
-    requires { length parameters.now ≡ length values.now }
+) -> Result<(), AllocError>
+    requires { fields_fit (fields_in parameters.now) (map value_view values.now) ≡ true }
     ensures { Appends out.old result out.new (unless_empty out.old (padding_out 8 out.old)
         (fields_out (fields_in parameters.now) (map value_view values.now)
         (padding_out 8 out.old))) }
@@ -72,8 +87,8 @@ pub fn append_body(
     parameters: &[Parameter],
     body: &[Value],
     out: &mut CdrOut,
-) -> Result<(), EncodeFault>
-    requires { length parameters.now ≡ length body.now }
+) -> Result<(), AllocError>
+    requires { fields_fit (fields_in parameters.now) (map value_view body.now) ≡ true }
     ensures { Appends out.old result out.new
         ((body_of version (ended (values parameters.now))).written (map value_view body.now)
         out.old) }

@@ -1,7 +1,7 @@
 //! Writing the body of a Reply, by its kind.
 #![tactic(auto, unfolding(crate::specs::Messages::Reply::completion, crate::specs::Messages::Reply::no_exception, crate::specs::Messages::Reply::user_exception, crate::specs::Messages::Reply::system_exception, crate::specs::Messages::Reply::forward, crate::specs::Messages::Reply::needs_addressing, crate::specs::Messages::Reply::reply_body, crate::specs::Messages::Body::values, giop_cdr::specs::Layout::field, giop_cdr::specs::Layout::such, giop_cdr::specs::Layout::number, giop_cdr::specs::Layout::signed, giop_cdr::specs::Layout::text, giop_cdr::specs::Layout::gives, giop_cdr::specs::Layout::chosen), using(giop_cdr::proofs::Writing::WriterLemmas::grows_then, giop_cdr::proofs::Writing::WriterLemmas::grows_not))]
 
-ghost use Rattle.std.specs.Prelude.{◌≡◌, true, length, map};
+ghost use Rattle.std.specs.Prelude.{◌≡◌, true, map};
 ghost use Rattle.giop_cdr.specs.Ending.{ended, unless_empty};
 ghost use Rattle.giop_cdr.specs.Layout.{is_spellable};
 ghost use Rattle.giop_cdr.specs.Writing.Output.{padding_out};
@@ -16,10 +16,11 @@ use crate::messages::completion::Completion;
 use crate::messages::reply_body::ReplyBody;
 use crate::messages::reply_reading::{is_known, members_of};
 use crate::request_head_writing::is_text;
+use crate::target_writing::append_reference;
 use crate::version::Version;
-use giop_cdr::{CdrOut, EncodeFault};
-use giop_ior::write_ior;
+use giop_cdr::CdrOut;
 use giop_types::{Interface, Parameter, Value};
+use std::alloc::AllocError;
 
 impl ReplyBody {
     /// The reply status of the body (CORBA 3.3 Part 2, 9.4.3.1).
@@ -78,7 +79,7 @@ fn append_user_exception(
     id: &[u8],
     members: &[Value],
     out: &mut CdrOut,
-) -> Result<(), EncodeFault>
+) -> Result<(), AllocError>
     requires { (user_exception interface.now).fits
         (UserException id.now (map value_view members.now)) ≡ true }
     ensures { Appends out.old result out.new ((user_exception interface.now).written
@@ -94,15 +95,14 @@ fn append_system_exception(
     minor: u32,
     completion: Completion,
     out: &mut CdrOut,
-) -> Result<(), EncodeFault>
+) -> Result<(), AllocError>
     requires { is_spellable id.now ≡ true }
     ensures { Appends out.old result out.new
         (system_exception.written (SystemException id.now minor completion) out.old) }
 {
     out.write_string(id)?;
     out.write_ulong(minor)?;
-    out.write_ulong(completion_number(completion))?;
-    Ok(())
+    out.write_ulong(completion_number(completion))
 }
 
 // The fields of a body, by its kind. Where memory is wanting a part of them is left.
@@ -111,7 +111,7 @@ fn append_fields(
     outs: &[Parameter],
     body: &ReplyBody,
     out: &mut CdrOut,
-) -> Result<(), EncodeFault>
+) -> Result<(), AllocError>
     requires { (reply_body interface.now outs.now (status_of body.now)).fits body.now ≡ true }
     ensures { Appends out.old result out.new
         ((reply_body interface.now outs.now (status_of body.now)).written body.now out.old) }
@@ -126,8 +126,8 @@ fn append_fields(
             minor,
             completion,
         } => append_system_exception(id.as_slice(), *minor, *completion, out),
-        ReplyBody::Forward(ior) | ReplyBody::ForwardPerm(ior) => write_ior(out, ior),
-        ReplyBody::NeedsAddressing(disposition) => Ok(out.write_short(*disposition)?),
+        ReplyBody::Forward(ior) | ReplyBody::ForwardPerm(ior) => append_reference(ior, out),
+        ReplyBody::NeedsAddressing(disposition) => out.write_short(*disposition),
     }
 }
 
@@ -138,7 +138,7 @@ fn append_aligned(
     outs: &[Parameter],
     body: &ReplyBody,
     out: &mut CdrOut,
-) -> Result<(), EncodeFault>
+) -> Result<(), AllocError>
     requires { (reply_body interface.now outs.now (status_of body.now)).fits body.now ≡ true }
     ensures { Appends out.old result out.new (unless_empty out.old (padding_out 8 out.old)
         ((reply_body interface.now outs.now (status_of body.now)).written body.now
@@ -162,7 +162,7 @@ pub fn append_reply_body(
     outs: &[Parameter],
     body: &ReplyBody,
     out: &mut CdrOut,
-) -> Result<(), EncodeFault>
+) -> Result<(), AllocError>
     requires { (reply_body interface.now outs.now (status_of body.now)).fits body.now ≡ true }
     ensures { Appends out.old result out.new
         ((body_of version (ended (reply_body interface.now outs.now (status_of body.now)))).written

@@ -13,7 +13,7 @@ use crate::messages::request::Request;
 use crate::reply_head_writing::{append_parts, are_writable_parts};
 use giop_cdr::{CdrOut, EncodeFault, Order};
 use giop_types::Interface;
-use std::alloc::Global;
+use std::alloc::{AllocError, Global};
 
 impl Reply {
     /// Whether octets spell the Reply to a Request of an interface in its version, which has its
@@ -78,7 +78,7 @@ fn append_reply(
     interface: &Interface,
     request: Option<&Request>,
     out: &mut CdrOut,
-) -> Result<(), EncodeFault>
+) -> Result<(), AllocError>
     requires { (reply interface.now (option_copied request) answer.now.version).fits
         answer.now ≡ true }
     ensures { Appends out.old result out.new

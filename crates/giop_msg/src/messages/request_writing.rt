@@ -10,7 +10,7 @@ use crate::messages::request::Request;
 use crate::request_head_writing::append_head;
 use giop_cdr::{CdrOut, EncodeFault, Order};
 use giop_types::Interface;
-use std::alloc::Global;
+use std::alloc::{AllocError, Global};
 
 impl Request {
     /// Whether octets spell the Request in its version: its head is writable, the interface has its
@@ -60,7 +60,7 @@ impl Request {
 
 // The head, and the body behind it. Where memory is wanting a part of them is left.
 #[tactic(auto, using(giop_cdr::proofs::Writing::WriterLemmas::grows_then, giop_cdr::proofs::Writing::WriterLemmas::grows_not))]
-fn append_request(q: &Request, interface: &Interface, out: &mut CdrOut) -> Result<(), EncodeFault>
+fn append_request(q: &Request, interface: &Interface, out: &mut CdrOut) -> Result<(), AllocError>
     requires { (request interface.now q.now.head.version).fits q.now ≡ true }
     ensures { Appends out.old result out.new
         ((request interface.now q.now.head.version).written q.now out.old) }

@@ -105,7 +105,7 @@ fn front(octets: &[u8], len: usize) -> &[u8] {
 }
 
 // Decodes these octets and encodes what they are: the same octets.
-fn goes_both_ways(
+pub fn goes_both_ways(
     rt: &impl Abort,
     alloc: Global,
     interface: &Interface,

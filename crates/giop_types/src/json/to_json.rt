@@ -1,7 +1,7 @@
 //! Values written as JSON.
-ghost use Rattle.std.specs.Prelude.{◌≡◌, ◌⊎◌, map, option_map, true, false, Ok, IfOk, IfErr, IsErrOf};
-ghost use Rattle.serde_json.specs.Data.{array, object, no_members};
-ghost use Rattle.serde_json.specs.View.{view, items_of};
+ghost use Rattle.std.specs.Prelude.{◌≡◌, ◌⊎◌, map, option_map, true, false, Ok, IfOk, IfErr, IsErrOf, OnOk, string_bytes};
+ghost use Rattle.serde_json.specs.Data.{array, object, no_members, put as with_member};
+ghost use Rattle.serde_json.specs.View.{view, items_of, members_view};
 ghost use Rattle.giop_types.specs.declared.json.form_fault.FormFault.TheVariants.{Unfit, NoMemory};
 ghost use Rattle.giop_types.specs.Descriptions.CheckedShape.{checked_shape};
 ghost use Rattle.giop_types.specs.Descriptions.Shape.{is_leaf};
@@ -124,9 +124,18 @@ fn members_json(alloc: Global, values: &[Value], members: &[NamedDesc]) -> Resul
         let member = &members[i];
         let name = text_of(alloc, member.name.as_slice())?;
         let value = to_json(alloc, &values[i], &member.desc)?;
-        serde_json::put(&mut object, alloc, name.as_str(), value)?;
+        put(&mut object, name, value)?;
     }
     Ok(Json::Object(object))
+}
+
+// A member of an object, whose name isn't copied once more.
+fn put(object: &mut Map<String, Json>, name: String, value: Json) -> Result<(), AllocError>
+    ensures { OnOk result (members_view object.new.entries
+        ≡ with_member (string_bytes name) (view value) (members_view object.old.entries)) }
+{
+    drop(object.insert(name, value)?);
+    Ok(())
 }
 
 // Values as a list.

@@ -1,7 +1,6 @@
-use Rattle.std.proofs.Common.{length, map, sym, ap, ◌∙◌}
-use Rattle.std.proofs.lemmas.List.{length-map}
+use Rattle.std.proofs.Common.{map, sym, ◌∙◌}
 use Rattle.giop_types.specs.Values.Views.{value_view}
-use Rattle.giop_msg.proofs.WholeMessages.RequestLemmas.{appends_then, fits_head, fits_many, parts_written, written_unknown}
+use Rattle.giop_msg.proofs.WholeMessages.RequestLemmas.{appends_then, fits_body, fits_head, parts_written, written_unknown}
 use Rattle.giop_msg.proofs.messages.request_writing.append_request.Goals as goal
 
 pub append_head-requires : goal.append_head-requires
@@ -16,8 +15,8 @@ returns-in_default c =
 pub append_body-requires : goal.append_body-requires
 append_body-requires c =
     let q = c.args.q.now in
-    let many = fits_many c.args.interface.now q.head.version q c.as_slice.result.now c.in-Some.operation.now c.as_slice.ensures c.in-Some.ensures c.requires in
-    ap length c.as_slice-2.ensures.same ∙ many ∙ sym (ap length c.as_slice-3.ensures) ∙ length-map c.as_slice-3.result.now value_view
+    let fit = fits_body c.args.interface.now q.head.version q c.as_slice.result.now c.in-Some.operation.now c.as_slice.ensures c.in-Some.ensures c.requires in
+    rw (c.as_slice-2.ensures.same, c.as_slice-3.ensures) fit
 
 pub returns : goal.returns
 returns c =

@@ -1,4 +1,4 @@
-use Rattle.std.proofs.Common.{◌≡◌, ◌<◌, ◌++◌, ◌∷◌, [], map, length, sym, ap, ◌∙◌, arith}
+use Rattle.std.proofs.Common.{◌≡◌, ◌<◌, ◌++◌, ◌∷◌, [], map, length, string_bytes, sym, ap, ◌∙◌, arith}
 use Rattle.std.proofs.lemmas.Grind.{common_steps}
 use Rattle.serde_json.specs.Data.{array, object}
 use Rattle.serde_json.specs.View.{view, items_of, members_view}
@@ -56,9 +56,9 @@ members_json-loop-i-preserved t c =
     let many : c.loop-i.i < length c.args.values.now = omega (arith, c.min-i-end.ensures) in
     let step = fields_put c.args.members.now c.args.values.now c.loop-i.i m c.index-values-i.result (members_view c.loop-i.object.entries) few many
     c.index-members-i.is c.index-values-i.is in
-    let name : c.as_str.result.now ≡ text_of m.name = c.as_str.ensures.value ∙ c.in_ok-name.ensures ∙ ap text_of c.as_slice.ensures in
+    let name : string_bytes c.in_ok-name.name ≡ text_of m.name = c.in_ok-name.ensures ∙ ap text_of c.as_slice.ensures in
     let form : view c.in_ok-value.value ≡ to_data (desc_view m.desc) (value_view c.index-values-i.result) = c.in_ok-value.ensures in
-    rw (c.in_ok-put.ensures.ok, name, form) (sym step ∙ c.loop-i.invariant)
+    rw (c.in_ok-put.ensures, name, form) (sym step ∙ c.loop-i.invariant)
 
 pub members_json-returns : goal.members_json-returns
 members_json-returns t c = view-Object c.loop-i.object ∙ ap (λ ms. object ms)
