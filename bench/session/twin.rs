@@ -1,5 +1,7 @@
 //! The plain Rust twin of the loops `session-..` of giop_bench.
 use std::collections::BTreeMap;
+use std::io::{Read, Write};
+use std::net::{Ipv4Addr, TcpListener, TcpStream};
 
 const CALLS: u32 = 1_000_000;
 const IDS: u32 = 512;
@@ -10,6 +12,8 @@ const CALLS_LIMIT: usize = 1024;
 const MESSAGE_LIMIT: u32 = 1 << 20;
 const GATHERED_LIMIT: usize = 8 << 20;
 const PIECE: usize = 4096;
+const WAVES: u32 = 6_250;
+const OUTSTANDING: u32 = 16;
 
 enum Desc {
     Long,
@@ -696,12 +700,229 @@ fn put_all() -> u64 {
     mixed(sum, end.unread.len() as u64)
 }
 
+// What stands at a client: a Request that waits for its Reply, or both.
+enum Called {
+    Waiting(Request),
+    Done(#[allow(dead_code)] Request, Vec<Value>),
+}
+
+struct Client<'a> {
+    interface: &'a Interface,
+    unread: Vec<u8>,
+    table: BTreeMap<u32, Called>,
+    outgoing: Vec<u8>,
+}
+
+impl Client<'_> {
+    #[inline(never)]
+    fn call(&mut self, request: Request) -> Result<(), SessionFault> {
+        match self.table.get(&request.id) {
+            Some(Called::Waiting(_)) => return Err(SessionFault::IdInUse),
+            None if self.table.len() >= CALLS_LIMIT => return Err(SessionFault::TooManyCalls),
+            _ => {}
+        }
+        let operation = self.interface.get(&request.operation).ok_or(SessionFault::Unfit)?;
+        let joined = encode_request(operation, &request)?;
+        if joined.len() > GATHERED_LIMIT {
+            return Err(SessionFault::Unfit);
+        }
+        let header = Header {
+            more: false,
+            kind: 0,
+            size: joined.len() as u32,
+        };
+        append(header, &[], &joined, &mut self.outgoing);
+        self.table.insert(request.id, Called::Waiting(request));
+        Ok(())
+    }
+
+    #[inline(never)]
+    fn feed(&mut self, octets: &[u8]) -> Result<(), SessionFault> {
+        self.unread.extend_from_slice(octets);
+        let unread = std::mem::take(&mut self.unread);
+        let mut at = 0;
+        let mut fed = Ok(());
+        while fed.is_ok() && unread.len() - at >= 12 {
+            match Header::judge(&unread[at..at + 12]) {
+                Ok(header) => {
+                    let end = at + 12 + header.size as usize;
+                    let Some(payload) = unread.get(at + 12..end) else {
+                        break;
+                    };
+                    fed = self.hear(header, payload);
+                    at = end;
+                }
+                Err(fault) => fed = Err(fault),
+            }
+        }
+        self.unread = unread;
+        self.unread.drain(..at);
+        fed
+    }
+
+    fn hear(&mut self, header: Header, payload: &[u8]) -> Result<(), SessionFault> {
+        let (id, _) = payload.split_first_chunk::<4>().ok_or(SessionFault::NoId)?;
+        let id = u32::from_be_bytes(*id);
+        if header.kind != 1 || header.more {
+            return Err(SessionFault::WrongDirection);
+        }
+        let Some(Called::Waiting(request)) = self.table.get(&id) else {
+            return Err(SessionFault::Stray);
+        };
+        let operation = self.interface.get(&request.operation).ok_or(SessionFault::Unfit)?;
+        let outs = decode_reply(operation, payload).map_err(|_| SessionFault::Unfit)?;
+        let Some(Called::Waiting(request)) = self.table.remove(&id) else {
+            return Err(SessionFault::Stray);
+        };
+        self.table.insert(id, Called::Done(request, outs));
+        Ok(())
+    }
+
+    fn take(&mut self, id: u32) -> Result<Option<Called>, SessionFault> {
+        match self.table.get(&id) {
+            Some(Called::Waiting(_)) => Err(SessionFault::StillOpen),
+            _ => Ok(self.table.remove(&id)),
+        }
+    }
+}
+
+fn encode_request(operation: &Operation, request: &Request) -> Result<Vec<u8>, SessionFault> {
+    if operation.ins.len() != request.body.len() {
+        return Err(SessionFault::Unfit);
+    }
+    let Target::Key(key) = &request.target else {
+        return Err(SessionFault::Unfit);
+    };
+    let mut out = Output::default();
+    out.field(request.id.to_be_bytes());
+    out.octets.extend_from_slice(&[request.flags, 0, 0, 0, 0, 0]);
+    out.counted(key)?;
+    out.field((request.operation.len() as u32 + 1).to_be_bytes());
+    out.octets.extend_from_slice(&request.operation);
+    out.octets.push(0);
+    out.tagged(&request.contexts)?;
+    let end = out.octets.len();
+    out.align(8);
+    let padded = out.octets.len();
+    for ((_, desc), value) in operation.ins.iter().zip(&request.body) {
+        out.value(desc, value)?;
+    }
+    if out.octets.len() == padded {
+        out.octets.truncate(end);
+    }
+    Ok(out.octets)
+}
+
+fn decode_reply(operation: &Operation, octets: &[u8]) -> Result<Vec<Value>, Fault> {
+    let mut input = Input { octets, at: 0 };
+    input.ulong()?;
+    if input.ulong()? != 0 {
+        return Err(input.fault(4, Kind::BadLabel));
+    }
+    input.tagged()?;
+    if !operation.outs.is_empty() {
+        input.align(8);
+    }
+    let mut values = Vec::new();
+    for (_, desc) in &operation.outs {
+        values.push(input.value(desc)?);
+    }
+    if input.at < octets.len() {
+        return Err(input.fault(0, Kind::Trailing));
+    }
+    Ok(values)
+}
+
+fn write_out(outgoing: &mut Vec<u8>, mut stream: &TcpStream) {
+    while !outgoing.is_empty() {
+        let n = stream.write(outgoing).unwrap();
+        outgoing.drain(..n);
+    }
+}
+
+fn asked(id: u32) -> Request {
+    Request {
+        id,
+        flags: 3,
+        target: Target::Key(b"k".to_vec()),
+        operation: b"add".to_vec(),
+        contexts: Vec::new(),
+        body: vec![Value::Long(2), Value::Long(id as i32)],
+    }
+}
+
+fn answer_all(server: &mut Server, stream: &TcpStream) {
+    for id in 0..OUTSTANDING {
+        let Some(Entry::Asked(request)) = server.table.get(&id) else {
+            panic!("nothing is asked");
+        };
+        let reply = Reply {
+            id,
+            contexts: Vec::new(),
+            outs: outs(request),
+        };
+        server.answer(reply).unwrap();
+        server.take(id).unwrap();
+    }
+    write_out(&mut server.outgoing, stream);
+}
+
+fn take_all(client: &mut Client, mut sum: u64) -> u64 {
+    for id in 0..OUTSTANDING {
+        let Ok(Some(Called::Done(_, outs))) = client.take(id) else {
+            panic!("nothing is done");
+        };
+        sum = mixed(sum, leaf(&outs[0]));
+    }
+    sum
+}
+
+// Calls of `add` on one connection, so many at a time.
+fn loopback() -> u64 {
+    let listener = TcpListener::bind((Ipv4Addr::LOCALHOST, 0)).unwrap();
+    let calling = TcpStream::connect(listener.local_addr().unwrap()).unwrap();
+    let (serving, _) = listener.accept().unwrap();
+    let interface = interface();
+    let mut server = Server::new(&interface);
+    let mut client = Client {
+        interface: &interface,
+        unread: Vec::new(),
+        table: BTreeMap::new(),
+        outgoing: Vec::new(),
+    };
+    let mut sum = 0;
+    for _ in 0..WAVES {
+        for id in 0..OUTSTANDING {
+            client.call(asked(id)).unwrap();
+        }
+        write_out(&mut client.outgoing, &calling);
+        let mut left = OUTSTANDING as usize * 56;
+        while left > 0 {
+            let mut buffer = [0; 4096];
+            let n = (&serving).read(&mut buffer).unwrap();
+            server.feed(&buffer[..n]).unwrap();
+            left -= n;
+        }
+        answer_all(&mut server, &serving);
+        let mut left = OUTSTANDING as usize * 28;
+        while left > 0 {
+            let mut buffer = [0; 4096];
+            let n = (&calling).read(&mut buffer).unwrap();
+            client.feed(&buffer[..n]).unwrap();
+            left -= n;
+        }
+        sum = take_all(&mut client, sum);
+    }
+    sum
+}
+
 fn main() {
     let name = std::env::args().nth(1).unwrap();
     let sum = match name.as_str() {
         "calls" => calls(1),
         "calls-512" => calls(IDS),
         "pieces" => put_all(),
+        "loopback" => loopback(),
         _ => panic!("no such loop"),
     };
     println!("{sum}");

@@ -6,6 +6,7 @@ ghost use Rattle.std.specs.Prelude.{◌<◌};
 
 mod frag;
 mod ior;
+mod loopback;
 mod msg;
 mod mux;
 mod read;
@@ -23,7 +24,7 @@ or giop_bench (frag24|frag512|frag4096) IDS, where IDS is 1, 64 or 1024
 or giop_bench types-(structs|longs)-(read|write) or types-json-(write|again)[-10],
 or giop_bench msg-(add|put)-(read|write) or msg-cut or msg-join,
 or giop_bench ior-(text|corbaloc)[-10],
-or giop_bench session-calls[-512] or session-pieces,
+or giop_bench session-calls[-512], session-pieces or session-loopback,
 or giop_bench (read|write)-VALUES-(big|little) TIMES, where VALUES is ulong, string, octets or widths";
 
 // The checksum of a loop over CDR, or none where it isn't one or fails.
@@ -66,6 +67,14 @@ fn ids(times: &str) -> u32
     }
 }
 
+// Prints a checksum, or the usage where there is none.
+fn told(rt: &HostRuntime, sum: Option<u64>) -> io::Result<()> {
+    match sum {
+        Some(sum) => println!(rt; "{sum}"),
+        None => println!(rt; "{USAGE}"),
+    }
+}
+
 fn main(rt: HostRuntime) -> io::Result<()> {
     let name = env::args(&rt)?.nth(1);
     let times = env::args(&rt)?.nth(2);
@@ -75,9 +84,7 @@ fn main(rt: HostRuntime) -> io::Result<()> {
         "frag512" => println!(rt; "{}", frag::run(rt.alloc(), 512, ids(times))),
         "frag4096" => println!(rt; "{}", frag::run(rt.alloc(), 4096, ids(times))),
         "mux" => println!(rt; "{}", mux::run(rt.alloc())),
-        name => match named(rt.alloc(), name, times) {
-            Some(sum) => println!(rt; "{sum}"),
-            None => println!(rt; "{USAGE}"),
-        },
+        "session-loopback" => told(&rt, loopback::run(&rt)),
+        name => told(&rt, named(rt.alloc(), name, times)),
     }
 }

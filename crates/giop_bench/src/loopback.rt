@@ -1,0 +1,142 @@
+//! 100,000 calls of `add` on one connection over 127.0.0.1, 16 at a time: a client's end calls, a
+//! server's end answers, and each writes and reads its own socket. `bench/session/twin.rs` does the
+//! same in plain Rust.
+use giop_calls::{ClientEntry, ServerEntry};
+use giop_cdr::OctetList;
+use giop_msg::{Reply, ReplyBody, Request, RequestHead, ServiceContexts, Target, Version};
+use giop_session::{ClientEnd, End, Form, Hearing, Limits, ServerEnd, turn, write_out};
+use giop_types::{Interface, Value, ValueList};
+use std::alloc::{AllocError, Global};
+use std::net::{Ipv4Addr, TcpListener, TcpStream};
+
+const WAVES: u32 = 6_250;
+
+const TOGETHER: u32 = 16;
+
+// The octets of so many Requests, and of so many Replies.
+const REQUESTS: usize = 896;
+
+const REPLIES: usize = 448;
+
+const J: &[u8] =
+    b"{\"operations\":{\"add\":{\"ins\":[[\"a\",\"long\"],[\"b\",\"long\"]],\"outs\":[[\"sum\",\"long\"]]}}}";
+
+const LIMITS: Limits = Limits {
+    calls: 1024,
+    message: 1 << 20,
+    gathered: 8 << 20,
+};
+
+fn mixed(sum: u64, value: u64) -> u64 {
+    sum.wrapping_mul(1_099_511_628_211) ^ value
+}
+
+fn longs(alloc: Global, values: &[i32]) -> Result<ValueList, AllocError> {
+    let mut list = ValueList::new(alloc);
+    for value in values {
+        list.push(Value::Long(*value))?;
+    }
+    Ok(list)
+}
+
+fn asked(alloc: Global, id: u32) -> Result<Request, AllocError> {
+    let head = RequestHead {
+        version: Version::V12,
+        id,
+        flags: 3,
+        target: Target::Key(OctetList::from_slice(alloc, b"k")?),
+        operation: OctetList::from_slice(alloc, b"add")?,
+        contexts: ServiceContexts::new(alloc),
+    };
+    let body = longs(alloc, &[2, id as i32])?;
+    Ok(Request { head, body })
+}
+
+fn call_all(alloc: Global, end: &mut ClientEnd<'_>, stream: &TcpStream) -> Option<()> {
+    for id in 0..TOGETHER {
+        end.call(asked(alloc, id).ok()?, Form::default()).ok()?;
+    }
+    let mut writer = stream;
+    write_out(end, &mut writer).ok()
+}
+
+// Takes turns until so many octets were read.
+fn hear<R: Hearing>(end: &mut End<'_, R>, stream: &TcpStream, octets: usize) -> Option<()> {
+    let mut reader = stream;
+    let mut writer = stream;
+    let mut left = octets;
+    for _ in 0..octets {
+        let n = turn(end, &mut reader, &mut writer).ok()?;
+        if n >= left {
+            return Some(());
+        }
+        left -= n;
+    }
+    None
+}
+
+fn long_of(values: &ValueList, at: usize) -> i32 {
+    match values.as_slice().get(at) {
+        Some(Value::Long(n)) => *n,
+        _ => 0,
+    }
+}
+
+// What is answered to the call of an id: its sum.
+fn reply_to(alloc: Global, end: &ServerEnd<'_>, id: u32) -> Option<Reply> {
+    let ServerEntry::Asked { request } = end.entry(id)? else {
+        return None;
+    };
+    let sum = long_of(&request.body, 0).wrapping_add(long_of(&request.body, 1));
+    Some(Reply {
+        version: Version::V12,
+        id,
+        contexts: ServiceContexts::new(alloc),
+        body: ReplyBody::NoException(longs(alloc, &[sum]).ok()?),
+    })
+}
+
+fn answer_all(alloc: Global, end: &mut ServerEnd<'_>, stream: &TcpStream) -> Option<()> {
+    for id in 0..TOGETHER {
+        let reply = reply_to(alloc, end, id)?;
+        end.answer(reply, Form::default()).ok()?;
+        end.take(id).ok()?;
+    }
+    let mut writer = stream;
+    write_out(end, &mut writer).ok()
+}
+
+// Takes each call out, with what it came to.
+fn take_all(end: &mut ClientEnd<'_>, sum: u64) -> Option<u64> {
+    let mut sum = sum;
+    for id in 0..TOGETHER {
+        let ClientEntry::Done { reply, .. } = end.take(id).ok()?? else {
+            return None;
+        };
+        let ReplyBody::NoException(outs) = &reply.body else {
+            return None;
+        };
+        sum = mixed(sum, long_of(outs, 0).to_le_bytes()[0] as u64);
+    }
+    Some(sum)
+}
+
+/// Runs the calls, and gives a checksum of what they came to; or none where a connection can't be
+/// made or breaks, or memory is wanting.
+pub fn run(rt: &HostRuntime) -> Option<u64> {
+    let interface = Interface::from_json(rt.alloc(), J).ok()?;
+    let listener = TcpListener::bind(rt, (Ipv4Addr::LOCALHOST, 0)).ok()?;
+    let calling = TcpStream::connect(rt, listener.local_addr().ok()?).ok()?;
+    let (serving, _) = listener.accept().ok()?;
+    let mut client = ClientEnd::new(rt.alloc(), &interface, LIMITS);
+    let mut server = ServerEnd::new(rt.alloc(), &interface, LIMITS);
+    let mut sum = 0;
+    for _ in 0..WAVES {
+        call_all(rt.alloc(), &mut client, &calling)?;
+        hear(&mut server, &serving, REQUESTS)?;
+        answer_all(rt.alloc(), &mut server, &serving)?;
+        hear(&mut client, &calling, REPLIES)?;
+        sum = take_all(&mut client, sum)?;
+    }
+    Some(sum)
+}
