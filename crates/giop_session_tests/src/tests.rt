@@ -1,2 +1,3 @@
+mod pumping;
 mod server;
 mod sessions;
