@@ -1,2 +1,17 @@
+mod answering;
+mod both_ends;
+mod calling;
+mod clients;
+mod damage;
+mod interfaces;
+mod joined;
+mod limits;
+mod locating;
+mod messages;
+mod octets;
+mod replies;
+mod reuse;
 mod server;
+mod servers;
 mod sessions;
+mod shown;
