@@ -1,5 +1,5 @@
 -- What is written and what is read, part after part.
-use Rattle.std.proofs.Common.{◌≡◌, ℕ, ◌+◌, ◌<◌, ◌≤◌, List, [], ◌∷◌, ◌++◌, length, All, Option, Some, None, Result, Ok, Err, refl, sym, ap, subst, ◌∙◌, append_assoc, append-nil, take, drop, take-append-drop, length-append}
+use Rattle.std.proofs.Common.{◌≡◌, ℕ, ◌+◌, ◌<◌, List, [], ◌∷◌, ◌++◌, length, Option, Some, None, Result, Ok, Err, refl, sym, ap, subst, ◌∙◌, append_assoc, append-nil, take, drop, take-append-drop, length-append}
 use Rattle.std.proofs.lemmas.List.Elements.{All-append, All-cons, All-nil}
 use Rattle.std.proofs.lemmas.List.Folds.{concat-append}
 use Rattle.std.specs.List.{concat}
@@ -9,7 +9,7 @@ use Rattle.giop_msg.specs.declared.msg.Msg.{Msg}
 use Rattle.giop_session.specs.declared.pump_fault.PumpFault.{PumpFault}
 use Rattle.giop_session.specs.declared.pump_fault.PumpFault.TheVariants.{Read, Write, Session, TurnsSpent}
 use Rattle.giop_session.specs.declared.session_fault.SessionFault.{SessionFault}
-use Rattle.giop_session.specs.Pumping.{Writes, State, Between, Feeds, ReadsAndFeeds, TurnEnds, Turned, AllFed, TakesTurns, PumpEnds, Pumped, IsSomeRead}
+use Rattle.giop_session.specs.Pumping.{Writes, State, Between, Feeds, ReadsAndFeeds, Turned, AllFed, TakesTurns, PumpEnds, Pumped, IsSomeRead}
 
 -- ---- what is written
 
