@@ -1,6 +1,6 @@
 mod TableLemmas
 mod ServerLemmas
-mod FeedingLemmas
+pub mod FeedingLemmas
 mod HeardLemmas
 mod EventLemmas
 mod InputLemmas
@@ -19,3 +19,4 @@ mod LocatedLemmas
 mod LeftLemmas
 mod FollowedLemmas
 mod ClientLeftLemmas
+mod PumpingLemmas

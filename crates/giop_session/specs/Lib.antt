@@ -14,6 +14,7 @@ pub mod Form
 pub mod Heard
 pub mod Inputs
 pub mod LeftToSend
+pub mod Pumping
 pub mod Putting
 pub mod Refused
 pub mod Sending

@@ -14,6 +14,7 @@ ghost use Rattle.giop_session.specs.SessionFaults.{error_message_of};
 
 mod answering;
 mod calling;
+mod writing;
 
 use crate::call_table::CallTable;
 use crate::hearing::Hearing;
@@ -27,6 +28,7 @@ use giop_msg::{Framer, Kind, Msg, Version};
 use giop_mux::CallRule;
 use giop_types::Interface;
 use std::alloc::{AllocError, Global};
+pub use writing::write_out;
 
 /// One end of a connection: octets of the peer go in, and a table of calls stands.
 ///

@@ -1,0 +1,81 @@
+//! An end between a reader and a writer: it writes what is outgoing and hears what is read, turn
+//! after turn.
+ghost use Rattle.std.specs.Prelude.{◌≡◌};
+ghost use Rattle.giop_session.specs.Heard.{hears_by};
+ghost use Rattle.giop_session.specs.Pumping.{Pumped, Turned, Writes, between};
+
+use crate::end::{End, write_out};
+use crate::hearing::Hearing;
+use crate::pump_fault::PumpFault;
+use std::io::{Read, Write};
+
+// One read gives so many octets at most.
+const ONE_READ: usize = 4_096;
+
+/// Writes what is outgoing, then reads once, at most 4,096 octets, and feeds the end with these.
+/// The answer is how many were read, 0 at the end of the input; a read of none is fed too, so that
+/// a failed end always answers its fault.
+///
+/// Faults: `Write` where a write fails or takes no octets, then nothing is read, and what was not
+/// written is outgoing still; `Read` where the read fails, then the end is as it was but for what
+/// was written; `Session` with the fault of the end that refuses what was read. An interrupted read
+/// or write is a fault like any other.
+pub fn turn<R: Hearing, I: Read, W: Write>(
+    end: &mut End<'_, R>,
+    reader: &mut I,
+    writer: &mut W,
+) -> Result<usize, PumpFault>
+    ensures turned { Turned (hears_by R.next R.closed R.gathering R.in_call R.breaks
+        (R.befalls end.old.interface.now))
+        (between (I.remaining reader.old) (W.contents writer.old) end.old.outgoing end.old.framer
+        end.old.calls end.old.fault)
+        result
+        (between (I.remaining reader.new) (W.contents writer.new) end.new.outgoing end.new.framer
+        end.new.calls end.new.fault) }
+    ensures others { end.new ≡ record end.old {
+      outgoing = end.new.outgoing;
+      framer = end.new.framer;
+      calls = end.new.calls;
+      fault = end.new.fault;
+    } }
+{
+    write_out(end, writer).map_err(PumpFault::Write)?;
+    let mut buffer = [0u8; ONE_READ];
+    let n = reader.read(&mut buffer).map_err(PumpFault::Read)?;
+    end.feed(&buffer[..n]).map_err(PumpFault::Session)?;
+    Ok(n)
+}
+
+/// Takes turns until one reads no octets, at the end of the input; at most `turns` of them.
+///
+/// Faults: that of a turn; or `TurnsSpent`, where each of the turns has read some octets.
+pub fn pump<R: Hearing, I: Read, W: Write>(
+    end: &mut End<'_, R>,
+    reader: &mut I,
+    writer: &mut W,
+    turns: usize,
+) -> Result<(), PumpFault>
+    ensures pumped { Pumped (hears_by R.next R.closed R.gathering R.in_call R.breaks
+        (R.befalls end.old.interface.now))
+        turns
+        (between (I.remaining reader.old) (W.contents writer.old) end.old.outgoing end.old.framer
+        end.old.calls end.old.fault)
+        result
+        (between (I.remaining reader.new) (W.contents writer.new) end.new.outgoing end.new.framer
+        end.new.calls end.new.fault) }
+    ensures writes { Writes (W.contents writer.old) (W.contents writer.new) end.old.outgoing
+        end.new.outgoing }
+    ensures others { end.new ≡ record end.old {
+      outgoing = end.new.outgoing;
+      framer = end.new.framer;
+      calls = end.new.calls;
+      fault = end.new.fault;
+    } }
+{
+    'turns: for done in 0..turns {
+        if turn(end, reader, writer)? == 0 {
+            return Ok(());
+        }
+    }
+    Err(PumpFault::TurnsSpent)
+}
