@@ -84,7 +84,11 @@ pub fn answers_from_json(
     if !is_object_of(answered, &json) {
         return Err(FormFault::BadShape);
     }
-    if fit { Ok(Answers { json }) } else { Err(FormFault::Unfit) }
+    if fit {
+        Ok(Answers { json })
+    } else {
+        Err(FormFault::Unfit)
+    }
 }
 
 // What an operation is answered; `None` where the form is right, and a value doesn't fit.

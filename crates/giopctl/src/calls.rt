@@ -48,7 +48,11 @@ pub fn calls_from_json(
             None => fit = false,
         }
     }
-    if fit { Ok(calls) } else { Err(FormFault::Unfit) }
+    if fit {
+        Ok(calls)
+    } else {
+        Err(FormFault::Unfit)
+    }
 }
 
 // A call; `None` where its form is right, and its id or a value doesn't fit.

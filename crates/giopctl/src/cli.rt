@@ -2,12 +2,11 @@
 
 use crate::commands::Way;
 use crate::session_words::{call, call_words, serve, serve_words};
+pub use crate::session_words::{CallWords, ServeWords};
 use clap::error::ErrorKind;
 use clap::{Arg, ArgAction, ArgMatches, Command, Error};
 use giop_cdr::Order;
 use std::alloc::{AllocError, Global};
-
-pub use crate::session_words::{CallWords, ServeWords};
 
 /// What the command line asks for.
 #[derive(Clone, Copy, Debug)]
@@ -232,7 +231,9 @@ fn value_of<'a>(matches: &ArgMatches<'a>, way: Way) -> Option<ConvertKind<'a>> {
 
 fn giopctl<'a>(alloc: Global) -> Result<Command<'a>, AllocError> {
     Command::new(alloc, "giopctl")
-        .about("Shows what GIOP messages, references and CDR values hold, checks sessions, calls and serves")
+        .about(
+            "Shows what GIOP messages, references and CDR values hold, checks sessions, calls and serves",
+        )
         .version("0.1.0")
         .subcommand_required(true)
         .arg_required_else_help(true)

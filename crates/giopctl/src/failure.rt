@@ -53,10 +53,8 @@ impl Failure {
     {
         match self {
             Failure::Memory => Status::Memory,
-            Failure::Input(_)
-            | Failure::Output(_)
-            | Failure::Connection(_)
-            | Failure::TurnsSpent => Status::InputOutput,
+            Failure::Input(_) | Failure::Output(_) | Failure::Connection(_) | Failure::TurnsSpent =>
+                Status::InputOutput,
         }
     }
 }

@@ -14,7 +14,6 @@ mod files;
 mod json;
 mod lines;
 mod pieces;
-mod pumping;
 mod report;
 mod serving;
 mod session_files;

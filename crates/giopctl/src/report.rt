@@ -81,7 +81,9 @@ pub fn form(rt: &impl Eprint, alloc: Global, file: &str, text: &[u8], fault: For
     let _ = match fault {
         FormFault::BadJson => bad_json(rt, alloc, file, text),
         FormFault::BadShape => {
-            eprintln!(rt; "giopctl: {file}: JSON, but not in the form that is wanted, or not of the interface")
+            eprintln!(rt;
+                "giopctl: {file}: JSON, but not in the form that is wanted, or not of the interface"
+            )
         }
         FormFault::Unfit => {
             eprintln!(rt; "giopctl: {file}: a value, or their number, doesn't fit the interface")

@@ -102,9 +102,9 @@ pub fn call<'a>(alloc: Global) -> Result<Command<'a>, AllocError> {
         .required(true)
         .value_name("TEXT")
         .help("The object: the text of its reference, or a corbaloc");
-    let file = Arg::new(alloc, "FILE")
-        .required(true)
-        .help("The file of the calls, in JSON, or - for the standard input");
+    let file = Arg::new(alloc, "FILE").required(true).help(
+        "The file of the calls, in JSON, or - for the standard input",
+    );
     let command = Command::new(alloc, "call")
         .about("Calls operations of an object, and shows the replies")
         .after_help(CALL_HELP)
@@ -265,5 +265,9 @@ fn decimal(matches: &ArgMatches, name: &str) -> Option<u32> {
 
 // Whether a text is pairs of hexadecimal digits.
 fn is_hexadecimal(text: &str) -> bool {
-    text.len() % 2 == 0 && text.as_bytes().iter().all(|octet| octet.is_ascii_hexdigit())
+    text.len() % 2 == 0
+        && text
+            .as_bytes()
+            .iter()
+            .all(|octet| octet.is_ascii_hexdigit())
 }

@@ -1,5 +1,5 @@
 //! `call`: a client's end between a reader and a writer.
-ghost use Rattle.std.specs.Prelude.{◌≡◌, IfOk, OnOk, option_copied};
+ghost use Rattle.std.specs.Prelude.{◌≡◌, IfOk, None, OnOk, option_copied};
 ghost use Rattle.std.specs.FinMap as finite;
 ghost use Rattle.std.specs.Io.KnownBytes.{Appends};
 ghost use Rattle.std.specs.List.{list_all};
@@ -179,15 +179,29 @@ fn call_status(
 ) -> Result<Status, Failure>
     ensures { IfOk result (λ status. status ≡ call_status refused end.now.calls.table) }
 {
-    if refused.is_some() {
-        return Ok(Status::Refused);
+    match refused {
+        Some(_) => Ok(Status::Refused),
+        None => own_status(alloc, end),
     }
-    let ids = end.ids(alloc)?;
-    Ok(if are_well(end, ids.as_slice()) {
-        Status::Done
+}
+
+// The status of the calls where none was refused.
+fn own_status(alloc: Global, end: &ClientEnd<'_>) -> Result<Status, Failure>
+    ensures { IfOk result (λ status. status ≡ call_status None end.now.calls.table) }
+{
+    if all_well(alloc, end)? {
+        Ok(Status::Done)
     } else {
-        Status::Refused
-    })
+        Ok(Status::Refused)
+    }
+}
+
+// Whether all calls went well.
+fn all_well(alloc: Global, end: &ClientEnd<'_>) -> Result<bool, AllocError>
+    ensures { IfOk result (λ well. well ≡ all_well end.now.calls.table) }
+{
+    let ids = end.ids(alloc)?;
+    Ok(are_well(end, ids.as_slice()))
 }
 
 // Whether the calls of all ids went well.
@@ -195,15 +209,17 @@ fn are_well(end: &ClientEnd<'_>, ids: &[u32]) -> bool
     ensures { result
         ≡ list_all (λ id. is_well (entry_of (finite.get end.now.calls.table id))) ids.now }
 {
-    for id in ids {
-        if !is_well(end.entry(*id)) {
-            return false;
-        }
-    }
-    true
+    ids.iter().all(|id| is_well_at(end, *id))
 }
 
-// Whether what stands under an id went well.
+// Whether the call of an id went well.
+fn is_well_at(end: &ClientEnd<'_>, id: u32) -> bool
+    ensures { result ≡ is_well (entry_of (finite.get end.now.calls.table id)) }
+{
+    is_well(end.entry(id))
+}
+
+// Whether what stands under an id, if anything does, went well.
 fn is_well(entry: Option<&ClientEntry>) -> bool
     ensures { result ≡ is_well (option_copied entry.entry) }
 {

@@ -82,11 +82,7 @@ const FAULTS: [(&str, &str, Status); 17] = [
         "fault 6 PeerError\n",
         Status::Refused,
     ),
-    (
-        "47494F500102000500000000",
-        "fault 7 Closed\n",
-        Status::Done,
-    ),
+    ("47494F500102000500000000", "fault 7 Closed\n", Status::Done),
     // A Request of 1.0 whose contexts are more than its octets, and one that ends in its id.
     (
         "47494F500100000000000008FFFFFFFF00000001",

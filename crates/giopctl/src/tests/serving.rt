@@ -34,12 +34,7 @@ fn pieces(piece: u32) -> Form {
 // What is read; what is written; what is told, and the status.
 type Row = (&'static str, &'static str, &'static str, Status);
 
-fn check(
-    rt: &(impl Abort + AllocGlobal),
-    given: &str,
-    piece: u32,
-    row: Row,
-) -> Result<(), Fail> {
+fn check(rt: &(impl Abort + AllocGlobal), given: &str, piece: u32, row: Row) -> Result<(), Fail> {
     let (read, wanted, text, status) = row;
     let alloc = rt.alloc();
     let interface = interface(alloc)?;
@@ -209,12 +204,7 @@ const SERVED: [Row; 24] = [
         "connection 1\n1 Gathering\n",
         Status::Done,
     ),
-    (
-        "47494F500102000000",
-        "",
-        "connection 1\n",
-        Status::Done,
-    ),
+    ("47494F500102000000", "", "connection 1\n", Status::Done),
     // What the client is told of, and what it is not.
     (
         "47494F510102000500000000",
@@ -351,8 +341,11 @@ fn served<R: Read, W: Write>(
 
 #[test]
 fn a_writer_that_fails_ends_a_connection(rt: HostRuntime) -> Result<(), Fail> {
-    let octets = hex::decode(rt.alloc(), "47494F50010200000000002C000000040300000000000000000000016B00000000000004\
-        6164640000000000000000000000000200000005")?;
+    let octets = hex::decode(
+        rt.alloc(),
+        "47494F50010200000000002C000000040300000000000000000000016B00000000000004\
+        6164640000000000000000000000000200000005",
+    )?;
     for room in 0..29 {
         let mut reader = octets.as_slice();
         let mut writer = Breaking { room };
@@ -361,7 +354,11 @@ fn a_writer_that_fails_ends_a_connection(rt: HostRuntime) -> Result<(), Fail> {
         } else {
             Status::Done
         };
-        assert_eq!(rt; served(rt.alloc(), &mut reader, &mut writer)?, wanted, "{room}");
+        assert_eq!(rt;
+            served(rt.alloc(), &mut reader, &mut writer)?,
+            wanted,
+            "{room}"
+        );
     }
     Ok(())
 }

@@ -32,7 +32,10 @@ fn calls_are_read_or_refused_by_their_first_fault(rt: HostRuntime) -> Result<(),
     let rows: [(&str, Result<usize, u8>); 24] = [
         ("[]", Ok(0)),
         ("[{\"id\":1,\"operation\":\"add\",\"ins\":[2,5]}]", Ok(1)),
-        ("[{\"ins\":[],\"operation\":\"ping\",\"id\":4294967295}]", Ok(1)),
+        (
+            "[{\"ins\":[],\"operation\":\"ping\",\"id\":4294967295}]",
+            Ok(1),
+        ),
         (
             "[{\"id\":1,\"operation\":\"ping\",\"ins\":[]},\
             {\"id\":1,\"operation\":\"tell\",\"ins\":[\"x\"]}]",
@@ -46,17 +49,29 @@ fn calls_are_read_or_refused_by_their_first_fault(rt: HostRuntime) -> Result<(),
         ("[{\"id\":1,\"operation\":\"ping\"}]", Err(2)),
         ("[{\"id\":1,\"ins\":[]}]", Err(2)),
         ("[{\"operation\":\"ping\",\"ins\":[]}]", Err(2)),
-        ("[{\"id\":1,\"operation\":\"ping\",\"ins\":[],\"flags\":3}]", Err(2)),
+        (
+            "[{\"id\":1,\"operation\":\"ping\",\"ins\":[],\"flags\":3}]",
+            Err(2),
+        ),
         ("[{\"id\":\"1\",\"operation\":\"ping\",\"ins\":[]}]", Err(2)),
         ("[{\"id\":1.0,\"operation\":\"ping\",\"ins\":[]}]", Err(2)),
         ("[{\"id\":1,\"operation\":1,\"ins\":[]}]", Err(2)),
         ("[{\"id\":1,\"operation\":\"pong\",\"ins\":[]}]", Err(2)),
         ("[{\"id\":1,\"operation\":\"ping\",\"ins\":{}}]", Err(2)),
-        ("[{\"id\":1,\"operation\":\"add\",\"ins\":[2,\"5\"]}]", Err(2)),
-        ("[{\"id\":1,\"operation\":\"add\",\"ins\":[2,2147483648]}]", Err(4)),
+        (
+            "[{\"id\":1,\"operation\":\"add\",\"ins\":[2,\"5\"]}]",
+            Err(2),
+        ),
+        (
+            "[{\"id\":1,\"operation\":\"add\",\"ins\":[2,2147483648]}]",
+            Err(4),
+        ),
         ("[{\"id\":1,\"operation\":\"add\",\"ins\":[2]}]", Err(4)),
         ("[{\"id\":1,\"operation\":\"ping\",\"ins\":[2]}]", Err(4)),
-        ("[{\"id\":4294967296,\"operation\":\"ping\",\"ins\":[]}]", Err(4)),
+        (
+            "[{\"id\":4294967296,\"operation\":\"ping\",\"ins\":[]}]",
+            Err(4),
+        ),
         // What doesn't fit stands first, and what has another form is told.
         (
             "[{\"id\":-1,\"operation\":\"add\",\"ins\":[2]},\
@@ -101,7 +116,10 @@ fn answers_in(alloc: Global, interface: &Interface, text: &str) -> u8 {
 #[test]
 fn answers_are_read_or_refused_by_their_first_fault(rt: HostRuntime) -> Result<(), Fail> {
     let rows: [(&str, u8); 17] = [
-        ("{\"ping\":{\"ok\":[]},\"add\":{\"ok\":[7]},\"list\":{\"ok\":[]}}", 0),
+        (
+            "{\"ping\":{\"ok\":[]},\"add\":{\"ok\":[7]},\"list\":{\"ok\":[]}}",
+            0,
+        ),
         (
             "{\"ping\":{\"ok\":[]},\"add\":{\"user\":\"IDL:Demo/Bad:1.0\",\"members\":[3]},\
             \"list\":{\"ok\":[]}}",
@@ -120,9 +138,18 @@ fn answers_are_read_or_refused_by_their_first_fault(rt: HostRuntime) -> Result<(
             2,
         ),
         ("{\"ping\":{},\"add\":{\"ok\":[7]},\"list\":{\"ok\":[]}}", 2),
-        ("{\"ping\":{\"ok\":[],\"user\":\"\"},\"add\":{\"ok\":[7]},\"list\":{\"ok\":[]}}", 2),
-        ("{\"ping\":{\"ok\":1},\"add\":{\"ok\":[7]},\"list\":{\"ok\":[]}}", 2),
-        ("{\"ping\":{\"ok\":[]},\"add\":{\"ok\":[\"7\"]},\"list\":{\"ok\":[]}}", 2),
+        (
+            "{\"ping\":{\"ok\":[],\"user\":\"\"},\"add\":{\"ok\":[7]},\"list\":{\"ok\":[]}}",
+            2,
+        ),
+        (
+            "{\"ping\":{\"ok\":1},\"add\":{\"ok\":[7]},\"list\":{\"ok\":[]}}",
+            2,
+        ),
+        (
+            "{\"ping\":{\"ok\":[]},\"add\":{\"ok\":[\"7\"]},\"list\":{\"ok\":[]}}",
+            2,
+        ),
         (
             "{\"ping\":{\"user\":\"IDL:Demo/Bad:1.0\"},\"add\":{\"ok\":[7]},\"list\":{\"ok\":[]}}",
             2,
@@ -132,15 +159,24 @@ fn answers_are_read_or_refused_by_their_first_fault(rt: HostRuntime) -> Result<(
             \"list\":{\"ok\":[]}}",
             2,
         ),
-        ("{\"ping\":{\"ok\":[]},\"add\":{\"ok\":[2147483648]},\"list\":{\"ok\":[]}}", 4),
-        ("{\"ping\":{\"ok\":[1]},\"add\":{\"ok\":[7]},\"list\":{\"ok\":[]}}", 4),
+        (
+            "{\"ping\":{\"ok\":[]},\"add\":{\"ok\":[2147483648]},\"list\":{\"ok\":[]}}",
+            4,
+        ),
+        (
+            "{\"ping\":{\"ok\":[1]},\"add\":{\"ok\":[7]},\"list\":{\"ok\":[]}}",
+            4,
+        ),
         (
             "{\"ping\":{\"user\":\"IDL:Demo/Bad:1.0\",\"members\":[]},\"add\":{\"ok\":[7]},\
             \"list\":{\"ok\":[]}}",
             4,
         ),
         // What doesn't fit stands first, and what has another form is told.
-        ("{\"add\":{\"ok\":[]},\"list\":{\"ok\":[]},\"ping\":{\"no\":[]}}", 2),
+        (
+            "{\"add\":{\"ok\":[]},\"list\":{\"ok\":[]},\"ping\":{\"no\":[]}}",
+            2,
+        ),
     ];
     let interface = interface(rt.alloc())?;
     for (text, wanted) in rows {

@@ -21,14 +21,27 @@ fn call_takes_a_target_two_files_and_a_form(rt: HostRuntime) -> Result<(), Fail>
         ),
         (
             &[
-                "giopctl", "call", "--piece", "24", "--target", "t", "f", "--interface", "i",
+                "giopctl",
+                "call",
+                "--piece",
+                "24",
+                "--target",
+                "t",
+                "f",
+                "--interface",
+                "i",
             ],
             Order::Big,
             24,
         ),
         (
             &[
-                "giopctl", "call", "--target=t", "--interface=i", "--little", "--piece=1048584",
+                "giopctl",
+                "call",
+                "--target=t",
+                "--interface=i",
+                "--little",
+                "--piece=1048584",
                 "f",
             ],
             Order::Little,
@@ -51,7 +64,15 @@ fn serve_takes_a_port_files_a_key_and_connections(rt: HostRuntime) -> Result<(),
     let rows: [(&[&str], u16, &str, u32, u32); 2] = [
         (
             &[
-                "giopctl", "serve", "--port", "1", "--interface", "i", "--answers", "a", "--key",
+                "giopctl",
+                "serve",
+                "--port",
+                "1",
+                "--interface",
+                "i",
+                "--answers",
+                "a",
+                "--key",
                 "",
             ],
             1,
@@ -61,8 +82,20 @@ fn serve_takes_a_port_files_a_key_and_connections(rt: HostRuntime) -> Result<(),
         ),
         (
             &[
-                "giopctl", "serve", "--connections", "65535", "--key", "6B6b", "--answers", "a",
-                "--interface", "i", "--port", "65535", "--piece", "32",
+                "giopctl",
+                "serve",
+                "--connections",
+                "65535",
+                "--key",
+                "6B6b",
+                "--answers",
+                "a",
+                "--interface",
+                "i",
+                "--port",
+                "65535",
+                "--piece",
+                "32",
             ],
             65_535,
             "6B6b",
@@ -75,7 +108,10 @@ fn serve_takes_a_port_files_a_key_and_connections(rt: HostRuntime) -> Result<(),
         let Ok(Some(Task::Serve(serve))) = task_of(rt.alloc(), words.as_slice()) else {
             return Err(Fail::new("serve is refused"));
         };
-        assert_eq!(rt; (serve.interface, serve.answers, serve.key), ("i", "a", key));
+        assert_eq!(rt;
+            (serve.interface, serve.answers, serve.key),
+            ("i", "a", key)
+        );
         assert_eq!(rt; (serve.port, serve.connections), (port, connections));
         assert_eq!(rt; serve.form.piece, piece);
     }
