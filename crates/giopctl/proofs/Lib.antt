@@ -4,3 +4,4 @@ pub mod PiecesLemmas
 pub mod ConvertLemmas
 pub mod BodiesLemmas
 pub mod CheckLemmas
+pub mod SessionsLemmas

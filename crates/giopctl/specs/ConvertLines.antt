@@ -8,7 +8,7 @@ use Rattle.giop_ior.specs.Iiop.{Profile}
 use Rattle.giop_types.specs.JsonForms.FormFault.{form_fault_number, form_fault_name}
 use Rattle.giop_types.specs.IorTextFault.{ior_text_fault_number, ior_text_fault_name}
 use Rattle.giopctl.specs.declared.lines.refusal.RefusalLine.{RefusalLine}
-use Rattle.giopctl.specs.declared.lines.refusal.RefusalLine.TheVariants.{IorText, Corbaloc, Reference, Form, BadHex, Octets}
+use Rattle.giopctl.specs.declared.lines.refusal.RefusalLine.TheVariants.{IorText, Corbaloc, Reference, Form, BadHex, Octets, NoIiopProfile}
 use Rattle.giopctl.specs.Octets.{hex_text, escaped_text}
 
 -- fault NUMBER NAME
@@ -29,6 +29,7 @@ refusal_line (Reference e) = fault_text (encode_fault_number e) (encode_fault_na
 refusal_line (Form e) = fault_text (form_fault_number e) (form_fault_name e)
 refusal_line BadHex = codes "fault 2 BadHex"
 refusal_line (Octets e) = placed_text (cdr_kind_number e.kind) (cdr_kind_name e.kind) e.at
+refusal_line NoIiopProfile = codes "no iiop profile"
 
 -- the type id of a reference
 abbrev pub type_line : List ℕ → List ℕ

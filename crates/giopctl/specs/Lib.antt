@@ -9,3 +9,5 @@ pub mod TableLines
 pub mod Bodies
 pub mod Table
 pub mod Check
+pub mod Sessions
+pub mod Answering

@@ -6,7 +6,7 @@ use Rattle.giopctl.specs.declared.status.Status.{Status}
 use Rattle.giopctl.specs.declared.status.Status.TheVariants.{Done, Refused, Usage, InputOutput}
 use Rattle.giopctl.specs.declared.status.Status.TheVariants.{Memory as memory_status}
 use Rattle.giopctl.specs.declared.failure.Failure.{Failure}
-use Rattle.giopctl.specs.declared.failure.Failure.TheVariants.{Memory, Input, Output}
+use Rattle.giopctl.specs.declared.failure.Failure.TheVariants.{Memory, Input, Output, Connection, TurnsSpent}
 
 -- the number that the process ends with
 abbrev pub status_number : Status → ℕ
@@ -21,6 +21,8 @@ abbrev pub failure_status : Failure → Status
 failure_status Memory = memory_status
 failure_status (Input e) = InputOutput
 failure_status (Output e) = InputOutput
+failure_status (Connection e) = InputOutput
+failure_status TurnsSpent = InputOutput
 
 -- the status of what a command answered
 abbrev pub answered_status : Result Status Failure → Status

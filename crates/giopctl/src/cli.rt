@@ -1,6 +1,9 @@
 //! The command line.
 
 use crate::commands::Way;
+use crate::session_words::{call, call_words, serve, serve_words};
+pub use crate::session_words::{CallWords, ServeWords};
+use clap::error::ErrorKind;
 use clap::{Arg, ArgAction, ArgMatches, Command, Error};
 use giop_cdr::Order;
 use std::alloc::{AllocError, Global};
@@ -27,6 +30,10 @@ pub enum Task<'a> {
         /// From what, and into what.
         kind: ConvertKind<'a>,
     },
+    /// Call operations of an object.
+    Call(CallWords<'a>),
+    /// Serve an object.
+    Serve(ServeWords<'a>),
 }
 
 /// The kinds of `convert`.
@@ -58,7 +65,11 @@ Exit statuses:
 Examples:
   giopctl dump examples/ping.giop
   giopctl check --interface examples/calculator.json examples/add.giop
-  giopctl convert ior examples/printer.ior";
+  giopctl convert ior examples/printer.ior
+  giopctl serve --port 2810 --interface examples/calculator.json --answers examples/answers.json \
+--key 6b
+  giopctl call --target corbaloc::1.2@127.0.0.1:2810/k --interface examples/calculator.json \
+examples/calls.json";
 
 const CHECK_HELP: &str = "\
 The file is what a client sent on one connection. A server's end hears it, which answers nothing:
@@ -158,22 +169,42 @@ pub fn task_of<'a>(alloc: Global, words: &'a [String]) -> Result<Option<Task<'a>
     if let Some(check) = matches.subcommand_matches("check") {
         return Ok(checked(check));
     }
-    let Some(convert) = matches.subcommand_matches("convert") else {
-        return Ok(None);
-    };
-    if let Some(ior) = convert.subcommand_matches("ior") {
-        return Ok(converted(ior, Some(ConvertKind::Ior)));
+    if let Some(call) = matches.subcommand_matches("call") {
+        return match call_words(call) {
+            Ok(words) => Ok(Some(Task::Call(words))),
+            Err(wrong) => Err(misused(alloc, wrong)?),
+        };
     }
-    if let Some(corbaloc) = convert.subcommand_matches("corbaloc") {
-        return Ok(converted(corbaloc, Some(ConvertKind::Corbaloc)));
+    if let Some(serve) = matches.subcommand_matches("serve") {
+        return match serve_words(serve) {
+            Ok(words) => Ok(Some(Task::Serve(words))),
+            Err(wrong) => Err(misused(alloc, wrong)?),
+        };
     }
-    if let Some(encode) = convert.subcommand_matches("encode") {
-        return Ok(converted(encode, value_of(encode, Way::Encode)));
-    }
-    match convert.subcommand_matches("decode") {
-        Some(decode) => Ok(converted(decode, value_of(decode, Way::Decode))),
+    match matches.subcommand_matches("convert") {
+        Some(convert) => Ok(conversion(convert)),
         None => Ok(None),
     }
+}
+
+// That a word is none that its argument takes.
+fn misused(alloc: Global, wrong: &str) -> Result<Error, AllocError> {
+    let mut command = giopctl(alloc)?;
+    command.error(ErrorKind::ValueValidation, wrong)
+}
+
+fn conversion<'a>(convert: &ArgMatches<'a>) -> Option<Task<'a>> {
+    if let Some(ior) = convert.subcommand_matches("ior") {
+        return converted(ior, Some(ConvertKind::Ior));
+    }
+    if let Some(corbaloc) = convert.subcommand_matches("corbaloc") {
+        return converted(corbaloc, Some(ConvertKind::Corbaloc));
+    }
+    if let Some(encode) = convert.subcommand_matches("encode") {
+        return converted(encode, value_of(encode, Way::Encode));
+    }
+    let decode = convert.subcommand_matches("decode")?;
+    converted(decode, value_of(decode, Way::Decode))
 }
 
 fn checked<'a>(matches: &ArgMatches<'a>) -> Option<Task<'a>> {
@@ -200,14 +231,18 @@ fn value_of<'a>(matches: &ArgMatches<'a>, way: Way) -> Option<ConvertKind<'a>> {
 
 fn giopctl<'a>(alloc: Global) -> Result<Command<'a>, AllocError> {
     Command::new(alloc, "giopctl")
-        .about("Shows what GIOP messages, references and CDR values hold, and checks sessions")
+        .about(
+            "Shows what GIOP messages, references and CDR values hold, checks sessions, calls and serves",
+        )
         .version("0.1.0")
         .subcommand_required(true)
         .arg_required_else_help(true)
         .after_help(STATUSES)
         .subcommand(dump(alloc)?)?
         .subcommand(check(alloc)?)?
-        .subcommand(convert(alloc)?)
+        .subcommand(convert(alloc)?)?
+        .subcommand(call(alloc)?)?
+        .subcommand(serve(alloc)?)
 }
 
 fn dump<'a>(alloc: Global) -> Result<Command<'a>, AllocError> {

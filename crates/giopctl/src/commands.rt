@@ -1,6 +1,8 @@
 //! What the program's commands do, over any writer: each answers the exit status.
 
+mod answering;
 mod bodies;
+mod call;
 mod check;
 mod check_text;
 mod client_table;
@@ -11,12 +13,22 @@ mod described;
 mod dump;
 mod dump_heads;
 mod dump_messages;
+mod sending;
+mod serve;
 mod server_table;
+mod session;
 mod table;
+mod target;
 
+pub use answering::{Answer, Due, due_to};
+pub use call::{call_over, call_session};
 pub use check::{check_octets, check_stream};
 pub use check_text::check_text;
+pub use convert::refuse;
 pub use convert_reference::{convert_corbaloc, convert_ior};
+pub use convert_value::form_refusal;
 pub use described::{Way, convert_value};
 pub use dump::{BehindFault, dump_octets, dump_stream};
+pub use serve::{serve_over, serve_session};
 pub use table::{Tabled, write_table};
+pub use target::{Endpoint, Targeted, target_of};

@@ -15,6 +15,10 @@ pub enum Failure {
     Input(io::Error),
     /// Writing failed.
     Output(io::Error),
+    /// The connection failed: it was refused, or reading from it or writing to it failed.
+    Connection(io::Error),
+    /// A session took all its turns, and went on.
+    TurnsSpent,
 }
 
 impl Failure {
@@ -31,13 +35,26 @@ impl Failure {
         }
     }
 
+    /// What an error of a connection is.
+    pub fn connection(error: io::Error) -> Failure
+        ensures memory { error_kind error ≡ ErrorKind.OutOfMemory → result ≡ Failure.Memory }
+        ensures value { error_kind error ≢ ErrorKind.OutOfMemory
+            → result ≡ Failure.Connection error }
+    {
+        match error.kind() {
+            ErrorKind::OutOfMemory => Failure::Memory,
+            _ => Failure::Connection(error),
+        }
+    }
+
     /// The status that the program ends with.
     pub fn status(&self) -> Status
         ensures { result ≡ failure_status self.now }
     {
         match self {
             Failure::Memory => Status::Memory,
-            Failure::Input(_) | Failure::Output(_) => Status::InputOutput,
+            Failure::Input(_) | Failure::Output(_) | Failure::Connection(_) | Failure::TurnsSpent =>
+                Status::InputOutput,
         }
     }
 }
@@ -69,7 +86,10 @@ impl fmt::Display for Failure {
     fn fmt<W: fmt::Write>(&self, f: &mut fmt::Formatter<W>) -> fmt::Result {
         match self {
             Failure::Memory => f.write_str("out of memory"),
-            Failure::Input(error) | Failure::Output(error) => write!(f, "{error}"),
+            Failure::Input(error) | Failure::Output(error) | Failure::Connection(error) => {
+                write!(f, "{error}")
+            }
+            Failure::TurnsSpent => f.write_str("the session goes on after 65,536 turns"),
         }
     }
 }

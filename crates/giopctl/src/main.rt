@@ -1,16 +1,23 @@
-//! The program giopctl: it shows what files of GIOP messages hold, checks sessions, and writes
-//! references and values in another form.
+//! The program giopctl: it shows what files of GIOP messages hold, checks sessions, writes references
+//! and values in another form, and calls and serves objects.
 #![tactic(auto)]
 
+mod answers;
+mod calling;
+mod calls;
 mod checking;
 mod cli;
 mod commands;
 mod converting;
 mod failure;
 mod files;
+mod json;
 mod lines;
 mod pieces;
 mod report;
+mod serving;
+mod session_files;
+mod session_words;
 mod status;
 #[cfg(test)]
 mod tests;
@@ -37,6 +44,8 @@ fn run(rt: &HostRuntime) -> Status {
         Ok(Some(Task::Dump { file })) => report::answer(rt, file, dump(rt, file)),
         Ok(Some(Task::Check { interface, file })) => checking::check(rt, interface, file),
         Ok(Some(Task::Convert { file, kind })) => converting::convert(rt, file, kind),
+        Ok(Some(Task::Call(words))) => calling::call(rt, words),
+        Ok(Some(Task::Serve(words))) => serving::serve(rt, words),
         Ok(None) => Status::Usage,
         Err(error) => report::usage(rt, &error),
     }

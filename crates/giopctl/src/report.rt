@@ -53,7 +53,7 @@ pub fn answer(rt: &impl Eprint, file: &str, answered: Result<Status, Failure>) -
         Failure::Memory => {
             let _ = eprintln!(rt; "giopctl: {failure}");
         }
-        Failure::Input(_) => {
+        Failure::Input(_) | Failure::Connection(_) | Failure::TurnsSpent => {
             let _ = eprintln!(rt; "giopctl: {file}: {failure}");
         }
         Failure::Output(error) => output_failed(rt, error),
@@ -73,6 +73,22 @@ pub fn interface(rt: &impl Eprint, alloc: Global, file: &str, text: &[u8]) {
             eprintln!(rt; "giopctl: {file}: a description of no type: {fault}")
         }
         Err(FormFault::Unfit) | Err(FormFault::NoMemory) | Ok(_) => Ok(()),
+    };
+}
+
+/// What is wrong with the text of calls or answers, and where, as far as that is known.
+pub fn form(rt: &impl Eprint, alloc: Global, file: &str, text: &[u8], fault: FormFault) {
+    let _ = match fault {
+        FormFault::BadJson => bad_json(rt, alloc, file, text),
+        FormFault::BadShape => {
+            eprintln!(rt;
+                "giopctl: {file}: JSON, but not in the form that is wanted, or not of the interface"
+            )
+        }
+        FormFault::Unfit => {
+            eprintln!(rt; "giopctl: {file}: a value, or their number, doesn't fit the interface")
+        }
+        FormFault::BadDesc(_) | FormFault::NoMemory => Ok(()),
     };
 }
 

@@ -16,6 +16,7 @@ pub enum Status {
 }
 
 impl Status {
+    ghost use Rattle.std.specs.Prelude.{max};
     ghost use Rattle.giopctl.specs.Status.{status_number};
 
     /// The number that the process ends with, 0 to 4.
@@ -28,6 +29,17 @@ impl Status {
             Status::Usage => 2,
             Status::InputOutput => 3,
             Status::Memory => 4,
+        }
+    }
+
+    /// The one of both that has the greater number.
+    pub fn or_greater(self, other: Status) -> Status
+        ensures { status_number result ≡ max (status_number self) (status_number other) }
+    {
+        if self.number() < other.number() {
+            other
+        } else {
+            self
         }
     }
 }

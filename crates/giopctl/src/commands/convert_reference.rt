@@ -37,8 +37,8 @@ pub fn convert_ior<W: Write>(
     }
 }
 
-// How a refused text of a reference is told: a fault of its octets as that.
-fn ior_refusal(fault: IorTextFault) -> Result<RefusalLine, Failure>
+/// How a refused text of a reference is told: a fault of its octets as that.
+pub fn ior_refusal(fault: IorTextFault) -> Result<RefusalLine, Failure>
     ensures value { IfOk result (λ line. line ≡ ior_refusal fault) }
     ensures refused { OnOk result (fault ≢ NoMemory) }
 {

@@ -3,7 +3,8 @@ use giop_ior::{CorbalocFault, IorTextFault};
 use giop_types::FormFault;
 use std::fmt;
 
-/// A refusal of `convert`, in one line: `fault NUMBER NAME`, with ` at PLACE` where it has a place.
+/// A refusal of what is to be converted, or called by, in one line: `fault NUMBER NAME`, with
+/// ` at PLACE` where it has a place.
 #[derive(Clone, Copy)]
 pub enum RefusalLine {
     /// Of the text of a reference.
@@ -18,6 +19,8 @@ pub enum RefusalLine {
     BadHex,
     /// Of octets: a value's, or those of a reference's text.
     Octets(CdrFault),
+    /// Of a reference that says no way over IIOP.
+    NoIiopProfile,
 }
 
 impl fmt::Display for RefusalLine {
@@ -36,6 +39,7 @@ impl fmt::Display for RefusalLine {
             RefusalLine::Octets(fault) => {
                 write!(f, "fault {} {} at {}", fault.number(), fault.kind, fault.at)
             }
+            RefusalLine::NoIiopProfile => f.write_str("no iiop profile"),
         }
     }
 }

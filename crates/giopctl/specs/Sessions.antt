@@ -1,0 +1,119 @@
+-- What `call` and `serve` tell of a session, and the status that it ends with.
+use Rattle.std.specs.Prelude.{◌≡◌, ℕ, ◌==◌, Bool, true, false, List, [], ◌++◌, Option, Some, None, ⊤, if◌then◌else◌, codes}
+use Rattle.std.specs.Fmt.{decimal}
+use Rattle.std.specs.FinMap as finite
+use Rattle.std.specs.List.{list_all}
+use Rattle.std.specs.Io.KnownBytes.{Appends}
+use Rattle.giop_ids.specs.ById.{ById}
+use Rattle.giop_msg.specs.declared.messages.request.Request.{Request}
+use Rattle.giop_msg.specs.declared.target.Target.TheVariants.{Key}
+use Rattle.giop_msg.specs.declared.version.Version.{Version}
+use Rattle.giop_msg.specs.Messages.Reply.{status_of}
+use Rattle.giop_types.specs.declared.json.interface.Interface.{Interface}
+use Rattle.giop_calls.specs.declared.client.entry.ClientEntry.{ClientEntry}
+use Rattle.giop_calls.specs.declared.client.entry.ClientEntry.TheVariants.{Done as done, OnewaySent}
+use Rattle.giop_calls.specs.declared.server.entry.ServerEntry.{ServerEntry}
+use Rattle.giop_session.specs.declared.session_fault.SessionFault.{SessionFault}
+use Rattle.giop_session.specs.declared.slot.Slot.{Slot}
+use Rattle.giop_session.specs.Sending.{entry_of}
+use Rattle.giopctl.specs.declared.calls.CallLine.{CallLine}
+use Rattle.giopctl.specs.declared.status.Status.{Status}
+use Rattle.giopctl.specs.declared.status.Status.TheVariants.{Done, Refused, InputOutput, Memory}
+use Rattle.giopctl.specs.Check.{fault_status}
+use Rattle.giopctl.specs.Dump.{ended}
+use Rattle.giopctl.specs.SessionLines.{session_fault_line}
+use Rattle.giopctl.specs.Table.{client_entry_line, server_entry_line, table_text}
+
+-- ---- what is told
+
+-- the line of the fault that ended a session, where one did
+abbrev pub fault_text : Option SessionFault → List ℕ
+fault_text (Some why) = ended (session_fault_line why)
+fault_text None = []
+
+-- the table of an end, and the fault that ended its session
+abbrev pub session_text : {E : Type 0} → (ℕ → E → List ℕ) → ById (Slot E) → Option SessionFault
+    → List ℕ
+session_text line table fault = table_text line table ++ fault_text fault
+
+-- which connection it is, counted from 1: connection NUMBER
+abbrev pub connection_line : ℕ → List ℕ
+connection_line number = codes "connection " ++ decimal number
+
+-- ---- the calls of a client
+
+-- a Request of a call: to the object of a key, for a reply unless the operation is oneway
+abbrev pub request_of : CallLine → List ℕ → Version → Request
+request_of call key version = record {
+  head = record {
+    version = version;
+    id = call.id;
+    flags = if call.oneway then 0 else 3;
+    target = Key key;
+    operation = call.operation;
+    contexts = [];
+  };
+  body = call.ins;
+}
+
+-- whether a call went well: it got its result, or was sent and has none
+abbrev pub went_well : ClientEntry → Bool
+went_well (done request reply) = status_of reply.body == 0
+went_well (OnewaySent request) = true
+went_well _ = false
+
+-- whether what stands under an id went well
+abbrev pub is_well : Option ClientEntry → Bool
+is_well (Some entry) = went_well entry
+is_well None = true
+
+-- whether all that stands in a table went well
+abbrev pub all_well : ById (Slot ClientEntry) → Bool
+all_well table = list_all (λ id. is_well (entry_of (finite.get table id))) (finite.keys table)
+
+-- the status of calls: done where none was refused at this end and all went well
+abbrev pub call_status : Option SessionFault → ById (Slot ClientEntry) → Status
+call_status None table = if all_well table then Done else Refused
+call_status (Some why) table = Refused
+
+-- the fault that is told: that of the call which was refused at this end, else the end's own
+abbrev pub told : Option SessionFault → Option SessionFault → Option SessionFault
+told (Some why) fault = Some why
+told None fault = fault
+
+-- the writer's contents grew by the table of a client's end and its fault, and this is its status
+pub record IsCalled (interface : Interface) (old new : Option (List ℕ)) (status : Status) : Type 0 where
+  pub table : ById (Slot ClientEntry)
+  pub refused : Option SessionFault
+  pub fault : Option SessionFault
+  pub text : Appends old new (session_text (client_entry_line interface) table (told refused fault))
+  pub is : status ≡ call_status refused table
+
+-- the same by the status that the calls end with
+abbrev pub Calls : Interface → Option (List ℕ) → Option (List ℕ) → Status → Type 0
+Calls interface old new InputOutput = ⊤
+Calls interface old new Memory = ⊤
+Calls interface old new status = IsCalled interface old new status
+
+-- ---- the connection of a server
+
+-- the status of a connection that ended with a fault, or without: an orderly end is none
+abbrev pub serve_status : Option SessionFault → Status
+serve_status (Some why) = fault_status why
+serve_status None = Done
+
+-- the writer's contents grew by the number of a connection, the table of a server's end and its
+-- fault, and this is its status
+pub record IsServed (number : ℕ) (interface : Interface) (old new : Option (List ℕ))
+    (status : Status) : Type 0 where
+  pub table : ById (Slot ServerEntry)
+  pub fault : Option SessionFault
+  pub text : Appends old new (ended (connection_line number)
+      ++ session_text (server_entry_line interface) table fault)
+  pub is : status ≡ serve_status fault
+
+-- the same by the status that the connection ends with
+abbrev pub Serves : ℕ → Interface → Option (List ℕ) → Option (List ℕ) → Status → Type 0
+Serves number interface old new InputOutput = ⊤
+Serves number interface old new Memory = ⊤
+Serves number interface old new status = IsServed number interface old new status

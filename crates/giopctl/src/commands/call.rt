@@ -1,0 +1,231 @@
+//! `call`: a client's end between a reader and a writer.
+ghost use Rattle.std.specs.Prelude.{◌≡◌, IfOk, None, OnOk, option_copied};
+ghost use Rattle.std.specs.FinMap as finite;
+ghost use Rattle.std.specs.Io.KnownBytes.{Appends};
+ghost use Rattle.std.specs.List.{list_all};
+ghost use Rattle.giop_session.specs.Form.{IsForm};
+ghost use Rattle.giop_session.specs.Sending.{entry_of};
+ghost use Rattle.giopctl.specs.Sessions.{Calls, IsCalled, all_well, call_status, is_well, request_of, session_text, told};
+ghost use Rattle.giopctl.specs.Table.{client_entry_line};
+
+use crate::calls::CallLine;
+use crate::commands::sending::send_all;
+use crate::commands::session::{TURNS, goes_on, refusal, told, write_all_out, write_session};
+use crate::failure::Failure;
+use crate::status::Status;
+use giop_calls::ClientEntry;
+use giop_cdr::OctetList;
+use giop_msg::{Request, RequestHead, ServiceContexts, Target, Version};
+use giop_session::{ClientEnd, Form, Limits, SessionFault};
+use giop_types::Interface;
+use std::alloc::{AllocError, Global};
+use std::io::{Read, Write};
+
+/// Calls operations of the object of a key, in a version and a form, by a new client's end with the
+/// default limits: the first pieces of all calls are put out, then one piece of each in turn, and
+/// what is put out is written and replies are read until all calls are over or the input ends.
+/// Nothing is read where no call has a reply. Then the table is written to `out`, a line for each
+/// call, and the fault that ended the session, where one did.
+///
+/// A call that is refused at this end, as one under an id that is in use, ends the session: nothing
+/// is written to the peer, and the fault is that of the call. A peer that breaks the protocol is told
+/// so by a MessageError.
+///
+/// It is `Done` where no call was refused and each got its result, or was sent and has none; else
+/// `Refused`. Where reading or writing fails, or 65,536 turns are taken, it is `InputOutput`, and
+/// where memory is wanting `Memory`; then a part of the text is written, or none.
+pub fn call_session<R: Read, W: Write, O: Write>(
+    alloc: Global,
+    interface: &Interface,
+    calls: Vec<CallLine>,
+    key: &[u8],
+    version: Version,
+    form: Form,
+    reader: &mut R,
+    writer: &mut W,
+    out: &mut O,
+) -> Status
+    requires { IsForm form }
+    ensures { Calls interface.now (O.contents out.old) (O.contents out.new) result }
+{
+    match call_over(
+        alloc, interface, calls, key, version, form, reader, writer, out,
+    ) {
+        Ok(status) => status,
+        Err(failure) => failure.status(),
+    }
+}
+
+/// The same, with what failed where something did.
+pub fn call_over<R: Read, W: Write, O: Write>(
+    alloc: Global,
+    interface: &Interface,
+    calls: Vec<CallLine>,
+    key: &[u8],
+    version: Version,
+    form: Form,
+    reader: &mut R,
+    writer: &mut W,
+    out: &mut O,
+) -> Result<Status, Failure>
+    requires { IsForm form }
+    ensures { IfOk result (IsCalled interface.now (O.contents out.old) (O.contents out.new)) }
+{
+    let mut end = ClientEnd::new(alloc, interface, Limits::default());
+    let refused = call_all(alloc, &mut end, calls, key, version, form)?;
+    if refused.is_none() {
+        converse(alloc, &mut end, reader, writer)?;
+    }
+    tell(alloc, interface, &end, refused, out)
+}
+
+// Writes what is told of the calls.
+fn tell<O: Write>(
+    alloc: Global,
+    interface: &Interface,
+    end: &ClientEnd<'_>,
+    refused: Option<SessionFault>,
+    out: &mut O,
+) -> Result<Status, Failure>
+    ensures text { OnOk result (Appends (O.contents out.old) (O.contents out.new)
+        (session_text (client_entry_line interface.now) end.now.calls.table
+        (told refused end.now.fault))) }
+    ensures ok { IfOk result (λ status. status ≡ call_status refused end.now.calls.table) }
+{
+    let fault = told(refused, end.fault());
+    write_session(alloc, interface, end, fault, out)?;
+    call_status(alloc, refused, end)
+}
+
+// Puts out the first piece of each call, then the others in turn. The answer is the fault of a
+// refused call, at which it stops.
+fn call_all(
+    alloc: Global,
+    end: &mut ClientEnd<'_>,
+    calls: Vec<CallLine>,
+    key: &[u8],
+    version: Version,
+    form: Form,
+) -> Result<Option<SessionFault>, Failure>
+    requires { IsForm form }
+{
+    for call in calls {
+        let request = request_of(alloc, call, key, version)?;
+        if let Err(fault) = end.call(request, form) {
+            return Ok(Some(refusal(fault)?));
+        }
+    }
+    send_all(alloc, end)
+}
+
+// The Request of a call.
+fn request_of(
+    alloc: Global,
+    call: CallLine,
+    key: &[u8],
+    version: Version,
+) -> Result<Request, AllocError>
+    ensures { IfOk result (λ request. request ≡ request_of call key.now version) }
+{
+    Ok(Request {
+        head: RequestHead {
+            version,
+            id: call.id,
+            flags: if call.oneway { 0 } else { 3 },
+            target: Target::Key(OctetList::from_slice(alloc, key)?),
+            operation: call.operation,
+            contexts: ServiceContexts::new(alloc),
+        },
+        body: call.ins,
+    })
+}
+
+// Takes turns until all calls are over, the input ends or a fault stands.
+fn converse<R: Read, W: Write>(
+    alloc: Global,
+    end: &mut ClientEnd<'_>,
+    reader: &mut R,
+    writer: &mut W,
+) -> Result<(), Failure> {
+    let ids = end.ids(alloc)?;
+    if are_over(end, ids.as_slice()) {
+        return write_all_out(end, writer);
+    }
+    for _ in 0..TURNS {
+        if !goes_on(end, reader, writer)? || are_over(end, ids.as_slice()) {
+            return Ok(());
+        }
+    }
+    Err(Failure::TurnsSpent)
+}
+
+// Whether the calls of all ids are over.
+fn are_over(end: &ClientEnd<'_>, ids: &[u32]) -> bool {
+    for id in ids {
+        if let Some(entry) = end.entry(*id) {
+            if !entry.is_closed() {
+                return false;
+            }
+        }
+    }
+    true
+}
+
+// The status of the calls: whether one was refused, and what the others came to.
+fn call_status(
+    alloc: Global,
+    refused: Option<SessionFault>,
+    end: &ClientEnd<'_>,
+) -> Result<Status, Failure>
+    ensures { IfOk result (λ status. status ≡ call_status refused end.now.calls.table) }
+{
+    match refused {
+        Some(_) => Ok(Status::Refused),
+        None => own_status(alloc, end),
+    }
+}
+
+// The status of the calls where none was refused.
+fn own_status(alloc: Global, end: &ClientEnd<'_>) -> Result<Status, Failure>
+    ensures { IfOk result (λ status. status ≡ call_status None end.now.calls.table) }
+{
+    if all_well(alloc, end)? {
+        Ok(Status::Done)
+    } else {
+        Ok(Status::Refused)
+    }
+}
+
+// Whether all calls went well.
+fn all_well(alloc: Global, end: &ClientEnd<'_>) -> Result<bool, AllocError>
+    ensures { IfOk result (λ well. well ≡ all_well end.now.calls.table) }
+{
+    let ids = end.ids(alloc)?;
+    Ok(are_well(end, ids.as_slice()))
+}
+
+// Whether the calls of all ids went well.
+fn are_well(end: &ClientEnd<'_>, ids: &[u32]) -> bool
+    ensures { result
+        ≡ list_all (λ id. is_well (entry_of (finite.get end.now.calls.table id))) ids.now }
+{
+    ids.iter().all(|id| is_well_at(end, *id))
+}
+
+// Whether the call of an id went well.
+fn is_well_at(end: &ClientEnd<'_>, id: u32) -> bool
+    ensures { result ≡ is_well (entry_of (finite.get end.now.calls.table id)) }
+{
+    is_well(end.entry(id))
+}
+
+// Whether what stands under an id, if anything does, went well.
+fn is_well(entry: Option<&ClientEntry>) -> bool
+    ensures { result ≡ is_well (option_copied entry.entry) }
+{
+    match entry {
+        Some(ClientEntry::Done { reply, .. }) => reply.body.status() == 0,
+        Some(ClientEntry::OnewaySent { .. }) | None => true,
+        Some(_) => false,
+    }
+}

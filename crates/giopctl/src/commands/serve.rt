@@ -1,0 +1,187 @@
+//! `serve`: a server's end between a reader and a writer.
+ghost use Rattle.std.specs.Prelude.{◌≡◌, ◌++◌, IfOk, OnOk};
+ghost use Rattle.std.specs.Io.KnownBytes.{Appends};
+ghost use Rattle.giop_session.specs.Form.{IsForm};
+ghost use Rattle.giopctl.specs.Dump.{ended};
+ghost use Rattle.giopctl.specs.Sessions.{IsServed, Serves, connection_line, serve_status, session_text};
+ghost use Rattle.giopctl.specs.Table.{server_entry_line};
+
+use crate::answers::Answers;
+use crate::commands::answering::{Due, due_to, reply_to};
+use crate::commands::sending::send_all;
+use crate::commands::session::{TURNS, goes_on, refusal, told, write_session};
+use crate::failure::Failure;
+use crate::status::Status;
+use giop_session::{Form, Limits, ServerEnd, SessionFault};
+use giop_types::Interface;
+use std::alloc::Global;
+use std::io::{Read, Write};
+
+/// Serves a connection of this number by a new server's end with the default limits. After each read
+/// what waits for an answer is answered in a form, in ascending order of the ids: by what is given
+/// for its operation where its target is this key, else by the exception that says what is wrong
+/// with it; a LocateRequest by whether its target is this key. Then the pieces that are left are put
+/// out, one of each id in turn. At the end of the input, or at a fault, the line of the connection is
+/// written to `out`, the table, and the fault, where there is one.
+///
+/// A peer that breaks the protocol is told so by a MessageError. An answer that can't be sent, as one
+/// that passes a limit, ends the session with its fault.
+///
+/// It is `Done` where there is no fault, or the peer closed the connection; else `Refused`. Where
+/// reading or writing fails, or 65,536 turns are taken, it is `InputOutput`, and where memory is
+/// wanting `Memory`; then a part of the text is written, or none.
+pub fn serve_session<R: Read, W: Write, O: Write>(
+    alloc: Global,
+    number: u32,
+    interface: &Interface,
+    answers: &Answers,
+    key: &[u8],
+    form: Form,
+    reader: &mut R,
+    writer: &mut W,
+    out: &mut O,
+) -> Status
+    requires { IsForm form }
+    ensures { Serves number interface.now (O.contents out.old) (O.contents out.new) result }
+{
+    match serve_over(
+        alloc, number, interface, answers, key, form, reader, writer, out,
+    ) {
+        Ok(status) => status,
+        Err(failure) => failure.status(),
+    }
+}
+
+/// The same, with what failed where something did.
+pub fn serve_over<R: Read, W: Write, O: Write>(
+    alloc: Global,
+    number: u32,
+    interface: &Interface,
+    answers: &Answers,
+    key: &[u8],
+    form: Form,
+    reader: &mut R,
+    writer: &mut W,
+    out: &mut O,
+) -> Result<Status, Failure>
+    requires { IsForm form }
+    ensures { IfOk result (IsServed number interface.now (O.contents out.old)
+        (O.contents out.new)) }
+{
+    let mut end = ServerEnd::new(alloc, interface, Limits::default());
+    let serving = Serving {
+        interface,
+        answers,
+        key,
+        form,
+    };
+    let refused = converse(alloc, &mut end, serving, reader, writer)?;
+    let fault = told(refused, end.fault());
+    tell(alloc, number, interface, &end, fault, out)
+}
+
+// Writes what is told of a connection.
+fn tell<O: Write>(
+    alloc: Global,
+    number: u32,
+    interface: &Interface,
+    end: &ServerEnd<'_>,
+    fault: Option<SessionFault>,
+    out: &mut O,
+) -> Result<Status, Failure>
+    ensures text { OnOk result (Appends (O.contents out.old) (O.contents out.new)
+        (ended (connection_line number)
+        ++ session_text (server_entry_line interface.now) end.now.calls.table fault)) }
+    ensures ok { IfOk result (λ status. status ≡ serve_status fault) }
+{
+    write_connection(number, out)?;
+    write_session(alloc, interface, end, fault, out)?;
+    Ok(serve_status(fault))
+}
+
+// By what is served.
+#[derive(Clone, Copy)]
+struct Serving<'a> {
+    interface: &'a Interface,
+    answers: &'a Answers,
+    key: &'a [u8],
+    form: Form,
+    ghost sent: { IsForm form },
+}
+
+fn write_connection<W: Write>(number: u32, writer: &mut W) -> Result<(), Failure>
+    ensures { OnOk result (Appends (W.contents writer.old) (W.contents writer.new)
+        (ended (connection_line number))) }
+{
+    writeln!(writer, "connection {number}")?;
+    Ok(())
+}
+
+fn serve_status(fault: Option<SessionFault>) -> Status
+    ensures { result ≡ serve_status fault }
+{
+    match fault {
+        Some(SessionFault::Closed) | None => Status::Done,
+        Some(_) => Status::Refused,
+    }
+}
+
+// Takes turns, and answers after each, until the input ends or a fault stands. The answer is the
+// fault of what could not be sent, at which it stops.
+fn converse<R: Read, W: Write>(
+    alloc: Global,
+    end: &mut ServerEnd<'_>,
+    serving: Serving<'_>,
+    reader: &mut R,
+    writer: &mut W,
+) -> Result<Option<SessionFault>, Failure> {
+    for _ in 0..TURNS {
+        if !goes_on(end, reader, writer)? {
+            return Ok(None);
+        }
+        if let Some(fault) = answer_all(alloc, end, serving)? {
+            return Ok(Some(fault));
+        }
+    }
+    Err(Failure::TurnsSpent)
+}
+
+// Answers all that waits for an answer, and puts out every piece.
+fn answer_all(
+    alloc: Global,
+    end: &mut ServerEnd<'_>,
+    serving: Serving<'_>,
+) -> Result<Option<SessionFault>, Failure> {
+    let ids = end.ids(alloc)?;
+    for id in &ids {
+        if let Some(fault) = answer(alloc, end, serving, *id)? {
+            return Ok(Some(fault));
+        }
+    }
+    send_all(alloc, end)
+}
+
+// Answers what stands under an id, where something is due to it.
+fn answer(
+    alloc: Global,
+    end: &mut ServerEnd<'_>,
+    serving: Serving<'_>,
+    id: u32,
+) -> Result<Option<SessionFault>, Failure> {
+    let Some(entry) = end.entry(id) else {
+        return Ok(None);
+    };
+    let (interface, answers) = (serving.interface, serving.answers);
+    let answered = match due_to(serving.key, entry) {
+        Due::Nothing => return Ok(None),
+        Due::Locate { here } => end.answer_locate(id, here, serving.form.order),
+        Due::Reply { version, answer } => {
+            let reply = reply_to(alloc, interface, answers, id, entry, version, answer)?;
+            end.answer(reply, serving.form)
+        }
+    };
+    match answered {
+        Ok(()) => Ok(None),
+        Err(fault) => Ok(Some(refusal(fault)?)),
+    }
+}

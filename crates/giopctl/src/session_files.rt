@@ -1,0 +1,56 @@
+//! The files that `call` and `serve` read, and how they are refused.
+
+use crate::commands::{form_refusal, refuse};
+use crate::failure::Failure;
+use crate::files::OUTPUT_BUFFER;
+use crate::lines::RefusalLine;
+use crate::status::Status;
+use crate::{files, report};
+use giop_types::{FormFault, Interface};
+use std::io;
+use std::io::{BufWriter, Write};
+
+/// The octets of a file, or the status where it can't be read, which is told.
+pub fn read(rt: &HostRuntime, file: &str) -> Result<Vec<u8>, Status> {
+    match files::read(rt, file) {
+        Ok(octets) => Ok(octets),
+        Err(failure) => Err(report::answer(rt, file, Err(failure))),
+    }
+}
+
+/// The interface that a file's text is, or the status where it is refused, which is told.
+pub fn interface_of(rt: &HostRuntime, file: &str, text: &[u8]) -> Result<Interface, Status> {
+    match Interface::from_json(rt.alloc(), text) {
+        Ok(interface) => Ok(interface),
+        Err(fault) => {
+            report::interface(rt, rt.alloc(), file, text);
+            Err(refused_line(rt, file, form_refusal(fault)))
+        }
+    }
+}
+
+/// Tells that the text of a file, which isn't the interface's, is refused.
+pub fn refused_form(rt: &HostRuntime, file: &str, text: &[u8], fault: FormFault) -> Status {
+    report::form(rt, rt.alloc(), file, text, fault);
+    refused_line(rt, file, form_refusal(fault))
+}
+
+/// Writes the line of a refusal to the standard output.
+pub fn refused(rt: &HostRuntime, line: RefusalLine) -> Status {
+    refused_line(rt, "-", Ok(line))
+}
+
+fn refused_line(rt: &HostRuntime, file: &str, line: Result<RefusalLine, Failure>) -> Status {
+    let answered = match line {
+        Ok(line) => written(rt, line),
+        Err(failure) => Err(failure),
+    };
+    report::answer(rt, file, answered)
+}
+
+fn written(rt: &HostRuntime, line: RefusalLine) -> Result<Status, Failure> {
+    let mut writer = BufWriter::with_capacity(rt.alloc(), OUTPUT_BUFFER, io::writer(rt))?;
+    let status = refuse(line, &mut writer)?;
+    writer.flush()?;
+    Ok(status)
+}
