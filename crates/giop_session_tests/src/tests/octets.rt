@@ -133,9 +133,7 @@ pub const HERE_6_V10_LITTLE: &str = "47494f5001000104080000000600000001000000";
 /// The object is unknown, little-endian.
 pub const UNKNOWN_6_LITTLE: &str = "47494f5001020104080000000600000000000000";
 
-/// CancelRequests of id 2, id 4 and id 5, and the last one little-endian.
-pub const CANCEL_2: &str = "47494f50010200020000000400000002";
-
+/// CancelRequests of id 4 and id 5, and the last one little-endian.
 pub const CANCEL_4: &str = "47494f50010200020000000400000004";
 
 pub const CANCEL_5: &str = "47494f50010200020000000400000005";
@@ -147,10 +145,8 @@ pub const CANCEL_1_V10_LITTLE: &str = "47494f50010001020400000001000000";
 
 pub const CANCEL_1_V11: &str = "47494f50010100020000000400000001";
 
-/// Replies without outs, to id 1, id 2 and id 4.
+/// Replies without outs, to id 1 and id 4.
 pub const DONE_1: &str = "47494f50010200010000000c000000010000000000000000";
-
-pub const DONE_2: &str = "47494f50010200010000000c000000020000000000000000";
 
 pub const DONE_4: &str = "47494f50010200010000000c000000040000000000000000";
 
