@@ -1,6 +1,8 @@
 //! 100,000 calls of `add` on one connection over 127.0.0.1, 16 at a time: a client's end calls, a
 //! server's end answers, and each writes and reads its own socket. `bench/session/twin.rs` does the
 //! same in plain Rust.
+ghost use Rattle.std.specs.Prelude.{◌<◌};
+
 use giop_calls::{ClientEntry, ServerEntry};
 use giop_cdr::OctetList;
 use giop_msg::{Reply, ReplyBody, Request, RequestHead, ServiceContexts, Target, Version};
@@ -39,7 +41,10 @@ fn longs(alloc: Global, values: &[i32]) -> Result<ValueList, AllocError> {
     Ok(list)
 }
 
-fn asked(alloc: Global, id: u32) -> Result<Request, AllocError> {
+// The call of an id: what it adds is its id to 2.
+fn asked(alloc: Global, id: u32) -> Result<Request, AllocError>
+    requires { id < 16 }
+{
     let head = RequestHead {
         version: Version::V12,
         id,
