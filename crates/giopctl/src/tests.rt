@@ -1,9 +1,15 @@
 //! What no clause says: the text of worked files, runs that fail, and the words that are taken.
 
+mod calling;
+mod check;
 mod convert;
 mod dump;
 mod failing;
 mod octets;
 mod reading;
 mod recorded;
+mod serving;
+mod session_files;
+mod session_words;
+mod target;
 mod words;
