@@ -50,7 +50,7 @@ impl Block {
 }
 
 // Writes octets over as many others. From 16 to 32 they are copied as the first 16 and the last 16,
-// which may overlap, since a copy of a size that is known is no call.
+// which may overlap: arrays of a known size lie in registers, and their copy is no call.
 #[inline(always)]
 fn copy(to: &mut [u8], octets: &[u8])
     requires { length to.old ≡ length octets.now }
@@ -58,8 +58,12 @@ fn copy(to: &mut [u8], octets: &[u8])
 {
     let n = octets.len();
     if 16 <= n && n <= 32 {
-        to[..16].copy_from_slice(&octets[..16]);
-        to[n - 16..].copy_from_slice(&octets[n - 16..]);
+        let mut first = [0u8; 16];
+        let mut last = [0u8; 16];
+        first.copy_from_slice(&octets[..16]);
+        last.copy_from_slice(&octets[n - 16..]);
+        to[..16].copy_from_slice(&first);
+        to[n - 16..].copy_from_slice(&last);
     } else {
         copy_any(to, octets);
     }

@@ -22,4 +22,5 @@ pub returns-then-n-le32 : goal.returns-then-n-le32
 returns-then-n-le32 c =
     let few = c.if-n-le32.true in
     by_ends c.args.to.now c.args.octets.now _ _ 16 (length c.args.octets.now - 16) _ c.if-n-ge16.true (omega arith) c.requires refl
-    c.copy_from_slice.ensures.after c.copy_from_slice-then-n-le32.ensures.after
+    (c.copy_from_slice-then-n-le32-2.ensures.after ∙ c.copy_from_slice.ensures.after)
+    (c.copy_from_slice-then-n-le32-3.ensures.after ∙ c.copy_from_slice-then-n-le32.ensures.after)
