@@ -36,7 +36,7 @@ impl Block {
         ensures { self.new
             ≡ take from self.old ++ octets.now ++ drop (from + length octets.now) self.old }
     {
-        self.octets[from..from + octets.len()].copy_from_slice(octets);
+        copy(&mut self.octets[from..from + octets.len()], octets);
     }
 
     /// The octets from one index up to another.
@@ -47,4 +47,34 @@ impl Block {
     {
         &self.octets[from..to]
     }
+}
+
+// Writes octets over as many others. From 16 to 32 they are copied as the first 16 and the last 16,
+// which may overlap: arrays of a known size lie in registers, and their copy is no call.
+#[inline(always)]
+fn copy(to: &mut [u8], octets: &[u8])
+    requires { length to.old ≡ length octets.now }
+    ensures { to.new ≡ octets.now }
+{
+    let n = octets.len();
+    if 16 <= n && n <= 32 {
+        let mut first = [0u8; 16];
+        let mut last = [0u8; 16];
+        first.copy_from_slice(&octets[..16]);
+        last.copy_from_slice(&octets[n - 16..]);
+        to[..16].copy_from_slice(&first);
+        to[n - 16..].copy_from_slice(&last);
+    } else {
+        copy_any(to, octets);
+    }
+}
+
+// Writes any number of octets over as many others. Kept out of line, so that the copy of a small
+// piece is short.
+#[inline(never)]
+fn copy_any(to: &mut [u8], octets: &[u8])
+    requires { length to.old ≡ length octets.now }
+    ensures { to.new ≡ octets.now }
+{
+    to.copy_from_slice(octets);
 }

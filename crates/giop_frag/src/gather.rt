@@ -114,6 +114,7 @@ impl Gather {
     /// together are more than the limit; `NoMemory`. A refusal leaves the limit and what is
     /// gathered as they were; only want of memory may leave more blocks, and no more than these
     /// octets need.
+    #[inline(always)]
     pub fn add(&mut self, id: u32, order: Order, octets: &[u8]) -> Result<(), GatherFault>
         ensures ok { let lists = put self.old.lists id
             (grown (map.get self.old.lists id) octets.now) in

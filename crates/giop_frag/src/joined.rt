@@ -2,7 +2,7 @@ ghost use Rattle.std.specs.Prelude.{◌≡◌, ◌≤◌, ◌<◌, ◌+◌, ◌-
 ghost use Rattle.giop_ids.specs.Runs.{RefusedAs};
 ghost use Rattle.giop_frag.specs.Blocks.{AreApart};
 ghost use Rattle.giop_frag.specs.Gathered.{add_fault_by, blocks_for};
-ghost use Rattle.giop_frag.specs.Placed.{IsFilled, IsJoinedTo, IsLeft, lacking, pieces_at};
+ghost use Rattle.giop_frag.specs.Placed.{IsFilled, IsJoinedTo, IsLeft, IsProvided, lacking, pieces_at};
 
 use crate::GatherFault;
 use crate::pool::Pool;
@@ -80,6 +80,22 @@ impl Joined {
             self.fill_last(pool, octets);
             return Ok(());
         }
+        self.grow(pool, octets)?;
+        Ok(())
+    }
+
+    // Appends octets, and takes memory for the blocks that they lack. Kept out of line, so that the
+    // short way of a small piece is short.
+    #[inline(never)]
+    fn grow(&mut self, pool: &mut Pool, octets: &[u8]) -> Result<(), AllocError>
+        requires count { length self.old.numbers ≡ blocks_for self.old.size }
+        requires apart { AreApart pool.old.blocks (self.old.numbers ++ pool.old.free) }
+        requires small { self.old.size + length octets.now ≤ 2 ^ 62 }
+        ensures ok { OnOk result (IsJoinedTo self.old pool.old self.new pool.new octets.now) }
+        ensures kept { OnErr result (self.new ≡ record self.old { room = self.new.room }) }
+        ensures left { OnErr result
+            (IsProvided (lacking self.old (length octets.now)) pool.old pool.new) }
+    {
         let lacking = blocks_for(self.size + octets.len()) - self.count();
         pool.provide(lacking)?;
         self.numbers.reserve(lacking)?;

@@ -87,6 +87,7 @@ fn fill_list(table: &mut BTreeMap<u32, Joined>, pool: &mut Pool, id: u32, octets
 
 /// Appends octets to those under an id, where they come in one order and `over` says that there is
 /// room.
+#[inline(always)]
 pub fn add_to_list(
     table: &mut BTreeMap<u32, Joined>,
     pool: &mut Pool,

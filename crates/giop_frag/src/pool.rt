@@ -144,7 +144,7 @@ impl Pool {
         self.write_part(numbers[at / 512], at % 512, octets);
     }
 
-    // Makes a block, which is free. Seldom called, and kept out of line, so that `provide` is short.
+    // Makes a block, which is free. Seldom called; out of line, so that `provide` is short.
     #[cold]
     #[inline(never)]
     fn make(&mut self) -> Result<(), AllocError>

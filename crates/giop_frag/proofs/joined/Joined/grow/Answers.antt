@@ -1,6 +1,6 @@
 use Rattle.std.proofs.Common.{ap, ◌∙◌}
 use Rattle.giop_frag.proofs.FillLemmas.{grown_apart}
-use Rattle.giop_frag.proofs.joined.Joined.append.Goals as goal
+use Rattle.giop_frag.proofs.joined.Joined.grow.Goals as goal
 
 pub fill-requires-clause-apart : goal.fill-requires-clause-apart
 fill-requires-clause-apart c =
