@@ -24,7 +24,7 @@ use crate::plan::{Plan, Planned};
 use crate::putting::put;
 use crate::session_fault::SessionFault;
 use crate::unsent::Unsent;
-use giop_calls::{Call, CallFault, ClientEntry, ClientEvent, Outcome};
+use giop_calls::{Aside, Call, CallFault, ClientEntry, ClientEvent, Outcome};
 use giop_cdr::Order;
 use giop_msg::{Kind, LocateRequest, Reply, Request, Version};
 
@@ -58,6 +58,9 @@ impl<'a> ClientEnd<'a> {
         }
         let id = request.head.id;
         let unsent = self.pieces_of_request(&request, form)?;
+        let Ok(request) = Aside::new(self.alloc, request) else {
+            return Err(SessionFault::NoMemory);
+        };
         let event = ClientEvent::Call {
             pieces: unsent.len() as u32,
             call: Call::Request(request),
