@@ -19,9 +19,10 @@ ghost use Rattle.giop_session.specs.ServerAnswers.{answer_fault, IsAnswer, IsLoc
 use crate::end::ServerEnd;
 use crate::form::Form;
 use crate::heard::kept;
-use crate::local::{done, one_message, sent};
+use crate::local::{done, sent};
 use crate::plan::{Plan, Planned};
 use crate::putting::put;
+use crate::sendable::one_message;
 use crate::session_fault::SessionFault;
 use crate::unsent::Unsent;
 use giop_calls::{Aside, CallKind, Outcome, ServerEntry, ServerEvent};
@@ -223,14 +224,8 @@ impl<'a> ServerEnd<'a> {
         let Ok(joined) = reply.encode(self.alloc, order) else {
             return None;
         };
-        one_message(
-            self.alloc,
-            version,
-            Kind::LocateReply,
-            order,
-            joined.as_slice(),
-        )
-        .ok()
+        let payload = OctetList::from(joined);
+        one_message(self.alloc, version, Kind::LocateReply, order, payload).ok()
     }
 }
 
