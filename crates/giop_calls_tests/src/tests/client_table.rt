@@ -203,7 +203,10 @@ fn an_open_call_can_be_cancelled(rt: HostRuntime) -> Result<(), Fail> {
         (Waiting(Locate), UNSEEN),
         (Gathering(Request), BEGUN),
     ] {
-        assert_eq!(rt; after(alloc, before, ClientEvent::Cancel)?, (behind, Ok(())));
+        assert_eq!(rt;
+            after(alloc, before, ClientEvent::Cancel)?,
+            (behind, Ok(()))
+        );
     }
     for before in [
         Absent, Done, LocateDone, Undecoded, OnewaySent, UNSEEN, BEGUN, SEEN,
@@ -250,7 +253,10 @@ fn a_reply_that_cant_be_decoded_ends_the_call(rt: HostRuntime) -> Result<(), Fai
         in_order: true,
         reply: HeardReply::Undecoded(made::fault()),
     };
-    assert_eq!(rt; after(alloc, Gathering(Locate), event)?, (Undecoded, Ok(())));
+    assert_eq!(rt;
+        after(alloc, Gathering(Locate), event)?,
+        (Undecoded, Ok(()))
+    );
     Ok(())
 }
 

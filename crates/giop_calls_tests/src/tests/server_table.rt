@@ -214,10 +214,16 @@ fn a_fragment_behind_a_cancel_is_ignored_and_any_other_stray(rt: HostRuntime) ->
             Delivered,
         ] {
             let more = ServerEvent::More { in_order };
-            assert_eq!(rt; after(alloc, before, more)?, (before, Err(CallFault::Stray)));
+            assert_eq!(rt;
+                after(alloc, before, more)?,
+                (before, Err(CallFault::Stray))
+            );
             let call = heard(alloc, Asked)?;
             let last = ServerEvent::Last { in_order, call };
-            assert_eq!(rt; after(alloc, before, last)?, (before, Err(CallFault::Stray)));
+            assert_eq!(rt;
+                after(alloc, before, last)?,
+                (before, Err(CallFault::Stray))
+            );
         }
     }
     Ok(())
@@ -241,7 +247,10 @@ fn a_cancel_ends_what_expects_a_reply(rt: HostRuntime) -> Result<(), Fail> {
         (Cancelled(false, 0), Cancelled(false, 0)),
         (Cancelled(true, 2), Cancelled(true, 2)),
     ] {
-        assert_eq!(rt; after(alloc, before, ServerEvent::Cancel)?, (behind, Ok(())));
+        assert_eq!(rt;
+            after(alloc, before, ServerEvent::Cancel)?,
+            (behind, Ok(()))
+        );
     }
     Ok(())
 }
