@@ -2,6 +2,7 @@
 //! client (CORBA 3.3 Part 2, 9.4 and 9.6).
 #![tactic(auto)]
 
+mod aside;
 mod client;
 mod fault;
 mod kind;
@@ -9,6 +10,7 @@ pub mod laws;
 mod outcome;
 mod server;
 
+pub use aside::Aside;
 pub use client::call::Call;
 pub use client::entry::ClientEntry;
 pub use client::event::ClientEvent;

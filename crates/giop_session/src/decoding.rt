@@ -5,7 +5,7 @@ ghost use Rattle.giop_msg.specs.Locate.{locate_request};
 ghost use Rattle.giop_msg.specs.Messages.RequestAnswer.{IsWant, request_of_joined};
 ghost use Rattle.giop_session.specs.Decoding.{expected, heard_call, heard_locate_by, heard_request_by, undecoded};
 
-use giop_calls::{CallKind, HeardCall, UndecodedCall};
+use giop_calls::{Aside, CallKind, HeardCall, UndecodedCall};
 use giop_cdr::{CdrKind, Octets, Order};
 use giop_msg::{LocateRequest, Request, RequestFault, RequestHead, Version};
 use giop_types::Interface;
@@ -44,7 +44,7 @@ fn heard_request<S: Octets>(
         (request_of_joined interface.now version order (S.octets joined.now))) }
 {
     match Request::decode(alloc, interface, joined, version, order) {
-        Ok(request) => Some(HeardCall::Request(request)),
+        Ok(request) => Some(HeardCall::Request(Aside::new(alloc, request).ok()?)),
         Err(fault) if is_want(fault) => None,
         Err(fault) => Some(undecoded(version, expected(version, order, joined), fault)),
     }

@@ -1,6 +1,6 @@
 //! What the calls of an end's own program have in common at both sides.
-ghost use Rattle.std.specs.Prelude.{◌≡◌, ◌⊎◌, ◌<◌, ◌^◌, [], ◌∷◌, false, true, length, IfErr, IfNone, IfOk, IfSome, IsOk, Err};
-ghost use Rattle.giop_msg.specs.Cut.{IsCut, is_continued, message_of};
+ghost use Rattle.std.specs.Prelude.{◌≡◌, ◌⊎◌, ◌<◌, ◌^◌, true, length, IfErr, IfNone, IfOk, IfSome, IsOk, Err};
+ghost use Rattle.giop_msg.specs.Cut.{IsCut, is_continued};
 ghost use Rattle.giop_calls.specs.declared.fault.CallFault.TheVariants.{Unfit};
 ghost use Rattle.giop_session.specs.Form.{is_sendable, IsForm};
 ghost use Rattle.giop_session.specs.Heard.{in_call, told_of};
@@ -16,9 +16,9 @@ use crate::session_fault::SessionFault;
 use crate::table_fault::TableFault;
 use crate::unsent::Unsent;
 use giop_calls::CallFault;
-use giop_cdr::{EncodeFault, OctetList, Order};
-use giop_msg::{Kind, Msg, Version};
-use std::alloc::{AllocError, Global};
+use giop_cdr::EncodeFault;
+use giop_msg::{Kind, Version};
+use std::alloc::Global;
 
 /// What an end tells of an event of its own; `None` where there was no memory for its message.
 pub fn done(
@@ -32,29 +32,6 @@ pub fn done(
         Some(answered) => told(id, answered),
         None => Err(SessionFault::NoMemory),
     }
-}
-
-/// The message of these octets behind its header, to be sent alone.
-pub fn one_message(
-    alloc: Global,
-    version: Version,
-    kind: Kind,
-    order: Order,
-    octets: &[u8],
-) -> Result<Unsent, AllocError>
-    requires { length octets.now < 2 ^ 32 }
-    ensures { IfOk result (λ unsent.
-        unsent ≡ message_of version kind order false octets.now ∷ []) }
-{
-    let mut messages = Vec::new(alloc);
-    messages.push(Msg {
-        version,
-        order,
-        more: false,
-        kind,
-        payload: OctetList::from_slice(alloc, octets)?,
-    })?;
-    Ok(Unsent::of(messages))
 }
 
 /// The messages of a kind that encoded joined octets are sent in, within the limits of an end, for
@@ -91,7 +68,7 @@ pub fn sent(
         Err(EncodeFault::Unfit) => return Err(refused),
         Err(EncodeFault::NoMemory) => return Err(SessionFault::NoMemory),
     };
-    match messages(alloc, limits, version, kind, form, joined.as_slice()) {
+    match messages(alloc, limits, version, kind, form, joined) {
         Ok(Some(messages)) => Ok(messages),
         Ok(None) => Err(refused),
         Err(_) => Err(SessionFault::NoMemory),

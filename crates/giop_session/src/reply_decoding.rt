@@ -5,7 +5,7 @@ ghost use Rattle.giop_msg.specs.Messages.LocateReply.{locate_reply};
 ghost use Rattle.giop_msg.specs.Messages.Reply.{reply};
 ghost use Rattle.giop_session.specs.ClientHears.{heard_located_by, heard_reply, heard_reply_by};
 
-use giop_calls::{Call, HeardReply};
+use giop_calls::{Aside, Call, HeardReply};
 use giop_cdr::{CdrKind, Octets, Order};
 use giop_msg::{LocateReply, Reply, Request, Version};
 use giop_types::Interface;
@@ -47,7 +47,7 @@ fn heard_request_reply<S: Octets>(
         (joined_from order (S.octets joined.now)))) }
 {
     match Reply::decode(alloc, interface, Some(request), joined, version, order) {
-        Ok(reply) => Some(HeardReply::Reply(reply)),
+        Ok(reply) => Some(HeardReply::Reply(Aside::new(alloc, reply).ok()?)),
         Err(fault) if fault.kind == CdrKind::NoMemory => None,
         Err(fault) => Some(HeardReply::Undecoded(fault)),
     }

@@ -1,12 +1,13 @@
 //! The messages that an end sends.
-ghost use Rattle.std.specs.Prelude.{◌≡◌, ◌<◌, ◌≤◌, ◌^◌, false, true, length, IfNone, IfOk, IfSome};
-ghost use Rattle.giop_msg.specs.Cut.{IsCut, is_continued};
-ghost use Rattle.giop_session.specs.Form.{is_sendable, largest, IsForm};
+ghost use Rattle.std.specs.Prelude.{◌≡◌, ◌<◌, ◌≤◌, ◌^◌, [], ◌∷◌, false, true, length, IfNone, IfOk, IfSome};
+ghost use Rattle.giop_msg.specs.Cut.{IsCut, is_continued, message_of};
+ghost use Rattle.giop_session.specs.Form.{is_fragmented, is_sendable, largest, IsForm};
 
 use crate::form::Form;
 use crate::limits::Limits;
 use crate::unsent::Unsent;
-use giop_msg::{Kind, Version, cut};
+use giop_cdr::{OctetList, Order};
+use giop_msg::{Kind, Msg, Version, cut};
 use std::alloc::{AllocError, Global};
 
 /// The messages of a kind that joined octets are sent in, within the limits of an end. `None` where
@@ -19,25 +20,52 @@ pub fn messages(
     version: Version,
     kind: Kind,
     form: Form,
-    joined: &[u8],
+    joined: Vec<u8>,
 ) -> Result<Option<Unsent>, AllocError>
     requires kind { is_continued kind ≡ true }
     requires form { IsForm form }
     ensures sendable { IfOk result (λ found. IfSome found (λ messages.
-        is_sendable limits.gathered limits.message version (length joined.now) form.piece
+        is_sendable limits.gathered limits.message version (length joined.items) form.piece
         ≡ true)) }
     ensures cut { IfOk result (λ found. IfSome found (λ messages.
-        IsCut version kind form.order joined.now form.piece messages)) }
+        IsCut version kind form.order joined.items form.piece messages)) }
     ensures few { IfOk result (λ found. IfSome found (λ messages. length messages < 2 ^ 32)) }
     ensures none { IfOk result (λ found. IfNone found
-        (is_sendable limits.gathered limits.message version (length joined.now) form.piece
+        (is_sendable limits.gathered limits.message version (length joined.items) form.piece
         ≡ false)) }
 {
-    if !is_sendable(limits, version, joined, form.piece) {
+    if !is_sendable(limits, version, &joined, form.piece) {
         return Ok(None);
     }
-    let messages = cut(alloc, version, kind, form.order, joined, form.piece)?;
-    Ok(Some(Unsent::of(messages)))
+    if is_fragmented(version, joined.len(), form.piece) {
+        let messages = cut(alloc, version, kind, form.order, &joined, form.piece)?;
+        return Ok(Some(Unsent::of(messages)));
+    }
+    let payload = OctetList::from(joined);
+    Ok(Some(one_message(alloc, version, kind, form.order, payload)?))
+}
+
+/// The message of this payload, to be sent alone.
+pub fn one_message(
+    alloc: Global,
+    version: Version,
+    kind: Kind,
+    order: Order,
+    payload: OctetList,
+) -> Result<Unsent, AllocError>
+    requires { length payload < 2 ^ 32 }
+    ensures { IfOk result (λ unsent.
+        unsent ≡ message_of version kind order false payload ∷ []) }
+{
+    let mut messages = Vec::with_capacity(alloc, 1)?;
+    messages.push(Msg {
+        version,
+        order,
+        more: false,
+        kind,
+        payload,
+    })?;
+    Ok(Unsent::of(messages))
 }
 
 fn is_sendable(limits: Limits, version: Version, joined: &[u8], piece: u32) -> bool
@@ -60,10 +88,17 @@ fn largest(version: Version, n: usize, piece: u32) -> usize
     requires short { n < 2 ^ 32 }
     ensures { result ≡ largest version n piece }
 {
-    let piece = piece as usize;
-    if version.has_fragments() && piece < n + 12 {
-        piece - 12
+    if is_fragmented(version, n, piece) {
+        piece as usize - 12
     } else {
         n
     }
+}
+
+// Whether so many joined octets are sent in several messages.
+fn is_fragmented(version: Version, n: usize, piece: u32) -> bool
+    requires { n < 2 ^ 32 }
+    ensures { result ≡ is_fragmented version n piece }
+{
+    version.has_fragments() && (piece as usize) < n + 12
 }

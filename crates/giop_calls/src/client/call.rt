@@ -1,6 +1,7 @@
 ghost use Rattle.std.specs.Prelude.{◌≡◌};
 ghost use Rattle.giop_calls.specs.ClientTable.{answers};
 
+use crate::aside::Aside;
 use crate::kind::CallKind;
 use giop_msg::{LocateRequest, Request, Version};
 
@@ -8,7 +9,7 @@ use giop_msg::{LocateRequest, Request, Version};
 #[derive(Debug, Drop)]
 pub enum Call {
     /// That it carry out an operation.
-    Request(Request),
+    Request(Aside<Request>),
     /// Whether it has an object.
     Locate(LocateRequest),
 }

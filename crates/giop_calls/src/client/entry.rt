@@ -2,6 +2,7 @@ ghost use Rattle.std.specs.Prelude.{◌≡◌};
 ghost use Rattle.giop_calls.specs.ClientTable as table;
 ghost use Rattle.giop_calls.specs.Outcomes.{copied};
 
+use crate::aside::Aside;
 use crate::client::call::Call;
 use crate::client::late::Late;
 use crate::outcome::Outcome;
@@ -31,9 +32,9 @@ pub enum ClientEntry {
     /// It was a Request, and its Reply came.
     Done {
         /// The request.
-        request: Request,
+        request: Aside<Request>,
         /// Its reply.
-        reply: Reply,
+        reply: Aside<Reply>,
     },
     /// It was a LocateRequest, and its LocateReply came.
     LocateDone {
@@ -52,7 +53,7 @@ pub enum ClientEntry {
     /// It was a Request without a reply, and all of it went out.
     OnewaySent {
         /// The request.
-        request: Request,
+        request: Aside<Request>,
     },
     /// It was cancelled.
     Cancelled {

@@ -1,3 +1,4 @@
+use crate::aside::Aside;
 use giop_cdr::CdrFault;
 use giop_msg::{LocateReply, Reply};
 
@@ -5,7 +6,7 @@ use giop_msg::{LocateReply, Reply};
 #[derive(Debug, Drop)]
 pub enum HeardReply {
     /// A Reply to the Request.
-    Reply(Reply),
+    Reply(Aside<Reply>),
     /// A LocateReply.
     Locate(LocateReply),
     /// One of them that can't be decoded, for this fault.

@@ -1,18 +1,20 @@
 //! What each event does to a call, a function for each. None takes memory.
 ghost use Rattle.std.specs.Prelude.{◌≡◌, IfNone, IfSome, Some};
 ghost use Rattle.giop_calls.specs.ClientTable as table;
+ghost use Rattle.giop_calls.specs.declared.client.call.Call.TheVariants as question;
 ghost use Rattle.giop_calls.specs.declared.client.entry.ClientEntry.TheVariants.{Waiting, Gathering, Cancelled};
 ghost use Rattle.giop_calls.specs.declared.fault.CallFault.TheVariants.{NotOpen};
 ghost use Rattle.giop_calls.specs.declared.client.heard.HeardReply.TheVariants as heard;
 ghost use Rattle.giop_calls.specs.Messages.{is_same_version};
 
+use crate::aside::Aside;
 use crate::client::call::Call;
 use crate::client::entry::ClientEntry;
 use crate::client::heard::HeardReply;
 use crate::client::late::Late;
 use crate::fault::CallFault;
 use crate::kind::CallKind;
-use giop_msg::{LocateReply, Reply, Version};
+use giop_msg::{LocateReply, Reply, Request, Version};
 use giop_mux::Step;
 
 pub type ClientStep = Step<ClientEntry, (), CallFault>;
@@ -50,8 +52,20 @@ fn sent(call: Call) -> ClientEntry
     ensures { result ≡ table.sent call }
 {
     match call {
-        Call::Request(request) if request.head.flags == 0 => ClientEntry::OnewaySent { request },
+        Call::Request(request) => sent_request(request),
         call => ClientEntry::Waiting { call },
+    }
+}
+
+fn sent_request(request: Aside<Request>) -> ClientEntry
+    ensures { result ≡ table.sent (question.Request request) }
+{
+    if request.head.flags == 0 {
+        ClientEntry::OnewaySent { request }
+    } else {
+        ClientEntry::Waiting {
+            call: Call::Request(request),
+        }
     }
 }
 
@@ -191,7 +205,7 @@ fn settle(gathered: bool, call: Call, reply: HeardReply) -> ClientStep
     }
 }
 
-fn settle_reply(gathered: bool, call: Call, reply: Reply) -> ClientStep
+fn settle_reply(gathered: bool, call: Call, reply: Aside<Reply>) -> ClientStep
     ensures { result ≡ table.settles (table.expecting gathered call) call (heard.Reply reply) }
 {
     match call {

@@ -2,6 +2,7 @@ ghost use Rattle.std.specs.Prelude.{◌≡◌};
 ghost use Rattle.giop_calls.specs.ServerTable as table;
 ghost use Rattle.giop_calls.specs.Outcomes.{copied};
 
+use crate::aside::Aside;
 use crate::kind::CallKind;
 use crate::outcome::Outcome;
 use crate::server::question::Question;
@@ -19,7 +20,7 @@ pub enum ServerEntry {
     /// A Request that expects a reply came whole, and isn't answered.
     Asked {
         /// The request.
-        request: Request,
+        request: Aside<Request>,
     },
     /// A Request or a LocateRequest came whole that can't be decoded.
     Undecoded {
@@ -36,7 +37,7 @@ pub enum ServerEntry {
         /// The request or its fault.
         asked: Question,
         /// The reply.
-        reply: Reply,
+        reply: Aside<Reply>,
         /// How many pieces of the reply aren't sent yet.
         left: u32,
     },
@@ -50,7 +51,7 @@ pub enum ServerEntry {
     /// A Request without a reply came whole.
     Delivered {
         /// The request.
-        request: Request,
+        request: Aside<Request>,
     },
     /// A CancelRequest came for it.
     Cancelled {

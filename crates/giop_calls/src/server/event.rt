@@ -1,3 +1,4 @@
+use crate::aside::Aside;
 use crate::kind::CallKind;
 use crate::server::heard::HeardCall;
 use giop_msg::Reply;
@@ -34,7 +35,7 @@ pub enum ServerEvent {
     /// The server answers a Request.
     Answer {
         /// Its reply.
-        reply: Reply,
+        reply: Aside<Reply>,
         /// In how many pieces the reply is sent, of which the first goes out now.
         pieces: u32,
     },

@@ -1,3 +1,4 @@
+use crate::aside::Aside;
 use crate::server::undecoded::UndecodedCall;
 use giop_msg::{LocateRequest, Request};
 
@@ -5,7 +6,7 @@ use giop_msg::{LocateRequest, Request};
 #[derive(Debug, Drop)]
 pub enum HeardCall {
     /// A Request of the interface.
-    Request(Request),
+    Request(Aside<Request>),
     /// A LocateRequest.
     Locate(LocateRequest),
     /// One of them that can't be decoded.

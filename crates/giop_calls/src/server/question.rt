@@ -1,10 +1,11 @@
+use crate::aside::Aside;
 use giop_msg::{Request, RequestFault};
 
 /// What a reply of a server answers.
 #[derive(Debug, Drop)]
 pub enum Question {
     /// A Request.
-    Request(Request),
+    Request(Aside<Request>),
     /// A Request that couldn't be decoded, for this fault.
     Undecoded(RequestFault),
 }

@@ -4,6 +4,7 @@ ghost use Rattle.giop_calls.specs.ServerTable as table;
 ghost use Rattle.giop_calls.specs.declared.server.entry.ServerEntry.TheVariants.{Asked, Gathering};
 ghost use Rattle.giop_calls.specs.Messages.{is_same_version, is_system_exception};
 
+use crate::aside::Aside;
 use crate::fault::CallFault;
 use crate::kind::CallKind;
 use crate::server::entry::ServerEntry;
@@ -160,7 +161,7 @@ fn cancelled(entry: Option<ServerEntry>) -> Option<ServerEntry>
 /// WrongKind for a LocateRequest, as NotOpen where no reply is expected, and as Unfit in another
 /// version than the request's, or where the request couldn't be decoded and the reply is no
 /// exception of the broker.
-pub fn answer(entry: Option<ServerEntry>, reply: Reply, pieces: u32) -> ServerStep
+pub fn answer(entry: Option<ServerEntry>, reply: Aside<Reply>, pieces: u32) -> ServerStep
     ensures { result ≡ table.answer entry reply pieces }
 {
     match entry {
@@ -177,7 +178,7 @@ fn is_same_version(one: Version, other: Version) -> bool
     one.minor() == other.minor()
 }
 
-fn answer_request(request: Request, reply: Reply, pieces: u32) -> ServerStep
+fn answer_request(request: Aside<Request>, reply: Aside<Reply>, pieces: u32) -> ServerStep
     ensures { result ≡ table.answer (Some (Asked request)) reply pieces }
 {
     if !is_same_version(request.head.version, reply.version) {
@@ -196,7 +197,7 @@ fn is_system_exception(body: &ReplyBody) -> bool
     matches!(body, ReplyBody::SystemException { .. })
 }
 
-fn answer_undecoded(call: UndecodedCall, reply: Reply, pieces: u32) -> ServerStep
+fn answer_undecoded(call: UndecodedCall, reply: Aside<Reply>, pieces: u32) -> ServerStep
     ensures { result ≡ table.answer_undecoded call.expects call reply pieces }
 {
     let entry = ServerEntry::Undecoded { call };

@@ -1,12 +1,12 @@
 //! Messages, as small as they can be.
-use giop_calls::{Call, CallKind, HeardCall, HeardReply, Question, UndecodedCall};
+use giop_calls::{Aside, CallKind, UndecodedCall};
 use giop_cdr::{CdrFault, CdrKind, OctetList};
 use giop_msg::{
     Completion, LocateReply, LocateReplyHead, LocateRequest, Reply, ReplyBody, Request,
     RequestFault, RequestHead, ServiceContexts, Target, Version,
 };
 use giop_types::ValueList;
-use std::alloc::Global;
+use std::alloc::{AllocError, Global};
 
 pub fn fault() -> CdrFault {
     CdrFault {
@@ -15,7 +15,7 @@ pub fn fault() -> CdrFault {
     }
 }
 
-pub fn request(alloc: Global, flags: u8, version: Version) -> Request {
+pub fn request(alloc: Global, flags: u8, version: Version) -> Result<Aside<Request>, AllocError> {
     let head = RequestHead {
         version,
         id: 1,
@@ -24,10 +24,8 @@ pub fn request(alloc: Global, flags: u8, version: Version) -> Request {
         operation: OctetList::new(alloc),
         contexts: ServiceContexts::new(alloc),
     };
-    Request {
-        head,
-        body: ValueList::new(alloc),
-    }
+    let body = ValueList::new(alloc);
+    Aside::new(alloc, Request { head, body })
 }
 
 pub fn locate_request(alloc: Global, version: Version) -> LocateRequest {
@@ -46,17 +44,18 @@ pub fn undecoded(expects: Option<CallKind>) -> UndecodedCall {
     }
 }
 
-pub fn reply(alloc: Global, version: Version) -> Reply {
-    Reply {
+pub fn reply(alloc: Global, version: Version) -> Result<Aside<Reply>, AllocError> {
+    let reply = Reply {
         version,
         id: 1,
         contexts: ServiceContexts::new(alloc),
         body: ReplyBody::NoException(ValueList::new(alloc)),
-    }
+    };
+    Aside::new(alloc, reply)
 }
 
-pub fn exception(alloc: Global, version: Version) -> Reply {
-    Reply {
+pub fn exception(alloc: Global, version: Version) -> Result<Aside<Reply>, AllocError> {
+    let reply = Reply {
         version,
         id: 1,
         contexts: ServiceContexts::new(alloc),
@@ -65,7 +64,8 @@ pub fn exception(alloc: Global, version: Version) -> Reply {
             minor: 0,
             completion: Completion::No,
         },
-    }
+    };
+    Aside::new(alloc, reply)
 }
 
 pub fn locate_reply(alloc: Global, status: u32) -> LocateReply {

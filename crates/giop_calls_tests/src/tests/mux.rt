@@ -6,18 +6,23 @@ use giop_calls::{
 };
 use giop_msg::Version;
 use giop_mux::{Mux, Refusal, StillOpen};
-use std::alloc::Global;
+use std::alloc::{AllocError, Global};
 use std::test::Fail;
 
 // A Request comes.
 fn ask(mux: &mut Mux<ServerRule>, alloc: Global, id: u32) -> Result<(), Refusal<CallFault>> {
-    let call = HeardCall::Request(made::request(alloc, 3, Version::V12));
+    let Ok(request) = made::request(alloc, 3, Version::V12) else {
+        return Err(Refusal::NoMemory);
+    };
+    let call = HeardCall::Request(request);
     mux.apply(id, ServerEvent::Whole { call })
 }
 
 // Its reply is handed in, in one piece.
 fn answer(mux: &mut Mux<ServerRule>, alloc: Global, id: u32) -> Result<(), Refusal<CallFault>> {
-    let reply = made::reply(alloc, Version::V12);
+    let Ok(reply) = made::reply(alloc, Version::V12) else {
+        return Err(Refusal::NoMemory);
+    };
     mux.apply(id, ServerEvent::Answer { reply, pieces: 1 })
 }
 
@@ -49,7 +54,10 @@ fn a_server_of_one_call(rt: HostRuntime) -> Result<(), Fail> {
 
 // A Request is made.
 fn call(mux: &mut Mux<ClientRule>, alloc: Global, id: u32) -> Result<(), Refusal<CallFault>> {
-    let call = Call::Request(made::request(alloc, 3, Version::V12));
+    let Ok(request) = made::request(alloc, 3, Version::V12) else {
+        return Err(Refusal::NoMemory);
+    };
+    let call = Call::Request(request);
     mux.apply(id, ClientEvent::Call { call, pieces: 1 })
 }
 
@@ -130,9 +138,9 @@ fn is_replied(entry: Option<&ClientEntry>) -> bool {
 }
 
 // The same of a call that has its reply.
-fn is_done_replied(alloc: Global) -> bool {
-    let done = client_table::entry(alloc, client_table::Is::Done);
-    is_replied(done.as_ref())
+fn is_done_replied(alloc: Global) -> Result<bool, AllocError> {
+    let done = client_table::entry(alloc, client_table::Is::Done)?;
+    Ok(is_replied(done.as_ref()))
 }
 
 // Whether an object that is located is told as such, at a client.
@@ -156,7 +164,7 @@ fn is_here() -> bool {
 #[test]
 fn outcomes_and_faults_are_told(rt: HostRuntime) -> Result<(), Fail> {
     let alloc = rt.alloc();
-    assert!(rt; is_done_replied(alloc));
+    assert!(rt; is_done_replied(alloc)?);
     assert!(rt; is_located(alloc));
     assert!(rt; is_here());
     let text = std::format!(in alloc; "{} {}", CallFault::UnknownOperation, CallFault::Stray)?;

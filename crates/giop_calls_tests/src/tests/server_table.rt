@@ -3,7 +3,7 @@ use super::made;
 use giop_calls::{CallFault, CallKind, HeardCall, Question, ServerEntry, ServerEvent, ServerRule};
 use giop_msg::{Target, Version};
 use giop_mux::CallRule;
-use std::alloc::Global;
+use std::alloc::{AllocError, Global};
 use std::test::Fail;
 
 /// An entry without its messages.
@@ -28,14 +28,14 @@ const BAD_REQUEST: Is = Is::Undecoded(Some(CallKind::Request));
 
 const BAD_LOCATE: Is = Is::Undecoded(Some(CallKind::Locate));
 
-fn entry(alloc: Global, is: Is) -> Option<ServerEntry> {
-    Some(match is {
-        Is::Absent => return None,
+fn entry(alloc: Global, is: Is) -> Result<Option<ServerEntry>, AllocError> {
+    Ok(Some(match is {
+        Is::Absent => return Ok(None),
         Is::Gathering => ServerEntry::Gathering {
             kind: CallKind::Request,
         },
         Is::Asked => ServerEntry::Asked {
-            request: made::request(alloc, 3, Version::V12),
+            request: made::request(alloc, 3, Version::V12)?,
         },
         Is::Undecoded(expects) => ServerEntry::Undecoded {
             call: made::undecoded(expects),
@@ -44,16 +44,16 @@ fn entry(alloc: Global, is: Is) -> Option<ServerEntry> {
             request: made::locate_request(alloc, Version::V12),
         },
         Is::Answered(left) => ServerEntry::Answered {
-            asked: Question::Request(made::request(alloc, 3, Version::V12)),
-            reply: made::reply(alloc, Version::V12),
+            asked: Question::Request(made::request(alloc, 3, Version::V12)?),
+            reply: made::reply(alloc, Version::V12)?,
             left,
         },
         Is::LocateAnswered(here) => ServerEntry::LocateAnswered { target: None, here },
         Is::Delivered => ServerEntry::Delivered {
-            request: made::request(alloc, 0, Version::V12),
+            request: made::request(alloc, 0, Version::V12)?,
         },
         Is::Cancelled(answered, left) => ServerEntry::Cancelled { answered, left },
-    })
+    }))
 }
 
 pub fn told(entry: Option<&ServerEntry>) -> Is {
@@ -70,21 +70,23 @@ pub fn told(entry: Option<&ServerEntry>) -> Is {
     }
 }
 
-fn after(alloc: Global, before: Is, event: ServerEvent) -> (Is, Result<(), CallFault>) {
-    let step = ServerRule.step(entry(alloc, before), event);
-    (told(step.entry.as_ref()), step.outcome)
+type After = (Is, Result<(), CallFault>);
+
+fn after(alloc: Global, before: Is, event: ServerEvent) -> Result<After, AllocError> {
+    let step = ServerRule.step(entry(alloc, before)?, event);
+    Ok((told(step.entry.as_ref()), step.outcome))
 }
 
 // An answer of so many pieces, with a body.
-fn answer(alloc: Global, version: Version, pieces: u32) -> ServerEvent {
-    let reply = made::reply(alloc, version);
-    ServerEvent::Answer { reply, pieces }
+fn answer(alloc: Global, version: Version, pieces: u32) -> Result<ServerEvent, AllocError> {
+    let reply = made::reply(alloc, version)?;
+    Ok(ServerEvent::Answer { reply, pieces })
 }
 
 // The same with an exception of the broker.
-fn broken(alloc: Global, version: Version, pieces: u32) -> ServerEvent {
-    let reply = made::exception(alloc, version);
-    ServerEvent::Answer { reply, pieces }
+fn broken(alloc: Global, version: Version, pieces: u32) -> Result<ServerEvent, AllocError> {
+    let reply = made::exception(alloc, version)?;
+    Ok(ServerEvent::Answer { reply, pieces })
 }
 
 const CLOSED: [Is; 6] = [
@@ -113,10 +115,10 @@ fn a_call_begins_where_the_id_is_free(rt: HostRuntime) -> Result<(), Fail> {
         let first = ServerEvent::First {
             kind: CallKind::Locate,
         };
-        assert_eq!(rt; after(alloc, before, first), (Gathering, Ok(())));
-        let call = HeardCall::Request(made::request(alloc, 1, Version::V10));
+        assert_eq!(rt; after(alloc, before, first)?, (Gathering, Ok(())));
+        let call = HeardCall::Request(made::request(alloc, 1, Version::V10)?);
         let whole = ServerEvent::Whole { call };
-        assert_eq!(rt; after(alloc, before, whole), (Asked, Ok(())));
+        assert_eq!(rt; after(alloc, before, whole)?, (Asked, Ok(())));
     }
     Ok(())
 }
@@ -129,26 +131,26 @@ fn an_id_in_use_takes_no_other_call(rt: HostRuntime) -> Result<(), Fail> {
             kind: CallKind::Request,
         };
         assert_eq!(rt;
-            after(alloc, before, first),
+            after(alloc, before, first)?,
             (before, Err(CallFault::IdInUse))
         );
-        let call = HeardCall::Request(made::request(alloc, 0, Version::V12));
+        let call = HeardCall::Request(made::request(alloc, 0, Version::V12)?);
         let whole = ServerEvent::Whole { call };
         assert_eq!(rt;
-            after(alloc, before, whole),
+            after(alloc, before, whole)?,
             (before, Err(CallFault::IdInUse))
         );
     }
     Ok(())
 }
 
-fn heard(alloc: Global, is: Is) -> HeardCall {
-    match is {
-        Is::Delivered => HeardCall::Request(made::request(alloc, 0, Version::V12)),
+fn heard(alloc: Global, is: Is) -> Result<HeardCall, AllocError> {
+    Ok(match is {
+        Is::Delivered => HeardCall::Request(made::request(alloc, 0, Version::V12)?),
         Is::Undecoded(expects) => HeardCall::Undecoded(made::undecoded(expects)),
         Is::LocateAsked => HeardCall::Locate(made::locate_request(alloc, Version::V12)),
-        _ => HeardCall::Request(made::request(alloc, 3, Version::V12)),
-    }
+        _ => HeardCall::Request(made::request(alloc, 3, Version::V12)?),
+    })
 }
 
 #[test]
@@ -162,15 +164,15 @@ fn a_message_stands_as_it_came_in_one_piece_or_many(rt: HostRuntime) -> Result<(
         BAD_REQUEST,
         BAD_LOCATE,
     ] {
-        let call = heard(alloc, came);
+        let call = heard(alloc, came)?;
         let whole = ServerEvent::Whole { call };
-        assert_eq!(rt; after(alloc, Absent, whole), (came, Ok(())));
-        let call = heard(alloc, came);
+        assert_eq!(rt; after(alloc, Absent, whole)?, (came, Ok(())));
+        let call = heard(alloc, came)?;
         let last = ServerEvent::Last {
             in_order: true,
             call,
         };
-        assert_eq!(rt; after(alloc, Gathering, last), (came, Ok(())));
+        assert_eq!(rt; after(alloc, Gathering, last)?, (came, Ok(())));
     }
     Ok(())
 }
@@ -180,14 +182,14 @@ fn a_fragment_continues_what_is_gathered(rt: HostRuntime) -> Result<(), Fail> {
     let alloc = rt.alloc();
     let differs = Err(CallFault::OrderDiffers);
     let more = ServerEvent::More { in_order: true };
-    assert_eq!(rt; after(alloc, Gathering, more), (Gathering, Ok(())));
+    assert_eq!(rt; after(alloc, Gathering, more)?, (Gathering, Ok(())));
     let more = ServerEvent::More { in_order: false };
-    assert_eq!(rt; after(alloc, Gathering, more), (Gathering, differs));
+    assert_eq!(rt; after(alloc, Gathering, more)?, (Gathering, differs));
     let last = ServerEvent::Last {
         in_order: false,
-        call: heard(alloc, Asked),
+        call: heard(alloc, Asked)?,
     };
-    assert_eq!(rt; after(alloc, Gathering, last), (Gathering, differs));
+    assert_eq!(rt; after(alloc, Gathering, last)?, (Gathering, differs));
     Ok(())
 }
 
@@ -197,10 +199,10 @@ fn a_fragment_behind_a_cancel_is_ignored_and_any_other_stray(rt: HostRuntime) ->
     for in_order in [false, true] {
         for before in [Cancelled(false, 0), Cancelled(true, 3)] {
             let more = ServerEvent::More { in_order };
-            assert_eq!(rt; after(alloc, before, more), (before, Ok(())));
-            let call = heard(alloc, Asked);
+            assert_eq!(rt; after(alloc, before, more)?, (before, Ok(())));
+            let call = heard(alloc, Asked)?;
             let last = ServerEvent::Last { in_order, call };
-            assert_eq!(rt; after(alloc, before, last), (before, Ok(())));
+            assert_eq!(rt; after(alloc, before, last)?, (before, Ok(())));
         }
         for before in [
             Absent,
@@ -212,10 +214,16 @@ fn a_fragment_behind_a_cancel_is_ignored_and_any_other_stray(rt: HostRuntime) ->
             Delivered,
         ] {
             let more = ServerEvent::More { in_order };
-            assert_eq!(rt; after(alloc, before, more), (before, Err(CallFault::Stray)));
-            let call = heard(alloc, Asked);
+            assert_eq!(rt;
+                after(alloc, before, more)?,
+                (before, Err(CallFault::Stray))
+            );
+            let call = heard(alloc, Asked)?;
             let last = ServerEvent::Last { in_order, call };
-            assert_eq!(rt; after(alloc, before, last), (before, Err(CallFault::Stray)));
+            assert_eq!(rt;
+                after(alloc, before, last)?,
+                (before, Err(CallFault::Stray))
+            );
         }
     }
     Ok(())
@@ -239,7 +247,10 @@ fn a_cancel_ends_what_expects_a_reply(rt: HostRuntime) -> Result<(), Fail> {
         (Cancelled(false, 0), Cancelled(false, 0)),
         (Cancelled(true, 2), Cancelled(true, 2)),
     ] {
-        assert_eq!(rt; after(alloc, before, ServerEvent::Cancel), (behind, Ok(())));
+        assert_eq!(rt;
+            after(alloc, before, ServerEvent::Cancel)?,
+            (behind, Ok(()))
+        );
     }
     Ok(())
 }
@@ -247,20 +258,20 @@ fn a_cancel_ends_what_expects_a_reply(rt: HostRuntime) -> Result<(), Fail> {
 #[test]
 fn an_answer_in_three_pieces_leaves_two(rt: HostRuntime) -> Result<(), Fail> {
     let alloc = rt.alloc();
-    let reply = answer(alloc, Version::V12, 3);
-    assert_eq!(rt; after(alloc, Asked, reply), (Answered(2), Ok(())));
-    let reply = broken(alloc, Version::V12, 1);
-    assert_eq!(rt; after(alloc, BAD_REQUEST, reply), (Answered(0), Ok(())));
-    let reply = answer(alloc, Version::V12, 1);
+    let reply = answer(alloc, Version::V12, 3)?;
+    assert_eq!(rt; after(alloc, Asked, reply)?, (Answered(2), Ok(())));
+    let reply = broken(alloc, Version::V12, 1)?;
+    assert_eq!(rt; after(alloc, BAD_REQUEST, reply)?, (Answered(0), Ok(())));
+    let reply = answer(alloc, Version::V12, 1)?;
     assert_eq!(rt;
-        after(alloc, BAD_REQUEST, reply),
+        after(alloc, BAD_REQUEST, reply)?,
         (BAD_REQUEST, Err(CallFault::Unfit))
     );
-    let reply = answer(alloc, Version::V11, 1);
-    assert_eq!(rt; after(alloc, Asked, reply), (Asked, Err(CallFault::Unfit)));
-    let reply = broken(alloc, Version::V10, 1);
+    let reply = answer(alloc, Version::V11, 1)?;
+    assert_eq!(rt; after(alloc, Asked, reply)?, (Asked, Err(CallFault::Unfit)));
+    let reply = broken(alloc, Version::V10, 1)?;
     assert_eq!(rt;
-        after(alloc, BAD_REQUEST, reply),
+        after(alloc, BAD_REQUEST, reply)?,
         (BAD_REQUEST, Err(CallFault::Unfit))
     );
     Ok(())
@@ -270,9 +281,9 @@ fn an_answer_in_three_pieces_leaves_two(rt: HostRuntime) -> Result<(), Fail> {
 fn a_reply_answers_an_open_request_alone(rt: HostRuntime) -> Result<(), Fail> {
     let alloc = rt.alloc();
     for before in [LocateAsked, BAD_LOCATE] {
-        let reply = broken(alloc, Version::V12, 1);
+        let reply = broken(alloc, Version::V12, 1)?;
         assert_eq!(rt;
-            after(alloc, before, reply),
+            after(alloc, before, reply)?,
             (before, Err(CallFault::WrongKind))
         );
     }
@@ -286,9 +297,9 @@ fn a_reply_answers_an_open_request_alone(rt: HostRuntime) -> Result<(), Fail> {
         ORPHAN,
         Cancelled(false, 0),
     ] {
-        let reply = broken(alloc, Version::V12, 1);
+        let reply = broken(alloc, Version::V12, 1)?;
         assert_eq!(rt;
-            after(alloc, before, reply),
+            after(alloc, before, reply)?,
             (before, Err(CallFault::NotOpen))
         );
     }
@@ -300,23 +311,23 @@ fn a_locate_reply_answers_an_open_locate_request_alone(rt: HostRuntime) -> Resul
     let alloc = rt.alloc();
     let here = ServerEvent::AnswerLocate { here: true };
     assert_eq!(rt;
-        after(alloc, LocateAsked, here),
+        after(alloc, LocateAsked, here)?,
         (LocateAnswered(true), Ok(()))
     );
     let away = ServerEvent::AnswerLocate { here: false };
     assert_eq!(rt;
-        after(alloc, BAD_LOCATE, away),
+        after(alloc, BAD_LOCATE, away)?,
         (LocateAnswered(false), Ok(()))
     );
     let here = ServerEvent::AnswerLocate { here: true };
     assert_eq!(rt;
-        after(alloc, BAD_LOCATE, here),
+        after(alloc, BAD_LOCATE, here)?,
         (BAD_LOCATE, Err(CallFault::Unfit))
     );
     for before in [Asked, BAD_REQUEST] {
         let here = ServerEvent::AnswerLocate { here: true };
         assert_eq!(rt;
-            after(alloc, before, here),
+            after(alloc, before, here)?,
             (before, Err(CallFault::WrongKind))
         );
     }
@@ -331,7 +342,7 @@ fn a_locate_reply_answers_an_open_locate_request_alone(rt: HostRuntime) -> Resul
     ] {
         let here = ServerEvent::AnswerLocate { here: true };
         assert_eq!(rt;
-            after(alloc, before, here),
+            after(alloc, before, here)?,
             (before, Err(CallFault::NotOpen))
         );
     }
@@ -346,7 +357,7 @@ fn pieces_are_sent_until_none_is_left(rt: HostRuntime) -> Result<(), Fail> {
         (Answered(1), Answered(0)),
         (Cancelled(true, 1), Cancelled(true, 0)),
     ] {
-        assert_eq!(rt; after(alloc, before, ServerEvent::Send), (behind, Ok(())));
+        assert_eq!(rt; after(alloc, before, ServerEvent::Send)?, (behind, Ok(())));
     }
     for before in [
         Absent,
@@ -360,7 +371,7 @@ fn pieces_are_sent_until_none_is_left(rt: HostRuntime) -> Result<(), Fail> {
         Cancelled(false, 0),
     ] {
         let left = Err(CallFault::NothingToSend);
-        assert_eq!(rt; after(alloc, before, ServerEvent::Send), (before, left));
+        assert_eq!(rt; after(alloc, before, ServerEvent::Send)?, (before, left));
     }
     Ok(())
 }
@@ -370,7 +381,7 @@ fn pieces_are_sent_until_none_is_left(rt: HostRuntime) -> Result<(), Fail> {
 fn a_located_target_is_kept(rt: HostRuntime) -> Result<(), Fail> {
     let alloc = rt.alloc();
     let here = ServerEvent::AnswerLocate { here: true };
-    let step = ServerRule.step(entry(alloc, LocateAsked), here);
+    let step = ServerRule.step(entry(alloc, LocateAsked)?, here);
     assert!(rt;
         matches!(
             &step.entry,
@@ -381,7 +392,7 @@ fn a_located_target_is_kept(rt: HostRuntime) -> Result<(), Fail> {
         )
     );
     let away = ServerEvent::AnswerLocate { here: false };
-    let step = ServerRule.step(entry(alloc, BAD_LOCATE), away);
+    let step = ServerRule.step(entry(alloc, BAD_LOCATE)?, away);
     assert!(rt;
         matches!(
             &step.entry,

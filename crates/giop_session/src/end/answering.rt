@@ -19,12 +19,13 @@ ghost use Rattle.giop_session.specs.ServerAnswers.{answer_fault, IsAnswer, IsLoc
 use crate::end::ServerEnd;
 use crate::form::Form;
 use crate::heard::kept;
-use crate::local::{done, one_message, sent};
+use crate::local::{done, sent};
 use crate::plan::{Plan, Planned};
 use crate::putting::put;
+use crate::sendable::one_message;
 use crate::session_fault::SessionFault;
 use crate::unsent::Unsent;
-use giop_calls::{CallKind, Outcome, ServerEntry, ServerEvent};
+use giop_calls::{Aside, CallKind, Outcome, ServerEntry, ServerEvent};
 use giop_cdr::{OctetList, Order};
 use giop_msg::{Kind, LocateReply, LocateReplyHead, Reply, Request, Version};
 
@@ -38,7 +39,7 @@ impl<'a> ServerEnd<'a> {
     /// a LocateRequest does; `Unfit`, where the Reply has another version than its Request, no
     /// octets spell it as a reply to this Request, they are more than the limit `gathered`, or a
     /// message of them is larger than the limit `message`. A refusal changes nothing.
-    #[tactic(auto, using(crate::proofs::QuietLemmas::answer_quiet, crate::proofs::LocalLemmas::refused_puts, crate::proofs::LocalLemmas::answer_puts))]
+    #[tactic(auto, using(crate::proofs::LocalLemmas::refused_puts, crate::proofs::LocalLemmas::answer_puts, crate::proofs::LocalLemmas::unasked_puts))]
     pub fn answer(&mut self, reply: Reply, form: Form) -> Result<(), SessionFault>
         requires { IsForm form }
         ensures failed { (why : _) → self.old.fault ≡ Some why
@@ -58,19 +59,12 @@ impl<'a> ServerEnd<'a> {
         if let Some(fault) = self.fault {
             return Err(fault);
         }
-        let id = reply.id;
-        let Some(question) = self.question(id) else {
-            let event = ServerEvent::Answer { reply, pieces: 1 };
-            let answered = put(&mut self.calls, &mut self.outgoing, id, kept(event));
-            return done(id, answered);
+        let Some(question) = self.question(reply.id) else {
+            return self.put_reply(reply, 1, Plan::Keep);
         };
         let unsent = self.pieces_of_reply(question, &reply, form)?;
         let pieces = unsent.len() as u32;
-        let planned = Planned {
-            event: ServerEvent::Answer { reply, pieces },
-            plan: Plan::Put(unsent),
-        };
-        done(id, put(&mut self.calls, &mut self.outgoing, id, planned))
+        self.put_reply(reply, pieces, Plan::Put(unsent))
     }
 
     /// Answers a LocateRequest in its version: that the object is here, or that it isn't known
@@ -151,6 +145,29 @@ impl<'a> ServerEnd<'a> {
         }
     }
 
+    // A Reply befalls its call, in so many pieces, and does this to the messages of the call.
+    #[tactic(auto, using(crate::proofs::QuietLemmas::answer_quiet, crate::proofs::LocalLemmas::wanted_puts))]
+    fn put_reply(&mut self, reply: Reply, pieces: u32, plan: Plan) -> Result<(), SessionFault>
+        ensures puts { Puts (rules_of table.server_step table.is_closed table.is_gathering) in_call
+            reply.id None
+            (λ planned. planned ≡ record { event = event.Answer reply pieces; plan = plan })
+            self.old.calls self.old.outgoing result self.new.calls self.new.outgoing }
+        ensures others { self.new ≡ record self.old {
+          calls = self.new.calls;
+          outgoing = self.new.outgoing;
+        } }
+    {
+        let id = reply.id;
+        let Ok(reply) = Aside::new(self.alloc, reply) else {
+            return Err(SessionFault::NoMemory);
+        };
+        let planned = Planned {
+            event: ServerEvent::Answer { reply, pieces },
+            plan,
+        };
+        done(id, put(&mut self.calls, &mut self.outgoing, id, planned))
+    }
+
     // The Request that waits for a Reply, where one does; none inside where it couldn't be decoded.
     fn question(&self, id: u32) -> Option<Option<&Request>>
         ensures { option_map option_copied result
@@ -207,14 +224,8 @@ impl<'a> ServerEnd<'a> {
         let Ok(joined) = reply.encode(self.alloc, order) else {
             return None;
         };
-        one_message(
-            self.alloc,
-            version,
-            Kind::LocateReply,
-            order,
-            joined.as_slice(),
-        )
-        .ok()
+        let payload = OctetList::from(joined);
+        one_message(self.alloc, version, Kind::LocateReply, order, payload).ok()
     }
 }
 

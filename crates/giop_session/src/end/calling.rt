@@ -1,5 +1,5 @@
 //! What a client's own program calls, asks for and cancels.
-ghost use Rattle.std.specs.Prelude.{◌≡◌, ◌⊎◌, ◌<◌, ◌^◌, Some, None, Err, length, IfErr, IfOk, option_copied};
+ghost use Rattle.std.specs.Prelude.{◌≡◌, ◌⊎◌, ◌<◌, ◌^◌, [], ◌∷◌, Some, None, Err, length, IfErr, IfOk, IfSome, option_copied};
 ghost use Rattle.std.specs.FinMap as finite;
 ghost use Rattle.std.specs.Option.{option_map};
 ghost use Rattle.giop_msg.specs.declared.kind.Kind.TheVariants as message;
@@ -16,17 +16,20 @@ ghost use Rattle.giop_session.specs.Heard.{in_call};
 ghost use Rattle.giop_session.specs.Putting.{Puts};
 ghost use Rattle.giop_session.specs.Refused.{IsRefusal};
 ghost use Rattle.giop_session.specs.Sending.{entry_of};
+ghost use Rattle.giop_session.specs.Sent.{cancel_request};
 
 use crate::end::ClientEnd;
 use crate::form::Form;
-use crate::local::{done, one_message, sent};
+use crate::local::{done, sent};
 use crate::plan::{Plan, Planned};
 use crate::putting::put;
+use crate::sendable::one_message;
 use crate::session_fault::SessionFault;
 use crate::unsent::Unsent;
-use giop_calls::{Call, CallFault, ClientEntry, ClientEvent, Outcome};
-use giop_cdr::Order;
+use giop_calls::{Aside, Call, CallFault, ClientEntry, ClientEvent, Outcome};
+use giop_cdr::{OctetList, Order};
 use giop_msg::{Kind, LocateRequest, Reply, Request, Version};
+use std::alloc::Global;
 
 impl<'a> ClientEnd<'a> {
     /// Calls: the Request is sent in a form (9.4.2), of which the first piece is put out now, and
@@ -58,6 +61,9 @@ impl<'a> ClientEnd<'a> {
         }
         let id = request.head.id;
         let unsent = self.pieces_of_request(&request, form)?;
+        let Ok(request) = Aside::new(self.alloc, request) else {
+            return Err(SessionFault::NoMemory);
+        };
         let event = ClientEvent::Call {
             pieces: unsent.len() as u32,
             call: Call::Request(request),
@@ -135,9 +141,7 @@ impl<'a> ClientEnd<'a> {
             let fault = CallFault::NotOpen;
             return Err(SessionFault::Call { id, fault });
         };
-        let octets = order.ulong_octets(id);
-        let Ok(unsent) = one_message(self.alloc, version, Kind::CancelRequest, order, &octets)
-        else {
+        let Some(unsent) = cancel_request(self.alloc, version, order, id) else {
             return Err(SessionFault::NoMemory);
         };
         let planned = Planned {
@@ -283,6 +287,14 @@ impl<'a> ClientEnd<'a> {
             None => true,
         }
     }
+}
+
+// The CancelRequest of an id. `None` where memory is wanting.
+fn cancel_request(alloc: Global, version: Version, order: Order, id: u32) -> Option<Unsent>
+    ensures { IfSome result (λ unsent. unsent ≡ cancel_request version order id ∷ []) }
+{
+    let payload = OctetList::from_slice(alloc, &order.ulong_octets(id)).ok()?;
+    one_message(alloc, version, Kind::CancelRequest, order, payload).ok()
 }
 
 // The version of a call that may be cancelled.
