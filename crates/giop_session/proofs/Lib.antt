@@ -20,3 +20,6 @@ mod LeftLemmas
 mod FollowedLemmas
 mod ClientLeftLemmas
 mod PumpingLemmas
+mod DrivenLemmas
+mod ServerHeadline
+mod ClientHeadline
