@@ -46,9 +46,9 @@ pub fn run_server<'a>(
         → (id : _) → server_entry run.0.calls id
         ≡ behind_all (server_telling interface.now) None (items id)) }
 {
-    let mut end: ServerEnd<'a> = End::<ServerRule>::new(alloc, interface, limits);
-    let answers = take_all(alloc, &mut end, inputs)?;
-    Ok((end, answers))
+    let mut server: ServerEnd<'a> = End::<ServerRule>::new(alloc, interface, limits);
+    let answers = take_all(alloc, &mut server, inputs)?;
+    Ok((server, answers))
 }
 
 /// The same of a client's end.
@@ -71,9 +71,9 @@ pub fn run_client<'a>(
         → (id : _) → client_entry run.0.calls id
         ≡ (behind_all (client_telling interface.now) unknown (items id)).entry) }
 {
-    let mut end: ClientEnd<'a> = End::<ClientRule>::new(alloc, interface, limits);
-    let answers = take_all(alloc, &mut end, inputs)?;
-    Ok((end, answers))
+    let mut client: ClientEnd<'a> = End::<ClientRule>::new(alloc, interface, limits);
+    let answers = take_all(alloc, &mut client, inputs)?;
+    Ok((client, answers))
 }
 
 // What is given inputs and answers them.

@@ -16,7 +16,7 @@ seen : (c : goal.In_ok-answers)
     × ClientRuns c.args.interface.now c.args.limits c.args.inputs.items c.in_ok-answers.answers.items
     (end_state c.take_all.new.driven.framer c.take_all.new.driven.calls c.take_all.new.driven.outgoing c.take_all.new.driven.fault)
 seen c =
-    let new = c.new-end.ensures in
+    let new = c.new-client.ensures in
     let run = in_turn_seen
     (λ before input answered after. ClientIsGiven before.interface.now before.limits
     (end_state before.framer before.calls before.outgoing before.fault) input answered
@@ -34,7 +34,7 @@ seen c =
           (end_state before.framer before.calls before.outgoing before.fault) input answered
           (end_state after.framer after.calls after.outgoing after.fault)) keeps.1 given.0),
     ))
-    c.new-end.result c.take_all.new.driven c.args.inputs.items c.in_ok-answers.answers.items (new.interface, new.limits) c.in_ok-answers.ensures in (
+    c.new-client.result c.take_all.new.driven c.args.inputs.items c.in_ok-answers.answers.items (new.interface, new.limits) c.in_ok-answers.ensures in (
       run.0,
       subst (λ begun. ClientRunsFrom c.args.interface.now c.args.limits begun c.args.inputs.items c.in_ok-answers.answers.items
           (end_state c.take_all.new.driven.framer c.take_all.new.driven.calls c.take_all.new.driven.outgoing c.take_all.new.driven.fault))
