@@ -13,7 +13,7 @@ use Rattle.giop_session.specs.declared.session_fault.SessionFault.{SessionFault}
 use Rattle.giop_session.specs.declared.session_fault.SessionFault.TheVariants.{NoMemory}
 use Rattle.giop_session.specs.declared.table_fault.TableFault.{TableFault}
 use Rattle.giop_session.specs.CallTable.{Act, Answers, Call, Held, Hears, Nothing, event_reply, rules_of}
-use Rattle.giop_session.specs.Driven.{Closes, Deed, EndRuns, EndState, Feeds, InTurn, IsAct, IsDoneBy, IsGiven, IsGivenBy, NoneRefused, PutsOut, TakesAs, TakesOut, answer_of}
+use Rattle.giop_session.specs.Driven.{Closes, Deed, EndRuns, EndState, Feeds, InTurn, IsAct, IsDoneBy, IsGiven, IsGivenBy, NoneRefused, PutsOut, TakesAs, TakesOut, answer_of, taken_answer}
 use Rattle.giop_session.specs.Events.{Accepts}
 use Rattle.giop_session.specs.Events.{Does as Happens}
 use Rattle.giop_session.specs.Heard.{told_of}
@@ -81,17 +81,17 @@ module _ {R E V A F : Type 0} (next : R → Option E → V → Step E A F) (clos
   -- an input that is done is taken as an act
   done_taken : (deed : Deed V F) (s t : EndState (Held R E)) (answered : Answered E)
       → IsDoneBy next closed gathering of_rule breaks befalls deed s answered t → NoneRefused (answered ∷ []) → t.fault ≡ None
-      → (act : Input V) × IsAct deed act × TakesAll s.unread s.calls (act ∷ []) t.unread t.calls
+      → (act : Input V) × IsAct deed act × (answered ≡ taken_answer s.calls act) × TakesAll s.unread s.calls (act ∷ []) t.unread t.calls
   done_taken deed s t (answer.Refused why) done none sound = absurd none
-  done_taken (Feeds octets) s t answer.Done (fed, is) none sound = (Reads octets, refl, (t.unread, t.calls, fed, (refl, refl)))
+  done_taken (Feeds octets) s t answer.Done (fed, is) none sound = (Reads octets, refl, refl, (t.unread, t.calls, fed, (refl, refl)))
   done_taken (Feeds octets) s t (answer.Taken entry) done none sound = absurd done
   done_taken (PutsOut id refusal Plans) s t answer.Done (puts, is) none sound =
       let put = puts_accepted s.calls t.calls id refusal Plans s.outgoing t.outgoing puts in
-      (Does id (IsTold put.0), (put.0, put.1, refl), (t.calls, put.2, (ap (λ e. e.unread) is, refl)))
+      (Does id (IsTold put.0), (put.0, put.1, refl), refl, (t.calls, put.2, (ap (λ e. e.unread) is, refl)))
   done_taken (PutsOut id refusal Plans) s t (answer.Taken entry) done none sound = absurd done
   done_taken (TakesOut id) s t answer.Done done none sound = absurd done
   done_taken (TakesOut id) s t (answer.Taken entry) (gives, does, is) none sound =
-      (Does id IsTakenOut, refl, (t.calls, (_, does), (ap (λ e. e.unread) is, refl)))
+      (Does id IsTakenOut, refl, ap answer.Taken gives, (t.calls, (_, does), (ap (λ e. e.unread) is, refl)))
   done_taken Closes s t answer.Done done none sound = let closed_it = ap (λ e. e.fault) done in absurd cc
   done_taken Closes s t (answer.Taken entry) done none sound = absurd done
 
@@ -139,10 +139,12 @@ module _ {R E V A F : Type 0} (next : R → Option E → V → Step E A F) (clos
     stays_sound s t (input ∷ inputs) (answered ∷ answers) (mid, first, rest) none sound =
         was_sound s.fault (deed s.calls input) s mid answered first.1 (first_accepted answered answers none)
 
+    abbrev TakesSo : Unread → Held R E → List I → List (Answered E) → List (Input V) → Unread → Held R E → Type 0
+    TakesSo = TakesAs next closed gathering of_rule breaks befalls deed
+
     -- a run that refuses nothing, and closes nothing, takes its inputs as acts
     pub run_taken : (s t : EndState (Held R E)) (inputs : List I) (answers : List (Answered E)) → RunsSo s inputs answers t → NoneRefused answers
-        → t.fault ≡ None
-        → (acts : List (Input V)) × TakesAs next closed gathering of_rule breaks befalls deed s.unread s.calls inputs acts t.unread t.calls
+        → t.fault ≡ None → (acts : List (Input V)) × TakesSo s.unread s.calls inputs answers acts t.unread t.calls
     run_taken s t [] [] run none sound = ([], (refl, ap (λ e. e.unread) run, ap (λ e. e.calls) run))
     run_taken s t [] (answered ∷ answers) run none sound = absurd run
     run_taken s t (input ∷ inputs) [] run none sound = absurd run
@@ -152,8 +154,10 @@ module _ {R E V A F : Type 0} (next : R → Option E → V → Step E A F) (clos
         let whole = was_sound s.fault (deed s.calls input) s mid answered first.1 one in
         let done = subst (λ fault. IsGivenBy next closed gathering of_rule breaks befalls fault (deed s.calls input) s answered mid) whole first.1 in
         let first_act = done_taken (deed s.calls input) s mid answered done one (stays_sound mid t inputs answers rest others sound) in
-        let behind = run_taken mid t inputs answers rest others sound in
-        (first_act.0 ∷ behind.0, (first_act.0, behind.0, mid.unread, mid.calls, refl, first_act.1, first_act.2, behind.1))
+        let behind = run_taken mid t inputs answers rest others sound in (
+          first_act.0 ∷ behind.0,
+          (first_act.0, behind.0, mid.unread, mid.calls, refl, first_act.1, first_act.2, first_act.3, behind.1),
+        )
 
     -- one act, and then those behind it
     takes_behind : (unread mid left : Unread) (h calls k : Held R E) (act : Input V) (acts : List (Input V)) → TakesAll unread h (act ∷ []) mid calls
@@ -164,9 +168,11 @@ module _ {R E V A F : Type 0} (next : R → Option E → V → Step E A F) (clos
         (calls', accepts, subst (λ c. TakesAll unread c acts left k) alike (subst (λ u. TakesAll u calls acts left k) same behind))
 
     -- what inputs are taken as is taken
-    pub taken_takes : (unread left : Unread) (h k : Held R E) (inputs : List I) (acts : List (Input V))
-        → TakesAs next closed gathering of_rule breaks befalls deed unread h inputs acts left k → TakesAll unread h acts left k
-    taken_takes unread left h k [] acts (none, same, alike) = subst (λ a. TakesAll unread h a left k) (sym none) (same, alike)
-    taken_takes unread left h k (input ∷ inputs) acts (act, rest, mid, calls, first, is, takes, behind) =
+    pub taken_takes : (unread left : Unread) (h k : Held R E) (inputs : List I) (answers : List (Answered E)) (acts : List (Input V))
+        → TakesSo unread h inputs answers acts left k → TakesAll unread h acts left k
+    taken_takes unread left h k [] [] acts (none, same, alike) = subst (λ a. TakesAll unread h a left k) (sym none) (same, alike)
+    taken_takes unread left h k [] (answered ∷ answers) acts taken = absurd taken
+    taken_takes unread left h k (input ∷ inputs) [] acts taken = absurd taken
+    taken_takes unread left h k (input ∷ inputs) (answered ∷ answers) acts (act, rest, mid, calls, first, is, told, takes, behind) =
         subst (λ a. TakesAll unread h a left k) (sym first)
-        (takes_behind unread mid left h calls k act rest takes (taken_takes mid left calls k inputs rest behind))
+        (takes_behind unread mid left h calls k act rest takes (taken_takes mid left calls k inputs answers rest behind))

@@ -23,3 +23,4 @@ mod PumpingLemmas
 mod DrivenLemmas
 mod ServerHeadline
 mod ClientHeadline
+mod AnswerLemmas

@@ -1,5 +1,5 @@
 -- What a client's end is given in a run, and what it answers to each input.
-use Rattle.std.specs.Prelude.{◌≡◌, ℕ, List, Option, None}
+use Rattle.std.specs.Prelude.{◌≡◌, ℕ, List, Option, None, Some}
 use Rattle.std.specs.FinMap as finite
 use Rattle.giop_types.specs.declared.json.interface.Interface.{Interface}
 use Rattle.giop_msg.specs.Stream.{Unread}
@@ -27,6 +27,16 @@ use Rattle.giop_session.specs.Sending.{entry_of}
 -- what stands under an id
 abbrev pub client_entry : Held ClientRule ClientEntry → ℕ → Option ClientEntry
 client_entry h id = entry_of (finite.get h.table id)
+
+-- the id whose call an input is about, if it is about one
+abbrev pub client_named : ClientInput → Option ℕ
+client_named (input.Feed octets) = None
+client_named (input.Call request form) = Some request.head.id
+client_named (input.Locate request form) = Some request.id
+client_named (input.Cancel id order) = Some id
+client_named (input.Send id) = Some id
+client_named (input.Take id) = Some id
+client_named input.Close = None
 
 -- what an input is to a client's end with these calls
 abbrev pub client_deed : Interface → Limits → Held ClientRule ClientEntry → ClientInput
@@ -68,16 +78,17 @@ ClientRuns interface limits inputs answers t =
     ClientRunsFrom interface limits (new_end (record {}) limits) inputs answers t
 
 -- a new one takes these as such acts, and refuses none
-abbrev pub ClientTakesAs : Interface → Limits → List ClientInput → List (Input ClientEvent)
-    → Unread → Held ClientRule ClientEntry → Type 0
-ClientTakesAs interface limits inputs acts left k =
+abbrev pub ClientTakesAs : Interface → Limits → List ClientInput → List (Answered ClientEntry)
+    → List (Input ClientEvent) → Unread → Held ClientRule ClientEntry → Type 0
+ClientTakesAs interface limits inputs answers acts left k =
     TakesAs (λ rule. client.client_step) (λ rule. client.is_closed) client.is_gathering in_call
     client_breaks (client_befalls interface) (client_deed interface limits)
-    (nothing_unread limits.message) (no_calls (record {}) limits) inputs acts left k
+    (nothing_unread limits.message) (no_calls (record {}) limits) inputs answers acts left k
 
 -- it takes them, and they hold these items for each id
 pub record ClientHolds (interface : Interface) (limits : Limits) (inputs : List ClientInput)
-    (left : Unread) (k : Held ClientRule ClientEntry) (calls : ℕ → List ClientItem) : Type 0 where
+    (answers : List (Answered ClientEntry)) (left : Unread) (k : Held ClientRule ClientEntry)
+    (calls : ℕ → List ClientItem) : Type 0 where
   pub acts : List (Input ClientEvent)
-  pub taken : ClientTakesAs interface limits inputs acts left k
+  pub taken : ClientTakesAs interface limits inputs answers acts left k
   pub holds : Holds (client_telling interface) unknown limits.message acts calls

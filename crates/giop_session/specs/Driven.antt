@@ -1,6 +1,6 @@
 -- A list of inputs that an end is given, one after another, and what it answers to each: a run goes
 -- on behind a refusal.
-use Rattle.std.specs.Prelude.{◌≡◌, ◌≢◌, ℕ, ◌++◌, Bool, false, List, [], ◌∷◌, Option, Some, None, Result, Ok, Err}
+use Rattle.std.specs.Prelude.{◌≡◌, ◌≢◌, ℕ, ◌==◌, ◌++◌, Bool, false, if◌then◌else◌, List, [], ◌∷◌, Option, Some, None, Result, Ok, Err}
 use Rattle.std.specs.Option.{option_map}
 use Rattle.std.specs.FinMap as finite
 use Rattle.giop_cdr.specs.declared.order.Order.TheVariants.{Big}
@@ -8,6 +8,7 @@ use Rattle.giop_ids.specs.Runs.{Does}
 use Rattle.giop_msg.specs.declared.msg.Msg.{Msg}
 use Rattle.giop_msg.specs.Msg.{message_octets}
 use Rattle.giop_msg.specs.Stream.{Unread}
+use Rattle.giop_mux.specs.Runs.{Happening}
 use Rattle.giop_mux.specs.Runs.{Hears as IsTold, IsTaken as IsTakenOut}
 use Rattle.giop_mux.specs.declared.step.Step.{Step}
 use Rattle.giop_session.specs.declared.laws.inputs.Answered.{Answered}
@@ -18,6 +19,7 @@ use Rattle.giop_session.specs.declared.session_fault.SessionFault.{SessionFault}
 use Rattle.giop_session.specs.declared.session_fault.SessionFault.TheVariants.{Closed, NoMemory, StillOpen}
 use Rattle.giop_session.specs.Begun.{no_calls}
 use Rattle.giop_session.specs.CallTable.{Act, Call, Gives, Held, IsTaken, rules_of}
+use Rattle.giop_session.specs.Carries.{Bad, Begun, Cancel, Did, Got, Item, Rest, Telling}
 use Rattle.giop_session.specs.Feeding.{Fed, standing, with_octets}
 use Rattle.giop_session.specs.Heard.{hears_by}
 use Rattle.giop_session.specs.Inputs.{Input, Takes, nothing_unread}
@@ -65,6 +67,13 @@ pub data Deed (V F : Type 0) : Type 1 where
   -- its program closes the connection
   Closes : Deed V F
 
+-- the id whose call it is about, if it is about one
+abbrev pub id_of : {V F : Type 0} → Deed V F → Option ℕ
+id_of (Feeds octets) = None
+id_of (PutsOut id refusal Plans) = Some id
+id_of (TakesOut id) = Some id
+id_of Closes = None
+
 -- what is answered to an input, by what the call for it answered
 abbrev pub answer_of : {E : Type 0} → Result (Unit {0}) SessionFault → Answered E
 answer_of (Ok done) = answer.Done
@@ -103,6 +112,44 @@ IsAct {V} (PutsOut id refusal Plans) act =
     (planned : Planned V) × Plans planned × (act ≡ DoesTo id (IsTold planned))
 IsAct (TakesOut id) act = act ≡ DoesTo id IsTakenOut
 IsAct Closes act = ⊥
+
+-- what is answered to an act that is taken, by the entry that stands under its id
+abbrev pub answer_to : {E X : Type 0} → Option E → Happening X → Answered E
+answer_to entry (IsTold event) = answer.Done
+answer_to entry IsTakenOut = answer.Taken entry
+
+-- and to an input
+abbrev pub taken_answer : {R E V : Type 0} → Held R E → Input V → Answered E
+taken_answer h (Reads octets) = answer.Done
+taken_answer h (DoesTo id act) = answer_to (entry_of (finite.get h.table id)) act
+
+-- whether this is the id that is named, if one is
+abbrev pub is_named : ℕ → Option ℕ → Bool
+is_named id None = false
+is_named id (Some named) = id == named
+
+-- the answers to the inputs that name an id, in their order
+abbrev pub own_answers : {I E : Type 0} → (I → Option ℕ) → ℕ → List I → List (Answered E)
+    → List (Answered E)
+own_answers named id [] answers = []
+own_answers named id (input ∷ inputs) [] = []
+own_answers named id (input ∷ inputs) (answered ∷ answers) =
+    if is_named id (named input) then answered ∷ own_answers named id inputs answers
+    else own_answers named id inputs answers
+
+-- what an end answers for one call of which these items are said, where it refuses none: to what it
+-- does itself; T is what is known of a call, its entry with it
+module _ {T Message V E : Type 0} (telling : Telling T Message V) (entry_in : T → Option E) where
+  abbrev pub item_answers : T → List (Item Message V) → List (Answered E)
+  item_answers t [] = []
+  item_answers t (Did act ∷ items) =
+      answer_to (entry_in t) act ∷ item_answers (telling.behind t (Did act)) items
+  item_answers t (Got message ∷ items) = item_answers (telling.behind t (Got message)) items
+  item_answers t (Bad kind version order octets ∷ items) =
+      item_answers (telling.behind t (Bad kind version order octets)) items
+  item_answers t (Begun kind ∷ items) = item_answers (telling.behind t (Begun kind)) items
+  item_answers t (Rest ends ∷ items) = item_answers (telling.behind t (Rest ends)) items
+  item_answers t (Cancel ∷ items) = item_answers (telling.behind t Cancel) items
 
 module _ {R E V A F : Type 0} (next : R → Option E → V → Step E A F) (closed : R → E → Bool)
     (gathering : E → Bool) (of_rule : ℕ → F → SessionFault) (breaks : Msg → Option SessionFault)
@@ -150,11 +197,14 @@ module _ {R E V A F : Type 0} (next : R → Option E → V → Step E A F) (clos
     EndRuns = InTurn (λ s input answered t. IsGiven (deed s.calls input) s answered t)
 
     -- an end takes inputs as these acts, each by what it is to the calls that stand then, and
-    -- refuses none; this is unread then, and these are its calls
-    abbrev pub TakesAs : Unread → Held R E → List I → List (Input V) → Unread → Held R E → Type 0
-    TakesAs unread h [] acts left k = (acts ≡ []) × (left ≡ unread) × (k ≡ h)
-    TakesAs unread h (input ∷ inputs) acts left k =
+    -- refuses none; these are its answers, this is unread then, and these are its calls
+    abbrev pub TakesAs : Unread → Held R E → List I → List (Answered E) → List (Input V) → Unread
+        → Held R E → Type 0
+    TakesAs unread h [] [] acts left k = (acts ≡ []) × (left ≡ unread) × (k ≡ h)
+    TakesAs unread h [] (answered ∷ answers) acts left k = ⊥
+    TakesAs unread h (input ∷ inputs) [] acts left k = ⊥
+    TakesAs unread h (input ∷ inputs) (answered ∷ answers) acts left k =
         (act : Input V) × (rest : List (Input V)) × (mid : Unread) × (calls : Held R E)
-        × (acts ≡ act ∷ rest) × IsAct (deed h input) act
+        × (acts ≡ act ∷ rest) × IsAct (deed h input) act × (answered ≡ taken_answer h act)
         × Takes next closed gathering of_rule breaks befalls unread h (act ∷ []) mid calls
-        × TakesAs mid calls inputs rest left k
+        × TakesAs mid calls inputs answers rest left k

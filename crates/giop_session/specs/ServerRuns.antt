@@ -1,5 +1,5 @@
 -- What a server's end is given in a run, and what it answers to each input.
-use Rattle.std.specs.Prelude.{◌≡◌, ℕ, List, Option, None}
+use Rattle.std.specs.Prelude.{◌≡◌, ℕ, List, Option, None, Some}
 use Rattle.std.specs.FinMap as finite
 use Rattle.giop_types.specs.declared.json.interface.Interface.{Interface}
 use Rattle.giop_msg.specs.Stream.{Unread}
@@ -27,6 +27,15 @@ use Rattle.giop_session.specs.ServerHears.{server_befalls, server_breaks}
 -- what stands under an id
 abbrev pub server_entry : Held ServerRule ServerEntry → ℕ → Option ServerEntry
 server_entry h id = entry_of (finite.get h.table id)
+
+-- the id whose call an input is about, if it is about one
+abbrev pub server_named : ServerInput → Option ℕ
+server_named (input.Feed octets) = None
+server_named (input.Answer reply form) = Some reply.id
+server_named (input.AnswerLocate id here order) = Some id
+server_named (input.Send id) = Some id
+server_named (input.Take id) = Some id
+server_named input.Close = None
 
 -- what an input is to a server's end with these calls
 abbrev pub server_deed : Interface → Limits → Held ServerRule ServerEntry → ServerInput
@@ -64,16 +73,17 @@ ServerRuns interface limits inputs answers t =
     ServerRunsFrom interface limits (new_end (record {}) limits) inputs answers t
 
 -- a new one takes these as such acts, and refuses none
-abbrev pub ServerTakesAs : Interface → Limits → List ServerInput → List (Input ServerEvent)
-    → Unread → Held ServerRule ServerEntry → Type 0
-ServerTakesAs interface limits inputs acts left k =
+abbrev pub ServerTakesAs : Interface → Limits → List ServerInput → List (Answered ServerEntry)
+    → List (Input ServerEvent) → Unread → Held ServerRule ServerEntry → Type 0
+ServerTakesAs interface limits inputs answers acts left k =
     TakesAs (λ rule. server.server_step) (λ rule. server.is_closed) server.is_gathering in_call
     server_breaks (server_befalls interface) (server_deed interface limits)
-    (nothing_unread limits.message) (no_calls (record {}) limits) inputs acts left k
+    (nothing_unread limits.message) (no_calls (record {}) limits) inputs answers acts left k
 
 -- it takes them, and they hold these items for each id
 pub record ServerHolds (interface : Interface) (limits : Limits) (inputs : List ServerInput)
-    (left : Unread) (k : Held ServerRule ServerEntry) (calls : ℕ → List ServerItem) : Type 0 where
+    (answers : List (Answered ServerEntry)) (left : Unread) (k : Held ServerRule ServerEntry)
+    (calls : ℕ → List ServerItem) : Type 0 where
   pub acts : List (Input ServerEvent)
-  pub taken : ServerTakesAs interface limits inputs acts left k
+  pub taken : ServerTakesAs interface limits inputs answers acts left k
   pub holds : Holds (server_telling interface) None limits.message acts calls

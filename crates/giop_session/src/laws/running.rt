@@ -5,10 +5,10 @@ ghost use Rattle.giop_session.specs.declared.laws.inputs.Answered.TheVariants.{R
 ghost use Rattle.giop_session.specs.declared.session_fault.SessionFault.TheVariants.{NoMemory};
 ghost use Rattle.giop_session.specs.Carries.{behind_all};
 ghost use Rattle.giop_session.specs.ClientCarries.{client_telling, unknown};
-ghost use Rattle.giop_session.specs.ClientRuns.{client_entry, ClientHolds, ClientRuns, ClientTakesAs};
-ghost use Rattle.giop_session.specs.Driven.{answer_of, Closes, end_state, Feeds, InTurn, IsGiven, NoneRefused, taken_answer_of, TakesOut};
+ghost use Rattle.giop_session.specs.ClientRuns.{client_entry, client_named, ClientHolds, ClientRuns, ClientTakesAs};
+ghost use Rattle.giop_session.specs.Driven.{answer_of, Closes, end_state, Feeds, InTurn, IsGiven, item_answers, NoneRefused, own_answers, taken_answer_of, TakesOut};
 ghost use Rattle.giop_session.specs.ServerCarries.{server_telling};
-ghost use Rattle.giop_session.specs.ServerRuns.{server_entry, ServerHolds, ServerRuns, ServerTakesAs};
+ghost use Rattle.giop_session.specs.ServerRuns.{server_entry, server_named, ServerHolds, ServerRuns, ServerTakesAs};
 
 use super::inputs::{Answered, ClientInput, ServerInput};
 use crate::end::{ClientEnd, End, ServerEnd};
@@ -39,12 +39,17 @@ pub fn run_server<'a>(
     ensures same { IfOk result (λ run. (run.0.interface.now ≡ interface.now)
         × (run.0.limits ≡ limits)) }
     ensures taken { IfOk result (λ run. NoneRefused run.1.items → run.0.fault ≡ None
-        → (acts : _) × ServerTakesAs interface.now limits inputs.items acts run.0.framer
-        run.0.calls) }
+        → (acts : _) × ServerTakesAs interface.now limits inputs.items run.1.items acts
+        run.0.framer run.0.calls) }
     ensures table { IfOk result (λ run. (items : _)
-        → ServerHolds interface.now limits inputs.items run.0.framer run.0.calls items
+        → ServerHolds interface.now limits inputs.items run.1.items run.0.framer
+        run.0.calls items
         → (id : _) → server_entry run.0.calls id
         ≡ behind_all (server_telling interface.now) None (items id)) }
+    ensures answers { IfOk result (λ run. (items : _)
+        → ServerHolds interface.now limits inputs.items run.1.items run.0.framer run.0.calls items
+        → (id : _) → own_answers server_named id inputs.items run.1.items
+        ≡ item_answers (server_telling interface.now) (λ entry. entry) None (items id)) }
 {
     let mut server: ServerEnd<'a> = End::<ServerRule>::new(alloc, interface, limits);
     let answers = take_all(alloc, &mut server, inputs)?;
@@ -64,12 +69,17 @@ pub fn run_client<'a>(
     ensures same { IfOk result (λ run. (run.0.interface.now ≡ interface.now)
         × (run.0.limits ≡ limits)) }
     ensures taken { IfOk result (λ run. NoneRefused run.1.items → run.0.fault ≡ None
-        → (acts : _) × ClientTakesAs interface.now limits inputs.items acts run.0.framer
-        run.0.calls) }
+        → (acts : _) × ClientTakesAs interface.now limits inputs.items run.1.items acts
+        run.0.framer run.0.calls) }
     ensures table { IfOk result (λ run. (items : _)
-        → ClientHolds interface.now limits inputs.items run.0.framer run.0.calls items
+        → ClientHolds interface.now limits inputs.items run.1.items run.0.framer
+        run.0.calls items
         → (id : _) → client_entry run.0.calls id
         ≡ (behind_all (client_telling interface.now) unknown (items id)).entry) }
+    ensures answers { IfOk result (λ run. (items : _)
+        → ClientHolds interface.now limits inputs.items run.1.items run.0.framer run.0.calls items
+        → (id : _) → own_answers client_named id inputs.items run.1.items
+        ≡ item_answers (client_telling interface.now) (λ known. known.entry) unknown (items id)) }
 {
     let mut client: ClientEnd<'a> = End::<ClientRule>::new(alloc, interface, limits);
     let answers = take_all(alloc, &mut client, inputs)?;

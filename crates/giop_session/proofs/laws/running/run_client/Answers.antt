@@ -7,7 +7,7 @@ use Rattle.giop_session.specs.Inputs.{nothing_unread}
 use Rattle.giop_session.specs.ClientHears.{client_befalls, client_breaks}
 use Rattle.giop_session.specs.ClientRuns.{ClientIsGiven, ClientRuns, ClientRunsFrom, client_deed}
 use Rattle.giop_session.proofs.DrivenLemmas.{in_turn_seen, run_taken, taken_takes}
-use Rattle.giop_session.proofs.ClientHeadline.{client_entries}
+use Rattle.giop_session.proofs.ClientHeadline.{client_answers, client_entries}
 use Rattle.giop_session.proofs.laws.running.run_client.Goals as goal
 
 -- the run, as contracts see an end
@@ -59,5 +59,10 @@ returns-clause-table c = λ items holds id.
     client_entries c.args.interface.now c.args.limits holds.acts c.take_all.new.driven.framer c.take_all.new.driven.calls items
     (taken_takes (λ rule. client_step) (λ rule. is_closed) is_gathering in_call client_breaks (client_befalls c.args.interface.now)
     (client_deed c.args.interface.now c.args.limits) (nothing_unread c.args.limits.message) c.take_all.new.driven.framer
-    (no_calls (record {}) c.args.limits) c.take_all.new.driven.calls c.args.inputs.items holds.acts holds.taken)
+    (no_calls (record {}) c.args.limits) c.take_all.new.driven.calls c.args.inputs.items c.in_ok-answers.answers.items holds.acts holds.taken)
     holds.holds id
+
+pub returns-clause-answers : goal.returns-clause-answers
+returns-clause-answers c = λ items holds id.
+    client_answers c.args.interface.now c.args.limits c.args.inputs.items c.in_ok-answers.answers.items c.take_all.new.driven.framer
+    c.take_all.new.driven.calls items holds id
