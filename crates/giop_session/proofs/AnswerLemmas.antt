@@ -167,7 +167,8 @@ module _ {R E V A F : Type 0} (next : R → Option E → V → Step E A F) (clos
       by_name true own = let to : id ≡ named = grind (arith, nat_tests) in ap (λ q. answer_to (entry_of (finite.get h.table q)) act ∷ []) to
       by_name false own = refl
 
-  module _ {I : Type 0} (deed : Held R E → I → Deed V F) (named : I → Option ℕ) (names_it : (h : Held R E) (input : I) → id_of (deed h input) ≡ named input) where
+  module _ {I : Type 0} (deed : Held R E → I → Deed V F) (named : I → Option ℕ)
+      (names_it : (h : Held R E) (input : I) → id_of (deed h input) ≡ named input) where
     -- an end that refuses nothing meets events, and each id's answers are those of its own alone
     pub taken_answers : (inputs : List I) (answers : List (Answered E)) (acts : List (Input V)) (unread left : Unread) (h k : Held R E)
         → TakesAs next closed gathering of_rule breaks befalls deed unread h inputs answers acts left k

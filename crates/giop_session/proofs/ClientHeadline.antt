@@ -76,7 +76,8 @@ client_answers interface limits inputs answers left k calls held id =
     (client_deed interface limits) client_named (names_it interface limits) inputs answers held.acts (nothing_unread limits.message) left begun k held.taken in
     let same = same_events held.acts (nothing_unread limits.message) held.holds.1 left held.holds.0 run.0 held.holds.2 run.1 in
     run.3 id
-    ∙ items_answer client_turn (client_befalls interface) (client_telling interface) (λ known. known.entry) (client_item_leaves interface) (calls id) unknown (at begun id)
+    ∙ items_answer client_turn (client_befalls interface) (client_telling interface) (λ known. known.entry) (client_item_leaves interface)
+    (calls id) unknown (at begun id)
     (at k id) (own_events id run.0) (ap entry_of (finite.get-empty nat_cmp id))
     (subst (λ events. Carries (client_telling interface) unknown (calls id) (own_events id events)) same (held.holds.3 id))
     (each_follows (λ rule. client_step) (λ rule. is_closed) is_gathering in_call client_breaks (client_befalls interface) begun k run.0 id run.2)

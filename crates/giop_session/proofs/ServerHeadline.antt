@@ -73,7 +73,8 @@ server_answers interface limits inputs answers left k calls held id =
     (server_deed interface limits) server_named (names_it interface limits) inputs answers held.acts (nothing_unread limits.message) left begun k held.taken in
     let same = same_events held.acts (nothing_unread limits.message) held.holds.1 left held.holds.0 run.0 held.holds.2 run.1 in
     run.3 id
-    ∙ items_answer server_turn (server_befalls interface) (server_telling interface) (λ entry. entry) (server_item_leaves interface) (calls id) None (at begun id)
+    ∙ items_answer server_turn (server_befalls interface) (server_telling interface) (λ entry. entry) (server_item_leaves interface)
+    (calls id) None (at begun id)
     (at k id) (own_events id run.0) (ap entry_of (finite.get-empty nat_cmp id))
     (subst (λ events. Carries (server_telling interface) None (calls id) (own_events id events)) same (held.holds.3 id))
     (each_follows (λ rule. server_step) (λ rule. is_closed) is_gathering in_call server_breaks (server_befalls interface) begun k run.0 id run.2)

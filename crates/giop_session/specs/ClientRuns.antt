@@ -66,7 +66,8 @@ ClientIsGiven interface limits s given answered t =
 
 -- it is given these in turn
 abbrev pub ClientRunsFrom : Interface → Limits → EndState (Held ClientRule ClientEntry)
-    → List ClientInput → List (Answered ClientEntry) → EndState (Held ClientRule ClientEntry) → Type 0
+    → List ClientInput → List (Answered ClientEntry) → EndState (Held ClientRule ClientEntry)
+    → Type 0
 ClientRunsFrom interface limits s inputs answers t =
     EndRuns (λ rule. client.client_step) (λ rule. client.is_closed) client.is_gathering in_call
     client_breaks (client_befalls interface) (client_deed interface limits) s inputs answers t

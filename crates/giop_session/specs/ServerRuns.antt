@@ -61,7 +61,8 @@ ServerIsGiven interface limits s given answered t =
 
 -- it is given these in turn
 abbrev pub ServerRunsFrom : Interface → Limits → EndState (Held ServerRule ServerEntry)
-    → List ServerInput → List (Answered ServerEntry) → EndState (Held ServerRule ServerEntry) → Type 0
+    → List ServerInput → List (Answered ServerEntry) → EndState (Held ServerRule ServerEntry)
+    → Type 0
 ServerRunsFrom interface limits s inputs answers t =
     EndRuns (λ rule. server.server_step) (λ rule. server.is_closed) server.is_gathering in_call
     server_breaks (server_befalls interface) (server_deed interface limits) s inputs answers t

@@ -1,5 +1,6 @@
 //! Laws of the calls of an end, whatever its rule: what a run of acts leaves of each call. And the
-//! headline, at each end: two runs that hold the same calls end in the same entries.
+//! headline, at each end: two runs that hold the same calls end in the same entries; `run_server`
+//! and `run_client` make such a run.
 ghost use Rattle.std.specs.Prelude.{◌≡◌, ℕ, List, Ok};
 ghost use Rattle.giop_ids.specs.Runs.{own, alone, told_alone, Runs, addressed, MeetsNoLimit};
 ghost use Rattle.giop_types.specs.declared.json.interface.Interface.{Interface};
