@@ -2,6 +2,7 @@
 //! stands at it then.
 use super::clients::Client;
 use super::interfaces::interface;
+use super::memory::interface_at_last;
 use super::messages::{
     ADD as ASKS_ADD, NOTHING, PING as ASKS_PING, SEVEN, form, locate_request, reply, request,
 };
@@ -367,26 +368,31 @@ fn a_client_answers_each_input(rt: HostRuntime) -> Result<(), Fail> {
     Ok(())
 }
 
-// With any one allocation refused a run gives nothing back, or all of it, so where it gave nothing
-// it is made again: no second allocation is refused.
-#[test]
-fn a_run_gives_all_back_or_nothing(rt: HostRuntime) -> Result<(), Fail> {
-    let alloc = rt.alloc();
-    let interface = match interface(alloc) {
-        Ok(interface) => interface,
-        Err(_) => interface(alloc)?,
-    };
-    let row = &SERVER_RUNS[3];
-    let (end, answers) = match server_ran(alloc, &interface, row.0) {
-        Some(run) => run,
-        None => server_ran(alloc, &interface, row.0).ok_or("no memory")?,
-    };
-    assert_eq!(rt; answers.len(), row.0.len());
-    assert!(rt; !answers.iter().any(|answered| wants_memory(answered)));
-    assert_eq!(rt; end.fault(), None);
-    Ok(())
+// Makes a run once more where it had no memory: no second allocation is refused.
+fn server_ran_at_last<'a>(
+    alloc: Global,
+    interface: &'a Interface,
+    inputs: &[Server],
+) -> Option<(ServerEnd<'a>, Vec<Answered<ServerEntry>>)> {
+    match server_ran(alloc, interface, inputs) {
+        Some(run) => Some(run),
+        None => server_ran(alloc, interface, inputs),
+    }
 }
 
 fn wants_memory(answered: &Answered<ServerEntry>) -> bool {
     matches!(answered, Answered::Refused(SessionFault::NoMemory))
+}
+
+// With any one allocation refused a run gives nothing back, or all of it.
+#[test]
+fn a_run_gives_all_back_or_nothing(rt: HostRuntime) -> Result<(), Fail> {
+    let alloc = rt.alloc();
+    let interface = interface_at_last(alloc)?;
+    let inputs = SERVER_RUNS[3].0;
+    let (end, answers) = server_ran_at_last(alloc, &interface, inputs).ok_or("no memory")?;
+    assert_eq!(rt; answers.len(), inputs.len());
+    assert!(rt; !answers.iter().any(|answered| wants_memory(answered)));
+    assert_eq!(rt; end.fault(), None);
+    Ok(())
 }
