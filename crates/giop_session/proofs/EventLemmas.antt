@@ -70,6 +70,11 @@ module _ {R E V A F : Type 0} (next : R → Option E → V → Step E A F) (clos
       (found.0, λ q. ap (λ name. names_by name q) found.1, found.2)
   accepted (DoesTo id act) h k is = (id, λ q. refl, changes h k id (λ call. act_of act) is.0 is.1)
 
+  -- the rule stays
+  pub rule_stays : (h k : Held R E) (events : List (Event V)) → Meets next closed gathering of_rule breaks befalls h events k → k.rule ≡ h.rule
+  rule_stays h k [] met = ap (λ s. s.rule) met
+  rule_stays h k (e ∷ events) (mid, first, rest) = rule_stays mid k events rest ∙ (accepted e h mid first).2.rule_stays
+
   -- each call follows its own events
   pub each_follows : (h k : Held R E) (events : List (Event V)) (id : ℕ) → Meets next closed gathering of_rule breaks befalls h events k
       → Follows (turn_by h.rule) befalls (at h id) (own_events id events) (at k id)

@@ -20,3 +20,7 @@ mod LeftLemmas
 mod FollowedLemmas
 mod ClientLeftLemmas
 mod PumpingLemmas
+mod DrivenLemmas
+mod ServerHeadline
+mod ClientHeadline
+mod AnswerLemmas

@@ -5,8 +5,10 @@ pub mod Carries
 pub mod ClientCalls
 pub mod ClientCarries
 pub mod ClientHears
+pub mod ClientRuns
 pub mod Codes
 pub mod Decoding
+pub mod Driven
 pub mod EndRuns
 pub mod Events
 pub mod Feeding
@@ -22,6 +24,7 @@ pub mod Sent
 pub mod ServerAnswers
 pub mod ServerCarries
 pub mod ServerHears
+pub mod ServerRuns
 pub mod SessionFaults
 pub mod Sides
 pub mod Unsent

@@ -1,11 +1,13 @@
-ghost use Rattle.std.specs.Prelude.{◌≡◌, ◌≤◌, ◌^◌, ◌++◌, [], drop, false, None, Some, Err, length, option_copied, IfErr, IfOk, OnErr, OnOk};
+ghost use Rattle.std.specs.Prelude.{◌≡◌, ◌≤◌, ◌^◌, ◌++◌, [], drop, false, None, Some, Err, Ok, length, option_copied, IfErr, IfOk, OnErr, OnOk};
 ghost use Rattle.std.specs.FinMap as finite;
 ghost use Rattle.std.specs.Option.{option_map};
 ghost use Rattle.giop_cdr.specs.declared.order.Order.TheVariants.{Big};
 ghost use Rattle.giop_ids.specs.ById.{put};
+ghost use Rattle.giop_ids.specs.Runs.{Does};
 ghost use Rattle.giop_msg.specs.Msg.{message_octets};
 ghost use Rattle.giop_session.specs.declared.session_fault.SessionFault.TheVariants.{Closed, NoMemory, StillOpen};
 ghost use Rattle.giop_session.specs.Begun.{no_calls};
+ghost use Rattle.giop_session.specs.CallTable.{Gives, IsTaken, rules_of};
 ghost use Rattle.giop_session.specs.Feeding.{Fed, standing, with_octets};
 ghost use Rattle.giop_session.specs.Heard.{hears_by};
 ghost use Rattle.giop_session.specs.Sending.{entry_of};
@@ -244,6 +246,10 @@ impl<'a, R: Hearing> End<'a, R> {
                 table = put self.old.calls.table id None;
               };
             })) }
+        ensures does { IfOk result (λ taken. Does (rules_of (R.next self.old.calls.rule)
+            (R.closed self.old.calls.rule) R.gathering) self.old.calls
+            (record { id = id; what = IsTaken })
+            (Ok (Gives (finite.get self.old.calls.table id))) self.new.calls) }
         ensures open { self.old.fault ≡ None → IfErr result (λ why. (why ≡ StillOpen)
             × (option_map (λ slot. R.closed self.old.calls.rule slot.entry)
             (finite.get self.old.calls.table id) ≡ Some false)) }

@@ -1,5 +1,6 @@
 //! Laws of the calls of an end, whatever its rule: what a run of acts leaves of each call. And the
-//! headline, at each end: two runs that hold the same calls end in the same entries.
+//! headline, at each end: two runs that hold the same calls end in the same entries; `run_server`
+//! and `run_client` make such a run.
 ghost use Rattle.std.specs.Prelude.{◌≡◌, ℕ, List, Ok};
 ghost use Rattle.giop_ids.specs.Runs.{own, alone, told_alone, Runs, addressed, MeetsNoLimit};
 ghost use Rattle.giop_types.specs.declared.json.interface.Interface.{Interface};
@@ -11,14 +12,18 @@ ghost use Rattle.giop_session.specs.Heard.{hears_by};
 ghost use Rattle.giop_session.specs.CallTable.{at, Held, is_of_call, rules_of, turn};
 
 mod headline;
+mod inputs;
 mod left;
+mod running;
 
 use crate::{Hearing, Side};
 pub use headline::{
     each_call_of_a_run, same_calls_same_entries_at_client, same_calls_same_entries_at_server,
     what_is_cut_is_carried,
 };
+pub use inputs::{Answered, CheckedForm, ClientInput, ServerInput};
 pub use left::{what_is_left_is_unsent_at_client, what_is_left_is_unsent_at_server};
+pub use running::{run_client, run_server};
 
 /// Whatever befalls other ids in a run of acts, which goes on behind refusals, a call has the
 /// entry, the unsent messages, the pieces and the answers of its own acts alone; unless one of them

@@ -16,6 +16,7 @@ mod pumping;
 mod random;
 mod replies;
 mod reuse;
+mod runs;
 mod server;
 mod servers;
 mod sessions;

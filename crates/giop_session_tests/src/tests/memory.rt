@@ -17,7 +17,9 @@ use std::process::Abort;
 use std::test::Fail;
 
 // Each of these does once more what had no memory: no second allocation is refused.
-fn interface_at_last(alloc: Global) -> Result<Interface, FormFault> {
+
+/// The interface.
+pub fn interface_at_last(alloc: Global) -> Result<Interface, FormFault> {
     match interface(alloc) {
         Err(FormFault::NoMemory) => interface(alloc),
         answer => answer,

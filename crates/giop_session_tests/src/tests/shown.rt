@@ -56,7 +56,8 @@ fn write_reply(text: &mut String, reply: &Reply) -> Result<(), AllocError> {
     }
 }
 
-fn write_client_entry(text: &mut String, entry: &ClientEntry) -> Result<(), AllocError> {
+/// An entry of a client by its name, and what it holds.
+pub fn write_client_entry(text: &mut String, entry: &ClientEntry) -> Result<(), AllocError> {
     match entry {
         ClientEntry::Sending { left, .. } => write!(text, "Sending {left}"),
         ClientEntry::Waiting { .. } => text.push_str("Waiting"),
@@ -74,7 +75,8 @@ fn write_client_entry(text: &mut String, entry: &ClientEntry) -> Result<(), Allo
     }
 }
 
-fn write_server_entry(text: &mut String, entry: &ServerEntry) -> Result<(), AllocError> {
+/// An entry of a server likewise.
+pub fn write_server_entry(text: &mut String, entry: &ServerEntry) -> Result<(), AllocError> {
     match entry {
         ServerEntry::Gathering { .. } => text.push_str("Gathering"),
         ServerEntry::Asked { request } => {

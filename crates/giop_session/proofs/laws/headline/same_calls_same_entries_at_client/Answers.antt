@@ -1,57 +1,10 @@
-use Rattle.std.proofs.Common.{◌≡◌, ℕ, List, ◌∙◌, ap, subst, sym}
-use Rattle.std.specs.Ordering.{nat_cmp}
-use Rattle.std.specs.FinMap as finite
-use Rattle.giop_types.specs.declared.json.interface.Interface.{Interface}
-use Rattle.giop_calls.specs.declared.client.entry.ClientEntry.{ClientEntry}
-use Rattle.giop_calls.specs.declared.client.event.ClientEvent.{ClientEvent}
-use Rattle.giop_calls.specs.declared.client.rule.ClientRule.{ClientRule}
-use Rattle.giop_calls.specs.ClientTable.{is_closed, is_gathering, client_step}
-use Rattle.giop_msg.specs.Stream.{Unread}
-use Rattle.giop_session.specs.declared.limits.Limits.{Limits}
-use Rattle.giop_session.specs.Begun.{no_calls}
-use Rattle.giop_session.specs.CallTable.{Held, at}
-use Rattle.giop_session.specs.Carries.{Carries, behind_all}
-use Rattle.giop_session.specs.EndRuns.{ClientTakes}
-use Rattle.giop_session.specs.Events.{Event, Meets, own_events}
-use Rattle.giop_session.specs.Heard.{in_call}
-use Rattle.giop_session.specs.Inputs.{Holds, Input, nothing_unread}
-use Rattle.giop_session.specs.Sending.{entry_of}
-use Rattle.giop_session.specs.ClientCarries.{ClientItem, client_telling, unknown}
-use Rattle.giop_session.specs.ClientHears.{client_befalls, client_breaks}
-use Rattle.giop_session.proofs.EventLemmas.{each_follows}
-use Rattle.giop_session.proofs.InputLemmas.{same_events, takes_events}
-use Rattle.giop_session.proofs.ItemLemmas.{items_leave}
-use Rattle.giop_session.proofs.ClientCancelLemmas.{client_turn}
-use Rattle.giop_session.proofs.ClientItemLemmas.{client_item_leaves}
+use Rattle.std.proofs.Common.{◌∙◌, sym}
+use Rattle.giop_session.proofs.ClientHeadline.{client_entries}
 use Rattle.giop_session.proofs.laws.headline.same_calls_same_entries_at_client.Goals as goal
 
--- each entry is what its items leave
-joined : (interface : Interface) (limits : Limits) (events : List (Event ClientEvent)) (k : Held ClientRule ClientEntry) (items : List ClientItem) (id : ℕ)
-    → Meets (λ rule. client_step) (λ rule. is_closed) is_gathering in_call client_breaks (client_befalls interface) (no_calls (record {}) limits) events k
-    → Carries (client_telling interface) unknown items (own_events id events)
-    → entry_of (finite.get k.table id) ≡ (behind_all (client_telling interface) unknown items).entry
-joined interface limits events k items id runs carries =
-    let begun : Held ClientRule ClientEntry = no_calls (record {}) limits in
-    items_leave client_turn (client_befalls interface) (client_telling interface) (λ known call. entry_of call.slot ≡ known.entry)
-    (client_item_leaves interface)
-    items unknown (at begun id) (at k id) (own_events id events) (ap entry_of (finite.get-empty nat_cmp id)) carries
-    (each_follows (λ rule. client_step) (λ rule. is_closed) is_gathering in_call client_breaks (client_befalls interface) begun k events id runs)
-
--- where inputs hold the items
-held : (interface : Interface) (limits : Limits) (inputs : List (Input ClientEvent)) (left : Unread) (k : Held ClientRule ClientEntry)
-    (calls : ℕ → List ClientItem)
-    → ClientTakes interface limits inputs left k → Holds (client_telling interface) unknown limits.message inputs calls
-    → (id : ℕ) → entry_of (finite.get k.table id) ≡ (behind_all (client_telling interface) unknown (calls id)).entry
-held interface limits inputs left k calls takes (events, left', are, carries) id =
-    let run = takes_events (λ rule. client_step) (λ rule. is_closed) is_gathering in_call client_breaks (client_befalls interface)
-    inputs (nothing_unread limits.message) left (no_calls (record {}) limits) k takes in
-    joined interface limits run.0 k (calls id) id run.2
-    (subst (λ events. Carries (client_telling interface) unknown (calls id) (own_events id events))
-    (same_events inputs (nothing_unread limits.message) left' left events run.0 are run.1) (carries id))
-
 pub returns-clause-value : goal.returns-clause-value
-returns-clause-value c = held
+returns-clause-value c = client_entries
 
 pub returns-clause-same : goal.returns-clause-same
 returns-clause-same c = λ interface limits limits' one other left left' k k' calls takes takes' holds holds' id.
-    held interface limits one left k calls takes holds id ∙ sym (held interface limits' other left' k' calls takes' holds' id)
+    client_entries interface limits one left k calls takes holds id ∙ sym (client_entries interface limits' other left' k' calls takes' holds' id)

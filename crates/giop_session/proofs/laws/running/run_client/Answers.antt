@@ -1,0 +1,68 @@
+use Rattle.std.proofs.Common.{◌≡◌, ◌∙◌, ap, subst}
+use Rattle.giop_calls.specs.ClientTable.{is_closed, is_gathering, client_step}
+use Rattle.giop_session.specs.Begun.{no_calls}
+use Rattle.giop_session.specs.Driven.{end_state, new_end}
+use Rattle.giop_session.specs.Heard.{in_call}
+use Rattle.giop_session.specs.Inputs.{nothing_unread}
+use Rattle.giop_session.specs.ClientHears.{client_befalls, client_breaks}
+use Rattle.giop_session.specs.ClientRuns.{ClientIsGiven, ClientRuns, ClientRunsFrom, client_deed}
+use Rattle.giop_session.proofs.DrivenLemmas.{in_turn_seen, run_taken, taken_takes}
+use Rattle.giop_session.proofs.ClientHeadline.{client_answers, client_entries}
+use Rattle.giop_session.proofs.laws.running.run_client.Goals as goal
+
+-- the run, as contracts see an end
+seen : (c : goal.In_ok-answers)
+    → ((c.take_all.new.driven.interface.now ≡ c.args.interface.now) × (c.take_all.new.driven.limits ≡ c.args.limits))
+    × ClientRuns c.args.interface.now c.args.limits c.args.inputs.items c.in_ok-answers.answers.items
+    (end_state c.take_all.new.driven.framer c.take_all.new.driven.calls c.take_all.new.driven.outgoing c.take_all.new.driven.fault)
+seen c =
+    let new = c.new-client.ensures in
+    let run = in_turn_seen
+    (λ before input answered after. ClientIsGiven before.interface.now before.limits
+    (end_state before.framer before.calls before.outgoing before.fault) input answered
+    (end_state after.framer after.calls after.outgoing after.fault)
+    × (after ≡ record before { framer = after.framer; calls = after.calls; outgoing = after.outgoing; fault = after.fault }))
+    (ClientIsGiven c.args.interface.now c.args.limits)
+    (λ end. end_state end.framer end.calls end.outgoing end.fault)
+    (λ end. (end.interface.now ≡ c.args.interface.now) × (end.limits ≡ c.args.limits))
+    (λ before after input answered keeps given. (
+      (ap (λ e. e.interface.now) given.1 ∙ keeps.0, ap (λ e. e.limits) given.1 ∙ keeps.1),
+      subst (λ interface. ClientIsGiven interface c.args.limits
+          (end_state before.framer before.calls before.outgoing before.fault) input answered
+          (end_state after.framer after.calls after.outgoing after.fault)) keeps.0
+          (subst (λ limits. ClientIsGiven before.interface.now limits
+          (end_state before.framer before.calls before.outgoing before.fault) input answered
+          (end_state after.framer after.calls after.outgoing after.fault)) keeps.1 given.0),
+    ))
+    c.new-client.result c.take_all.new.driven c.args.inputs.items c.in_ok-answers.answers.items (new.interface, new.limits) c.in_ok-answers.ensures in (
+      run.0,
+      subst (λ begun. ClientRunsFrom c.args.interface.now c.args.limits begun c.args.inputs.items c.in_ok-answers.answers.items
+          (end_state c.take_all.new.driven.framer c.take_all.new.driven.calls c.take_all.new.driven.outgoing c.take_all.new.driven.fault))
+          (λ i. end_state (new.unread i) (new.calls i) (new.outgoing i) (new.fault i)) run.1,
+    )
+
+pub returns-clause-value : goal.returns-clause-value
+returns-clause-value c = (seen c).1
+
+pub returns-clause-same : goal.returns-clause-same
+returns-clause-same c = (seen c).0
+
+pub returns-clause-taken : goal.returns-clause-taken
+returns-clause-taken c = λ none sound.
+    run_taken (λ rule. client_step) (λ rule. is_closed) is_gathering in_call client_breaks (client_befalls c.args.interface.now)
+    (client_deed c.args.interface.now c.args.limits) (new_end (record {}) c.args.limits)
+    (end_state c.take_all.new.driven.framer c.take_all.new.driven.calls c.take_all.new.driven.outgoing c.take_all.new.driven.fault)
+    c.args.inputs.items c.in_ok-answers.answers.items (seen c).1 none sound
+
+pub returns-clause-table : goal.returns-clause-table
+returns-clause-table c = λ items holds id.
+    client_entries c.args.interface.now c.args.limits holds.acts c.take_all.new.driven.framer c.take_all.new.driven.calls items
+    (taken_takes (λ rule. client_step) (λ rule. is_closed) is_gathering in_call client_breaks (client_befalls c.args.interface.now)
+    (client_deed c.args.interface.now c.args.limits) (nothing_unread c.args.limits.message) c.take_all.new.driven.framer
+    (no_calls (record {}) c.args.limits) c.take_all.new.driven.calls c.args.inputs.items c.in_ok-answers.answers.items holds.acts holds.taken)
+    holds.holds id
+
+pub returns-clause-answers : goal.returns-clause-answers
+returns-clause-answers c = λ items holds id.
+    client_answers c.args.interface.now c.args.limits c.args.inputs.items c.in_ok-answers.answers.items c.take_all.new.driven.framer
+    c.take_all.new.driven.calls items holds id

@@ -1,0 +1,103 @@
+//! What an end is given, and what it answers.
+ghost use Rattle.std.specs.Prelude.{◌≡◌, ◌↔◌, IfSome, IsSome};
+ghost use Rattle.giop_session.specs.Form.{IsForm};
+
+use crate::form::Form;
+use crate::session_fault::SessionFault;
+use giop_cdr::{OctetList, Order};
+use giop_msg::{LocateRequest, Reply, Request};
+
+/// A form in which messages can be sent.
+#[derive(Clone, Copy, Debug)]
+pub struct CheckedForm {
+    pub form: Form,
+    pub ghost sound: { IsForm form },
+}
+
+impl CheckedForm {
+    /// The form, where messages can be sent so: its piece is a multiple of 8, and 24 at least.
+    pub fn check(form: Form) -> Option<CheckedForm>
+        ensures found { IsSome result ↔ IsForm form }
+        ensures value { IfSome result (λ checked. checked.form ≡ form) }
+    {
+        if form.is_valid() {
+            Some(CheckedForm { form })
+        } else {
+            None
+        }
+    }
+}
+
+/// What a server's end is given: octets of its client, or what its own program does.
+#[derive(Debug, Drop)]
+pub enum ServerInput {
+    /// Octets of the client, as of one read.
+    Feed(OctetList),
+    /// A Request is answered.
+    Answer {
+        /// The Reply, with the id of the Request.
+        reply: Reply,
+        /// How it is sent.
+        form: CheckedForm,
+    },
+    /// A LocateRequest is answered.
+    AnswerLocate {
+        /// Its id.
+        id: u32,
+        /// Whether the object is here.
+        here: bool,
+        /// The byte order of the LocateReply.
+        order: Order,
+    },
+    /// The next piece of the Reply under this id is put out.
+    Send(u32),
+    /// The entry under this id is taken out.
+    Take(u32),
+    /// The connection is closed.
+    Close,
+}
+
+/// What a client's end is given: octets of its server, or what its own program does.
+#[derive(Debug, Drop)]
+pub enum ClientInput {
+    /// Octets of the server, as of one read.
+    Feed(OctetList),
+    /// An operation is called.
+    Call {
+        /// The Request, with its id.
+        request: Request,
+        /// How it is sent.
+        form: CheckedForm,
+    },
+    /// It is asked where an object is.
+    Locate {
+        /// The LocateRequest, with its id.
+        request: LocateRequest,
+        /// How it is sent.
+        form: CheckedForm,
+    },
+    /// The call of an id is cancelled.
+    Cancel {
+        /// The id.
+        id: u32,
+        /// The byte order of the CancelRequest.
+        order: Order,
+    },
+    /// The next piece of the call under this id is put out.
+    Send(u32),
+    /// The entry under this id is taken out.
+    Take(u32),
+    /// The connection is closed.
+    Close,
+}
+
+/// What an end answers to one input.
+#[derive(Debug, Drop)]
+pub enum Answered<E> {
+    /// It was done.
+    Done,
+    /// It was taken out: the entry, where one stood there.
+    Taken(Option<E>),
+    /// It was refused, for this.
+    Refused(SessionFault),
+}

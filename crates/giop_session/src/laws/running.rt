@@ -1,0 +1,253 @@
+//! An end is made and given a list of inputs: the headline, of functions that run.
+ghost use Rattle.std.specs.Prelude.{◌≡◌, ◌≢◌, ◌≤◌, ◌^◌, ◌↔◌, None, Err, IfOk, IsErr};
+ghost use Rattle.std.specs.FinMap as finite;
+ghost use Rattle.giop_session.specs.declared.laws.inputs.Answered.TheVariants.{Refused};
+ghost use Rattle.giop_session.specs.declared.session_fault.SessionFault.TheVariants.{NoMemory};
+ghost use Rattle.giop_session.specs.Carries.{behind_all};
+ghost use Rattle.giop_session.specs.ClientCarries.{client_telling, unknown};
+ghost use Rattle.giop_session.specs.ClientRuns.{client_entry, client_named, ClientHolds, ClientRuns, ClientTakesAs};
+ghost use Rattle.giop_session.specs.Driven.{answer_of, Closes, end_state, Feeds, InTurn, IsGiven, item_answers, NoneRefused, own_answers, taken_answer_of, TakesOut};
+ghost use Rattle.giop_session.specs.ServerCarries.{server_telling};
+ghost use Rattle.giop_session.specs.ServerRuns.{server_entry, server_named, ServerHolds, ServerRuns, ServerTakesAs};
+
+use super::inputs::{Answered, ClientInput, ServerInput};
+use crate::end::{ClientEnd, End, ServerEnd};
+use crate::hearing::Hearing;
+use crate::limits::Limits;
+use crate::session_fault::SessionFault;
+use giop_calls::{ClientEntry, ClientRule, ServerEntry, ServerRule};
+use giop_types::Interface;
+use std::alloc::{AllocError, Global};
+
+/// Makes a server's end and gives it these inputs, one after another: the answers are one for each,
+/// in their order. A run goes on behind a refusal, also one that fails the end, which then refuses
+/// all that is left.
+///
+/// Where the end refuses nothing, and isn't closed, each id's entry is what was said of that one
+/// call, in whatever messages, Fragments, byte orders and reads it came, and whatever lay between.
+/// `alloc` gives the memory of the end and of the answers; where any is wanting nothing is given
+/// back.
+pub fn run_server<'a>(
+    alloc: Global,
+    interface: &'a Interface,
+    limits: Limits,
+    inputs: Vec<ServerInput>,
+) -> Result<(ServerEnd<'a>, Vec<Answered<ServerEntry>>), AllocError>
+    requires { limits.gathered ≤ 2 ^ 62 }
+    ensures value { IfOk result (λ run. ServerRuns interface.now limits inputs.items run.1.items
+        (end_state run.0.framer run.0.calls run.0.outgoing run.0.fault)) }
+    ensures same { IfOk result (λ run. (run.0.interface.now ≡ interface.now)
+        × (run.0.limits ≡ limits)) }
+    ensures taken { IfOk result (λ run. NoneRefused run.1.items → run.0.fault ≡ None
+        → (acts : _) × ServerTakesAs interface.now limits inputs.items run.1.items acts
+        run.0.framer run.0.calls) }
+    ensures table { IfOk result (λ run. (items : _)
+        → ServerHolds interface.now limits inputs.items run.1.items run.0.framer
+        run.0.calls items
+        → (id : _) → server_entry run.0.calls id
+        ≡ behind_all (server_telling interface.now) None (items id)) }
+    ensures answers { IfOk result (λ run. (items : _)
+        → ServerHolds interface.now limits inputs.items run.1.items run.0.framer run.0.calls items
+        → (id : _) → own_answers server_named id inputs.items run.1.items
+        ≡ item_answers (server_telling interface.now) (λ entry. entry) None (items id)) }
+{
+    let mut server: ServerEnd<'a> = End::<ServerRule>::new(alloc, interface, limits);
+    let answers = take_all(alloc, &mut server, inputs)?;
+    Ok((server, answers))
+}
+
+/// The same of a client's end.
+pub fn run_client<'a>(
+    alloc: Global,
+    interface: &'a Interface,
+    limits: Limits,
+    inputs: Vec<ClientInput>,
+) -> Result<(ClientEnd<'a>, Vec<Answered<ClientEntry>>), AllocError>
+    requires { limits.gathered ≤ 2 ^ 62 }
+    ensures value { IfOk result (λ run. ClientRuns interface.now limits inputs.items run.1.items
+        (end_state run.0.framer run.0.calls run.0.outgoing run.0.fault)) }
+    ensures same { IfOk result (λ run. (run.0.interface.now ≡ interface.now)
+        × (run.0.limits ≡ limits)) }
+    ensures taken { IfOk result (λ run. NoneRefused run.1.items → run.0.fault ≡ None
+        → (acts : _) × ClientTakesAs interface.now limits inputs.items run.1.items acts
+        run.0.framer run.0.calls) }
+    ensures table { IfOk result (λ run. (items : _)
+        → ClientHolds interface.now limits inputs.items run.1.items run.0.framer
+        run.0.calls items
+        → (id : _) → client_entry run.0.calls id
+        ≡ (behind_all (client_telling interface.now) unknown (items id)).entry) }
+    ensures answers { IfOk result (λ run. (items : _)
+        → ClientHolds interface.now limits inputs.items run.1.items run.0.framer run.0.calls items
+        → (id : _) → own_answers client_named id inputs.items run.1.items
+        ≡ item_answers (client_telling interface.now) (λ known. known.entry) unknown (items id)) }
+{
+    let mut client: ClientEnd<'a> = End::<ClientRule>::new(alloc, interface, limits);
+    let answers = take_all(alloc, &mut client, inputs)?;
+    Ok((client, answers))
+}
+
+// What is given inputs and answers them.
+trait Driven {
+    ghost use Rattle.std.specs.Prelude.{IfOk};
+    ghost use Rattle.giop_session.specs.declared.laws.inputs.Answered.{Answered};
+
+    type Input: Drop;
+
+    type Entry: Drop;
+
+    ghost is_given: { Self → Self.Input → Answered Self.Entry → Self → Type 0 };
+
+    // Takes an input, and answers it. AllocError where memory is wanting.
+    fn take_input(&mut self, input: Self::Input) -> Result<Answered<Self::Entry>, AllocError>
+        ensures { IfOk result (λ answered. is_given self.old input answered self.new) };
+}
+
+impl<'a> Driven for End<'a, ServerRule> {
+    ghost use Rattle.std.specs.Prelude.{◌≡◌};
+    ghost use Rattle.giop_session.specs.Driven.{end_state};
+    ghost use Rattle.giop_session.specs.ServerRuns.{ServerIsGiven};
+
+    type Input = ServerInput;
+
+    type Entry = ServerEntry;
+
+    ghost is_given = { λ end input answered after. ServerIsGiven end.interface.now end.limits
+        (end_state end.framer end.calls end.outgoing end.fault) input answered
+        (end_state after.framer after.calls after.outgoing after.fault)
+        × (after ≡ record end {
+          framer = after.framer;
+          calls = after.calls;
+          outgoing = after.outgoing;
+          fault = after.fault;
+        }) };
+
+    fn take_input(&mut self, input: ServerInput) -> Result<Answered<ServerEntry>, AllocError> {
+        match input {
+            ServerInput::Feed(octets) => feed_to(self, octets.as_slice()),
+            ServerInput::Answer { reply, form } => answered(self.answer(reply, form.form)),
+            ServerInput::AnswerLocate { id, here, order } => {
+                answered(self.answer_locate(id, here, order))
+            }
+            ServerInput::Send(id) => answered(self.send(id)),
+            ServerInput::Take(id) => take_from(self, id),
+            ServerInput::Close => close_end(self),
+        }
+    }
+}
+
+impl<'a> Driven for End<'a, ClientRule> {
+    ghost use Rattle.std.specs.Prelude.{◌≡◌};
+    ghost use Rattle.giop_session.specs.ClientRuns.{ClientIsGiven};
+    ghost use Rattle.giop_session.specs.Driven.{end_state};
+
+    type Input = ClientInput;
+
+    type Entry = ClientEntry;
+
+    ghost is_given = { λ end input answered after. ClientIsGiven end.interface.now end.limits
+        (end_state end.framer end.calls end.outgoing end.fault) input answered
+        (end_state after.framer after.calls after.outgoing after.fault)
+        × (after ≡ record end {
+          framer = after.framer;
+          calls = after.calls;
+          outgoing = after.outgoing;
+          fault = after.fault;
+        }) };
+
+    fn take_input(&mut self, input: ClientInput) -> Result<Answered<ClientEntry>, AllocError> {
+        match input {
+            ClientInput::Feed(octets) => feed_to(self, octets.as_slice()),
+            ClientInput::Call { request, form } => answered(self.call(request, form.form)),
+            ClientInput::Locate { request, form } => answered(self.locate(request, form.form)),
+            ClientInput::Cancel { id, order } => answered(self.cancel(id, order)),
+            ClientInput::Send(id) => answered(self.send(id)),
+            ClientInput::Take(id) => take_from(self, id),
+            ClientInput::Close => close_end(self),
+        }
+    }
+}
+
+// Gives inputs, one after another.
+fn take_all<D: Driven>(
+    alloc: Global,
+    driven: &mut D,
+    inputs: Vec<D::Input>,
+) -> Result<Vec<Answered<D::Entry>>, AllocError>
+    ensures { IfOk result (λ answers.
+        InTurn D.is_given driven.old inputs.items answers.items driven.new) }
+{
+    let mut answers = Vec::new(alloc);
+    for input in inputs {
+        answers.push(driven.take_input(input)?)?;
+    }
+    Ok(answers)
+}
+
+// Octets are fed.
+fn feed_to<R: Hearing>(
+    end: &mut End<'_, R>,
+    octets: &[u8],
+) -> Result<Answered<R::Entry>, AllocError>
+    ensures given { IfOk result (λ answered. IsGiven R.next R.closed R.gathering R.in_call R.breaks
+        (R.befalls end.old.interface.now) (Feeds octets.now)
+        (end_state end.old.framer end.old.calls end.old.outgoing end.old.fault) answered
+        (end_state end.new.framer end.new.calls end.new.outgoing end.new.fault)) }
+    ensures others { end.new ≡ record end.old {
+      framer = end.new.framer;
+      calls = end.new.calls;
+      outgoing = end.new.outgoing;
+      fault = end.new.fault;
+    } }
+{
+    answered(end.feed(octets))
+}
+
+// An entry is taken out.
+fn take_from<R: Hearing>(end: &mut End<'_, R>, id: u32) -> Result<Answered<R::Entry>, AllocError>
+    ensures given { IfOk result (λ answered. IsGiven R.next R.closed R.gathering R.in_call R.breaks
+        (R.befalls end.old.interface.now) (TakesOut id)
+        (end_state end.old.framer end.old.calls end.old.outgoing end.old.fault) answered
+        (end_state end.new.framer end.new.calls end.new.outgoing end.new.fault)) }
+    ensures others { end.new ≡ record end.old {
+      framer = end.new.framer;
+      calls = end.new.calls;
+      outgoing = end.new.outgoing;
+      fault = end.new.fault;
+    } }
+{
+    match end.take(id) {
+        Ok(entry) => Ok(Answered::Taken(entry)),
+        Err(SessionFault::NoMemory) => Err(AllocError),
+        Err(why) => Ok(Answered::Refused(why)),
+    }
+}
+
+// An end is closed.
+fn close_end<R: Hearing>(end: &mut End<'_, R>) -> Result<Answered<R::Entry>, AllocError>
+    ensures given { IfOk result (λ answered. IsGiven R.next R.closed R.gathering R.in_call R.breaks
+        (R.befalls end.old.interface.now) Closes
+        (end_state end.old.framer end.old.calls end.old.outgoing end.old.fault) answered
+        (end_state end.new.framer end.new.calls end.new.outgoing end.new.fault)) }
+    ensures others { end.new ≡ record end.old {
+      framer = end.new.framer;
+      calls = end.new.calls;
+      outgoing = end.new.outgoing;
+      fault = end.new.fault;
+    } }
+{
+    answered(end.close())
+}
+
+// What is answered to an input, by what the call for it answered. AllocError where that had no
+// memory.
+fn answered<E>(told: Result<(), SessionFault>) -> Result<Answered<E>, AllocError>
+    ensures value { IfOk result (λ answered. (answered ≡ answer_of told)
+        × (answered ≢ Refused NoMemory)) }
+    ensures err { IsErr result ↔ (told ≡ Err NoMemory) }
+{
+    match told {
+        Ok(()) => Ok(Answered::Done),
+        Err(SessionFault::NoMemory) => Err(AllocError),
+        Err(why) => Ok(Answered::Refused(why)),
+    }
+}
