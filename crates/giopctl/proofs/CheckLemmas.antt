@@ -1,17 +1,16 @@
 -- An end that hears what a reader gives, and what is told of it.
-use Rattle.std.proofs.Common.{◌≡◌, ℕ, ◌+◌, ◌≤◌, List, [], ◌∷◌, ◌++◌, length, length-append, Option, Some, None, Result, Ok, Err, IfOk, OnOk, refl, sym, ap, subst, ◌∙◌, inl, inr, append_assoc, All, arith}
+use Rattle.std.proofs.Common.{◌≡◌, ℕ, ◌+◌, ◌≤◌, List, [], ◌++◌, length, length-append, Option, Some, None, Result, Ok, Err, IfOk, OnOk, refl, sym, ap, subst, ◌∙◌, inl, inr, append_assoc, arith}
 use Rattle.std.specs.List.{flat_map}
 use Rattle.std.specs.Io.KnownBytes.{Appends, Consumes, IsAtEnd}
-use Rattle.std.proofs.lemmas.Grind.{flat_map-append}
 use Rattle.std.proofs.lemmas.List.{append-nil}
-use Rattle.std.proofs.lemmas.List.Elements.{All-append}
 use Rattle.giop_msg.specs.declared.msg.Msg.{Msg}
-use Rattle.giop_msg.specs.Msg.{IsMessage, message_octets}
+use Rattle.giop_msg.specs.Msg.{message_octets}
 use Rattle.giop_msg.specs.Stream.{TakesMessage, Unread, Waits}
 use Rattle.giop_msg.proofs.StreamLemmas.{fault_stands, length-message_octets}
 use Rattle.giop_types.specs.declared.json.interface.Interface.{Interface}
 use Rattle.giop_session.specs.declared.session_fault.SessionFault.{SessionFault}
-use Rattle.giop_session.specs.Feeding.{Fed, Stops, Through, with_octets}
+use Rattle.giop_session.specs.Feeding.{Fed, Stops, with_octets}
+use Rattle.giop_session.proofs.FeedingLemmas.{fed_in_turn}
 use Rattle.giop_calls.specs.declared.server.entry.ServerEntry.{ServerEntry}
 use Rattle.giop_calls.specs.declared.server.rule.ServerRule.{ServerRule}
 use Rattle.giop_session.specs.Begun.{no_calls}
@@ -46,36 +45,6 @@ module _ {S : Type 0} (hears : Msg → S → Result (Unit {0}) SessionFault → 
     heard = refl;
     stops = (waits, refl);
   }
-
-  through_join : (one other : List Msg) (h mid k : S) → Through hears h one mid → Through hears mid other k → Through hears h (one ++ other) k
-  through_join [] other h mid k heard next = subst (λ s. Through hears s other k) heard next
-  through_join (m ∷ one) other h mid k heard next = (heard.0, heard.1, through_join one other heard.0 mid k heard.2 next)
-
-  -- octets, and then more
-  fed_in_turn : (unread left last : Unread) (h mid k : S) (more : List ℕ) (result : Result (Unit {0}) SessionFault)
-      → Fed hears unread h (Ok tt) left mid → Fed hears (with_octets left more) mid result last k
-      → Fed hears (with_octets unread more) h result last k
-  fed_in_turn unread left last h mid k more result first second =
-      let behind : left ≡ first.rest = first.stops.1 in
-      let limit = ap (λ u. u.limit) behind ∙ first.taken.limit in
-      record {
-        messages = first.messages ++ second.messages;
-        rest = second.rest;
-        taken = record {
-          each = All-append (IsMessage unread.limit) first.messages second.messages first.taken.each
-              (subst (λ n. All (IsMessage n) second.messages) limit second.taken.each);
-          octets =
-              ap (λ octets. octets ++ more) first.taken.octets
-              ∙ append_assoc (flat_map message_octets first.messages) first.rest.octets more
-              ∙ ap (λ (u : Unread). flat_map message_octets first.messages ++ (u.octets ++ more)) (sym behind)
-              ∙ ap (λ octets. flat_map message_octets first.messages ++ octets) second.taken.octets
-              ∙ sym (append_assoc (flat_map message_octets first.messages) (flat_map message_octets second.messages) second.rest.octets)
-              ∙ ap (λ octets. octets ++ second.rest.octets) (sym (flat_map-append message_octets first.messages second.messages));
-          limit = second.taken.limit ∙ limit;
-        };
-        heard = through_join first.messages second.messages h mid k first.heard second.heard;
-        stops = second.stops;
-      }
 
   -- an end that stops stops so whatever stands behind what it has
   stops_behind : (rest left : Unread) (k : S) (why : SessionFault) (more : List ℕ) → Stops hears rest k (Err why) left
@@ -123,7 +92,7 @@ module _ {S : Type 0} (hears : Msg → S → Result (Unit {0}) SessionFault → 
     before.0 ++ piece,
     parted octets before.0 piece left rest before.1 taken,
     subst (λ u. Fed hears u h (Ok tt) after next) (joined unread before.0 piece)
-        (fed_in_turn (with_octets unread before.0) now after h k next piece (Ok tt) before.2 fed),
+        (fed_in_turn hears (with_octets unread before.0) now after h k next piece (Ok tt) before.2 fed),
   )
 
   reads_all : (octets left piece rest : List ℕ) (unread now : Unread) (h k : S) → HasRead octets left unread h now k → left ≡ piece ++ rest
@@ -137,7 +106,7 @@ module _ {S : Type 0} (hears : Msg → S → Result (Unit {0}) SessionFault → 
       → left ≡ piece ++ rest → Fed hears (with_octets now piece) k (Err why) after next → Hears hears octets unread h (Some why) after next
   meets_fault octets left rest piece unread now after h k next why before taken fed =
       let so_far = subst (λ u. Fed hears u h (Err why) after next) (joined unread before.0 piece)
-      (fed_in_turn (with_octets unread before.0) now after h k next piece (Err why) before.2 fed) in
+      (fed_in_turn hears (with_octets unread before.0) now after h k next piece (Err why) before.2 fed) in
       let all = subst (λ u. Fed hears u h (Err why) (with_octets after rest) next) (joined unread (before.0 ++ piece) rest)
       (fed_behind (with_octets unread (before.0 ++ piece)) after h next why rest so_far) in
       record {

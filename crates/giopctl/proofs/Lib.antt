@@ -4,4 +4,9 @@ pub mod PiecesLemmas
 pub mod ConvertLemmas
 pub mod BodiesLemmas
 pub mod CheckLemmas
+pub mod StepLemmas
+pub mod ActLemmas
+pub mod CallFormLemmas
+pub mod TurnLemmas
+pub mod TargetLemmas
 pub mod SessionsLemmas

@@ -1,36 +1,54 @@
 -- What is told of a session.
-use Rattle.std.proofs.Common.{◌≡◌, ℕ, List, ◌++◌, Option, Result, Ok, Err, IfOk, OnOk}
+use Rattle.std.proofs.Common.{◌≡◌, ℕ, false, List, ◌++◌, Option, None, Result, Ok, Err, IfOk, OnOk, sym, subst}
+use Rattle.std.specs.FinMap as finite
 use Rattle.std.specs.Io.KnownBytes.{Appends}
-use Rattle.giop_ids.specs.ById.{ById}
-use Rattle.giop_types.specs.declared.json.interface.Interface.{Interface}
-use Rattle.giop_calls.specs.declared.client.entry.ClientEntry.{ClientEntry}
-use Rattle.giop_calls.specs.declared.server.entry.ServerEntry.{ServerEntry}
+use Rattle.giop_msg.specs.Stream.{Unread}
 use Rattle.giop_session.specs.declared.session_fault.SessionFault.{SessionFault}
-use Rattle.giop_session.specs.declared.slot.Slot.{Slot}
+use Rattle.giop_session.specs.Pumping.{Between, between}
+use Rattle.giop_types.specs.declared.json.interface.Interface.{Interface}
 use Rattle.giopctl.specs.declared.failure.Failure.{Failure}
 use Rattle.giopctl.specs.declared.status.Status.{Status}
 use Rattle.giopctl.specs.declared.status.Status.TheVariants.{Done, Refused, Usage, InputOutput, Memory}
+use Rattle.giopctl.specs.Acts.{Outbox}
+use Rattle.giopctl.specs.Calling.{Asked, CallsAll, ClientCalls, Converses, ConversesIf, Talks, are_over, begun, client_hears, new_box}
+use Rattle.giopctl.specs.Check.{default_limits}
 use Rattle.giopctl.specs.Dump.{ended}
-use Rattle.giopctl.specs.Sessions.{Calls, IsCalled, IsServed, Serves, call_status, connection_line, serve_status, session_text, told}
+use Rattle.giop_ids.specs.ById.{ById}
+use Rattle.giop_calls.specs.declared.server.entry.ServerEntry.{ServerEntry}
+use Rattle.giop_session.specs.declared.slot.Slot.{Slot}
+use Rattle.giopctl.specs.Sessions.{Calls, IsCalled, IsServed, Serves, Wire, call_status, connection_line, serve_status, session_text, told}
+use Rattle.giopctl.specs.Turns.{Waits}
 use Rattle.giopctl.specs.Table.{client_entry_line, server_entry_line}
 
--- the table and the fault of a client's end
-pub called : (interface : Interface) (old new : Option (List ℕ)) (table : ById (Slot ClientEntry)) (refused fault : Option SessionFault)
-    (r : Result Status Failure)
-    → OnOk r (Appends old new (session_text (client_entry_line interface) table (told refused fault)))
-    → IfOk r (λ status. status ≡ call_status refused table) → IfOk r (IsCalled interface old new)
-called interface old new table refused fault (Err failure) text is = tt
-called interface old new table refused fault (Ok status) text is =
-    record { table = table; refused = refused; fault = fault; text = text; is = is }
+-- the calls of a client's end, its table and its fault
+pub called : (asked : Asked) (before after : Wire) (old new : Option (List ℕ)) (refused : Option SessionFault) (box : Outbox ClientCalls) (outgoing : List ℕ)
+    (unread : Unread) (left : ClientCalls) (fault : Option SessionFault) (r : Result Status Failure)
+    → CallsAll asked default_limits None new_box refused box
+    → Talks asked.interface refused (begun before.input before.output box) (between after.input after.output outgoing unread left fault)
+    → OnOk r (Appends old new (session_text (client_entry_line asked.interface) left.table (told refused fault)))
+    → IfOk r (λ status. status ≡ call_status refused left.table) → IfOk r (IsCalled asked before after old new)
+called asked before after old new refused box outgoing unread left fault (Err failure) calls talks text is = tt
+called asked before after old new refused box outgoing unread left fault (Ok status) calls talks text is = record {
+  refused = refused;
+  box = box;
+  calls = calls;
+  outgoing = outgoing;
+  unread = unread;
+  left = left;
+  fault = fault;
+  talks = talks;
+  text = text;
+  is = is;
+}
 
 -- the same by its status
-pub calls_told : (interface : Interface) (old new : Option (List ℕ)) (status : Status) → IsCalled interface old new status
-    → Calls interface old new status
-calls_told interface old new Done is = is
-calls_told interface old new Refused is = is
-calls_told interface old new Usage is = is
-calls_told interface old new InputOutput is = tt
-calls_told interface old new Memory is = tt
+pub calls_told : (asked : Asked) (before after : Wire) (old new : Option (List ℕ)) (status : Status) → IsCalled asked before after old new status
+    → Calls asked before after old new status
+calls_told asked before after old new Done is = is
+calls_told asked before after old new Refused is = is
+calls_told asked before after old new Usage is = is
+calls_told asked before after old new InputOutput is = tt
+calls_told asked before after old new Memory is = tt
 
 -- the number of a connection, the table and the fault of a server's end
 pub served : (number : ℕ) (interface : Interface) (old new : Option (List ℕ)) (table : ById (Slot ServerEntry)) (fault : Option SessionFault)
@@ -48,3 +66,11 @@ serves_told number interface old new Refused is = is
 serves_told number interface old new Usage is = is
 serves_told number interface old new InputOutput is = tt
 serves_told number interface old new Memory is = tt
+
+-- a client's turns, where its calls aren't over at first
+pub converses_by : (interface : Interface) (s t : Between ClientCalls) (ids : List ℕ) (r : Result (Unit {0}) Failure) → ids ≡ finite.keys s.state.calls.table
+    → are_over ids s.state.calls ≡ false → Waits (client_hears interface) (are_over ids) s r t → OnOk r (Converses interface s t)
+converses_by interface s t ids (Err failure) is still waits = tt
+converses_by interface s t ids (Ok tt) is still waits =
+    let over = subst (λ l. are_over l s.state.calls ≡ false) is still in
+    subst (λ b. ConversesIf interface b s t) (sym over) (subst (λ l. Waits (client_hears interface) (are_over l) s (Ok tt) t) is waits)

@@ -19,15 +19,15 @@ use Rattle.giopctl.specs.declared.commands.answering.Due.TheVariants.{Nothing, L
 
 -- whether a target is the object of a key
 abbrev pub is_object : List ℕ → AnyTarget → Bool
-is_object key (Key own) = pointwise nat_eq own key
+is_object key (Key object_key) = pointwise nat_eq object_key key
 is_object key (Profile profile) = false
 is_object key (Reference index ior) = false
 
 -- the answer to a Request by its target: of the object of the key what is given, of another none,
 -- and a target that is no key has to be addressed by one
 abbrev pub answer_to : List ℕ → ℕ → AnyTarget → Answer
-answer_to key flags (Key own) =
-    if pointwise nat_eq own key then Given (flags == 1) else NoObject
+answer_to key flags (Key object_key) =
+    if pointwise nat_eq object_key key then Given (flags == 1) else NoObject
 answer_to key flags (Profile profile) = Addressing
 answer_to key flags (Reference index ior) = Addressing
 

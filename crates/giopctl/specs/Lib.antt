@@ -9,5 +9,11 @@ pub mod TableLines
 pub mod Bodies
 pub mod Table
 pub mod Check
-pub mod Sessions
+pub mod Steps
+pub mod Acts
+pub mod Turns
+pub mod CallForms
 pub mod Answering
+pub mod Calling
+pub mod Sessions
+pub mod Target

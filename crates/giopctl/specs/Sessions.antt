@@ -5,21 +5,21 @@ use Rattle.std.specs.FinMap as finite
 use Rattle.std.specs.List.{list_all}
 use Rattle.std.specs.Io.KnownBytes.{Appends}
 use Rattle.giop_ids.specs.ById.{ById}
-use Rattle.giop_msg.specs.declared.messages.request.Request.{Request}
-use Rattle.giop_msg.specs.declared.target.Target.TheVariants.{Key}
-use Rattle.giop_msg.specs.declared.version.Version.{Version}
 use Rattle.giop_msg.specs.Messages.Reply.{status_of}
+use Rattle.giop_msg.specs.Stream.{Unread}
 use Rattle.giop_types.specs.declared.json.interface.Interface.{Interface}
 use Rattle.giop_calls.specs.declared.client.entry.ClientEntry.{ClientEntry}
 use Rattle.giop_calls.specs.declared.client.entry.ClientEntry.TheVariants.{Done as done, OnewaySent}
 use Rattle.giop_calls.specs.declared.server.entry.ServerEntry.{ServerEntry}
 use Rattle.giop_session.specs.declared.session_fault.SessionFault.{SessionFault}
 use Rattle.giop_session.specs.declared.slot.Slot.{Slot}
+use Rattle.giop_session.specs.Pumping.{between}
 use Rattle.giop_session.specs.Sending.{entry_of}
-use Rattle.giopctl.specs.declared.calls.CallLine.{CallLine}
 use Rattle.giopctl.specs.declared.status.Status.{Status}
 use Rattle.giopctl.specs.declared.status.Status.TheVariants.{Done, Refused, InputOutput, Memory}
-use Rattle.giopctl.specs.Check.{fault_status}
+use Rattle.giopctl.specs.Acts.{Outbox}
+use Rattle.giopctl.specs.Calling.{Asked, CallsAll, ClientCalls, Talks, begun, new_box}
+use Rattle.giopctl.specs.Check.{default_limits, fault_status}
 use Rattle.giopctl.specs.Dump.{ended}
 use Rattle.giopctl.specs.SessionLines.{session_fault_line}
 use Rattle.giopctl.specs.Table.{client_entry_line, server_entry_line, table_text}
@@ -41,20 +41,6 @@ abbrev pub connection_line : ℕ → List ℕ
 connection_line number = codes "connection " ++ decimal number
 
 -- ---- the calls of a client
-
--- a Request of a call: to the object of a key, for a reply unless the operation is oneway
-abbrev pub request_of : CallLine → List ℕ → Version → Request
-request_of call key version = record {
-  head = record {
-    version = version;
-    id = call.id;
-    flags = if call.oneway then 0 else 3;
-    target = Key key;
-    operation = call.operation;
-    contexts = [];
-  };
-  body = call.ins;
-}
 
 -- whether a call went well: it got its result, or was sent and has none
 abbrev pub went_well : ClientEntry → Bool
@@ -81,19 +67,38 @@ abbrev pub told : Option SessionFault → Option SessionFault → Option Session
 told (Some why) fault = Some why
 told None fault = fault
 
--- the writer's contents grew by the table of a client's end and its fault, and this is its status
-pub record IsCalled (interface : Interface) (old new : Option (List ℕ)) (status : Status) : Type 0 where
-  pub table : ById (Slot ClientEntry)
+-- what a session reads and writes: the octets that its reader will still give, and those that its
+-- writer holds, where they are known
+pub record Wire : Type 0 where
+  pub input : Option (List ℕ)
+  pub output : Option (List ℕ)
+
+abbrev pub wire : Option (List ℕ) → Option (List ℕ) → Wire
+wire input output = record { input = input; output = output }
+
+-- these calls were made at a new client's end, which then talked over the wire; and what is told of
+-- them is the table that its calls are left with, its fault, and this status
+pub record IsCalled (asked : Asked) (before after : Wire) (old new : Option (List ℕ))
+    (status : Status) : Type 0 where
   pub refused : Option SessionFault
+  pub box : Outbox ClientCalls
+  pub calls : CallsAll asked default_limits None new_box refused box
+  pub outgoing : List ℕ
+  pub unread : Unread
+  pub left : ClientCalls
   pub fault : Option SessionFault
-  pub text : Appends old new (session_text (client_entry_line interface) table (told refused fault))
-  pub is : status ≡ call_status refused table
+  pub talks :
+      Talks asked.interface refused (begun before.input before.output box)
+      (between after.input after.output outgoing unread left fault)
+  pub text : Appends old new
+      (session_text (client_entry_line asked.interface) left.table (told refused fault))
+  pub is : status ≡ call_status refused left.table
 
 -- the same by the status that the calls end with
-abbrev pub Calls : Interface → Option (List ℕ) → Option (List ℕ) → Status → Type 0
-Calls interface old new InputOutput = ⊤
-Calls interface old new Memory = ⊤
-Calls interface old new status = IsCalled interface old new status
+abbrev pub Calls : Asked → Wire → Wire → Option (List ℕ) → Option (List ℕ) → Status → Type 0
+Calls asked before after old new InputOutput = ⊤
+Calls asked before after old new Memory = ⊤
+Calls asked before after old new status = IsCalled asked before after old new status
 
 -- ---- the connection of a server
 

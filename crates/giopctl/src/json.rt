@@ -1,4 +1,10 @@
 //! Parts of the JSON of calls and answers.
+ghost use Rattle.std.specs.Prelude.{◌≡◌, option_map};
+ghost use Rattle.serde_json.specs.View.{view};
+ghost use Rattle.giop_types.specs.Descriptions.CheckedShape.{checked_shape};
+ghost use Rattle.giop_types.specs.JsonForms.FromJson.{Shows, is_object_of};
+ghost use Rattle.giop_types.specs.Values.Views.{value_view};
+ghost use Rattle.giopctl.specs.CallForms.{number_in, octets_in, value_in};
 
 use giop_cdr::OctetList;
 use giop_types::{CheckedDesc, Desc, FormFault, Parameter, Value, ValueList, value_from_json};
@@ -6,7 +12,9 @@ use serde_json::Value as Json;
 use std::alloc::Global;
 
 /// Whether this is an object of so many members.
-pub fn is_object_of(count: usize, json: &Json) -> bool {
+pub fn is_object_of(count: usize, json: &Json) -> bool
+    ensures { result ≡ is_object_of count (view json.now) }
+{
     match json.as_object() {
         Some(object) => object.len() == count,
         None => false,
@@ -14,19 +22,22 @@ pub fn is_object_of(count: usize, json: &Json) -> bool {
 }
 
 /// The octets that a text stands for, as a value of type string is one: no null is among them.
-pub fn octets_of(alloc: Global, json: &Json) -> Result<OctetList, FormFault> {
+pub fn octets_of(alloc: Global, json: &Json) -> Result<OctetList, FormFault>
+    ensures { Shows (λ octets. octets) result (octets_in (view json.now)) }
+{
     let Ok(text) = CheckedDesc::check(Desc::Text(0)) else {
         return Err(FormFault::BadShape);
     };
-    match value_from_json(alloc, &text, json) {
-        Ok(Value::Text(octets)) => Ok(octets),
-        Err(FormFault::NoMemory) => Err(FormFault::NoMemory),
+    match fitting(alloc, &text, json)? {
+        Some(Value::Text(octets)) => Ok(octets),
         _ => Err(FormFault::BadShape),
     }
 }
 
 /// The number of an unsigned long; `None` where it is a whole number that is none.
-pub fn ulong_of(alloc: Global, json: &Json) -> Result<Option<u32>, FormFault> {
+pub fn ulong_of(alloc: Global, json: &Json) -> Result<Option<u32>, FormFault>
+    ensures { Shows (λ number. number) result (number_in (view json.now)) }
+{
     let Ok(ulong) = CheckedDesc::check(Desc::ULong) else {
         return Err(FormFault::BadShape);
     };
@@ -59,10 +70,14 @@ pub fn values_of(
 }
 
 // The value of a description; `None` where the form is right and the value doesn't fit.
-fn fitting(alloc: Global, desc: &CheckedDesc, json: &Json) -> Result<Option<Value>, FormFault> {
+fn fitting(alloc: Global, desc: &CheckedDesc, json: &Json) -> Result<Option<Value>, FormFault>
+    ensures { Shows (λ value. option_map value_view value) result
+        (value_in (checked_shape desc.now) (view json.now)) }
+{
     match value_from_json(alloc, desc, json) {
         Ok(value) => Ok(Some(value)),
         Err(FormFault::Unfit) => Ok(None),
-        Err(fault) => Err(fault),
+        Err(FormFault::NoMemory) => Err(FormFault::NoMemory),
+        Err(_) => Err(FormFault::BadShape),
     }
 }

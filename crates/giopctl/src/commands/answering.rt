@@ -73,8 +73,8 @@ fn answer_to(key: &[u8], flags: u8, target: &Target) -> Answer
     ensures { result ≡ answer_to key.now flags target.now }
 {
     match target {
-        Target::Key(own) => {
-            if own.as_slice() == key {
+        Target::Key(object_key) => {
+            if object_key.as_slice() == key {
                 let quiet = flags == 1;
                 Answer::Given { quiet }
             } else {
@@ -90,7 +90,7 @@ fn is_object(key: &[u8], target: &Target) -> bool
     ensures { result ≡ is_object key.now target.now }
 {
     match target {
-        Target::Key(own) => own.as_slice() == key,
+        Target::Key(object_key) => object_key.as_slice() == key,
         Target::Profile(_) => false,
         Target::Reference { .. } => false,
     }

@@ -1,16 +1,21 @@
 //! `call`: a client's end between a reader and a writer.
-ghost use Rattle.std.specs.Prelude.{◌≡◌, IfOk, None, OnOk, option_copied};
+ghost use Rattle.std.specs.Prelude.{◌≡◌, [], ◌∷◌, IfOk, None, OnOk, option_copied};
 ghost use Rattle.std.specs.FinMap as finite;
 ghost use Rattle.std.specs.Io.KnownBytes.{Appends};
 ghost use Rattle.std.specs.List.{list_all};
 ghost use Rattle.giop_session.specs.Form.{IsForm};
 ghost use Rattle.giop_session.specs.Sending.{entry_of};
-ghost use Rattle.giopctl.specs.Sessions.{Calls, IsCalled, all_well, call_status, is_well, request_of, session_text, told};
+ghost use Rattle.giop_session.specs.Pumping.{between};
+ghost use Rattle.giopctl.specs.Acts.{outbox};
+ghost use Rattle.giopctl.specs.Calling.{CallsAll, CallsOne, Converses, Talks, are_over, client_hears, is_over, request_of};
+ghost use Rattle.giopctl.specs.Sessions.{Calls, IsCalled, all_well, call_status, is_well, session_text, told, wire};
+ghost use Rattle.giopctl.specs.Steps.{Upto};
 ghost use Rattle.giopctl.specs.Table.{client_entry_line};
+ghost use Rattle.giopctl.specs.Turns.{Waits};
 
 use crate::calls::CallLine;
 use crate::commands::sending::send_all;
-use crate::commands::session::{TURNS, goes_on, refusal, told, write_all_out, write_session};
+use crate::commands::session::{TURNS, goes_on, told, told_of, write_all_out, write_session};
 use crate::failure::Failure;
 use crate::status::Status;
 use giop_calls::ClientEntry;
@@ -46,7 +51,16 @@ pub fn call_session<R: Read, W: Write, O: Write>(
     out: &mut O,
 ) -> Status
     requires { IsForm form }
-    ensures { Calls interface.now (O.contents out.old) (O.contents out.new) result }
+    ensures { Calls (record {
+      interface = interface.now;
+      calls = calls.items;
+      key = key.now;
+      version = version;
+      form = form;
+    })
+        (wire (R.remaining reader.old) (W.contents writer.old))
+        (wire (R.remaining reader.new) (W.contents writer.new))
+        (O.contents out.old) (O.contents out.new) result }
 {
     match call_over(
         alloc, interface, calls, key, version, form, reader, writer, out,
@@ -69,13 +83,20 @@ pub fn call_over<R: Read, W: Write, O: Write>(
     out: &mut O,
 ) -> Result<Status, Failure>
     requires { IsForm form }
-    ensures { IfOk result (IsCalled interface.now (O.contents out.old) (O.contents out.new)) }
+    ensures { IfOk result (IsCalled (record {
+      interface = interface.now;
+      calls = calls.items;
+      key = key.now;
+      version = version;
+      form = form;
+    })
+        (wire (R.remaining reader.old) (W.contents writer.old))
+        (wire (R.remaining reader.new) (W.contents writer.new))
+        (O.contents out.old) (O.contents out.new)) }
 {
     let mut end = ClientEnd::new(alloc, interface, Limits::default());
     let refused = call_all(alloc, &mut end, calls, key, version, form)?;
-    if refused.is_none() {
-        converse(alloc, &mut end, reader, writer)?;
-    }
+    talk(alloc, &mut end, refused, reader, writer)?;
     tell(alloc, interface, &end, refused, out)
 }
 
@@ -108,14 +129,84 @@ fn call_all(
     form: Form,
 ) -> Result<Option<SessionFault>, Failure>
     requires { IsForm form }
+    ensures calls { IfOk result (λ refused. CallsAll (record {
+      interface = end.old.interface.now;
+      calls = calls.items;
+      key = key.now;
+      version = version;
+      form = form;
+    })
+        end.old.limits end.old.fault (outbox end.old.calls end.old.outgoing) refused
+        (outbox end.new.calls end.new.outgoing)) }
+    ensures others { end.new ≡ record end.old {
+      calls = end.new.calls;
+      outgoing = end.new.outgoing;
+    } }
 {
-    for call in calls {
-        let request = request_of(alloc, call, key, version)?;
-        if let Err(fault) = end.call(request, form) {
-            return Ok(Some(refusal(fault)?));
-        }
+    if let Some(fault) = call_each(alloc, end, calls, key, version, form)? {
+        return Ok(Some(fault));
     }
     send_all(alloc, end)
+}
+
+// Puts out the first piece of each call.
+fn call_each(
+    alloc: Global,
+    end: &mut ClientEnd<'_>,
+    calls: Vec<CallLine>,
+    key: &[u8],
+    version: Version,
+    form: Form,
+) -> Result<Option<SessionFault>, Failure>
+    requires { IsForm form }
+    ensures calls { IfOk result (λ refused. Upto (CallsOne (record {
+      interface = end.old.interface.now;
+      calls = calls.items;
+      key = key.now;
+      version = version;
+      form = form;
+    })
+        end.old.limits end.old.fault) calls.items (outbox end.old.calls end.old.outgoing) refused
+        (outbox end.new.calls end.new.outgoing)) }
+    ensures others { end.new ≡ record end.old {
+      calls = end.new.calls;
+      outgoing = end.new.outgoing;
+    } }
+{
+    'calls: for call in calls {
+        if let Some(fault) = call_one(alloc, end, call, key, version, form)? {
+            return Ok(Some(fault));
+        }
+    }
+    Ok(None)
+}
+
+// Puts out the first piece of a call.
+fn call_one(
+    alloc: Global,
+    end: &mut ClientEnd<'_>,
+    call: CallLine,
+    key: &[u8],
+    version: Version,
+    form: Form,
+) -> Result<Option<SessionFault>, Failure>
+    requires { IsForm form }
+    ensures calls { IfOk result (λ refused. CallsOne (record {
+      interface = end.old.interface.now;
+      calls = call ∷ [];
+      key = key.now;
+      version = version;
+      form = form;
+    })
+        end.old.limits end.old.fault call (outbox end.old.calls end.old.outgoing) refused
+        (outbox end.new.calls end.new.outgoing)) }
+    ensures others { end.new ≡ record end.old {
+      calls = end.new.calls;
+      outgoing = end.new.outgoing;
+    } }
+{
+    let request = request_of(alloc, call, key, version)?;
+    told_of(end.call(request, form))
 }
 
 // The Request of a call.
@@ -140,19 +231,84 @@ fn request_of(
     })
 }
 
-// Takes turns until all calls are over, the input ends or a fault stands.
+// Converses, unless a call was refused.
+fn talk<R: Read, W: Write>(
+    alloc: Global,
+    end: &mut ClientEnd<'_>,
+    refused: Option<SessionFault>,
+    reader: &mut R,
+    writer: &mut W,
+) -> Result<(), Failure>
+    ensures talks { OnOk result (Talks end.old.interface.now refused
+        (between (R.remaining reader.old) (W.contents writer.old) end.old.outgoing end.old.framer
+        end.old.calls end.old.fault)
+        (between (R.remaining reader.new) (W.contents writer.new) end.new.outgoing end.new.framer
+        end.new.calls end.new.fault)) }
+    ensures others { end.new ≡ record end.old {
+      outgoing = end.new.outgoing;
+      framer = end.new.framer;
+      calls = end.new.calls;
+      fault = end.new.fault;
+    } }
+{
+    match refused {
+        Some(_) => Ok(()),
+        None => converse(alloc, end, reader, writer),
+    }
+}
+
+// Takes turns until all calls are over, the input ends or a fault stands; none where all calls are
+// over at first.
 fn converse<R: Read, W: Write>(
     alloc: Global,
     end: &mut ClientEnd<'_>,
     reader: &mut R,
     writer: &mut W,
-) -> Result<(), Failure> {
+) -> Result<(), Failure>
+    ensures converses { OnOk result (Converses end.old.interface.now
+        (between (R.remaining reader.old) (W.contents writer.old) end.old.outgoing end.old.framer
+        end.old.calls end.old.fault)
+        (between (R.remaining reader.new) (W.contents writer.new) end.new.outgoing end.new.framer
+        end.new.calls end.new.fault)) }
+    ensures others { end.new ≡ record end.old {
+      outgoing = end.new.outgoing;
+      framer = end.new.framer;
+      calls = end.new.calls;
+      fault = end.new.fault;
+    } }
+{
     let ids = end.ids(alloc)?;
     if are_over(end, ids.as_slice()) {
         return write_all_out(end, writer);
     }
-    for _ in 0..TURNS {
-        if !goes_on(end, reader, writer)? || are_over(end, ids.as_slice()) {
+    wait(end, ids.as_slice(), reader, writer)
+}
+
+// Takes turns until the calls of all these ids are over, the input ends or a fault stands.
+fn wait<R: Read, W: Write>(
+    end: &mut ClientEnd<'_>,
+    ids: &[u32],
+    reader: &mut R,
+    writer: &mut W,
+) -> Result<(), Failure>
+    ensures waits { Waits (client_hears end.old.interface.now) (are_over ids.now)
+        (between (R.remaining reader.old) (W.contents writer.old) end.old.outgoing end.old.framer
+        end.old.calls end.old.fault)
+        result
+        (between (R.remaining reader.new) (W.contents writer.new) end.new.outgoing end.new.framer
+        end.new.calls end.new.fault) }
+    ensures others { end.new ≡ record end.old {
+      outgoing = end.new.outgoing;
+      framer = end.new.framer;
+      calls = end.new.calls;
+      fault = end.new.fault;
+    } }
+{
+    'turns: for done in 0..TURNS {
+        if !goes_on(end, reader, writer)? {
+            return Ok(());
+        }
+        if are_over(end, ids) {
             return Ok(());
         }
     }
@@ -160,15 +316,27 @@ fn converse<R: Read, W: Write>(
 }
 
 // Whether the calls of all ids are over.
-fn are_over(end: &ClientEnd<'_>, ids: &[u32]) -> bool {
-    for id in ids {
-        if let Some(entry) = end.entry(*id) {
-            if !entry.is_closed() {
-                return false;
-            }
-        }
+fn are_over(end: &ClientEnd<'_>, ids: &[u32]) -> bool
+    ensures { result ≡ are_over ids.now end.now.calls }
+{
+    ids.iter().all(|id| is_over_at(end, *id))
+}
+
+// Whether the call of an id is over.
+fn is_over_at(end: &ClientEnd<'_>, id: u32) -> bool
+    ensures { result ≡ is_over (entry_of (finite.get end.now.calls.table id)) }
+{
+    is_over(end.entry(id))
+}
+
+// Whether what stands under an id, if anything does, is over.
+fn is_over(entry: Option<&ClientEntry>) -> bool
+    ensures { result ≡ is_over (option_copied entry.entry) }
+{
+    match entry {
+        Some(entry) => entry.is_closed(),
+        None => true,
     }
-    true
 }
 
 // The status of the calls: whether one was refused, and what the others came to.

@@ -1,8 +1,9 @@
 //! `convert ior` and `convert corbaloc`.
-ghost use Rattle.std.specs.Prelude.{◌≡◌, ◌≢◌, true, IfOk, OnOk, option_map};
+ghost use Rattle.std.specs.Prelude.{◌≡◌, ◌≢◌, true, IfErr, IfOk, OnOk, option_map};
 ghost use Rattle.std.specs.Io.KnownBytes.{Appends};
 ghost use Rattle.giop_ior.specs.Ior.{ior_layout};
 ghost use Rattle.giop_types.specs.declared.ior_text_fault.IorTextFault.TheVariants.{NoMemory};
+ghost use Rattle.giopctl.specs.declared.failure.Failure.TheVariants.{Memory};
 ghost use Rattle.giopctl.specs.Convert.{ConvertsIor, ConvertsCorbaloc, line_of_profile, profile_lines, reference_lines, text_of_corbaloc, corbaloc_lines, ior_refusal};
 ghost use Rattle.giopctl.specs.Dump.{ended};
 
@@ -41,6 +42,7 @@ pub fn convert_ior<W: Write>(
 pub fn ior_refusal(fault: IorTextFault) -> Result<RefusalLine, Failure>
     ensures value { IfOk result (λ line. line ≡ ior_refusal fault) }
     ensures refused { OnOk result (fault ≢ NoMemory) }
+    ensures err { IfErr result (λ failure. failure ≡ Memory) }
 {
     match fault {
         IorTextFault::Cdr(fault) => Ok(RefusalLine::Octets(fault)),

@@ -9,7 +9,7 @@ ghost use Rattle.giopctl.specs.Table.{server_entry_line};
 use crate::answers::Answers;
 use crate::commands::answering::{Due, due_to, reply_to};
 use crate::commands::sending::send_all;
-use crate::commands::session::{TURNS, goes_on, refusal, told, write_session};
+use crate::commands::session::{TURNS, goes_on, told, told_of, write_session};
 use crate::failure::Failure;
 use crate::status::Status;
 use giop_session::{Form, Limits, ServerEnd, SessionFault};
@@ -180,8 +180,5 @@ fn answer(
             end.answer(reply, serving.form)
         }
     };
-    match answered {
-        Ok(()) => Ok(None),
-        Err(fault) => Ok(Some(refusal(fault)?)),
-    }
+    told_of(answered)
 }

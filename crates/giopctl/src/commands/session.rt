@@ -1,8 +1,14 @@
 //! What the sessions of `call` and `serve` have in common.
-ghost use Rattle.std.specs.Prelude.{◌≡◌, ◌≢◌, Ok, OnOk};
+ghost use Rattle.std.specs.Prelude.{◌≡◌, ◌≢◌, ◌⊎◌, [], false, Some, None, Ok, Err, IfOk, IfErr, OnOk};
 ghost use Rattle.std.specs.Io.KnownBytes.{Appends};
 ghost use Rattle.giop_session.specs.declared.session_fault.SessionFault.TheVariants.{NoMemory};
+ghost use Rattle.giop_session.specs.Heard.{hears_by};
+ghost use Rattle.giop_session.specs.Pumping.{Writes, between};
+ghost use Rattle.giop_session.specs.SessionFaults.{error_message_of};
+ghost use Rattle.giopctl.specs.declared.failure.Failure.TheVariants.{Memory};
+ghost use Rattle.giopctl.specs.Check.{answer_of};
 ghost use Rattle.giopctl.specs.Sessions.{fault_text, session_text, told};
+ghost use Rattle.giopctl.specs.Turns.{GoesOn, IsOfConnection, peer_octets};
 
 use crate::commands::table::{Tabled, write_table};
 use crate::failure::Failure;
@@ -21,14 +27,24 @@ pub fn goes_on<R: Hearing, I: Read, W: Write>(
     end: &mut End<'_, R>,
     reader: &mut I,
     writer: &mut W,
-) -> Result<bool, Failure> {
+) -> Result<bool, Failure>
+    ensures goes { GoesOn (hears_by R.next R.closed R.gathering R.in_call R.breaks
+        (R.befalls end.old.interface.now))
+        (between (I.remaining reader.old) (W.contents writer.old) end.old.outgoing end.old.framer
+        end.old.calls end.old.fault)
+        result
+        (between (I.remaining reader.new) (W.contents writer.new) end.new.outgoing end.new.framer
+        end.new.calls end.new.fault) }
+    ensures others { end.new ≡ record end.old {
+      outgoing = end.new.outgoing;
+      framer = end.new.framer;
+      calls = end.new.calls;
+      fault = end.new.fault;
+    } }
+{
     match turn(end, reader, writer) {
         Ok(read) => Ok(read > 0),
-        Err(PumpFault::Session(SessionFault::NoMemory)) => Err(Failure::Memory),
-        Err(PumpFault::Session(_)) => {
-            tell_peer(end, writer)?;
-            Ok(false)
-        }
+        Err(PumpFault::Session(why)) => break_off(end, why, writer),
         Err(PumpFault::Read(error)) => Err(Failure::connection(error)),
         Err(PumpFault::Write(error)) => Err(Failure::connection(error)),
         Err(PumpFault::TurnsSpent) => Err(Failure::TurnsSpent),
@@ -39,15 +55,45 @@ pub fn goes_on<R: Hearing, I: Read, W: Write>(
 pub fn write_all_out<R: Hearing, W: Write>(
     end: &mut End<'_, R>,
     writer: &mut W,
-) -> Result<(), Failure> {
+) -> Result<(), Failure>
+    ensures writes { Writes (W.contents writer.old) (W.contents writer.new) end.old.outgoing
+        end.new.outgoing }
+    ensures all { OnOk result (end.new.outgoing ≡ []) }
+    ensures others { end.new ≡ record end.old { outgoing = end.new.outgoing } }
+{
     match write_out(end, writer) {
         Ok(()) => Ok(()),
         Err(error) => Err(Failure::connection(error)),
     }
 }
 
+// Breaks the session off at a fault that a turn met. The answer is that it doesn't go on.
+fn break_off<R: Hearing, W: Write>(
+    end: &End<'_, R>,
+    why: SessionFault,
+    writer: &mut W,
+) -> Result<bool, Failure>
+    ensures ok { IfOk result (λ goes. (goes ≡ false) × (why ≢ NoMemory)
+        × Appends (W.contents writer.old) (W.contents writer.new) (peer_octets end.now.fault)) }
+    ensures err { IfErr result (λ failure.
+        ((failure ≡ Memory) × (why ≡ NoMemory)
+        × (W.contents writer.new ≡ W.contents writer.old))
+        ⊎ ((why ≢ NoMemory) × (error_message_of end.now.fault ≢ None) × IsOfConnection failure)) }
+{
+    if why == SessionFault::NoMemory {
+        return Err(Failure::Memory);
+    }
+    tell_peer(end, writer)?;
+    Ok(false)
+}
+
 // The MessageError to a peer, where the fault that stands is one to be told of.
-fn tell_peer<R: Hearing, W: Write>(end: &End<'_, R>, writer: &mut W) -> Result<(), Failure> {
+fn tell_peer<R: Hearing, W: Write>(end: &End<'_, R>, writer: &mut W) -> Result<(), Failure>
+    ensures tells { OnOk result (Appends (W.contents writer.old) (W.contents writer.new)
+        (peer_octets end.now.fault)) }
+    ensures err { IfErr result (λ failure. (error_message_of end.now.fault ≢ None)
+        × IsOfConnection failure) }
+{
     let Some(message) = end.error_message() else {
         return Ok(());
     };
@@ -57,13 +103,26 @@ fn tell_peer<R: Hearing, W: Write>(end: &End<'_, R>, writer: &mut W) -> Result<(
     }
 }
 
-/// The fault of a refused call of this end's own, unless memory is wanting.
-pub fn refusal(fault: SessionFault) -> Result<SessionFault, Failure>
-    ensures { OnOk result ((result ≡ Ok fault) × (fault ≢ NoMemory)) }
+// The fault of a refused act of this end's own, unless memory is wanting.
+fn refusal(fault: SessionFault) -> Result<SessionFault, Failure>
+    ensures ok { OnOk result ((result ≡ Ok fault) × (fault ≢ NoMemory)) }
+    ensures err { IfErr result (λ failure. (failure ≡ Memory) × (fault ≡ NoMemory)) }
 {
     match fault {
         SessionFault::NoMemory => Err(Failure::Memory),
         _ => Ok(fault),
+    }
+}
+
+/// What is told of an act of this end's own: the fault that it is refused for, if it is, unless
+/// memory is wanting.
+pub fn told_of(acted: Result<(), SessionFault>) -> Result<Option<SessionFault>, Failure>
+    ensures ok { IfOk result (λ why. (acted ≡ answer_of why) × (why ≢ Some NoMemory)) }
+    ensures err { IfErr result (λ failure. (failure ≡ Memory) × (acted ≡ Err NoMemory)) }
+{
+    match acted {
+        Ok(()) => Ok(None),
+        Err(fault) => Ok(Some(refusal(fault)?)),
     }
 }
 

@@ -1,13 +1,18 @@
 //! The object that is called, by the text of its reference or by a corbaloc.
-ghost use Rattle.std.specs.Prelude.{◌≡◌};
+ghost use Rattle.std.specs.Prelude.{◌≡◌, IfOk, IfErr};
+ghost use Rattle.giop_ior.specs.CorbalocReading.{corbaloc_of};
+ghost use Rattle.giop_ior.specs.Ior.{ior_layout};
 ghost use Rattle.giop_msg.specs.Version.{version_of};
+ghost use Rattle.giop_types.specs.IorText.{ior_text_of};
+ghost use Rattle.giopctl.specs.declared.failure.Failure.TheVariants.{Memory};
+ghost use Rattle.giopctl.specs.Target.{at_first, at_profile, by_corbaloc, by_reference, first_iiop, iiop_in, is_reference, said, target_of};
 
 use crate::commands::convert_reference::ior_refusal;
 use crate::failure::Failure;
 use crate::lines::RefusalLine;
 use giop_cdr::{CdrKind, OctetList};
 use giop_ior::{
-    CorbalocKind, IiopProfile, TaggedProfile, corbaloc_from_text, iiop_view, ior_from_text,
+    Address, CorbalocKind, IiopProfile, TaggedProfile, corbaloc_from_text, iiop_view, ior_from_text,
 };
 use giop_msg::Version;
 use std::alloc::Global;
@@ -38,7 +43,10 @@ pub enum Targeted {
 /// (CORBA 3.3 Part 2, 7.6.9), of which the first IIOP profile is taken that can be read; else a
 /// corbaloc (7.6.10.1), of which the first address is taken. Refused as by `convert`, and a
 /// reference without such a profile as that.
-pub fn target_of(alloc: Global, text: &[u8]) -> Result<Targeted, Failure> {
+pub fn target_of(alloc: Global, text: &[u8]) -> Result<Targeted, Failure>
+    ensures ok { IfOk result (λ targeted. said targeted ≡ target_of text.now) }
+    ensures err { IfErr result (λ failure. failure ≡ Memory) }
+{
     if is_reference(text) {
         by_reference(alloc, text)
     } else {
@@ -46,30 +54,56 @@ pub fn target_of(alloc: Global, text: &[u8]) -> Result<Targeted, Failure> {
     }
 }
 
-fn is_reference(text: &[u8]) -> bool {
+fn is_reference(text: &[u8]) -> bool
+    ensures { result ≡ is_reference text.now }
+{
     text.len() >= 4 && text[..4].eq_ignore_ascii_case(b"IOR:")
 }
 
-fn by_reference(alloc: Global, text: &[u8]) -> Result<Targeted, Failure> {
-    let ior = match ior_from_text(alloc, text) {
-        Ok(ior) => ior,
-        Err(fault) => return Ok(Targeted::Refused(ior_refusal(fault)?)),
-    };
-    for profile in ior.profiles.as_slice() {
-        if let Some(iiop) = view_of(alloc, profile)? {
-            return Ok(Targeted::At(Endpoint {
-                host: iiop.host,
-                port: iiop.port,
-                version: version_of(iiop.minor),
-                key: iiop.key,
-            }));
+fn by_reference(alloc: Global, text: &[u8]) -> Result<Targeted, Failure>
+    ensures ok { IfOk result (λ targeted. said targeted
+        ≡ by_reference (ior_text_of ior_layout.read text.now)) }
+    ensures err { IfErr result (λ failure. failure ≡ Memory) }
+{
+    match ior_from_text(alloc, text) {
+        Ok(ior) => Ok(at_profile(first_iiop(alloc, ior.profiles.as_slice())?)),
+        Err(fault) => Ok(Targeted::Refused(ior_refusal(fault)?)),
+    }
+}
+
+// Where the object of a profile is reached, where there is one.
+fn at_profile(profile: Option<IiopProfile>) -> Targeted
+    ensures { said result ≡ at_profile profile }
+{
+    match profile {
+        Some(iiop) => Targeted::At(Endpoint {
+            host: iiop.host,
+            port: iiop.port,
+            version: version_of(iiop.minor),
+            key: iiop.key,
+        }),
+        None => Targeted::Refused(RefusalLine::NoIiopProfile),
+    }
+}
+
+// What the first of some profiles says that is one of IIOP.
+fn first_iiop(alloc: Global, profiles: &[TaggedProfile]) -> Result<Option<IiopProfile>, Failure>
+    ensures ok { IfOk result (λ first. first ≡ first_iiop profiles.now) }
+    ensures err { IfErr result (λ failure. failure ≡ Memory) }
+{
+    for profile in profiles {
+        if let Some(iiop) = iiop_in(alloc, profile)? {
+            return Ok(Some(iiop));
         }
     }
-    Ok(Targeted::Refused(RefusalLine::NoIiopProfile))
+    Ok(None)
 }
 
 // What a profile says where it is one of IIOP.
-fn view_of(alloc: Global, profile: &TaggedProfile) -> Result<Option<IiopProfile>, Failure> {
+fn iiop_in(alloc: Global, profile: &TaggedProfile) -> Result<Option<IiopProfile>, Failure>
+    ensures ok { IfOk result (λ view. view ≡ iiop_in profile.now) }
+    ensures err { IfErr result (λ failure. failure ≡ Memory) }
+{
     if profile.tag != 0 {
         return Ok(None);
     }
@@ -85,20 +119,34 @@ fn view_of(alloc: Global, profile: &TaggedProfile) -> Result<Option<IiopProfile>
     }
 }
 
-fn by_corbaloc(alloc: Global, text: &[u8]) -> Result<Targeted, Failure> {
-    let corbaloc = match corbaloc_from_text(alloc, text) {
-        Ok(corbaloc) => corbaloc,
+fn by_corbaloc(alloc: Global, text: &[u8]) -> Result<Targeted, Failure>
+    ensures ok { IfOk result (λ targeted. said targeted ≡ by_corbaloc (corbaloc_of text.now)) }
+    ensures err { IfErr result (λ failure. failure ≡ Memory) }
+{
+    match corbaloc_from_text(alloc, text) {
+        Ok(corbaloc) => at_first(
+            alloc,
+            corbaloc.addresses.as_slice(),
+            corbaloc.key.as_slice(),
+        ),
         Err(fault) => match fault.kind {
-            CorbalocKind::NoMemory => return Err(Failure::Memory),
-            _ => return Ok(Targeted::Refused(RefusalLine::Corbaloc(fault))),
+            CorbalocKind::NoMemory => Err(Failure::Memory),
+            _ => Ok(Targeted::Refused(RefusalLine::Corbaloc(fault))),
         },
-    };
-    match corbaloc.addresses.as_slice().first() {
+    }
+}
+
+// Where the object of a key is reached by the first of some addresses.
+fn at_first(alloc: Global, addresses: &[Address], key: &[u8]) -> Result<Targeted, Failure>
+    ensures ok { IfOk result (λ targeted. said targeted ≡ at_first addresses.now key.now) }
+    ensures err { IfErr result (λ failure. failure ≡ Memory) }
+{
+    match addresses.first() {
         Some(address) => Ok(Targeted::At(Endpoint {
             host: OctetList::from_slice(alloc, address.host.as_slice())?,
             port: address.port,
             version: version_of(address.minor),
-            key: OctetList::from_slice(alloc, corbaloc.key.as_slice())?,
+            key: OctetList::from_slice(alloc, key)?,
         })),
         None => Ok(Targeted::Refused(RefusalLine::NoIiopProfile)),
     }
