@@ -97,6 +97,7 @@ struct Reply {
 struct Input<'a> {
     octets: &'a [u8],
     at: usize,
+    little: bool,
 }
 
 impl Input<'_> {
@@ -125,7 +126,12 @@ impl Input<'_> {
     }
 
     fn ulong(&mut self) -> Result<u32, Fault> {
-        Ok(u32::from_be_bytes(self.field()?))
+        Ok(ulong(self.little, self.field()?))
+    }
+
+    fn ushort(&mut self) -> Result<u16, Fault> {
+        let field = self.field()?;
+        Ok(if self.little { u16::from_le_bytes(field) } else { u16::from_be_bytes(field) })
     }
 
     fn count(&mut self) -> Result<usize, Fault> {
@@ -166,7 +172,7 @@ impl Input<'_> {
     }
 
     fn target(&mut self) -> Result<Target, Fault> {
-        Ok(match u16::from_be_bytes(self.field()?) {
+        Ok(match self.ushort()? {
             0 => Target::Key(self.octets()?),
             1 => Target::Profile(self.ulong()?, self.octets()?),
             2 => Target::Reference(self.ulong()?, self.text()?, self.tagged()?),
@@ -176,7 +182,7 @@ impl Input<'_> {
 
     fn value(&mut self, desc: &Desc) -> Result<Value, Fault> {
         Ok(match desc {
-            Desc::Long => Value::Long(i32::from_be_bytes(self.field()?)),
+            Desc::Long => Value::Long(self.ulong()? as i32),
             Desc::Octets(bound) => {
                 let octets = self.octets()?;
                 if *bound > 0 && octets.len() > *bound as usize {
@@ -227,18 +233,22 @@ enum RequestFault {
     Body(Fault),
 }
 
-fn decode(interface: &Interface, octets: &[u8]) -> Result<Request, RequestFault> {
-    let mut input = Input { octets, at: 0 };
+fn decode(interface: &Interface, little: bool, octets: &[u8]) -> Result<Request, RequestFault> {
+    let mut input = Input {
+        octets,
+        at: 0,
+        little,
+    };
     let mut request = input.head().map_err(RequestFault::Header)?;
     let operation = interface.get(&request.operation).ok_or(RequestFault::Operation)?;
     request.body = input.body(operation).map_err(RequestFault::Body)?;
     Ok(request)
 }
 
-// What is written: the octets, in big-endian order from offset 12.
-#[derive(Default)]
+// What is written: the octets, in a byte order from offset 12.
 struct Output {
     octets: Vec<u8>,
+    little: bool,
 }
 
 impl Output {
@@ -254,18 +264,23 @@ impl Output {
         self.octets.extend_from_slice(&field);
     }
 
+    #[inline]
+    fn ulong(&mut self, n: u32) {
+        self.field(if self.little { n.to_le_bytes() } else { n.to_be_bytes() });
+    }
+
     fn counted(&mut self, octets: &[u8]) -> Result<(), SessionFault> {
         let count = u32::try_from(octets.len()).map_err(|_| SessionFault::Unfit)?;
-        self.field(count.to_be_bytes());
+        self.ulong(count);
         self.octets.extend_from_slice(octets);
         Ok(())
     }
 
     fn tagged(&mut self, all: &[(u32, Vec<u8>)]) -> Result<(), SessionFault> {
         let count = u32::try_from(all.len()).map_err(|_| SessionFault::Unfit)?;
-        self.field(count.to_be_bytes());
+        self.ulong(count);
         for (tag, octets) in all {
-            self.field(tag.to_be_bytes());
+            self.ulong(*tag);
             self.counted(octets)?;
         }
         Ok(())
@@ -273,7 +288,7 @@ impl Output {
 
     fn value(&mut self, desc: &Desc, value: &Value) -> Result<(), SessionFault> {
         match (desc, value) {
-            (Desc::Long, Value::Long(n)) => self.field(n.to_be_bytes()),
+            (Desc::Long, Value::Long(n)) => self.ulong(*n as u32),
             (Desc::Octets(_), Value::Octets(octets)) => self.counted(octets)?,
             _ => return Err(SessionFault::Unfit),
         }
@@ -281,13 +296,16 @@ impl Output {
     }
 }
 
-fn encode(operation: &Operation, reply: &Reply) -> Result<Vec<u8>, SessionFault> {
+fn encode(operation: &Operation, reply: &Reply, little: bool) -> Result<Vec<u8>, SessionFault> {
     if operation.outs.len() != reply.outs.len() {
         return Err(SessionFault::Unfit);
     }
-    let mut out = Output::default();
-    out.field(reply.id.to_be_bytes());
-    out.field(0u32.to_be_bytes());
+    let mut out = Output {
+        octets: Vec::new(),
+        little,
+    };
+    out.ulong(reply.id);
+    out.ulong(0);
     out.tagged(&reply.contexts)?;
     let end = out.octets.len();
     out.align(8);
@@ -301,8 +319,13 @@ fn encode(operation: &Operation, reply: &Reply) -> Result<Vec<u8>, SessionFault>
     Ok(out.octets)
 }
 
+fn ulong(little: bool, field: [u8; 4]) -> u32 {
+    if little { u32::from_le_bytes(field) } else { u32::from_be_bytes(field) }
+}
+
 #[derive(Clone, Copy)]
 struct Header {
+    little: bool,
     more: bool,
     kind: u8,
     size: u32,
@@ -316,13 +339,14 @@ impl Header {
         if octets[4] != 1 || octets[5] != 2 {
             return Err(SessionFault::BadVersion);
         }
-        if octets[6] & !2 != 0 {
+        if octets[6] & !3 != 0 {
             return Err(SessionFault::ReservedFlags);
         }
         if octets[7] > 7 {
             return Err(SessionFault::BadKind);
         }
-        let size = u32::from_be_bytes(octets[8..12].try_into().unwrap());
+        let little = octets[6] & 1 != 0;
+        let size = ulong(little, octets[8..12].try_into().unwrap());
         if size > MESSAGE_LIMIT {
             return Err(SessionFault::TooLarge);
         }
@@ -331,6 +355,7 @@ impl Header {
             return Err(SessionFault::FragmentSize);
         }
         Ok(Header {
+            little,
             more,
             kind: octets[7],
             size,
@@ -338,15 +363,16 @@ impl Header {
     }
 
     fn octets(self) -> [u8; 12] {
-        let [a, b, c, d] = self.size.to_be_bytes();
-        let flags = if self.more { 2 } else { 0 };
+        let size = if self.little { self.size.to_le_bytes() } else { self.size.to_be_bytes() };
+        let [a, b, c, d] = size;
+        let flags = u8::from(self.more) << 1 | u8::from(self.little);
         [b'G', b'I', b'O', b'P', 1, 2, flags, self.kind, a, b, c, d]
     }
 }
 
 #[allow(dead_code)]
 enum Entry {
-    Gathering(Vec<u8>),
+    Gathering { little: bool, octets: Vec<u8> },
     Asked(Request),
     Undecoded(RequestFault),
     Answered {
@@ -408,12 +434,12 @@ impl<'a> Server<'a> {
 
     fn hear(&mut self, header: Header, payload: &[u8]) -> Result<(), SessionFault> {
         let (id, behind) = payload.split_first_chunk::<4>().ok_or(SessionFault::NoId)?;
-        let id = u32::from_be_bytes(*id);
+        let id = ulong(header.little, *id);
         match (header.kind, header.more) {
-            (0, true) => self.begin(id, payload),
-            (0, false) => self.come(id, payload),
-            (7, true) => self.add(id, behind),
-            (7, false) => self.complete(id, behind),
+            (0, true) => self.begin(id, header.little, payload),
+            (0, false) => self.come(id, header.little, payload),
+            (7, true) => self.add(id, header.little, behind),
+            (7, false) => self.complete(id, header.little, behind),
             _ => Err(SessionFault::WrongDirection),
         }
     }
@@ -433,53 +459,59 @@ impl<'a> Server<'a> {
         Ok(())
     }
 
-    fn whole(&self, octets: &[u8]) -> Entry {
-        match decode(self.interface, octets) {
+    fn whole(&self, little: bool, octets: &[u8]) -> Entry {
+        match decode(self.interface, little, octets) {
             Ok(request) => Entry::Asked(request),
             Err(fault) => Entry::Undecoded(fault),
         }
     }
 
-    fn begin(&mut self, id: u32, octets: &[u8]) -> Result<(), SessionFault> {
+    fn begin(&mut self, id: u32, little: bool, octets: &[u8]) -> Result<(), SessionFault> {
         self.is_free(id)?;
         self.has_room(octets.len())?;
-        self.table.insert(id, Entry::Gathering(octets.to_vec()));
+        let gathering = Entry::Gathering {
+            little,
+            octets: octets.to_vec(),
+        };
+        self.table.insert(id, gathering);
         self.gathered += octets.len();
         Ok(())
     }
 
-    fn come(&mut self, id: u32, octets: &[u8]) -> Result<(), SessionFault> {
+    fn come(&mut self, id: u32, little: bool, octets: &[u8]) -> Result<(), SessionFault> {
         self.is_free(id)?;
-        let entry = self.whole(octets);
+        let entry = self.whole(little, octets);
         self.table.insert(id, entry);
         Ok(())
     }
 
-    fn add(&mut self, id: u32, octets: &[u8]) -> Result<(), SessionFault> {
+    // The pieces under the id, which are in this byte order.
+    fn pieces(&mut self, id: u32, little: bool) -> Result<&mut Vec<u8>, SessionFault> {
+        match self.table.get_mut(&id) {
+            Some(Entry::Gathering { little: held, octets }) if *held == little => Ok(octets),
+            _ => Err(SessionFault::Stray),
+        }
+    }
+
+    fn add(&mut self, id: u32, little: bool, octets: &[u8]) -> Result<(), SessionFault> {
         self.has_room(octets.len())?;
-        let Some(Entry::Gathering(gathered)) = self.table.get_mut(&id) else {
-            return Err(SessionFault::Stray);
-        };
-        gathered.extend_from_slice(octets);
+        self.pieces(id, little)?.extend_from_slice(octets);
         self.gathered += octets.len();
         Ok(())
     }
 
-    fn complete(&mut self, id: u32, octets: &[u8]) -> Result<(), SessionFault> {
+    fn complete(&mut self, id: u32, little: bool, octets: &[u8]) -> Result<(), SessionFault> {
         self.has_room(octets.len())?;
-        let Some(Entry::Gathering(gathered)) = self.table.get_mut(&id) else {
-            return Err(SessionFault::Stray);
-        };
-        let mut joined = std::mem::take(gathered);
+        let mut joined = std::mem::take(self.pieces(id, little)?);
         self.gathered -= joined.len();
         joined.extend_from_slice(octets);
-        let entry = self.whole(&joined);
+        let entry = self.whole(little, &joined);
         self.table.insert(id, entry);
         Ok(())
     }
 
     #[inline(never)]
-    fn answer(&mut self, reply: Reply) -> Result<(), SessionFault> {
+    fn answer(&mut self, reply: Reply, little: bool) -> Result<(), SessionFault> {
         let id = reply.id;
         let Some(entry) = self.table.get_mut(&id) else {
             return Err(SessionFault::NotOpen);
@@ -488,11 +520,11 @@ impl<'a> Server<'a> {
             return Err(SessionFault::NotOpen);
         };
         let operation = self.interface.get(&request.operation).ok_or(SessionFault::Unfit)?;
-        let joined = encode(operation, &reply)?;
+        let joined = encode(operation, &reply, little)?;
         if joined.len() > GATHERED_LIMIT {
             return Err(SessionFault::Unfit);
         }
-        let left = put(&joined, &mut self.outgoing);
+        let left = put(&joined, little, &mut self.outgoing);
         let Some(Entry::Asked(request)) = self.table.remove(&id) else {
             return Err(SessionFault::NotOpen);
         };
@@ -520,8 +552,9 @@ fn append(header: Header, id: &[u8], octets: &[u8], out: &mut Vec<u8>) {
 }
 
 // Puts out the first message of a Reply, and gives the others.
-fn put(joined: &[u8], out: &mut Vec<u8>) -> Vec<Vec<u8>> {
+fn put(joined: &[u8], little: bool, out: &mut Vec<u8>) -> Vec<Vec<u8>> {
     let whole = |more, size: usize| Header {
+        little,
         more,
         kind: 1,
         size: size as u32,
@@ -538,6 +571,7 @@ fn put(joined: &[u8], out: &mut Vec<u8>) -> Vec<Vec<u8>> {
         .map(|(k, part)| {
             let mut message = Vec::with_capacity(part.len() + 16);
             let header = Header {
+                little,
                 more: k + 1 < count,
                 kind: 7,
                 size: part.len() as u32 + 4,
@@ -597,7 +631,7 @@ fn serve(end: &mut Server, id: u32, sum: u64) -> u64 {
         contexts: Vec::new(),
         outs: outs(request),
     };
-    end.answer(reply).unwrap();
+    end.answer(reply, false).unwrap();
     let n = end.outgoing.len();
     let sum = mixed(sum, u64::from(*end.outgoing.last().unwrap()));
     end.outgoing.drain(..n);
@@ -614,7 +648,10 @@ fn set_id(message: &mut [u8], id: u32) {
 
 // A Request, of an operation and the octets of its body.
 fn request(operation: &[u8], body: &[u8]) -> Vec<u8> {
-    let mut out = Output::default();
+    let mut out = Output {
+        octets: Vec::new(),
+        little: false,
+    };
     out.octets.extend_from_slice(&[0, 0, 0, 0, 3, 0, 0, 0, 0, 0, 0, 0]);
     out.counted(b"k").unwrap();
     out.counted(operation).unwrap();
@@ -636,6 +673,7 @@ fn calls(waiting: u32) -> u64 {
     let whole = |joined: Vec<u8>| {
         let size = joined.len() as u32;
         let header = Header {
+            little: false,
             more: false,
             kind: 0,
             size,
@@ -668,6 +706,7 @@ fn pieces() -> Vec<Vec<u8>> {
     let joined = request(b"put\0", &body);
     let (first, rest) = joined.split_at(500);
     let header = |kind, more, size: usize| Header {
+        little: false,
         more,
         kind,
         size: size as u32,
@@ -715,18 +754,19 @@ struct Client<'a> {
 
 impl Client<'_> {
     #[inline(never)]
-    fn call(&mut self, request: Request) -> Result<(), SessionFault> {
+    fn call(&mut self, request: Request, little: bool) -> Result<(), SessionFault> {
         match self.table.get(&request.id) {
             Some(Called::Waiting(_)) => return Err(SessionFault::IdInUse),
             None if self.table.len() >= CALLS_LIMIT => return Err(SessionFault::TooManyCalls),
             _ => {}
         }
         let operation = self.interface.get(&request.operation).ok_or(SessionFault::Unfit)?;
-        let joined = encode_request(operation, &request)?;
+        let joined = encode_request(operation, &request, little)?;
         if joined.len() > GATHERED_LIMIT {
             return Err(SessionFault::Unfit);
         }
         let header = Header {
+            little,
             more: false,
             kind: 0,
             size: joined.len() as u32,
@@ -762,7 +802,7 @@ impl Client<'_> {
 
     fn hear(&mut self, header: Header, payload: &[u8]) -> Result<(), SessionFault> {
         let (id, _) = payload.split_first_chunk::<4>().ok_or(SessionFault::NoId)?;
-        let id = u32::from_be_bytes(*id);
+        let id = ulong(header.little, *id);
         if header.kind != 1 || header.more {
             return Err(SessionFault::WrongDirection);
         }
@@ -770,7 +810,7 @@ impl Client<'_> {
             return Err(SessionFault::Stray);
         };
         let operation = self.interface.get(&request.operation).ok_or(SessionFault::Unfit)?;
-        let outs = decode_reply(operation, payload).map_err(|_| SessionFault::Unfit)?;
+        let outs = decode_reply(operation, header.little, payload).map_err(|_| SessionFault::Unfit)?;
         let Some(Called::Waiting(request)) = self.table.remove(&id) else {
             return Err(SessionFault::Stray);
         };
@@ -786,18 +826,21 @@ impl Client<'_> {
     }
 }
 
-fn encode_request(operation: &Operation, request: &Request) -> Result<Vec<u8>, SessionFault> {
+fn encode_request(operation: &Operation, request: &Request, little: bool) -> Result<Vec<u8>, SessionFault> {
     if operation.ins.len() != request.body.len() {
         return Err(SessionFault::Unfit);
     }
     let Target::Key(key) = &request.target else {
         return Err(SessionFault::Unfit);
     };
-    let mut out = Output::default();
-    out.field(request.id.to_be_bytes());
+    let mut out = Output {
+        octets: Vec::new(),
+        little,
+    };
+    out.ulong(request.id);
     out.octets.extend_from_slice(&[request.flags, 0, 0, 0, 0, 0]);
     out.counted(key)?;
-    out.field((request.operation.len() as u32 + 1).to_be_bytes());
+    out.ulong(request.operation.len() as u32 + 1);
     out.octets.extend_from_slice(&request.operation);
     out.octets.push(0);
     out.tagged(&request.contexts)?;
@@ -813,8 +856,12 @@ fn encode_request(operation: &Operation, request: &Request) -> Result<Vec<u8>, S
     Ok(out.octets)
 }
 
-fn decode_reply(operation: &Operation, octets: &[u8]) -> Result<Vec<Value>, Fault> {
-    let mut input = Input { octets, at: 0 };
+fn decode_reply(operation: &Operation, little: bool, octets: &[u8]) -> Result<Vec<Value>, Fault> {
+    let mut input = Input {
+        octets,
+        at: 0,
+        little,
+    };
     input.ulong()?;
     if input.ulong()? != 0 {
         return Err(input.fault(4, Kind::BadLabel));
@@ -861,7 +908,7 @@ fn answer_all(server: &mut Server, stream: &TcpStream) {
             contexts: Vec::new(),
             outs: outs(request),
         };
-        server.answer(reply).unwrap();
+        server.answer(reply, false).unwrap();
         server.take(id).unwrap();
     }
     write_out(&mut server.outgoing, stream);
@@ -893,7 +940,7 @@ fn loopback() -> u64 {
     let mut sum = 0;
     for _ in 0..WAVES {
         for id in 0..OUTSTANDING {
-            client.call(asked(id)).unwrap();
+            client.call(asked(id), false).unwrap();
         }
         write_out(&mut client.outgoing, &calling);
         let mut left = OUTSTANDING as usize * 56;

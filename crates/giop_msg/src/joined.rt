@@ -1,8 +1,21 @@
-ghost use Rattle.std.specs.Prelude.{◌≡◌};
+//! The joined octets of a message, which begin at offset 12.
+ghost use Rattle.std.specs.Prelude.{◌≡◌, IfOk};
 ghost use Rattle.giop_msg.specs.Joined.{body_place};
+ghost use Rattle.giop_msg.specs.Messages.Outcome.{joined_into};
 
 use crate::version::Version;
-use giop_cdr::{CdrIn, Octets};
+use giop_cdr::{CdrIn, CdrOut, Octets, Order};
+use std::alloc::{AllocError, Global};
+
+// As many octets as most messages have, so that they are written without growing.
+const ROOM: usize = 64;
+
+// Where the joined octets of a message are to be written.
+pub(crate) fn joined_output(alloc: Global, order: Order) -> Result<CdrOut, AllocError>
+    ensures { IfOk result (λ out. out ≡ joined_into order) }
+{
+    CdrOut::with_room(alloc, order, 12, ROOM)
+}
 
 // The offset of a body, where a reader stands behind the head: in 1.2 the first multiple of 8 at or
 // past the reader's place, before that the reader's place.

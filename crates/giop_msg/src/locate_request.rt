@@ -9,6 +9,7 @@ ghost use Rattle.giop_msg.specs.Joined.{AreWhole, no_memory, whole_of_joined};
 ghost use Rattle.giop_msg.specs.Locate.{located, locate_request};
 ghost use Rattle.giop_msg.specs.Messages.Outcome.{IsTold, joined_into};
 
+use crate::joined::joined_output;
 use crate::target::{Target, TargetAt};
 use crate::target_reading::{view_object_key, view_target};
 use crate::target_writing::{append_key, append_target, is_writable_key, is_writable_target};
@@ -155,7 +156,9 @@ impl LocateRequest {
         if !self.is_writable() {
             return Err(EncodeFault::Unfit);
         }
-        let mut out = CdrOut::new(alloc, order, 12);
+        let Ok(mut out) = joined_output(alloc, order) else {
+            return Err(EncodeFault::NoMemory);
+        };
         if append_request(self, &mut out).is_err() {
             return Err(EncodeFault::NoMemory);
         }

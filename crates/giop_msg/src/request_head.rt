@@ -176,6 +176,7 @@ fn read_reserved_of<S: Octets>(version: Version, input: &mut CdrIn<S>) -> Result
 }
 
 // The fields of a head of 1.2 in their order.
+#[inline(always)]
 fn view_head_1_2<'a, S: Octets>(input: &mut CdrIn<'a, S>) -> Result<RequestHeadAt<'a, S>, CdrFault>
     ensures { Exactly result input.new (request_head_1_2.read input.old) }
 {
@@ -220,6 +221,7 @@ fn view_early_head<'a, S: Octets>(
 }
 
 // The fields of a head in their order.
+#[inline(always)]
 pub(crate) fn view_head<'a, S: Octets>(
     version: Version,
     input: &mut CdrIn<'a, S>,

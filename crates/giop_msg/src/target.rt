@@ -53,6 +53,7 @@ impl<'a, S: Octets> ProfileAt<'a, S> {
     }
 
     /// A copy of the profile on its own. It takes memory for its octets.
+    #[inline(always)]
     pub fn to_owned(&self, alloc: Global) -> Result<TaggedProfile, AllocError>
         ensures { IfOk result (λ profile. profile ≡ self.now) }
     {
@@ -65,6 +66,7 @@ impl<'a, S: Octets> ProfileAt<'a, S> {
 
 impl<'a, S: Octets> TargetAt<'a, S> {
     /// A copy of the target on its own. It takes memory for its octets and profiles.
+    #[inline(always)]
     pub fn to_owned(&self, alloc: Global) -> Result<Target, AllocError>
         ensures { IfOk result (λ target. target ≡ self.now) }
     {

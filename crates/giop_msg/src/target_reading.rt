@@ -10,6 +10,7 @@ use giop_cdr::{CdrFault, CdrIn, CdrKind, Octets};
 use giop_ior::view_ior;
 
 // The disposition of a target: 0, 1 or 2.
+#[inline(always)]
 fn read_disposition<S: Octets>(input: &mut CdrIn<S>) -> Result<i16, CdrFault>
     ensures { Exactly result input.new (disposition.read input.old) }
 {
@@ -24,6 +25,7 @@ fn read_disposition<S: Octets>(input: &mut CdrIn<S>) -> Result<i16, CdrFault>
     Ok(disposition)
 }
 
+#[inline(always)]
 fn view_key<'a, S: Octets>(input: &mut CdrIn<'a, S>) -> Result<TargetAt<'a, S>, CdrFault>
     ensures { Exactly result input.new (key_target.read input.old) }
 {
@@ -57,6 +59,7 @@ fn view_reference<'a, S: Octets>(input: &mut CdrIn<'a, S>) -> Result<TargetAt<'a
 }
 
 // A target of 1.2: the disposition, and what it says.
+#[inline(always)]
 pub(crate) fn view_target<'a, S: Octets>(
     input: &mut CdrIn<'a, S>,
 ) -> Result<TargetAt<'a, S>, CdrFault>
@@ -70,6 +73,7 @@ pub(crate) fn view_target<'a, S: Octets>(
 }
 
 // A target before 1.2: an object key.
+#[inline(always)]
 pub(crate) fn view_object_key<'a, S: Octets>(
     input: &mut CdrIn<'a, S>,
 ) -> Result<TargetAt<'a, S>, CdrFault>

@@ -58,6 +58,7 @@ impl<R: CallRule> Mux<R> {
     /// Refusals, in this order: the rule's fault (`Rule`); `TooManyCalls`, exactly where an id
     /// without an entry would get one and `len` is the limit; `NoMemory`, only where an id without
     /// an entry would get one. A refusal changes nothing; the event is dropped.
+    #[inline(always)]
     pub fn apply(&mut self, id: u32, event: R::Event) -> Result<R::Answer, Refusal<R::Fault>>
         ensures ok { OnOk result (self.new ≡ record self.old {
           entries = put self.old.entries id

@@ -15,6 +15,7 @@ use std::alloc::{AllocError, Global};
 use std::collections::BTreeMap;
 
 /// Steps the call of one slot.
+#[inline(always)]
 pub fn step_slot<R: CallRule>(
     rule: &R,
     slot: &mut Option<R::Entry>,
@@ -29,6 +30,7 @@ pub fn step_slot<R: CallRule>(
 }
 
 /// Steps the call of an id that has an entry, or has none.
+#[inline(always)]
 pub fn step_call<R: CallRule>(
     rule: &R,
     calls: u32,
@@ -128,6 +130,7 @@ fn drop_slot<E: Drop>(table: &mut BTreeMap<u32, Option<E>>, id: u32)
 }
 
 // Steps the call of an id that has no slot.
+#[inline(always)]
 fn start<R: CallRule>(
     rule: &R,
     calls: u32,
@@ -157,6 +160,7 @@ fn start<R: CallRule>(
 }
 
 // Adds a slot with this entry, where there is room for one more.
+#[inline(always)]
 fn add_slot<E: Drop, F>(
     calls: u32,
     table: &mut BTreeMap<u32, Option<E>>,

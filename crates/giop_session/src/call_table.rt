@@ -105,6 +105,7 @@ impl<R: Side> CallTable<R> {
     ///
     /// Refusals, in this order: the rule's fault; `TooManyCalls`; `NoMemory`, only where an id
     /// without an entry would get one. A refusal changes nothing.
+    #[inline(always)]
     pub fn hear(
         &mut self,
         id: u32,
@@ -121,7 +122,7 @@ impl<R: Side> CallTable<R> {
             Ok(sends) => sends,
             Err(refusal) => return Err(TableFault::from(refusal)),
         };
-        keep_if(gathers_in(&self.mux, id), &mut self.gather, id);
+        keep_if(is_kept(&self.mux, &self.gather, id), &mut self.gather, id);
         Ok(sends)
     }
 
@@ -246,6 +247,16 @@ fn gathers_in<R: Side>(mux: &Mux<Sending<R>>, id: u32) -> bool
         Some(slot) => R::is_gathering(&slot.entry),
         None => false,
     }
+}
+
+// Whether there are no pieces under the id that are to be dropped. Most messages come whole, so the
+// pieces are asked for first.
+fn is_kept<R: Side>(mux: &Mux<Sending<R>>, gather: &Gather, id: u32) -> bool
+    ensures { let pieces = finite.get gather.now.lists id in
+        (if result then pieces else None)
+        ≡ (if gathers R.gathering (finite.get mux.now.entries id) then pieces else None) }
+{
+    !gather.contains(id) || gathers_in(mux, id)
 }
 
 // Applies an event that the rule accepts and for which there is room, so that it fails for want of

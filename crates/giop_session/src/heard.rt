@@ -11,6 +11,7 @@ use giop_calls::CallFault;
 use giop_msg::Msg;
 
 /// The id of the call that a message names, whose kind has one.
+#[inline(always)]
 pub fn named(message: &Msg) -> Result<u32, SessionFault>
     requires { length message.now.payload ≤ 2 ^ 62 }
     ensures { result ≡ id_named (request_id_of message.now) }
@@ -33,6 +34,7 @@ pub fn behind_id(message: &Msg) -> &[u8]
 }
 
 /// An event that sends nothing.
+#[inline(always)]
 pub fn kept<V>(event: V) -> Planned<V>
     ensures { result ≡ kept event }
 {
@@ -43,6 +45,7 @@ pub fn kept<V>(event: V) -> Planned<V>
 }
 
 /// What an end tells of what befell a call.
+#[inline(always)]
 pub fn told(id: u32, answered: Result<Sends<()>, TableFault<CallFault>>) -> Result<(), SessionFault>
     ensures { result ≡ told_of (in_call id) answered }
 {

@@ -21,6 +21,7 @@ use giop_msg::{Kind, Version};
 use std::alloc::Global;
 
 /// What an end tells of an event of its own; `None` where there was no memory for its message.
+#[inline(always)]
 pub fn done(
     id: u32,
     answered: Option<Result<Sends<()>, TableFault<CallFault>>>,

@@ -48,6 +48,7 @@ impl Outgoing {
     }
 
     /// Puts a message out. Where memory is wanting nothing changes.
+    #[inline(always)]
     pub fn put(&mut self, message: &Msg) -> Result<(), AllocError>
         requires { length message.now.payload < 2 ^ 32 }
         ensures ok { OnOk result (self.new ≡ self.old ++ message_octets message.now) }

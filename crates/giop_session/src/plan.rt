@@ -21,6 +21,7 @@ pub enum Plan {
 impl Plan {
     /// The message that an event planned so puts out of a call with this slot, if it puts one out.
     /// It takes no memory.
+    #[inline(always)]
     pub fn message<'a, E>(&'a self, slot: Option<&'a Slot<E>>) -> Option<&'a Msg>
         ensures value { option_copied result
             ≡ message_of self.now (unsent_of (option_copied slot.entry)) }

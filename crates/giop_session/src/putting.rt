@@ -18,6 +18,7 @@ use crate::table_fault::TableFault;
 ///
 /// Refusals, in this order: the rule's fault; `TooManyCalls`; `NoMemory`, which may stand in place
 /// of these where a message is to be put out. A refusal changes nothing.
+#[inline(always)]
 pub fn put<R: Side>(
     calls: &mut CallTable<R>,
     outgoing: &mut Outgoing,

@@ -47,6 +47,7 @@ impl<R: CallRule> CallRule for Sending<R> {
         (R.next sending.rule (entry_of slot) planned.event).outcome
         (R.fault_keeps sending.rule (entry_of slot) planned.event) };
 
+    #[inline(always)]
     fn step(
         &self,
         entry: Option<Slot<R::Entry>>,
@@ -65,6 +66,7 @@ impl<R: CallRule> CallRule for Sending<R> {
 }
 
 // The entry and the messages of a slot; there are none where there is no slot.
+#[inline(always)]
 fn parts<E: Drop>(alloc: Global, slot: Option<Slot<E>>) -> (Option<E>, Unsent)
     ensures entry { result.0 ≡ entry_of slot }
     ensures unsent { result.1 ≡ unsent_of slot }
@@ -77,6 +79,7 @@ fn parts<E: Drop>(alloc: Global, slot: Option<Slot<E>>) -> (Option<E>, Unsent)
 
 // A step with its messages beside it, as the plan says where it is accepted, and as they were where
 // it is refused.
+#[inline(always)]
 fn settle<E: Drop, A: Drop, F: Drop>(
     entry: Option<E>,
     plan: Plan,
@@ -101,6 +104,7 @@ fn settle<E: Drop, A: Drop, F: Drop>(
 }
 
 // The message that is put out, and the messages that are left.
+#[inline(always)]
 fn carry_out(plan: Plan, unsent: Unsent) -> (Option<Msg>, Unsent)
     ensures message { result.0 ≡ message_of plan unsent }
     ensures left { result.1 ≡ unsent_after plan unsent }
@@ -112,6 +116,7 @@ fn carry_out(plan: Plan, unsent: Unsent) -> (Option<Msg>, Unsent)
     }
 }
 
+#[inline(always)]
 fn first_taken(messages: Unsent) -> (Option<Msg>, Unsent)
     ensures message { result.0 ≡ message_of Plan.Next messages }
     ensures left { result.1 ≡ unsent_after Plan.Next messages }
@@ -121,6 +126,7 @@ fn first_taken(messages: Unsent) -> (Option<Msg>, Unsent)
     (first, left)
 }
 
+#[inline(always)]
 fn beside<E: Drop>(entry: Option<E>, unsent: Unsent) -> Option<Slot<E>>
     ensures { result ≡ slot_of entry unsent }
 {

@@ -57,6 +57,7 @@ impl Hearing for ServerRule {
 }
 
 // A Request or a LocateRequest comes.
+#[inline(always)]
 fn come(
     alloc: Global,
     interface: &Interface,
@@ -92,6 +93,7 @@ fn begin(calls: &mut Calls, id: u32, kind: CallKind, message: &Msg) -> Result<()
 }
 
 // All of it.
+#[inline(always)]
 fn arrive(
     alloc: Global,
     interface: &Interface,

@@ -28,6 +28,7 @@ impl Model for Unsent {
 
 impl Unsent {
     /// No messages. It takes no memory.
+    #[inline(always)]
     pub fn new(alloc: Global) -> Unsent
         ensures { result ≡ [] }
     {
@@ -47,6 +48,7 @@ impl Unsent {
     }
 
     /// The next message, if there is one. It takes no memory.
+    #[inline(always)]
     pub fn first(&self) -> Option<&Msg>
         ensures value { option_copied result ≡ first_of self.now }
         ensures sized { IsSized (option_copied result) }
@@ -56,6 +58,7 @@ impl Unsent {
 
     /// Takes the next message out. It takes no memory.
     #[tactic(auto, using(crate::proofs::UnsentLemmas::rest_sized))]
+    #[inline(always)]
     pub fn take_first(&mut self) -> Option<Msg>
         ensures value { result ≡ first_of self.old }
         ensures rest { self.new ≡ drop 1 self.old }

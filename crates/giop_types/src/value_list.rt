@@ -60,6 +60,7 @@ impl ValueList {
     }
 
     /// A value behind the others. Where memory is wanting it is dropped, and nothing changes.
+    #[inline(always)]
     pub fn push(&mut self, value: Value) -> Result<(), AllocError>
         ensures ok { OnOk result (self.new ≡ self.old ++ value_view value ∷ []) }
         ensures err { OnErr result (self.new ≡ self.old) }

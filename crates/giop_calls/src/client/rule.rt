@@ -29,6 +29,7 @@ impl CallRule for ClientRule {
 
     ghost fault_keeps = { λ rule. fault_keeps };
 
+    #[inline(always)]
     fn step(
         &self,
         entry: Option<ClientEntry>,

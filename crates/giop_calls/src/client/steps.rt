@@ -19,6 +19,7 @@ use giop_mux::Step;
 
 pub type ClientStep = Step<ClientEntry, (), CallFault>;
 
+#[inline(always)]
 fn becomes(entry: ClientEntry) -> ClientStep
     ensures { result ≡ table.becomes entry }
 {
@@ -28,6 +29,7 @@ fn becomes(entry: ClientEntry) -> ClientStep
     }
 }
 
+#[inline(always)]
 fn refused(entry: Option<ClientEntry>, fault: CallFault) -> ClientStep
     ensures { result ≡ table.refused entry fault }
 {
@@ -38,6 +40,7 @@ fn refused(entry: Option<ClientEntry>, fault: CallFault) -> ClientStep
 }
 
 // Whether a call may begin under the id of this entry.
+#[inline(always)]
 fn is_free(entry: &Option<ClientEntry>) -> bool
     ensures { result ≡ table.is_free entry.now }
 {
@@ -48,6 +51,7 @@ fn is_free(entry: &Option<ClientEntry>) -> bool
 }
 
 // The entry of a call all of whose pieces are sent.
+#[inline(always)]
 fn sent(call: Call) -> ClientEntry
     ensures { result ≡ table.sent call }
 {
@@ -57,6 +61,7 @@ fn sent(call: Call) -> ClientEntry
     }
 }
 
+#[inline(always)]
 fn sent_request(request: Aside<Request>) -> ClientEntry
     ensures { result ≡ table.sent (question.Request request) }
 {
@@ -70,6 +75,7 @@ fn sent_request(request: Aside<Request>) -> ClientEntry
 }
 
 // The entry of a call of which so many pieces aren't sent yet.
+#[inline(always)]
 fn sending(call: Call, left: u32) -> ClientEntry
     ensures { result ≡ table.sending call left }
 {
@@ -82,6 +88,7 @@ fn sending(call: Call, left: u32) -> ClientEntry
 
 /// The client calls in so many pieces, of which the first goes out. Refused as IdInUse where the id
 /// isn't free.
+#[inline(always)]
 pub fn begin(entry: Option<ClientEntry>, call: Call, pieces: u32) -> ClientStep
     ensures { result ≡ table.begins entry call pieces }
 {
@@ -93,6 +100,7 @@ pub fn begin(entry: Option<ClientEntry>, call: Call, pieces: u32) -> ClientStep
 }
 
 /// The next piece of the call is sent. Refused as NothingToSend where none is left.
+#[inline(always)]
 pub fn send(entry: Option<ClientEntry>) -> ClientStep
     ensures { result ≡ table.send entry }
 {
@@ -105,6 +113,7 @@ pub fn send(entry: Option<ClientEntry>) -> ClientStep
 }
 
 /// The client cancels. Refused as NotOpen where nothing is sent or awaited.
+#[inline(always)]
 pub fn cancel(entry: Option<ClientEntry>) -> ClientStep
     ensures { result ≡ table.cancel entry }
 {
@@ -115,6 +124,7 @@ pub fn cancel(entry: Option<ClientEntry>) -> ClientStep
 }
 
 // How much of its reply came of a call that may be cancelled; `None` for any other.
+#[inline(always)]
 fn late_at_cancel(entry: &Option<ClientEntry>) -> Option<Late>
     ensures some { IfSome result (λ late. table.cancel entry.now
         ≡ table.becomes (Cancelled late)) }
@@ -128,6 +138,7 @@ fn late_at_cancel(entry: &Option<ClientEntry>) -> Option<Late>
     }
 }
 
+#[inline(always)]
 fn dropped(late: Late) -> ClientStep
     ensures { result ≡ table.becomes (Cancelled late) }
 {
@@ -136,6 +147,7 @@ fn dropped(late: Late) -> ClientStep
 
 /// The first piece of a Reply or a LocateReply comes, and more are to come. Refused as WrongKind
 /// where the call waits for another kind or version, and as UnknownReply where it waits for none.
+#[inline(always)]
 pub fn first(entry: Option<ClientEntry>, kind: CallKind, version: Version) -> ClientStep
     ensures { result ≡ table.first entry kind version }
 {
@@ -146,6 +158,7 @@ pub fn first(entry: Option<ClientEntry>, kind: CallKind, version: Version) -> Cl
     }
 }
 
+#[inline(always)]
 fn begin_reply(call: Call, kind: CallKind, version: Version) -> ClientStep
     ensures { result ≡ table.first (Some (Waiting call)) kind version }
 {
@@ -157,6 +170,7 @@ fn begin_reply(call: Call, kind: CallKind, version: Version) -> ClientStep
 }
 
 /// A Reply or a LocateReply comes in one piece. The refusals are those of `first`.
+#[inline(always)]
 pub fn whole(
     entry: Option<ClientEntry>,
     kind: CallKind,
@@ -172,6 +186,7 @@ pub fn whole(
     }
 }
 
+#[inline(always)]
 fn settle_whole(call: Call, kind: CallKind, version: Version, reply: HeardReply) -> ClientStep
     ensures { result ≡ table.whole (Some (Waiting call)) kind version reply }
 {
@@ -183,6 +198,7 @@ fn settle_whole(call: Call, kind: CallKind, version: Version, reply: HeardReply)
 }
 
 // The entry of a call whose reply isn't whole: gathered in part, or not begun.
+#[inline(always)]
 fn expecting(gathered: bool, call: Call) -> ClientEntry
     ensures { result ≡ table.expecting gathered call }
 {
@@ -194,6 +210,7 @@ fn expecting(gathered: bool, call: Call) -> ClientEntry
 }
 
 // The last piece of the reply came.
+#[inline(always)]
 fn settle(gathered: bool, call: Call, reply: HeardReply) -> ClientStep
     ensures { result ≡ table.settles (table.expecting gathered call) call reply }
 {
@@ -205,6 +222,7 @@ fn settle(gathered: bool, call: Call, reply: HeardReply) -> ClientStep
     }
 }
 
+#[inline(always)]
 fn settle_reply(gathered: bool, call: Call, reply: Aside<Reply>) -> ClientStep
     ensures { result ≡ table.settles (table.expecting gathered call) call (heard.Reply reply) }
 {
@@ -214,6 +232,7 @@ fn settle_reply(gathered: bool, call: Call, reply: Aside<Reply>) -> ClientStep
     }
 }
 
+#[inline(always)]
 fn settle_located(gathered: bool, call: Call, reply: LocateReply) -> ClientStep
     ensures { result ≡ table.settles (table.expecting gathered call) call (heard.Locate reply) }
 {
@@ -225,6 +244,7 @@ fn settle_located(gathered: bool, call: Call, reply: LocateReply) -> ClientStep
 
 /// A Fragment comes, and more are to come. Refused as OrderDiffers, or as Stray where nothing is
 /// gathered; ignored behind a cancel.
+#[inline(always)]
 pub fn more(entry: Option<ClientEntry>, in_order: bool) -> ClientStep
     ensures { result ≡ table.more entry in_order }
 {
@@ -235,6 +255,7 @@ pub fn more(entry: Option<ClientEntry>, in_order: bool) -> ClientStep
     }
 }
 
+#[inline(always)]
 fn gather(call: Call, in_order: bool) -> ClientStep
     ensures { result ≡ table.more (Some (Gathering call)) in_order }
 {
@@ -248,6 +269,7 @@ fn gather(call: Call, in_order: bool) -> ClientStep
 
 /// The last Fragment comes: behind a cancel it ends the late reply. The refusals are those of
 /// `more`, and WrongKind where the pieces are no reply to the call.
+#[inline(always)]
 pub fn last(entry: Option<ClientEntry>, in_order: bool, reply: HeardReply) -> ClientStep
     ensures { result ≡ table.last entry in_order reply }
 {
@@ -259,6 +281,7 @@ pub fn last(entry: Option<ClientEntry>, in_order: bool, reply: HeardReply) -> Cl
     }
 }
 
+#[inline(always)]
 fn complete(call: Call, in_order: bool, reply: HeardReply) -> ClientStep
     ensures { result ≡ table.last (Some (Gathering call)) in_order reply }
 {

@@ -29,6 +29,7 @@ impl CallRule for ServerRule {
 
     ghost fault_keeps = { λ rule. fault_keeps };
 
+    #[inline(always)]
     fn step(
         &self,
         entry: Option<ServerEntry>,

@@ -16,6 +16,7 @@ use giop_mux::Step;
 
 pub type ServerStep = Step<ServerEntry, (), CallFault>;
 
+#[inline(always)]
 fn becomes(entry: ServerEntry) -> ServerStep
     ensures { result ≡ table.becomes entry }
 {
@@ -25,6 +26,7 @@ fn becomes(entry: ServerEntry) -> ServerStep
     }
 }
 
+#[inline(always)]
 fn refused(entry: Option<ServerEntry>, fault: CallFault) -> ServerStep
     ensures { result ≡ table.refused entry fault }
 {
@@ -35,6 +37,7 @@ fn refused(entry: Option<ServerEntry>, fault: CallFault) -> ServerStep
 }
 
 // Whether a call may begin under the id of this entry.
+#[inline(always)]
 fn is_free(entry: &Option<ServerEntry>) -> bool
     ensures { result ≡ table.is_free entry.now }
 {
@@ -45,6 +48,7 @@ fn is_free(entry: &Option<ServerEntry>) -> bool
 }
 
 /// The entry of a message that came whole.
+#[inline(always)]
 pub fn arrived(call: HeardCall) -> ServerEntry
     ensures { result ≡ table.arrived call }
 {
@@ -60,6 +64,7 @@ pub fn arrived(call: HeardCall) -> ServerEntry
 
 /// A Request or a LocateRequest comes, and leaves this entry. Refused as IdInUse where the id isn't
 /// free.
+#[inline(always)]
 pub fn begin(entry: Option<ServerEntry>, next: ServerEntry) -> ServerStep
     ensures { result ≡ table.begins entry next }
 {
@@ -72,6 +77,7 @@ pub fn begin(entry: Option<ServerEntry>, next: ServerEntry) -> ServerStep
 
 /// A Fragment comes, and more are to come. Refused as OrderDiffers, or as Stray where nothing is
 /// gathered; ignored behind a cancel.
+#[inline(always)]
 pub fn more(entry: Option<ServerEntry>, in_order: bool) -> ServerStep
     ensures { result ≡ table.more entry in_order }
 {
@@ -84,6 +90,7 @@ pub fn more(entry: Option<ServerEntry>, in_order: bool) -> ServerStep
     }
 }
 
+#[inline(always)]
 fn gather(kind: CallKind, in_order: bool) -> ServerStep
     ensures { result ≡ table.more (Some (Gathering kind)) in_order }
 {
@@ -96,6 +103,7 @@ fn gather(kind: CallKind, in_order: bool) -> ServerStep
 }
 
 /// The last Fragment comes. The refusals are those of `more`.
+#[inline(always)]
 pub fn last(entry: Option<ServerEntry>, in_order: bool, call: HeardCall) -> ServerStep
     ensures { result ≡ table.last entry in_order call }
 {
@@ -108,6 +116,7 @@ pub fn last(entry: Option<ServerEntry>, in_order: bool, call: HeardCall) -> Serv
     }
 }
 
+#[inline(always)]
 fn complete(kind: CallKind, in_order: bool, call: HeardCall) -> ServerStep
     ensures { result ≡ table.last (Some (Gathering kind)) in_order call }
 {
@@ -123,6 +132,7 @@ fn complete(kind: CallKind, in_order: bool, call: HeardCall) -> ServerStep
 
 /// A CancelRequest comes: it ends a call that expects a reply, and else changes nothing. It is
 /// never refused.
+#[inline(always)]
 pub fn cancel(entry: Option<ServerEntry>) -> ServerStep
     ensures { result ≡ table.cancel entry }
 {
@@ -133,6 +143,7 @@ pub fn cancel(entry: Option<ServerEntry>) -> ServerStep
 }
 
 // What stands behind a cancel.
+#[inline(always)]
 fn cancelled(entry: Option<ServerEntry>) -> Option<ServerEntry>
     ensures { result ≡ (table.cancel entry).entry }
 {
@@ -161,6 +172,7 @@ fn cancelled(entry: Option<ServerEntry>) -> Option<ServerEntry>
 /// WrongKind for a LocateRequest, as NotOpen where no reply is expected, and as Unfit in another
 /// version than the request's, or where the request couldn't be decoded and the reply is no
 /// exception of the broker.
+#[inline(always)]
 pub fn answer(entry: Option<ServerEntry>, reply: Aside<Reply>, pieces: u32) -> ServerStep
     ensures { result ≡ table.answer entry reply pieces }
 {
@@ -172,12 +184,14 @@ pub fn answer(entry: Option<ServerEntry>, reply: Aside<Reply>, pieces: u32) -> S
     }
 }
 
+#[inline(always)]
 fn is_same_version(one: Version, other: Version) -> bool
     ensures { result ≡ is_same_version one other }
 {
     one.minor() == other.minor()
 }
 
+#[inline(always)]
 fn answer_request(request: Aside<Request>, reply: Aside<Reply>, pieces: u32) -> ServerStep
     ensures { result ≡ table.answer (Some (Asked request)) reply pieces }
 {
@@ -191,12 +205,14 @@ fn answer_request(request: Aside<Request>, reply: Aside<Reply>, pieces: u32) -> 
     })
 }
 
+#[inline(always)]
 fn is_system_exception(body: &ReplyBody) -> bool
     ensures { result ≡ is_system_exception body.now }
 {
     matches!(body, ReplyBody::SystemException { .. })
 }
 
+#[inline(always)]
 fn answer_undecoded(call: UndecodedCall, reply: Aside<Reply>, pieces: u32) -> ServerStep
     ensures { result ≡ table.answer_undecoded call.expects call reply pieces }
 {
@@ -220,6 +236,7 @@ fn answer_undecoded(call: UndecodedCall, reply: Aside<Reply>, pieces: u32) -> Se
 /// The server answers a LocateRequest. Refused as WrongKind for a Request that expects a reply, as
 /// NotOpen where nothing is open, and as Unfit where the target couldn't be decoded and yet is told
 /// to be here.
+#[inline(always)]
 pub fn answer_locate(entry: Option<ServerEntry>, here: bool) -> ServerStep
     ensures { result ≡ table.answer_locate entry here }
 {
@@ -234,6 +251,7 @@ pub fn answer_locate(entry: Option<ServerEntry>, here: bool) -> ServerStep
     }
 }
 
+#[inline(always)]
 fn answer_locate_undecoded(call: UndecodedCall, here: bool) -> ServerStep
     ensures { result ≡ table.answer_locate_undecoded call.expects call here }
 {
@@ -250,6 +268,7 @@ fn answer_locate_undecoded(call: UndecodedCall, here: bool) -> ServerStep
 }
 
 /// The next piece of the reply is sent. Refused as NothingToSend where none is left.
+#[inline(always)]
 pub fn send(entry: Option<ServerEntry>) -> ServerStep
     ensures { result ≡ table.send entry }
 {

@@ -33,6 +33,7 @@ impl<'a, S: Octets> Model for OctetsAt<'a, S> {
 
 impl<'a, S: Octets> OctetsAt<'a, S> {
     // The octets of a store from an index on.
+    #[inline(always)]
     pub(crate) fn new(source: &'a S, from: usize, count: usize) -> OctetsAt<'a, S>
         requires within { from + count ≤ length (S.octets source.now) }
         requires small { from + count ≤ 2 ^ 62 }
@@ -46,6 +47,7 @@ impl<'a, S: Octets> OctetsAt<'a, S> {
     }
 
     /// A copy of the octets. It takes memory for these, once.
+    #[inline(always)]
     pub fn to_list(&self, alloc: Global) -> Result<OctetList, AllocError>
         ensures { IfOk result (λ list. list ≡ self.now) }
     {
@@ -84,6 +86,7 @@ impl<'a, S: Octets> Octets for OctetsAt<'a, S> {
 impl<'a, S: Octets> CdrIn<'a, S> {
     /// A sequence of octets, as `read_octets` reads it, where it lies and so without memory.
     #[tactic(auto, using(crate::proofs::Reading::CountSteps::octets_counted, crate::proofs::Reading::CountSteps::octets_uncounted))]
+    #[inline(always)]
     pub fn view_octets(&mut self, bound: u32) -> Result<OctetsAt<'a, S>, CdrFault>
         ensures { Reads self.old result self.new (octets_at bound self.old) }
     {
@@ -98,6 +101,7 @@ impl<'a, S: Octets> CdrIn<'a, S> {
     /// The octets of a string without its null, as `read_string` reads it, where they lie and so
     /// without memory.
     #[tactic(auto, using(crate::proofs::Reading::CountSteps::text_counted, crate::proofs::Reading::CountSteps::text_uncounted))]
+    #[inline(always)]
     pub fn view_string(&mut self, bound: u32) -> Result<OctetsAt<'a, S>, CdrFault>
         ensures { Reads self.old result self.new (string_at bound self.old) }
     {
@@ -111,6 +115,7 @@ impl<'a, S: Octets> CdrIn<'a, S> {
 
     /// All octets that are left, where they lie and so without memory.
     #[tactic(auto, using(crate::proofs::Reading::RunLemmas::take_all))]
+    #[inline(always)]
     pub fn view_remainder(&self) -> OctetsAt<'a, S>
         ensures { result ≡ self.now.rest }
     {

@@ -47,6 +47,7 @@ impl<'a, S: Octets> Model for CdrIn<'a, S> {
 
 impl<'a, S: Octets> CdrIn<'a, S> {
     /// A reader of all of `source`, whose first octet has the offset `start`.
+    #[inline(always)]
     pub fn new(source: &'a S, order: Order, start: usize) -> CdrIn<'a, S>
         requires short { length (S.octets source.now) ≤ 2 ^ 62 }
         requires start { start ≤ 2 ^ 32 }
@@ -150,6 +151,7 @@ impl<'a, S: Octets> CdrIn<'a, S> {
 
     /// Goes on to the next multiple of 8, and stays where it is on one: there the body of a message
     /// stands in GIOP 1.2 (9.4.2). Where the octets end before it, none are left.
+    #[inline(always)]
     pub fn align_to_8(&mut self)
         ensures { self.new ≡ skip (pad 8 self.old.at) self.old }
     {

@@ -23,6 +23,7 @@ impl<'a, S: Octets> CdrIn<'a, S> {
     /// Refused, at the offset of the count: as Short where it isn't there, as BadCount where it is
     /// above the number of octets behind it. The reader then stays where it was.
     #[tactic(auto, unfolding(crate::specs::Reading::Values::count_at))]
+    #[inline(always)]
     pub fn read_count(&mut self) -> Result<usize, CdrFault>
         ensures value { Reads self.old result self.new (count_at self.old) }
         ensures within { IfOk result (λ count. count ≤ length self.new.rest) }
@@ -66,6 +67,7 @@ impl<'a, S: Octets> CdrIn<'a, S> {
 
     // The length of a string whose octets follow and are one, within the bound.
     #[tactic(auto, unfolding(crate::specs::Reading::Values::text_count_at))]
+    #[inline(always)]
     pub(crate) fn text_count(&mut self, bound: u32) -> Result<usize, CdrFault>
         ensures value { Reads self.old result self.new (text_count_at bound self.old) }
         ensures within { IfOk result (λ count. count ≤ length self.new.rest) }

@@ -135,6 +135,7 @@ impl<'a, S: Octets> CdrIn<'a, S> {
     /// Refused as the count is, or as the first number or sequence of octets that is refused. The
     /// reader then stays where it was.
     #[tactic(auto, unfolding(crate::specs::Reading::Values::sequence_at), using(crate::proofs::Reading::ViewLemmas::passed_lie, crate::proofs::Reading::ViewLemmas::passed_is))]
+    #[inline(always)]
     pub fn view_tagged_list<I: Tagged>(&mut self) -> Result<TaggedListAt<'a, S, I>, CdrFault>
         ensures { Reads self.old result self.new (sequence_at (tagged_at I.made) self.old) }
     {

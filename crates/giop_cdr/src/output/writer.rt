@@ -53,6 +53,22 @@ impl CdrOut {
         }
     }
 
+    /// The same, with room for some octets before it grows.
+    pub fn with_room(
+        alloc: Global,
+        order: Order,
+        start: usize,
+        room: usize,
+    ) -> Result<CdrOut, AllocError>
+        requires { start ≤ 2 ^ 32 }
+        ensures { IfOk result (λ out.
+            out ≡ record { order = order; at = start; octets = [] }) }
+    {
+        let mut out = CdrOut::new(alloc, order, start);
+        out.octets.reserve(room)?;
+        Ok(out)
+    }
+
     /// The offset of the next octet.
     #[inline(always)]
     pub fn position(&self) -> usize

@@ -23,6 +23,7 @@ pub fn no_memory() -> CdrFault
 }
 
 /// Goes on from the end of a head to where its version has the body.
+#[inline(always)]
 pub fn align_body<S: Octets>(version: Version, input: &mut CdrIn<S>)
     ensures { input.new ≡ body_cursor version input.old }
 {
@@ -33,6 +34,7 @@ pub fn align_body<S: Octets>(version: Version, input: &mut CdrIn<S>)
 }
 
 /// The values of parameters, one after the other.
+#[inline(always)]
 pub fn read_values<S: Octets>(
     alloc: Global,
     parameters: &[Parameter],
@@ -56,6 +58,7 @@ pub fn read_values<S: Octets>(
 
 // The values of parameters, and nothing behind them.
 #[tactic(auto, unfolding(crate::specs::Messages::Body::values, giop_cdr::specs::Ending::ended))]
+#[inline(always)]
 fn read_last_values<S: Octets>(
     alloc: Global,
     parameters: &[Parameter],
@@ -78,6 +81,7 @@ fn read_last_values<S: Octets>(
 
 /// The values of the body behind a head, which `input` stands at the end of.
 #[tactic(auto, using(crate::proofs::WholeMessages::BodyLemmas::body_read))]
+#[inline(always)]
 pub fn read_body<S: Octets>(
     alloc: Global,
     version: Version,

@@ -8,6 +8,7 @@ ghost use Rattle.giop_msg.specs.Joined.{joined_from};
 ghost use Rattle.giop_msg.specs.Messages.LocateReply.{locate_reply};
 ghost use Rattle.giop_msg.specs.Messages.Outcome.{Decodes, IsTold, joined_into};
 
+use crate::joined::joined_output;
 use crate::locate_reply_head::{LocateReplyHead, append_head, read_head};
 use crate::version::Version;
 use giop_cdr::{CdrFault, CdrIn, CdrKind, CdrOut, EncodeFault, OctetList, Octets, Order};
@@ -77,7 +78,9 @@ impl LocateReply {
         if !self.is_writable() {
             return Err(EncodeFault::Unfit);
         }
-        let mut out = CdrOut::new(alloc, order, 12);
+        let Ok(mut out) = joined_output(alloc, order) else {
+            return Err(EncodeFault::NoMemory);
+        };
         if append_reply(self, &mut out).is_err() {
             return Err(EncodeFault::NoMemory);
         }

@@ -6,6 +6,7 @@ ghost use Rattle.giop_cdr.specs.Writing.Outcome.{Appends};
 ghost use Rattle.giop_msg.specs.Messages.Outcome.{joined_into};
 ghost use Rattle.giop_msg.specs.Messages.Reply.{reply};
 
+use crate::joined::joined_output;
 use crate::messages::reply::Reply;
 use crate::messages::reply_body_writing::{append_reply_body, is_fitting_body};
 use crate::messages::reply_reading::{may_answer, outs_for};
@@ -63,7 +64,9 @@ impl Reply {
         if !self.is_writable(interface, request) {
             return Err(EncodeFault::Unfit);
         }
-        let mut out = CdrOut::new(alloc, order, 12);
+        let Ok(mut out) = joined_output(alloc, order) else {
+            return Err(EncodeFault::NoMemory);
+        };
         if append_reply(self, interface, request, &mut out).is_err() {
             return Err(EncodeFault::NoMemory);
         }

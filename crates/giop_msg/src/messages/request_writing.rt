@@ -5,6 +5,7 @@ ghost use Rattle.giop_cdr.specs.Writing.Outcome.{Appends};
 ghost use Rattle.giop_msg.specs.Messages.Outcome.{joined_into};
 ghost use Rattle.giop_msg.specs.Messages.Request.{request};
 
+use crate::joined::joined_output;
 use crate::messages::body_writing::{append_body, are_fitting};
 use crate::messages::request::Request;
 use crate::request_head_writing::append_head;
@@ -50,7 +51,9 @@ impl Request {
         if !self.is_writable(interface) {
             return Err(EncodeFault::Unfit);
         }
-        let mut out = CdrOut::new(alloc, order, 12);
+        let Ok(mut out) = joined_output(alloc, order) else {
+            return Err(EncodeFault::NoMemory);
+        };
         if append_request(self, interface, &mut out).is_err() {
             return Err(EncodeFault::NoMemory);
         }

@@ -41,10 +41,10 @@ pub fn build<S: Octets>(alloc: Global, desc: &Desc, input: &mut CdrIn<S>) -> Res
     }
 }
 
-// A value within another: a number, a char or a boolean without a call.
+/// The same, a number, a char or a boolean without a call.
 #[cycle(build)]
 #[inline(always)]
-fn build_part<S: Octets>(
+pub fn build_part<S: Octets>(
     alloc: Global,
     desc: &Desc,
     input: &mut CdrIn<S>,

@@ -7,7 +7,7 @@ ghost use Rattle.giop_types.specs.Coding.Outcome.{Decodes, IsDecoded};
 ghost use Rattle.giop_types.specs.Coding.Spells.{Spells};
 ghost use Rattle.giop_types.specs.Values.Views.{desc_view, value_view};
 
-use crate::codec::build::build;
+use crate::codec::build::build_part;
 use crate::codec::skip::skip;
 use crate::description::checked_desc::CheckedDesc;
 use crate::description::desc::Desc;
@@ -22,6 +22,7 @@ use std::alloc::Global;
 /// at the place of a count that is above the bound, and as BadCount where the reader stands at an
 /// array of more values than octets are left. As NoMemory, where the reader stands, if nothing else
 /// is refused and memory is wanting. The reader then stays where it was.
+#[inline(always)]
 pub fn decode<S: Octets>(
     alloc: Global,
     input: &mut CdrIn<S>,
@@ -47,6 +48,7 @@ pub fn decode<S: Octets>(
 
 /// The value, in one pass where all goes well. Memory comes last: where it is wanting, a second
 /// pass without memory looks for a fault.
+#[inline(always)]
 pub fn value_of<S: Octets>(
     alloc: Global,
     desc: &Desc,
@@ -55,7 +57,7 @@ pub fn value_of<S: Octets>(
     ensures { Decodes input.old result input.new (decode_at (desc_view desc.now) input.old) }
 {
     let mut ahead = input.fork();
-    let fault = match build(alloc, desc, &mut ahead) {
+    let fault = match build_part(alloc, desc, &mut ahead) {
         Ok(value) => {
             *input = ahead;
             return Ok(value);

@@ -14,11 +14,11 @@ invariant_of-self-2 g c =
     let lists = c.self.inside.gather.lists in
     let step = sending_step (g.R.CallRule.next c.self.inside.mux.rule.rule) (finite.get table c.args.id) c.args.planned in
     let entries = ap (λ m. m.entries) c.in-Ok.ensures.ok in
-    let gathers_is = c.gathers_in.ensures ∙ ap (λ m. gathers g.R.Side.gathering (finite.get m c.args.id)) entries
+    let gathers_is = ap (λ m. gathers g.R.Side.gathering (finite.get m c.args.id)) entries
     ∙ ap (gathers g.R.Side.gathering) (get-put_same table c.args.id step.entry) in
     tied_after g.R.Side.gathering table _ lists _ c.args.id step.entry
     (cond (gathers g.R.Side.gathering step.entry) (finite.get lists c.args.id) None) c.self.invariant entries
-    (ap (λ g. g.lists) c.keep_if.ensures ∙ ap (λ b. put lists c.args.id (cond b (finite.get lists c.args.id) None)) gathers_is)
+    (ap (λ g. g.lists) c.keep_if.ensures ∙ ap (put lists c.args.id) (c.is_kept.ensures ∙ ap (λ b. cond b (finite.get lists c.args.id) None) gathers_is))
     (kept (gathers g.R.Side.gathering step.entry) (finite.get lists c.args.id)
     (has_pieces (finite.get lists c.args.id) (gathers g.R.Side.gathering (finite.get table c.args.id)) (gathers g.R.Side.gathering step.entry)
     (c.self.invariant c.args.id)
@@ -32,9 +32,9 @@ returns g c =
     let lists = c.self.inside.gather.lists in
     let step = sending_step (g.R.CallRule.next c.self.inside.mux.rule.rule) (finite.get table c.args.id) c.args.planned in
     let entries = ap (λ m. m.entries) c.in-Ok.ensures.ok in
-    let gathers_is = c.gathers_in.ensures ∙ ap (λ m. gathers g.R.Side.gathering (finite.get m c.args.id)) entries
+    let gathers_is = ap (λ m. gathers g.R.Side.gathering (finite.get m c.args.id)) entries
     ∙ ap (gathers g.R.Side.gathering) (get-put_same table c.args.id step.entry) in
-    let gathered = ap (λ g. g.lists) c.keep_if.ensures ∙ ap (λ b. put lists c.args.id (cond b (finite.get lists c.args.id) None)) gathers_is in
+    let gathered = ap (λ g. g.lists) c.keep_if.ensures ∙ ap (put lists c.args.id) (c.is_kept.ensures ∙ ap (λ b. cond b (finite.get lists c.args.id) None) gathers_is) in
     let rule = ap (λ m. m.rule.rule) c.in-Ok.ensures.ok in
     let calls = ap (λ m. m.limit) c.in-Ok.ensures.ok in
     let room = ap (λ g. g.limit) c.keep_if.ensures in
