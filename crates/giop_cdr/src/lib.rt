@@ -10,8 +10,6 @@ mod octet_list;
 mod octets;
 mod order;
 mod output;
-#[cfg(test)]
-mod tests;
 
 pub use encode_fault::EncodeFault;
 pub use fault::{CdrFault, CdrKind};

@@ -16,6 +16,3 @@ mod pool;
 pub use chain::Chain;
 pub use fault::GatherFault;
 pub use gather::Gather;
-
-#[cfg(test)]
-mod tests;

@@ -5,8 +5,6 @@
 mod addresses;
 pub mod laws;
 mod references;
-#[cfg(test)]
-mod tests;
 
 pub use addresses::address::Address;
 pub use addresses::corbaloc::Corbaloc;

@@ -15,6 +15,3 @@ pub use mux::Mux;
 pub use refusal::{Refusal, StillOpen};
 pub use rule::CallRule;
 pub use step::Step;
-
-#[cfg(test)]
-mod tests;

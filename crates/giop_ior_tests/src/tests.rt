@@ -1,0 +1,4 @@
+mod corbaloc;
+mod ior;
+mod ior_text;
+mod recorded;
