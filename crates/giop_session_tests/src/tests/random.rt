@@ -1,5 +1,5 @@
 //! Pieces of five calls, interleaved and cut into reads at random from a fixed seed, each call in a
-//! byte order at random: one table, written by hand, for all of two hundred runs.
+//! byte order at random: one table, written by hand, for all of ten thousand runs.
 use super::interfaces::interface;
 use super::octets::{
     ADD_1, ADD_2, ADD_3, ADD_4, ADD_5, LOCATE_1, LOCATE_2, ONE_1, ONE_2, ONE_3, ONE_4, TELL_1,
@@ -12,7 +12,7 @@ use giop_types::Interface;
 use std::alloc::Global;
 use std::test::Fail;
 
-const RUNS: usize = 200;
+const RUNS: usize = 10_000;
 
 const CALLS: usize = 5;
 
