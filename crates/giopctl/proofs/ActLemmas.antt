@@ -1,5 +1,5 @@
 -- What the programs do at their ends.
-use Rattle.std.proofs.Common.{◌≡◌, ◌≢◌, ℕ, max, List, [], ◌∷◌, ◌++◌, Option, Some, None, Result, Ok, Err, IfOk, ap, subst, ◌∙◌, arith}
+use Rattle.std.proofs.Common.{◌≡◌, ◌≢◌, ℕ, max, List, [], ◌∷◌, ◌++◌, Option, Some, None, Result, Ok, Err, IfOk, sym, ap, subst, ◌∙◌, arith}
 use Rattle.giop_ids.specs.Runs.{Rules}
 use Rattle.giop_session.specs.declared.end.End.{End}
 use Rattle.giop_session.specs.declared.plan.Planned.{Planned}
@@ -47,6 +47,16 @@ turned_on {R} {E} {V} {A} {F} old mid new first second =
 pub turned_interface : {R E V A F : Type 0} (old mid : End R E V A F)
     → mid ≡ record old { outgoing = mid.outgoing; framer = mid.framer; calls = mid.calls; fault = mid.fault } → mid.interface.now ≡ old.interface.now
 turned_interface {R} {E} {V} {A} {F} old mid same = ap (λ (e : End R E V A F). e.interface.now) same
+
+pub turned_limits : {R E V A F : Type 0} (old mid : End R E V A F)
+    → mid ≡ record old { outgoing = mid.outgoing; framer = mid.framer; calls = mid.calls; fault = mid.fault } → mid.limits ≡ old.limits
+turned_limits {R} {E} {V} {A} {F} old mid same = ap (λ (e : End R E V A F). e.limits) same
+
+-- what acts leave of an end, behind a turn
+pub acted_on : {R E V A F : Type 0} (mid new : End R E V A F) → new ≡ record mid { calls = new.calls; outgoing = new.outgoing }
+    → new ≡ record mid { outgoing = new.outgoing; framer = new.framer; calls = new.calls; fault = new.fault }
+acted_on {R} {E} {V} {A} {F} mid new same =
+    same ∙ ap (λ (e : End R E V A F). record mid { outgoing = new.outgoing; framer = e.framer; calls = new.calls; fault = e.fault }) (sym same)
 
 -- what is told of an act
 module _ {R E V A F : Type 0} (rules : Rules (Held R E) (Call E) (Act V) (Reply E A) (TableFault F)) (of_rule : ℕ → F → SessionFault) where

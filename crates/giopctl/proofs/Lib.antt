@@ -7,6 +7,9 @@ pub mod CheckLemmas
 pub mod StepLemmas
 pub mod ActLemmas
 pub mod CallFormLemmas
+pub mod FitLemmas
+pub mod FoundLemmas
 pub mod TurnLemmas
 pub mod TargetLemmas
+pub mod ServingLemmas
 pub mod SessionsLemmas

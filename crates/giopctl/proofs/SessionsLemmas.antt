@@ -13,10 +13,9 @@ use Rattle.giopctl.specs.Acts.{Outbox}
 use Rattle.giopctl.specs.Calling.{Asked, CallsAll, ClientCalls, Converses, ConversesIf, Talks, are_over, begun, client_hears, new_box}
 use Rattle.giopctl.specs.Check.{default_limits}
 use Rattle.giopctl.specs.Dump.{ended}
-use Rattle.giop_ids.specs.ById.{ById}
-use Rattle.giop_calls.specs.declared.server.entry.ServerEntry.{ServerEntry}
-use Rattle.giop_session.specs.declared.slot.Slot.{Slot}
 use Rattle.giopctl.specs.Sessions.{Calls, IsCalled, IsServed, Serves, Wire, call_status, connection_line, serve_status, session_text, told}
+use Rattle.giopctl.specs.Serving as serving
+use Rattle.giopctl.specs.Serving.{Served, ServerCalls, new_server}
 use Rattle.giopctl.specs.Turns.{Waits}
 use Rattle.giopctl.specs.Table.{client_entry_line, server_entry_line}
 
@@ -50,22 +49,32 @@ calls_told asked before after old new Usage is = is
 calls_told asked before after old new InputOutput is = tt
 calls_told asked before after old new Memory is = tt
 
--- the number of a connection, the table and the fault of a server's end
-pub served : (number : ℕ) (interface : Interface) (old new : Option (List ℕ)) (table : ById (Slot ServerEntry)) (fault : Option SessionFault)
-    (r : Result Status Failure)
-    → OnOk r (Appends old new (ended (connection_line number) ++ session_text (server_entry_line interface) table fault))
-    → IfOk r (λ status. status ≡ serve_status fault) → IfOk r (IsServed number interface old new)
-served number interface old new table fault (Err failure) text is = tt
-served number interface old new table fault (Ok status) text is = record { table = table; fault = fault; text = text; is = is }
+-- the connection of a server's end: its number, its table and its fault
+pub served : (number : ℕ) (it : Served) (before after : Wire) (old new : Option (List ℕ)) (refused : Option SessionFault) (outgoing : List ℕ)
+    (unread : Unread) (left : ServerCalls) (fault : Option SessionFault) (r : Result Status Failure)
+    → serving.Converses it default_limits (new_server before.input before.output) refused (between after.input after.output outgoing unread left fault)
+    → OnOk r (Appends old new (ended (connection_line number) ++ session_text (server_entry_line it.interface) left.table (told refused fault)))
+    → IfOk r (λ status. status ≡ serve_status (told refused fault)) → IfOk r (IsServed number it before after old new)
+served number it before after old new refused outgoing unread left fault (Err failure) talks text is = tt
+served number it before after old new refused outgoing unread left fault (Ok status) talks text is = record {
+  refused = refused;
+  outgoing = outgoing;
+  unread = unread;
+  left = left;
+  fault = fault;
+  talks = talks;
+  text = text;
+  is = is;
+}
 
 -- the same by its status
-pub serves_told : (number : ℕ) (interface : Interface) (old new : Option (List ℕ)) (status : Status) → IsServed number interface old new status
-    → Serves number interface old new status
-serves_told number interface old new Done is = is
-serves_told number interface old new Refused is = is
-serves_told number interface old new Usage is = is
-serves_told number interface old new InputOutput is = tt
-serves_told number interface old new Memory is = tt
+pub serves_told : (number : ℕ) (it : Served) (before after : Wire) (old new : Option (List ℕ)) (status : Status)
+    → IsServed number it before after old new status → Serves number it before after old new status
+serves_told number it before after old new Done is = is
+serves_told number it before after old new Refused is = is
+serves_told number it before after old new Usage is = is
+serves_told number it before after old new InputOutput is = tt
+serves_told number it before after old new Memory is = tt
 
 -- a client's turns, where its calls aren't over at first
 pub converses_by : (interface : Interface) (s t : Between ClientCalls) (ids : List ℕ) (r : Result (Unit {0}) Failure) → ids ≡ finite.keys s.state.calls.table

@@ -1,6 +1,12 @@
 -- What `serve` answers to what stands under an id.
-use Rattle.std.specs.Prelude.{◌≡◌, ℕ, ◌==◌, Bool, true, false, List, Option, Some, None, nat_eq, if◌then◌else◌, codes}
+use Rattle.std.specs.Prelude.{◌≡◌, ℕ, pos, ◌==◌, Bool, true, false, List, [], Option, Some, None, nat_eq, if◌then◌else◌, codes}
 use Rattle.std.specs.Cmp.Lexicographic.{pointwise}
+use Rattle.serde_json.specs.Data.{Data}
+use Rattle.giop_types.specs.declared.json.interface.Interface.{Interface}
+use Rattle.giop_msg.specs.declared.messages.completion.Completion.TheVariants.{No}
+use Rattle.giop_msg.specs.declared.messages.reply.Reply.{Reply as AnyReply}
+use Rattle.giop_msg.specs.declared.messages.reply_body.ReplyBody.{ReplyBody}
+use Rattle.giop_msg.specs.declared.messages.reply_body.ReplyBody.TheVariants.{NoException, UserException, SystemException, NeedsAddressing}
 use Rattle.giop_msg.specs.declared.messages.request.Request.{Request}
 use Rattle.giop_msg.specs.declared.messages.request_fault.RequestFault.{RequestFault}
 use Rattle.giop_msg.specs.declared.messages.request_fault.RequestFault.TheVariants.{Header, Operation, Body}
@@ -12,10 +18,13 @@ use Rattle.giop_calls.specs.declared.kind.CallKind.TheVariants as kind
 use Rattle.giop_calls.specs.declared.server.entry.ServerEntry.{ServerEntry}
 use Rattle.giop_calls.specs.declared.server.entry.ServerEntry.TheVariants.{Asked, Undecoded, LocateAsked}
 use Rattle.giop_calls.specs.declared.server.undecoded.UndecodedCall.{UndecodedCall}
+use Rattle.giopctl.specs.declared.answers.AnswerGiven.{AnswerGiven}
+use Rattle.giopctl.specs.declared.answers.AnswerGiven.TheVariants.{Ok as ok, User}
 use Rattle.giopctl.specs.declared.commands.answering.Answer.{Answer}
 use Rattle.giopctl.specs.declared.commands.answering.Answer.TheVariants.{Given, NoObject, BadOperation, Marshal, Addressing}
 use Rattle.giopctl.specs.declared.commands.answering.Due.{Due}
 use Rattle.giopctl.specs.declared.commands.answering.Due.TheVariants.{Nothing, Locate, Reply}
+use Rattle.giopctl.specs.AnswerForms.{given_in}
 
 -- whether a target is the object of a key
 abbrev pub is_object : List ℕ → AnyTarget → Bool
@@ -50,3 +59,45 @@ due_to key (Asked request) =
 due_to key (Undecoded call) = due_to_undecoded call.expects call.version call.fault
 due_to key (LocateAsked request) = Locate (is_object key request.target)
 due_to key _ = Nothing
+
+-- ---- the Reply
+
+-- a result as the caller wants it: without values, where it wants none
+abbrev pub result_for : Bool → ReplyBody → ReplyBody
+result_for true (NoException outs) = NoException []
+result_for quiet body = body
+
+-- what is given for an operation: a result or an exception; a result without values where nothing
+-- is, as for a oneway operation
+abbrev pub given_body : Option AnswerGiven → ReplyBody
+given_body (Some (ok outs)) = NoException outs
+given_body (Some (User id members)) = UserException id members
+given_body None = NoException []
+
+-- what is given for the operation of a Request, by the answers to the operations of an interface
+abbrev pub given_to : Interface → Data → ServerEntry → Option AnswerGiven
+given_to interface answers (Asked request) = given_in interface answers request.head.operation
+given_to interface answers _ = None
+
+-- a system exception of an operation that wasn't carried out
+abbrev pub not_done : List ℕ → ReplyBody
+not_done id = SystemException id 0 No
+
+abbrev pub body_of : Interface → Data → ServerEntry → Answer → ReplyBody
+body_of interface answers entry (Given quiet) =
+    result_for quiet (given_body (given_to interface answers entry))
+body_of interface answers entry NoObject =
+    not_done (codes "IDL:omg.org/CORBA/OBJECT_NOT_EXIST:1.0")
+body_of interface answers entry BadOperation =
+    not_done (codes "IDL:omg.org/CORBA/BAD_OPERATION:1.0")
+body_of interface answers entry Marshal = not_done (codes "IDL:omg.org/CORBA/MARSHAL:1.0")
+body_of interface answers entry Addressing = NeedsAddressing (pos 0)
+
+-- the Reply to what stands under an id
+abbrev pub reply_of : Interface → Data → ℕ → ServerEntry → Version → Answer → AnyReply
+reply_of interface answers id entry version answer = record {
+  version = version;
+  id = id;
+  contexts = [];
+  body = body_of interface answers entry answer;
+}

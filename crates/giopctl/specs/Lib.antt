@@ -13,7 +13,9 @@ pub mod Steps
 pub mod Acts
 pub mod Turns
 pub mod CallForms
+pub mod AnswerForms
 pub mod Answering
 pub mod Calling
+pub mod Serving
 pub mod Sessions
 pub mod Target

@@ -21,6 +21,8 @@ use Rattle.giopctl.specs.Acts.{Outbox}
 use Rattle.giopctl.specs.Calling.{Asked, CallsAll, ClientCalls, Talks, begun, new_box}
 use Rattle.giopctl.specs.Check.{default_limits, fault_status}
 use Rattle.giopctl.specs.Dump.{ended}
+use Rattle.giopctl.specs.Serving as serving
+use Rattle.giopctl.specs.Serving.{Served, ServerCalls, new_server}
 use Rattle.giopctl.specs.SessionLines.{session_fault_line}
 use Rattle.giopctl.specs.Table.{client_entry_line, server_entry_line, table_text}
 
@@ -107,18 +109,26 @@ abbrev pub serve_status : Option SessionFault → Status
 serve_status (Some why) = fault_status why
 serve_status None = Done
 
--- the writer's contents grew by the number of a connection, the table of a server's end and its
--- fault, and this is its status
-pub record IsServed (number : ℕ) (interface : Interface) (old new : Option (List ℕ))
-    (status : Status) : Type 0 where
-  pub table : ById (Slot ServerEntry)
+-- a connection of this number was served by a new server's end, which talked over the wire; and
+-- what is told of it is its number, the table that its calls are left with, its fault, and this
+-- status
+pub record IsServed (number : ℕ) (served : Served) (before after : Wire)
+    (old new : Option (List ℕ)) (status : Status) : Type 0 where
+  pub refused : Option SessionFault
+  pub outgoing : List ℕ
+  pub unread : Unread
+  pub left : ServerCalls
   pub fault : Option SessionFault
+  pub talks :
+      serving.Converses served default_limits (new_server before.input before.output) refused
+      (between after.input after.output outgoing unread left fault)
   pub text : Appends old new (ended (connection_line number)
-      ++ session_text (server_entry_line interface) table fault)
-  pub is : status ≡ serve_status fault
+      ++ session_text (server_entry_line served.interface) left.table (told refused fault))
+  pub is : status ≡ serve_status (told refused fault)
 
 -- the same by the status that the connection ends with
-abbrev pub Serves : ℕ → Interface → Option (List ℕ) → Option (List ℕ) → Status → Type 0
-Serves number interface old new InputOutput = ⊤
-Serves number interface old new Memory = ⊤
-Serves number interface old new status = IsServed number interface old new status
+abbrev pub Serves : ℕ → Served → Wire → Wire → Option (List ℕ) → Option (List ℕ) → Status → Type 0
+Serves number served before after old new InputOutput = ⊤
+Serves number served before after old new Memory = ⊤
+Serves number served before after old new status =
+    IsServed number served before after old new status

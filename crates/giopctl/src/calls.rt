@@ -1,11 +1,13 @@
 //! The calls that a file asks for, in JSON.
-ghost use Rattle.std.specs.Prelude.{◌≡◌, ◌⊎◌, None, IsErrAnd};
-ghost use Rattle.giop_types.specs.declared.json.form_fault.FormFault.TheVariants.{BadJson, NoMemory};
-ghost use Rattle.giop_types.specs.JsonForms.DescFromJson.{json_in};
+ghost use Rattle.std.specs.Prelude.{◌≡◌, ◌⊎◌, option_map, IfOk, IfErr};
+ghost use Rattle.serde_json.specs.View.{view, items_view};
+ghost use Rattle.giop_types.specs.declared.json.form_fault.FormFault.TheVariants.{NoMemory};
+ghost use Rattle.giop_types.specs.JsonForms.FromJson.{Shows};
+ghost use Rattle.giopctl.specs.CallForms.{call_in, call_list, call_named, call_of, calls_in, each_call};
 
-use crate::json::{is_object_of, octets_of, ulong_of, values_of};
+use crate::json::{is_object_of, octets_of, ulong_of, values_of, with_item};
 use giop_cdr::OctetList;
-use giop_types::{FormFault, Interface, ValueList, parse_json};
+use giop_types::{FormFault, Interface, Operation, ValueList, parse_json};
 use serde_json::Value as Json;
 use std::alloc::Global;
 
@@ -24,56 +26,103 @@ pub struct CallLine {
 
 /// The calls that a JSON text lists, each `{"id":ID,"operation":NAME,"ins":[VALUE,..]}`.
 ///
-/// Refused as BadJson where the text is none; else as BadShape where it, or a part of it, has another
-/// form, or an operation isn't in the interface; else as Unfit where an id is no unsigned long, a
-/// value doesn't fit, or there are more or fewer values than ins; and as NoMemory where memory is
-/// wanting, in place of any.
+/// Refused as BadJson where the text is none; else as BadShape where it, or a part of it, has
+/// another form, or an operation isn't in the interface; else as Unfit where an id is no unsigned
+/// long, a value doesn't fit, or there are more or fewer values than ins; and as NoMemory where
+/// memory is wanting, in place of any.
 pub fn calls_from_json(
     alloc: Global,
     interface: &Interface,
     text: &[u8],
 ) -> Result<Vec<CallLine>, FormFault>
-    ensures json { json_in text.now ≡ None
-        → IsErrAnd result (λ e. (e ≡ BadJson) ⊎ (e ≡ NoMemory)) }
+    ensures ok { IfOk result
+        (λ calls. calls_in interface.now text.now ≡ Ok calls.items) }
+    ensures err { IfErr result
+        (λ e. (e ≡ NoMemory) ⊎ (calls_in interface.now text.now ≡ Err e)) }
 {
     let json = parse_json(alloc, text)?;
-    let Some(list) = json.as_array() else {
-        return Err(FormFault::BadShape);
-    };
-    let mut calls = Vec::with_capacity(alloc, list.len())?;
-    let mut fit = true;
-    for json in list {
-        match call_of(alloc, interface, json)? {
-            Some(call) => calls.push(call)?,
-            None => fit = false,
-        }
-    }
-    if fit {
-        Ok(calls)
-    } else {
-        Err(FormFault::Unfit)
+    match call_list(alloc, interface, &json)? {
+        Some(calls) => Ok(calls),
+        None => Err(FormFault::Unfit),
     }
 }
 
-// A call; `None` where its form is right, and its id or a value doesn't fit.
-fn call_of(
+// The calls of a list; `None` where their forms are right, and one of them doesn't fit.
+fn call_list(
     alloc: Global,
     interface: &Interface,
     json: &Json,
-) -> Result<Option<CallLine>, FormFault> {
-    let (Some(id), Some(name), Some(ins)) = (json.get("id"), json.get("operation"), json.get("ins"))
-    else {
-        return Err(FormFault::BadShape);
-    };
-    let name = octets_of(alloc, name)?;
-    let Some(operation) = interface.operation(name.as_slice()) else {
-        return Err(FormFault::BadShape);
-    };
-    let id = ulong_of(alloc, id)?;
-    let ins = values_of(alloc, operation.ins.as_slice(), ins)?;
+) -> Result<Option<Vec<CallLine>>, FormFault>
+    ensures { Shows (λ calls. option_map (λ v. v.items) calls) result
+        (call_list interface.now (view json.now)) }
+{
+    match json.as_array() {
+        Some(list) => calls_by(alloc, interface, list.as_slice()),
+        None => Err(FormFault::BadShape),
+    }
+}
+
+// The same, one after the other.
+fn calls_by(
+    alloc: Global,
+    interface: &Interface,
+    list: &[Json],
+) -> Result<Option<Vec<CallLine>>, FormFault>
+    ensures { Shows (λ calls. option_map (λ v. v.items) calls) result
+        (each_call interface.now (items_view list.now)) }
+{
+    let mut calls = Some(Vec::with_capacity(alloc, list.len())?);
+    for json in list {
+        let call = call_of(alloc, interface, json)?;
+        calls = with_item(calls, call)?;
+    }
+    Ok(calls)
+}
+
+// A call; `None` where its form is right, and its id or a value doesn't fit.
+fn call_of(alloc: Global, interface: &Interface, json: &Json) -> Result<Option<CallLine>, FormFault>
+    ensures { Shows (λ call. call) result (call_in interface.now (view json.now)) }
+{
     if !is_object_of(3, json) {
         return Err(FormFault::BadShape);
     }
+    match (json.get("id"), json.get("operation"), json.get("ins")) {
+        (Some(id), Some(name), Some(ins)) => call_named(alloc, interface, id, name, ins),
+        _ => Err(FormFault::BadShape),
+    }
+}
+
+// A call, by its members.
+fn call_named(
+    alloc: Global,
+    interface: &Interface,
+    id: &Json,
+    name: &Json,
+    ins: &Json,
+) -> Result<Option<CallLine>, FormFault>
+    ensures { Shows (λ call. call) result
+        (call_named interface.now (view id.now) (view name.now) (view ins.now)) }
+{
+    let name = octets_of(alloc, name)?;
+    match interface.operation(name.as_slice()) {
+        Some(operation) => call_by(alloc, operation, name, id, ins),
+        None => Err(FormFault::BadShape),
+    }
+}
+
+// A call of this operation.
+fn call_by(
+    alloc: Global,
+    operation: &Operation,
+    name: OctetList,
+    id: &Json,
+    ins: &Json,
+) -> Result<Option<CallLine>, FormFault>
+    ensures { Shows (λ call. call) result
+        (call_of name (view id.now) (view ins.now) (Some operation.now)) }
+{
+    let id = ulong_of(alloc, id)?;
+    let ins = values_of(alloc, operation.ins.as_slice(), ins)?;
     match (id, ins) {
         (Some(id), Some(ins)) => Ok(Some(CallLine {
             id,

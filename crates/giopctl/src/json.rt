@@ -1,15 +1,15 @@
 //! Parts of the JSON of calls and answers.
-ghost use Rattle.std.specs.Prelude.{◌≡◌, option_map};
-ghost use Rattle.serde_json.specs.View.{view};
+ghost use Rattle.std.specs.Prelude.{◌≡◌, ◌++◌, ◌∷◌, [], option_map, IfOk};
+ghost use Rattle.serde_json.specs.View.{view, items_view};
 ghost use Rattle.giop_types.specs.Descriptions.CheckedShape.{checked_shape};
 ghost use Rattle.giop_types.specs.JsonForms.FromJson.{Shows, is_object_of};
 ghost use Rattle.giop_types.specs.Values.Views.{value_view};
-ghost use Rattle.giopctl.specs.CallForms.{number_in, octets_in, value_in};
+ghost use Rattle.giopctl.specs.CallForms.{each_value, made_of, number_in, octets_in, value_in, values_in};
 
 use giop_cdr::OctetList;
 use giop_types::{CheckedDesc, Desc, FormFault, Parameter, Value, ValueList, value_from_json};
 use serde_json::Value as Json;
-use std::alloc::Global;
+use std::alloc::{AllocError, Global};
 
 /// Whether this is an object of so many members.
 pub fn is_object_of(count: usize, json: &Json) -> bool
@@ -48,25 +48,58 @@ pub fn ulong_of(alloc: Global, json: &Json) -> Result<Option<u32>, FormFault>
 }
 
 /// The values of a list, each by the description of its parameter; `None` where their forms are
-/// right and one of them doesn't fit, or where they are more or fewer than the parameters. `BadShape`
-/// where one is of another form.
+/// right and one of them doesn't fit, or where they are more or fewer than the parameters.
+/// `BadShape` where one is of another form.
 pub fn values_of(
     alloc: Global,
     parameters: &[Parameter],
     json: &Json,
-) -> Result<Option<ValueList>, FormFault> {
-    let Some(list) = json.as_array() else {
-        return Err(FormFault::BadShape);
-    };
-    let mut values = ValueList::new(alloc);
-    let mut fit = list.len() == parameters.len();
-    for i in 0..list.len().min(parameters.len()) {
-        match fitting(alloc, &parameters[i].desc, &list[i])? {
-            Some(value) => values.push(value)?,
-            None => fit = false,
-        }
+) -> Result<Option<ValueList>, FormFault>
+    ensures { Shows (λ values. values) result (values_in parameters.now (view json.now)) }
+{
+    match json.as_array() {
+        Some(list) => values_by(alloc, parameters, list.as_slice()),
+        None => Err(FormFault::BadShape),
     }
-    Ok(if fit { Some(values) } else { None })
+}
+
+// The same, one after the other.
+fn values_by(
+    alloc: Global,
+    parameters: &[Parameter],
+    list: &[Json],
+) -> Result<Option<ValueList>, FormFault>
+    ensures { Shows (λ values. values) result (each_value parameters.now (items_view list.now)) }
+{
+    let mut values = Some(Vec::new(alloc));
+    for i in 0..list.len().min(parameters.len()) {
+        let value = fitting(alloc, &parameters[i].desc, &list[i])?;
+        values = with_item(values, value)?;
+    }
+    if list.len() != parameters.len() {
+        return Ok(None);
+    }
+    match values {
+        Some(values) => Ok(Some(ValueList::from(values))),
+        None => Ok(None),
+    }
+}
+
+/// Items and one more behind them, where all of them fit.
+pub fn with_item<T: Drop>(
+    items: Option<Vec<T>>,
+    item: Option<T>,
+) -> Result<Option<Vec<T>>, AllocError>
+    ensures { IfOk result (λ more. option_map (λ v. v.items) more
+        ≡ made_of (λ xs x. xs ++ x ∷ []) (option_map (λ v. v.items) items) item) }
+{
+    match (items, item) {
+        (Some(mut items), Some(item)) => {
+            items.push(item)?;
+            Ok(Some(items))
+        }
+        _ => Ok(None),
+    }
 }
 
 // The value of a description; `None` where the form is right and the value doesn't fit.

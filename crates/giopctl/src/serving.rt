@@ -1,16 +1,13 @@
 //! `serve` over files, connections and the standard output.
-ghost use Rattle.giop_session.specs.Form.{IsForm};
 
-use crate::answers::{Answers, answers_from_json};
+use crate::answers::answers_from_json;
 use crate::cli::ServeWords;
-use crate::commands::serve_over;
+use crate::commands::{Serving, serve_over};
 use crate::failure::Failure;
 use crate::files::OUTPUT_BUFFER;
 use crate::report;
 use crate::session_files::{interface_of, read, refused_form};
 use crate::status::Status;
-use giop_session::Form;
-use giop_types::Interface;
 use std::io;
 use std::io::{BufWriter, Write};
 use std::net::{Ipv4Addr, TcpListener, TcpStream};
@@ -26,16 +23,6 @@ pub fn serve(rt: &HostRuntime, words: ServeWords) -> Status {
         Ok(status) => status,
         Err(status) => status,
     }
-}
-
-// What is served, to whom.
-#[derive(Drop)]
-struct Serving<'a> {
-    interface: &'a Interface,
-    answers: &'a Answers,
-    key: &'a [u8],
-    form: Form,
-    ghost sent: { IsForm form },
 }
 
 fn served(rt: &HostRuntime, words: ServeWords) -> Result<Status, Status> {

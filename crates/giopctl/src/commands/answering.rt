@@ -1,15 +1,14 @@
 //! What `serve` answers to what stands under an id.
-ghost use Rattle.std.specs.Prelude.{◌≡◌, [], codes, IfOk, OnOk};
-ghost use Rattle.giop_msg.specs.declared.messages.completion.Completion.TheVariants.{No};
-ghost use Rattle.giop_msg.specs.declared.messages.reply_body.ReplyBody.TheVariants.{SystemException};
-ghost use Rattle.giopctl.specs.Answering.{answer_to, due_to, due_to_undecoded, fault_answer, is_object};
+ghost use Rattle.std.specs.Prelude.{◌≡◌, IfOk};
+ghost use Rattle.serde_json.specs.View.{view};
+ghost use Rattle.giopctl.specs.Answering.{answer_to, due_to, due_to_undecoded, fault_answer, given_body, given_to, is_object, not_done, reply_of, result_for};
 
 use crate::answers::{AnswerGiven, Answers};
 use crate::failure::Failure;
 use giop_calls::{CallKind, ServerEntry};
 use giop_cdr::OctetList;
 use giop_msg::{Completion, Reply, ReplyBody, RequestFault, ServiceContexts, Target, Version};
-use giop_types::{FormFault, Interface, ValueList};
+use giop_types::{Interface, ValueList};
 use std::alloc::{AllocError, Global};
 
 /// What is answered to a Request.
@@ -129,15 +128,18 @@ pub fn reply_to(
     version: Version,
     answer: Answer,
 ) -> Result<Reply, Failure>
-    ensures id { IfOk result (λ reply. reply.id ≡ id) }
-    ensures version { IfOk result (λ reply. reply.version ≡ version) }
-    ensures contexts { IfOk result (λ reply. reply.contexts ≡ []) }
+    ensures { IfOk result (λ reply. reply
+        ≡ reply_of interface.now (view answers.now.json) id entry.now version answer) }
 {
     let body = match answer {
-        Answer::Given { quiet } => given(alloc, interface, answers, entry, quiet)?,
-        Answer::NoObject => exception(alloc, b"IDL:omg.org/CORBA/OBJECT_NOT_EXIST:1.0")?,
-        Answer::BadOperation => exception(alloc, b"IDL:omg.org/CORBA/BAD_OPERATION:1.0")?,
-        Answer::Marshal => exception(alloc, b"IDL:omg.org/CORBA/MARSHAL:1.0")?,
+        Answer::Given { quiet } => result_for(
+            alloc,
+            quiet,
+            given(alloc, interface, answers, entry)?,
+        ),
+        Answer::NoObject => not_done(alloc, b"IDL:omg.org/CORBA/OBJECT_NOT_EXIST:1.0")?,
+        Answer::BadOperation => not_done(alloc, b"IDL:omg.org/CORBA/BAD_OPERATION:1.0")?,
+        Answer::Marshal => not_done(alloc, b"IDL:omg.org/CORBA/MARSHAL:1.0")?,
         Answer::Addressing => ReplyBody::NeedsAddressing(0),
     };
     let contexts = ServiceContexts::new(alloc);
@@ -150,8 +152,8 @@ pub fn reply_to(
 }
 
 // A system exception of this id, of an operation that wasn't carried out.
-fn exception(alloc: Global, id: &[u8]) -> Result<ReplyBody, AllocError>
-    ensures { IfOk result (λ body. body ≡ SystemException id.now 0 No) }
+fn not_done(alloc: Global, id: &[u8]) -> Result<ReplyBody, AllocError>
+    ensures { IfOk result (λ body. body ≡ not_done id.now) }
 {
     Ok(ReplyBody::SystemException {
         id: OctetList::from_slice(alloc, id)?,
@@ -160,26 +162,41 @@ fn exception(alloc: Global, id: &[u8]) -> Result<ReplyBody, AllocError>
     })
 }
 
-// What is given for the operation of a Request; a result without values where the caller wants none,
-// and for a oneway operation, for which nothing is given.
+// A result as the caller wants it: without values, where it wants none.
+fn result_for(alloc: Global, quiet: bool, body: ReplyBody) -> ReplyBody
+    ensures { result ≡ result_for quiet body }
+{
+    match body {
+        ReplyBody::NoException(_) if quiet => ReplyBody::NoException(ValueList::new(alloc)),
+        body => body,
+    }
+}
+
+// What is given for the operation of a Request; a result without values where nothing is.
 fn given(
     alloc: Global,
     interface: &Interface,
     answers: &Answers,
     entry: &ServerEntry,
-    quiet: bool,
-) -> Result<ReplyBody, Failure> {
-    let ServerEntry::Asked { request } = entry else {
-        return Ok(ReplyBody::NoException(ValueList::new(alloc)));
+) -> Result<ReplyBody, AllocError>
+    ensures { IfOk result (λ body. body
+        ≡ given_body (given_to interface.now (view answers.now.json) entry.now)) }
+{
+    let given = match entry {
+        ServerEntry::Asked { request } => {
+            answers.given(alloc, interface, request.head.operation.as_slice())?
+        }
+        _ => None,
     };
-    match answers.given(alloc, interface, request.head.operation.as_slice()) {
-        Ok(Some(AnswerGiven::Ok(outs))) => Ok(ReplyBody::NoException(if quiet {
-            ValueList::new(alloc)
-        } else {
-            outs
-        })),
-        Ok(Some(AnswerGiven::User { id, members })) => Ok(ReplyBody::UserException { id, members }),
-        Err(FormFault::NoMemory) => Err(Failure::Memory),
-        _ => Ok(ReplyBody::NoException(ValueList::new(alloc))),
+    Ok(given_body(alloc, given))
+}
+
+fn given_body(alloc: Global, given: Option<AnswerGiven>) -> ReplyBody
+    ensures { result ≡ given_body given }
+{
+    match given {
+        Some(AnswerGiven::Ok(outs)) => ReplyBody::NoException(outs),
+        Some(AnswerGiven::User { id, members }) => ReplyBody::UserException { id, members },
+        None => ReplyBody::NoException(ValueList::new(alloc)),
     }
 }

@@ -1,14 +1,20 @@
 //! `serve`: a server's end between a reader and a writer.
 ghost use Rattle.std.specs.Prelude.{◌≡◌, ◌++◌, IfOk, OnOk};
 ghost use Rattle.std.specs.Io.KnownBytes.{Appends};
+ghost use Rattle.serde_json.specs.View.{view};
 ghost use Rattle.giop_session.specs.Form.{IsForm};
+ghost use Rattle.giop_session.specs.Pumping.{between};
+ghost use Rattle.giopctl.specs.Acts.{outbox};
 ghost use Rattle.giopctl.specs.Dump.{ended};
-ghost use Rattle.giopctl.specs.Sessions.{IsServed, Serves, connection_line, serve_status, session_text};
+ghost use Rattle.giopctl.specs.Serving.{AnswersAll, AnswersOne, Converses, served_of};
+ghost use Rattle.giopctl.specs.Sessions.{IsServed, Serves, connection_line, serve_status, session_text, wire};
+ghost use Rattle.giopctl.specs.Steps.{Upto};
 ghost use Rattle.giopctl.specs.Table.{server_entry_line};
 
 use crate::answers::Answers;
 use crate::commands::answering::{Due, due_to, reply_to};
 use crate::commands::sending::send_all;
+use crate::commands::serving::Serving;
 use crate::commands::session::{TURNS, goes_on, told, told_of, write_session};
 use crate::failure::Failure;
 use crate::status::Status;
@@ -42,7 +48,15 @@ pub fn serve_session<R: Read, W: Write, O: Write>(
     out: &mut O,
 ) -> Status
     requires { IsForm form }
-    ensures { Serves number interface.now (O.contents out.old) (O.contents out.new) result }
+    ensures { Serves number (record {
+      interface = interface.now;
+      answers = view answers.now.json;
+      key = key.now;
+      form = form;
+    })
+        (wire (R.remaining reader.old) (W.contents writer.old))
+        (wire (R.remaining reader.new) (W.contents writer.new))
+        (O.contents out.old) (O.contents out.new) result }
 {
     match serve_over(
         alloc, number, interface, answers, key, form, reader, writer, out,
@@ -65,8 +79,15 @@ pub fn serve_over<R: Read, W: Write, O: Write>(
     out: &mut O,
 ) -> Result<Status, Failure>
     requires { IsForm form }
-    ensures { IfOk result (IsServed number interface.now (O.contents out.old)
-        (O.contents out.new)) }
+    ensures { IfOk result (IsServed number (record {
+      interface = interface.now;
+      answers = view answers.now.json;
+      key = key.now;
+      form = form;
+    })
+        (wire (R.remaining reader.old) (W.contents writer.old))
+        (wire (R.remaining reader.new) (W.contents writer.new))
+        (O.contents out.old) (O.contents out.new)) }
 {
     let mut end = ServerEnd::new(alloc, interface, Limits::default());
     let serving = Serving {
@@ -99,16 +120,6 @@ fn tell<O: Write>(
     Ok(serve_status(fault))
 }
 
-// By what is served.
-#[derive(Clone, Copy)]
-struct Serving<'a> {
-    interface: &'a Interface,
-    answers: &'a Answers,
-    key: &'a [u8],
-    form: Form,
-    ghost sent: { IsForm form },
-}
-
 fn write_connection<W: Write>(number: u32, writer: &mut W) -> Result<(), Failure>
     ensures { OnOk result (Appends (W.contents writer.old) (W.contents writer.new)
         (ended (connection_line number))) }
@@ -134,8 +145,22 @@ fn converse<R: Read, W: Write>(
     serving: Serving<'_>,
     reader: &mut R,
     writer: &mut W,
-) -> Result<Option<SessionFault>, Failure> {
-    for _ in 0..TURNS {
+) -> Result<Option<SessionFault>, Failure>
+    requires { end.old.interface.now ≡ serving.interface.now }
+    ensures converses { IfOk result (λ refused. Converses (served_of serving.entry) end.old.limits
+        (between (R.remaining reader.old) (W.contents writer.old) end.old.outgoing end.old.framer
+        end.old.calls end.old.fault)
+        refused
+        (between (R.remaining reader.new) (W.contents writer.new) end.new.outgoing end.new.framer
+        end.new.calls end.new.fault)) }
+    ensures others { end.new ≡ record end.old {
+      outgoing = end.new.outgoing;
+      framer = end.new.framer;
+      calls = end.new.calls;
+      fault = end.new.fault;
+    } }
+{
+    'turns: for done in 0..TURNS {
         if !goes_on(end, reader, writer)? {
             return Ok(None);
         }
@@ -151,14 +176,45 @@ fn answer_all(
     alloc: Global,
     end: &mut ServerEnd<'_>,
     serving: Serving<'_>,
-) -> Result<Option<SessionFault>, Failure> {
+) -> Result<Option<SessionFault>, Failure>
+    requires { end.old.interface.now ≡ serving.interface.now }
+    ensures answers { IfOk result (λ refused. AnswersAll (served_of serving.entry) end.old.limits
+        end.old.fault (outbox end.old.calls end.old.outgoing) refused
+        (outbox end.new.calls end.new.outgoing)) }
+    ensures others { end.new ≡ record end.old {
+      calls = end.new.calls;
+      outgoing = end.new.outgoing;
+    } }
+{
     let ids = end.ids(alloc)?;
-    for id in &ids {
+    if let Some(fault) = answer_each(alloc, end, serving, ids.as_slice())? {
+        return Ok(Some(fault));
+    }
+    send_all(alloc, end)
+}
+
+// Answers what stands under each id.
+fn answer_each(
+    alloc: Global,
+    end: &mut ServerEnd<'_>,
+    serving: Serving<'_>,
+    ids: &[u32],
+) -> Result<Option<SessionFault>, Failure>
+    requires { end.old.interface.now ≡ serving.interface.now }
+    ensures answers { IfOk result (λ refused. Upto (AnswersOne (served_of serving.entry) end.old.limits
+        end.old.fault) ids.now (outbox end.old.calls end.old.outgoing) refused
+        (outbox end.new.calls end.new.outgoing)) }
+    ensures others { end.new ≡ record end.old {
+      calls = end.new.calls;
+      outgoing = end.new.outgoing;
+    } }
+{
+    'ids: for id in ids {
         if let Some(fault) = answer(alloc, end, serving, *id)? {
             return Ok(Some(fault));
         }
     }
-    send_all(alloc, end)
+    Ok(None)
 }
 
 // Answers what stands under an id, where something is due to it.
@@ -167,18 +223,26 @@ fn answer(
     end: &mut ServerEnd<'_>,
     serving: Serving<'_>,
     id: u32,
-) -> Result<Option<SessionFault>, Failure> {
+) -> Result<Option<SessionFault>, Failure>
+    requires { end.old.interface.now ≡ serving.interface.now }
+    ensures answers { IfOk result (λ refused. AnswersOne (served_of serving.entry) end.old.limits
+        end.old.fault id (outbox end.old.calls end.old.outgoing) refused
+        (outbox end.new.calls end.new.outgoing)) }
+    ensures others { end.new ≡ record end.old {
+      calls = end.new.calls;
+      outgoing = end.new.outgoing;
+    } }
+{
     let Some(entry) = end.entry(id) else {
         return Ok(None);
     };
-    let (interface, answers) = (serving.interface, serving.answers);
-    let answered = match due_to(serving.key, entry) {
-        Due::Nothing => return Ok(None),
-        Due::Locate { here } => end.answer_locate(id, here, serving.form.order),
+    match due_to(serving.key, entry) {
+        Due::Nothing => Ok(None),
+        Due::Locate { here } => told_of(end.answer_locate(id, here, serving.form.order)),
         Due::Reply { version, answer } => {
+            let (interface, answers) = (serving.interface, serving.answers);
             let reply = reply_to(alloc, interface, answers, id, entry, version, answer)?;
-            end.answer(reply, serving.form)
+            told_of(end.answer(reply, serving.form))
         }
-    };
-    told_of(answered)
+    }
 }

@@ -1,0 +1,19 @@
+ghost use Rattle.giop_session.specs.Form.{IsForm};
+
+use crate::answers::Answers;
+use giop_session::Form;
+use giop_types::Interface;
+
+/// What is served.
+#[derive(Clone, Copy)]
+pub struct Serving<'a> {
+    /// The operations of the object.
+    pub interface: &'a Interface,
+    /// What they are answered.
+    pub answers: &'a Answers,
+    /// The key of the object.
+    pub key: &'a [u8],
+    /// The form of what is sent.
+    pub form: Form,
+    ghost sent: { IsForm form },
+}
