@@ -8,8 +8,12 @@ ghost use Rattle.giop_msg.specs.Stream.{BeginsWithFault, IsRefusal, Waits};
 use crate::{Header, Msg, WireFault};
 use bytes::BytesMut;
 use giop_cdr::OctetList;
-use std::alloc::Global;
+use std::alloc::{AllocError, Global};
 use std::marker::Model;
+use std::mem;
+
+// The most memory, in octets, that is kept for a message to come.
+const MOST_SPARE: usize = 65_536;
 
 /// Cuts a stream of octets, which comes in pieces of any size, into messages. Contracts see the
 /// unread octets and the greatest message size.
@@ -17,6 +21,8 @@ use std::marker::Model;
 pub struct Framer {
     limit: u32,
     unread: BytesMut,
+    // Memory of a message that was given back, and none of its octets.
+    spare: Vec<u8>,
     alloc: Global,
 }
 
@@ -39,6 +45,7 @@ impl Framer {
         Framer {
             limit: message_limit,
             unread: BytesMut::new(alloc),
+            spare: Vec::new(alloc),
             alloc,
         }
     }
@@ -80,7 +87,8 @@ impl Framer {
         ensures err { IfErr result (IsRefusal self.old) }
         ensures kept { OnErr result (self.new ≡ self.old) }
     {
-        let found = first_message(self.alloc, self.unread.as_slice(), self.limit)?;
+        let octets = self.unread.as_slice();
+        let found = first_message(self.alloc, &mut self.spare, octets, self.limit)?;
         if let Some(message) = &found {
             self.pass(message);
         }
@@ -99,12 +107,25 @@ impl Framer {
     {
         loop {
             let octets = self.unread.as_slice();
-            let Some(message) = first_message(self.alloc, octets, self.limit)? else {
+            let found = first_message(self.alloc, &mut self.spare, octets, self.limit)?;
+            let Some(message) = found else {
                 return Ok(());
             };
             messages.reserve(1)?;
             self.pass(&message);
             messages.push(message).unwrap();
+        }
+    }
+
+    /// Takes a message back that is no longer needed: its memory serves one to come, unless it is
+    /// large. It takes no memory.
+    pub fn reuse(&mut self, message: Msg)
+        ensures { self.new ≡ self.old }
+    {
+        let mut octets = message.payload.into_vec();
+        octets.clear();
+        if octets.capacity() <= MOST_SPARE {
+            self.spare = octets;
         }
     }
 
@@ -120,7 +141,12 @@ impl Framer {
 }
 
 // The message at the front of the octets, its payload copied.
-fn first_message(alloc: Global, octets: &[u8], limit: u32) -> Result<Option<Msg>, WireFault>
+fn first_message(
+    alloc: Global,
+    spare: &mut Vec<u8>,
+    octets: &[u8],
+    limit: u32,
+) -> Result<Option<Msg>, WireFault>
     ensures found { IfOk result (λ o. IfSome o (λ m. IsMessage limit m
         × (octets.now ≡ message_octets m ++ drop (12 + length m.payload) octets.now))) }
     ensures waits { IfOk result (λ o. IfNone o
@@ -141,6 +167,19 @@ fn first_message(alloc: Global, octets: &[u8], limit: u32) -> Result<Option<Msg>
         order: header.order,
         more: header.more,
         kind: header.kind,
-        payload: OctetList::from_slice(alloc, payload)?,
+        payload: copied(alloc, spare, payload)?,
     }))
+}
+
+// A copy of the octets, in the spare memory where they have room in it.
+fn copied(alloc: Global, spare: &mut Vec<u8>, octets: &[u8]) -> Result<OctetList, AllocError>
+    ensures { IfOk result (λ list. list ≡ octets.now) }
+{
+    if spare.capacity() < octets.len() {
+        return OctetList::from_slice(alloc, octets);
+    }
+    let mut list = mem::replace(spare, Vec::new(alloc));
+    list.clear();
+    list.extend_from_slice(octets)?;
+    Ok(OctetList::from(list))
 }

@@ -279,7 +279,26 @@ fn hear_all<R: Hearing>(
 {
     framer.feed(octets)?;
     while let Some(message) = framer.next()? {
-        R::hear(alloc, interface, calls, &message)?;
+        hear(alloc, interface, framer, calls, message)?;
     }
     Ok(())
+}
+
+// Hears a message, whose memory serves the next one.
+#[inline(always)]
+fn hear<R: Hearing>(
+    alloc: Global,
+    interface: &Interface,
+    framer: &mut Framer,
+    calls: &mut CallTable<R>,
+    message: Msg,
+) -> Result<(), SessionFault>
+    requires { length message.payload ≤ 2 ^ 62 }
+    ensures hears { hears_by R.next R.closed R.gathering R.in_call R.breaks
+        (R.befalls interface.now) message calls.old result calls.new }
+    ensures framer { framer.new ≡ framer.old }
+{
+    let heard = R::hear(alloc, interface, calls, &message);
+    framer.reuse(message);
+    heard
 }

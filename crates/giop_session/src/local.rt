@@ -10,11 +10,11 @@ ghost use Rattle.giop_session.specs.declared.session_fault.SessionFault.TheVaria
 use crate::form::Form;
 use crate::heard::told;
 use crate::limits::Limits;
+use crate::messages::Messages;
 use crate::sendable::messages;
 use crate::sending::Sends;
 use crate::session_fault::SessionFault;
 use crate::table_fault::TableFault;
-use crate::unsent::Unsent;
 use giop_calls::CallFault;
 use giop_cdr::EncodeFault;
 use giop_msg::{Kind, Version};
@@ -46,7 +46,7 @@ pub fn sent(
     form: Form,
     id: u32,
     encoded: Result<Vec<u8>, EncodeFault>,
-) -> Result<Unsent, SessionFault>
+) -> Result<Messages, SessionFault>
     requires kind { is_continued kind ≡ true }
     requires form { IsForm form }
     ensures there { IsOk result → IsOk encoded }

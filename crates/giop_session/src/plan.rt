@@ -1,17 +1,19 @@
 ghost use Rattle.std.specs.Prelude.{◌≡◌};
+ghost use Rattle.std.specs.FinMap as finite;
 ghost use Rattle.std.specs.Option.{option_copied};
 ghost use Rattle.giop_session.specs.Sending.{message_of, unsent_of};
 ghost use Rattle.giop_session.specs.Unsent.{IsSized};
 
-use crate::slot::Slot;
-use crate::unsent::Unsent;
+use crate::call_table::CallTable;
+use crate::messages::Messages;
+use crate::side::Side;
 use giop_msg::Msg;
 
 /// What an accepted event does to the messages of its call that are not put out yet.
 #[derive(Drop)]
 pub enum Plan {
     /// They are replaced by these, of which the first is put out at once.
-    Put(Unsent),
+    Put(Messages),
     /// The next one is put out.
     Next,
     /// They stay.
@@ -19,17 +21,17 @@ pub enum Plan {
 }
 
 impl Plan {
-    /// The message that an event planned so puts out of a call with this slot, if it puts one out.
-    /// It takes no memory.
+    /// The message that an event planned so puts out of the call of an id, if it puts one out. It
+    /// takes no memory.
     #[inline(always)]
-    pub fn message<'a, E>(&'a self, slot: Option<&'a Slot<E>>) -> Option<&'a Msg>
+    pub fn message<'a, R: Side>(&'a self, calls: &'a CallTable<R>, id: u32) -> Option<&'a Msg>
         ensures value { option_copied result
-            ≡ message_of self.now (unsent_of (option_copied slot.entry)) }
+            ≡ message_of self.now (unsent_of (finite.get calls.now.table id)) }
         ensures sized { IsSized (option_copied result) }
     {
         match self {
-            Plan::Put(messages) => messages.first(),
-            Plan::Next => slot?.unsent.first(),
+            Plan::Put(messages) => Some(messages.first()),
+            Plan::Next => calls.slot(id)?.unsent.first(),
             Plan::Keep => None,
         }
     }

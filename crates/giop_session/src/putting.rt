@@ -1,17 +1,18 @@
 //! What an end puts out: the message of an event, once the event is accepted.
-ghost use Rattle.std.specs.Prelude.{◌≡◌, ◌++◌, false, IfNone, IfSome};
+ghost use Rattle.std.specs.Prelude.{◌≡◌, ◌++◌, false, IfNone, IfSome, OnErr, OnOk};
 ghost use Rattle.std.specs.FinMap as finite;
 ghost use Rattle.giop_ids.specs.Runs.{Does};
 ghost use Rattle.giop_session.specs.CallTable.{event_reply, gathers, Hears, Nothing, rules_of};
-ghost use Rattle.giop_session.specs.Putting.{put_out};
-ghost use Rattle.giop_session.specs.Sending.{sending_step};
+ghost use Rattle.giop_session.specs.Putting.{octets_of, put_out};
+ghost use Rattle.giop_session.specs.Sending.{message_of, sending_step, unsent_of};
 
 use crate::call_table::CallTable;
 use crate::outgoing::Outgoing;
-use crate::plan::Planned;
+use crate::plan::{Plan, Planned};
 use crate::sending::Sends;
 use crate::side::Side;
 use crate::table_fault::TableFault;
+use std::alloc::AllocError;
 
 /// An event befalls a call that brings no octets, and the message that it sends is put out behind
 /// what is outgoing.
@@ -36,14 +37,31 @@ pub fn put<R: Side>(
     ensures none { IfNone result ((calls.new ≡ calls.old) × (outgoing.new ≡ outgoing.old)) }
 {
     let before = outgoing.as_slice().len();
-    if let Some(message) = planned.plan.message(calls.slot(id)) {
-        if outgoing.put(message).is_err() {
-            return None;
-        }
+    if put_message(calls, outgoing, id, &planned.plan).is_err() {
+        return None;
     }
     let answered = calls.hear(id, planned);
     if answered.is_err() {
         outgoing.back_to(before);
     }
     Some(answered)
+}
+
+// Puts out the message that an event planned so sends, if it sends one. Where memory is wanting
+// nothing changes.
+#[inline(always)]
+fn put_message<R: Side>(
+    calls: &CallTable<R>,
+    outgoing: &mut Outgoing,
+    id: u32,
+    plan: &Plan,
+) -> Result<(), AllocError>
+    ensures ok { OnOk result (outgoing.new ≡ outgoing.old
+        ++ octets_of (message_of plan.now (unsent_of (finite.get calls.now.table id)))) }
+    ensures err { OnErr result (outgoing.new ≡ outgoing.old) }
+{
+    match plan.message(calls, id) {
+        Some(message) => outgoing.put(message),
+        None => Ok(()),
+    }
 }

@@ -5,7 +5,7 @@ ghost use Rattle.giop_session.specs.Form.{is_fragmented, is_sendable, largest, I
 
 use crate::form::Form;
 use crate::limits::Limits;
-use crate::unsent::Unsent;
+use crate::messages::Messages;
 use giop_cdr::{OctetList, Order};
 use giop_msg::{Kind, Msg, Version, cut};
 use std::alloc::{AllocError, Global};
@@ -21,7 +21,7 @@ pub fn messages(
     kind: Kind,
     form: Form,
     joined: Vec<u8>,
-) -> Result<Option<Unsent>, AllocError>
+) -> Result<Option<Messages>, AllocError>
     requires kind { is_continued kind ≡ true }
     requires form { IsForm form }
     ensures sendable { IfOk result (λ found. IfSome found (λ messages.
@@ -39,33 +39,31 @@ pub fn messages(
     }
     if is_fragmented(version, joined.len(), form.piece) {
         let messages = cut(alloc, version, kind, form.order, &joined, form.piece)?;
-        return Ok(Some(Unsent::of(messages)));
+        return Ok(Some(Messages::of(messages)));
     }
     let payload = OctetList::from(joined);
-    Ok(Some(one_message(alloc, version, kind, form.order, payload)?))
+    Ok(Some(one_message(alloc, version, kind, form.order, payload)))
 }
 
-/// The message of this payload, to be sent alone.
+/// The message of this payload, to be sent alone. It takes no memory.
 pub fn one_message(
     alloc: Global,
     version: Version,
     kind: Kind,
     order: Order,
     payload: OctetList,
-) -> Result<Unsent, AllocError>
+) -> Messages
     requires { length payload < 2 ^ 32 }
-    ensures { IfOk result (λ unsent.
-        unsent ≡ message_of version kind order false payload ∷ []) }
+    ensures { result ≡ message_of version kind order false payload ∷ [] }
 {
-    let mut messages = Vec::with_capacity(alloc, 1)?;
-    messages.push(Msg {
+    let message = Msg {
         version,
         order,
         more: false,
         kind,
         payload,
-    })?;
-    Ok(Unsent::of(messages))
+    };
+    Messages::one(alloc, message)
 }
 
 fn is_sendable(limits: Limits, version: Version, joined: &[u8], piece: u32) -> bool

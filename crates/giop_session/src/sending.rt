@@ -110,7 +110,10 @@ fn carry_out(plan: Plan, unsent: Unsent) -> (Option<Msg>, Unsent)
     ensures left { result.1 ≡ unsent_after plan unsent }
 {
     match plan {
-        Plan::Put(messages) => first_taken(messages),
+        Plan::Put(messages) => {
+            let (first, rest) = messages.into_parts();
+            (Some(first), rest)
+        }
         Plan::Next => first_taken(unsent),
         Plan::Keep => (None, unsent),
     }

@@ -47,6 +47,30 @@ fn a_request_and_a_close_behind_it(rt: HostRuntime) -> Result<(), Fail> {
     waits(&rt, &mut framer, 0)
 }
 
+/// A message that is given back leaves no octet in those that come after it, longer or shorter.
+#[test]
+fn messages_in_given_back_memory_are_whole(rt: HostRuntime) -> Result<(), Fail> {
+    let mut framer = Framer::new(rt.alloc(), LIMIT);
+    for _ in 0..3 {
+        feed(&rt, &mut framer, &PING)?;
+        feed(&rt, &mut framer, &CLOSE)?;
+        let ping = next(&rt, &mut framer)?.ok_or("no message")?;
+        assert_eq!(rt; ping.payload.as_slice(), &PING[12..]);
+        framer.reuse(ping);
+        waits_for_close(&rt, &mut framer)?;
+    }
+    Ok(())
+}
+
+/// The next message is the CloseConnection, which is given back too, and no octet is left.
+fn waits_for_close(rt: &impl Abort, framer: &mut Framer) -> Result<(), Fail> {
+    let close = next(rt, framer)?.ok_or("no message")?;
+    assert_eq!(rt; close.kind, Kind::CloseConnection);
+    assert_eq!(rt; close.payload.len(), 0);
+    framer.reuse(close);
+    waits(rt, framer, 0)
+}
+
 #[test]
 fn each_proper_prefix_of_a_request_waits(rt: HostRuntime) -> Result<(), Fail> {
     for length in 0..PING.len() {

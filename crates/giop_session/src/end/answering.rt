@@ -20,11 +20,11 @@ use crate::end::ServerEnd;
 use crate::form::Form;
 use crate::heard::kept;
 use crate::local::{done, sent};
+use crate::messages::Messages;
 use crate::plan::{Plan, Planned};
 use crate::putting::put;
 use crate::sendable::one_message;
 use crate::session_fault::SessionFault;
-use crate::unsent::Unsent;
 use giop_calls::{Aside, CallKind, Outcome, ServerEntry, ServerEvent};
 use giop_cdr::{OctetList, Order};
 use giop_msg::{Kind, LocateReply, LocateReplyHead, Reply, Request, Version};
@@ -62,9 +62,9 @@ impl<'a> ServerEnd<'a> {
         let Some(question) = self.question(reply.id) else {
             return self.put_reply(reply, 1, Plan::Keep);
         };
-        let unsent = self.pieces_of_reply(question, &reply, form)?;
-        let pieces = unsent.len() as u32;
-        self.put_reply(reply, pieces, Plan::Put(unsent))
+        let messages = self.pieces_of_reply(question, &reply, form)?;
+        let pieces = messages.len() as u32;
+        self.put_reply(reply, pieces, Plan::Put(messages))
     }
 
     /// Answers a LocateRequest in its version: that the object is here, or that it isn't known
@@ -94,12 +94,12 @@ impl<'a> ServerEnd<'a> {
         let event = ServerEvent::AnswerLocate { here };
         let planned = match self.locate_version(id, here) {
             Some(version) => {
-                let Some(unsent) = self.located(version, order, id, here) else {
+                let Some(messages) = self.located(version, order, id, here) else {
                     return Err(SessionFault::NoMemory);
                 };
                 Planned {
                     event,
-                    plan: Plan::Put(unsent),
+                    plan: Plan::Put(messages),
                 }
             }
             None => kept(event),
@@ -183,7 +183,7 @@ impl<'a> ServerEnd<'a> {
         question: Option<&Request>,
         reply: &Reply,
         form: Form,
-    ) -> Result<Unsent, SessionFault>
+    ) -> Result<Messages, SessionFault>
         requires { IsForm form }
         ensures ok { IfOk result (λ messages. unfit_unless
             (is_reply_sendable self.now.interface.now self.now.limits
@@ -210,8 +210,8 @@ impl<'a> ServerEnd<'a> {
 
     // The LocateReply to a LocateRequest. `None` where memory is wanting.
     #[tactic(auto, using(crate::proofs::LocatedLemmas::located_short))]
-    fn located(&self, version: Version, order: Order, id: u32, here: bool) -> Option<Unsent>
-        ensures { IfSome result (λ unsent. unsent ≡ located version order id here ∷ []) }
+    fn located(&self, version: Version, order: Order, id: u32, here: bool) -> Option<Messages>
+        ensures { IfSome result (λ messages. messages ≡ located version order id here ∷ []) }
     {
         let reply = LocateReply {
             head: LocateReplyHead {
@@ -225,7 +225,7 @@ impl<'a> ServerEnd<'a> {
             return None;
         };
         let payload = OctetList::from(joined);
-        one_message(self.alloc, version, Kind::LocateReply, order, payload).ok()
+        Some(one_message(self.alloc, version, Kind::LocateReply, order, payload))
     }
 }
 

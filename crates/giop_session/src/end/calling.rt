@@ -21,11 +21,11 @@ ghost use Rattle.giop_session.specs.Sent.{cancel_request};
 use crate::end::ClientEnd;
 use crate::form::Form;
 use crate::local::{done, sent};
+use crate::messages::Messages;
 use crate::plan::{Plan, Planned};
 use crate::putting::put;
 use crate::sendable::one_message;
 use crate::session_fault::SessionFault;
-use crate::unsent::Unsent;
 use giop_calls::{Aside, Call, CallFault, ClientEntry, ClientEvent, Outcome};
 use giop_cdr::{OctetList, Order};
 use giop_msg::{Kind, LocateRequest, Reply, Request, Version};
@@ -60,17 +60,17 @@ impl<'a> ClientEnd<'a> {
             return Err(fault);
         }
         let id = request.head.id;
-        let unsent = self.pieces_of_request(&request, form)?;
+        let messages = self.pieces_of_request(&request, form)?;
         let Ok(request) = Aside::new(self.alloc, request) else {
             return Err(SessionFault::NoMemory);
         };
         let event = ClientEvent::Call {
-            pieces: unsent.len() as u32,
+            pieces: messages.len() as u32,
             call: Call::Request(request),
         };
         let planned = Planned {
             event,
-            plan: Plan::Put(unsent),
+            plan: Plan::Put(messages),
         };
         done(id, put(&mut self.calls, &mut self.outgoing, id, planned))
     }
@@ -101,14 +101,14 @@ impl<'a> ClientEnd<'a> {
             return Err(fault);
         }
         let id = request.id;
-        let unsent = self.pieces_of_locate(&request, form)?;
+        let messages = self.pieces_of_locate(&request, form)?;
         let event = ClientEvent::Call {
-            pieces: unsent.len() as u32,
+            pieces: messages.len() as u32,
             call: Call::Locate(request),
         };
         let planned = Planned {
             event,
-            plan: Plan::Put(unsent),
+            plan: Plan::Put(messages),
         };
         done(id, put(&mut self.calls, &mut self.outgoing, id, planned))
     }
@@ -141,12 +141,12 @@ impl<'a> ClientEnd<'a> {
             let fault = CallFault::NotOpen;
             return Err(SessionFault::Call { id, fault });
         };
-        let Some(unsent) = cancel_request(self.alloc, version, order, id) else {
+        let Some(messages) = cancel_request(self.alloc, version, order, id) else {
             return Err(SessionFault::NoMemory);
         };
         let planned = Planned {
             event: ClientEvent::Cancel,
-            plan: Plan::Put(unsent),
+            plan: Plan::Put(messages),
         };
         done(id, put(&mut self.calls, &mut self.outgoing, id, planned))
     }
@@ -191,7 +191,7 @@ impl<'a> ClientEnd<'a> {
 
     // The messages that a Request is sent in.
     #[tactic(auto, using(crate::proofs::LocalLemmas::refused_unsent))]
-    fn pieces_of_request(&self, request: &Request, form: Form) -> Result<Unsent, SessionFault>
+    fn pieces_of_request(&self, request: &Request, form: Form) -> Result<Messages, SessionFault>
         requires { IsForm form }
         ensures ok { IfOk result (λ messages. call_fault self.now.interface.now self.now.limits
             (entry_of (finite.get self.now.calls.table request.now.head.id)) request.now form
@@ -223,7 +223,11 @@ impl<'a> ClientEnd<'a> {
 
     // The messages that a LocateRequest is sent in.
     #[tactic(auto, using(crate::proofs::LocalLemmas::refused_unsent))]
-    fn pieces_of_locate(&self, request: &LocateRequest, form: Form) -> Result<Unsent, SessionFault>
+    fn pieces_of_locate(
+        &self,
+        request: &LocateRequest,
+        form: Form,
+    ) -> Result<Messages, SessionFault>
         requires { IsForm form }
         ensures ok { IfOk result (λ messages. locate_fault self.now.limits
             (entry_of (finite.get self.now.calls.table request.now.id)) request.now form
@@ -290,11 +294,11 @@ impl<'a> ClientEnd<'a> {
 }
 
 // The CancelRequest of an id. `None` where memory is wanting.
-fn cancel_request(alloc: Global, version: Version, order: Order, id: u32) -> Option<Unsent>
-    ensures { IfSome result (λ unsent. unsent ≡ cancel_request version order id ∷ []) }
+fn cancel_request(alloc: Global, version: Version, order: Order, id: u32) -> Option<Messages>
+    ensures { IfSome result (λ messages. messages ≡ cancel_request version order id ∷ []) }
 {
     let payload = OctetList::from_slice(alloc, &order.ulong_octets(id)).ok()?;
-    one_message(alloc, version, Kind::CancelRequest, order, payload).ok()
+    Some(one_message(alloc, version, Kind::CancelRequest, order, payload))
 }
 
 // The version of a call that may be cancelled.

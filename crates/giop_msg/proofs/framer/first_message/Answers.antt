@@ -12,13 +12,13 @@ returns-in_default-get-clause-waits c =
     begins_with_header _ _ _ _ c.in-Some.ensures.cases.same c.in_ok-header.ensures.ok.0 c.in_ok-header.ensures.ok.1 in
     waits_for_payload _ _ _ begins (omega (arith, c.in_default-get.ensures.lookup))
 
-pub returns-in_err-from_slice-clause-err : goal.returns-in_err-from_slice-clause-err
-returns-in_err-from_slice-clause-err c =
+pub returns-in_err-copied-clause-err : goal.returns-in_err-copied-clause-err
+returns-in_err-copied-clause-err c =
     let begins : BeginsWithHeader c.args.limit c.args.octets.now c.in_ok-header.header =
     begins_with_header _ _ _ _ c.in-Some.ensures.cases.same c.in_ok-header.ensures.ok.0 c.in_ok-header.ensures.ok.1 in
     let part = c.in-Some-get.ensures.lookup.0 in
     let m = message_at_front _ _ _ c.in-Some-get.payload.now (λ i. (c.type_inv.octets i).fits) begins c.ranges.limit.fits part.1 part.2 in
-    let p = err_from_is_err_and c.from_residual-in_err-from_slice.result c.from_residual-in_err-from_slice.ensures.1 in
+    let p = err_from_is_err_and c.from_residual-in_err-copied.result c.from_residual-in_err-copied.ensures.1 in
     rw (p.1, p.2) (inr (refl, (_, _, m.0, m.1)))
 
 pub returns-clause-found : goal.returns-clause-found
@@ -26,4 +26,4 @@ returns-clause-found c =
     let begins : BeginsWithHeader c.args.limit c.args.octets.now c.in_ok-header.header =
     begins_with_header _ _ _ _ c.in-Some.ensures.cases.same c.in_ok-header.ensures.ok.0 c.in_ok-header.ensures.ok.1 in
     let part = c.in-Some-get.ensures.lookup.0 in
-    message_at_front _ _ _ c.in_ok-from_slice.field-0 (λ i. (c.type_inv.octets i).fits) begins c.ranges.limit.fits part.1 (c.in_ok-from_slice.ensures ∙ part.2)
+    message_at_front _ _ _ c.in_ok-copied.field-0 (λ i. (c.type_inv.octets i).fits) begins c.ranges.limit.fits part.1 (c.in_ok-copied.ensures ∙ part.2)
