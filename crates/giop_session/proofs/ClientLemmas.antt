@@ -22,9 +22,9 @@ use Rattle.giop_calls.specs.ClientTable.{client_step, is_closed, is_gathering}
 use Rattle.giop_session.specs.declared.session_fault.SessionFault.TheVariants.{GatherFull}
 use Rattle.giop_session.specs.declared.slot.Slot.{Slot}
 use Rattle.giop_session.specs.declared.table_fault.TableFault.TheVariants as table
-use Rattle.giop_session.specs.CallTable.{Held, More, Hears, gathers, limit}
+use Rattle.giop_session.specs.CallTable.{Held, More, Hears, Stays, gathers, limit}
 use Rattle.giop_session.specs.ClientHears.{AtClient, continued, continues, gathered_call, heard_located_by, heard_reply, heard_reply_by}
-use Rattle.giop_session.specs.Heard.{Befalls, behind_id, kept}
+use Rattle.giop_session.specs.Heard.{Befalls, behind_id, kept, silent}
 use Rattle.giop_session.specs.Sending.{sending_step}
 use Rattle.giop_session.proofs.TableLemmas.{does_over}
 
@@ -60,6 +60,13 @@ continued_is order (Some call) (Some p) is = (call, p, refl, refl, by_order (sam
         → ◌≡◌ {A = Option (Asked × List ℕ)} (cond same (Some (call, p.octets)) None) (Some (call, p.octets))
     by_order true is = refl
     by_order false is = absurd cc
+
+-- a further piece changes nothing at a call whose reply is gathered
+pub more_stays : (slot : Option (Slot ClientEntry)) (call : Asked) → gathered_call slot ≡ Some call
+    → Stays (sending_step client_step slot (kept (event.More true))) slot silent
+more_stays slot call is =
+    let stands = gathering_is slot call is in
+    subst (λ s. Stays (sending_step client_step s (kept (event.More true))) s silent) (sym stands.1) refl
 
 -- the last piece settles the call
 module _ (interface : Interface) (version : Version) (order : Order) (octets : List ℕ) where

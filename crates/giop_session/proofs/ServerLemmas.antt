@@ -14,11 +14,11 @@ use Rattle.giop_calls.specs.ServerTable.{server_step, is_closed, is_free, is_gat
 use Rattle.giop_session.specs.declared.session_fault.SessionFault.TheVariants.{Call as InCall, GatherFull}
 use Rattle.giop_session.specs.declared.slot.Slot.{Slot}
 use Rattle.giop_session.specs.declared.table_fault.TableFault.TheVariants as table
-use Rattle.giop_session.specs.CallTable.{Held, First, More, Hears, limit}
+use Rattle.giop_session.specs.CallTable.{Held, First, More, Hears, Stays, limit}
 use Rattle.giop_session.specs.Heard.{Befalls}
 use Rattle.giop_session.specs.Sending.{entry_of, sending_step}
 use Rattle.giop_session.specs.ServerHears.{AtServer, gathered_kind}
-use Rattle.giop_session.specs.Heard.{kept}
+use Rattle.giop_session.specs.Heard.{kept, silent}
 use Rattle.giop_session.proofs.TableLemmas.{does_own, does_over}
 
 -- a first piece for an id that is in use
@@ -53,6 +53,13 @@ gathering_is (Some slot) kind is = by_entry slot.entry slot.unsent is
     by_entry (LocateAnswered target here) unsent is = absurd cc
     by_entry (Delivered request) unsent is = absurd cc
     by_entry (Cancelled answered left) unsent is = absurd cc
+
+-- a further piece changes nothing at a message that is gathered
+pub more_stays : (slot : Option (Slot ServerEntry)) (kind : CallKind) → gathered_kind slot ≡ Some kind
+    → Stays (sending_step server_step slot (kept (event.More true))) slot silent
+more_stays slot kind is =
+    let stands = gathering_is slot kind is in
+    subst (λ s. Stays (sending_step server_step s (kept (event.More true))) s silent) (sym stands.1) refl
 
 -- what isn't false is true
 pub is_full : (b : Bool) → not b ≡ false → b ≡ true

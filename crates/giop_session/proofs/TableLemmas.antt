@@ -10,7 +10,7 @@ use Rattle.giop_mux.specs.Calls.{Calls, is_one_too_many, by_rule, judged}
 use Rattle.giop_mux.specs.declared.step.Step.{Step}
 use Rattle.giop_mux.specs.declared.refusal.Refusal.{Refusal}
 use Rattle.giop_mux.specs.declared.refusal.Refusal.TheVariants as refusal
-use Rattle.giop_frag.specs.Gathered.{Gathered, Pieces, Lists, is_over}
+use Rattle.giop_frag.specs.Gathered.{Gathered, Pieces, Lists, grown, is_over}
 use Rattle.giop_frag.specs.declared.fault.GatherFault.{GatherFault}
 use Rattle.giop_frag.specs.declared.fault.GatherFault.TheVariants as gathering
 use Rattle.giop_session.specs.declared.slot.Slot.{Slot}
@@ -19,7 +19,7 @@ use Rattle.giop_session.specs.declared.sending.Sends.{Sends}
 use Rattle.giop_session.specs.declared.table_fault.TableFault.{TableFault}
 use Rattle.giop_session.specs.declared.table_fault.TableFault.TheVariants.{Rule, TooManyCalls, GatherFull, NoMemory}
 use Rattle.giop_session.specs.Sending.{sending_step}
-use Rattle.giop_session.specs.CallTable.{Held, Call, at, put_call, Brings, First, More, Nothing, Act, Hears, IsTaken, Answers, Gives, brought, fault_of, gather_fault, Turned, taken, gathers, IsTied, turned, turn, room_fault, calls_fault, limit, rules_of, is_of_call}
+use Rattle.giop_session.specs.CallTable.{Held, Call, at, put_call, Brings, First, More, Nothing, Act, Hears, IsTaken, Answers, Gives, brought, fault_of, gather_fault, Turned, taken, gathers, IsTied, turned, turn, room_fault, calls_fault, limit, rules_of, Stays, is_of_call}
 
 -- both structures, as the calls of an end
 abbrev pub held : {S R E : Type 0} → R → Calls S (Slot E) → Gathered → Held R E
@@ -98,6 +98,12 @@ many_is gathering table calls id (Some slot) gathers = by_test (is_none (finite.
     by_test true b = refl
     by_test false b = refl
 
+-- an id that gathers has an entry already
+not_one_more : {E : Type 0} (gathering : E → Bool) (slot : Option (Slot E)) (full : Bool) → gathers gathering slot ≡ true
+    → (is_none slot && is_some slot && full) ≡ false
+not_one_more gathering None full here = absurd cc
+not_one_more gathering (Some slot) full here = refl
+
 module _ {R E V A F : Type 0} (next : Option E → V → Step E A F) (closed gathering : E → Bool) where
   -- what the call's rule makes of an event, in the table
   abbrev step_in : Held R E → ℕ → Planned V → Step (Slot E) (Sends A) F
@@ -155,6 +161,20 @@ module _ {R E V A F : Type 0} (next : Option E → V → Step E A F) (closed gat
         (step_in h id planned).entry (brought brings (finite.get h.gathered id)) ok)) is;
     leaves = after;
   }
+
+  -- an event that changes nothing at its call but to bring more octets, for which there is room
+  pub does_stay : (h h' : Held R E) (id : ℕ) (planned : Planned V) (octets : List ℕ) (sends : Sends A)
+      → Stays (step_in h id planned) (finite.get h.table id) sends → gathers gathering (finite.get h.table id) ≡ true
+      → is_over h.room h.gathered (length octets) ≡ false → h' ≡ record h { gathered = put h.gathered id (grown (finite.get h.gathered id) octets) }
+      → Does (rules_of next closed gathering) h (record { id = id; what = Hears planned (More octets) }) (Ok (Answers sends)) h'
+  does_stay h h' id planned octets sends stays here fits after =
+      does_heard h h' id planned (More octets) sends
+      (ap (judged h.table h.calls id) stays ∙ rw (not_one_more gathering (finite.get h.table id) (finite.len h.table == h.calls) here) refl)
+      (rw (here, fits) refl)
+      (after
+      ∙ (λ i. record h { table = put_itself h.table id i; gathered = put h.gathered id (cond (sym here i) (grown (finite.get h.gathered id) octets) None) })
+      ∙ ap (λ (slot : Option (Slot E)). put_call h id
+      (record { slot = slot; pieces = cond (gathers gathering slot) (grown (finite.get h.gathered id) octets) None })) (ap (λ s. s.entry) (sym stays)))
 
   -- a call is over where its slot is taken out
   pub does_take : (h h' : Held R E) (id : ℕ) (given : Option (Slot E)) → option_map (λ slot. closed slot.entry) (finite.get h.table id) ≢ Some false

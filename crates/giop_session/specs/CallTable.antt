@@ -163,6 +163,16 @@ module _ {E V A F : Type 0} (next : Option E → V → Step E A F) (closed gathe
     memory = NoMemory;
   }
 
+-- an event changes nothing at its call, and is answered so
+abbrev pub Stays : {E A F : Type 0} → Step (Slot E) (Sends A) F → Option (Slot E) → Sends A → Type 0
+Stays step slot sends = step ≡ record { entry = slot; outcome = Ok sends }
+
+-- what such an event is answered, where there was room for its octets
+abbrev pub answered : {A F : Type 0}
+    → Sends A → Result (Unit {0}) (TableFault F) → Result (Sends A) (TableFault F)
+answered sends (Ok done) = Ok sends
+answered sends (Err fault) = Err fault
+
 -- whether a call's own rule refuses, and not a limit or want of memory
 abbrev pub is_of_call : {F : Type 0} → TableFault F → Bool
 is_of_call (Rule fault) = true

@@ -50,6 +50,10 @@ behind_id m = drop 4 m.payload
 abbrev pub kept : {V : Type 0} → V → Planned V
 kept event = record { event = event; plan = Keep }
 
+-- what is answered to an event that sends nothing
+abbrev pub silent : Sends (Unit {0})
+silent = record { answer = tt; message = None }
+
 -- the fault of an end whose rule refuses what befalls a call
 abbrev pub in_call : ℕ → CallFault → SessionFault
 in_call id fault = InCall id fault

@@ -6,7 +6,7 @@ ghost use Rattle.giop_ids.specs.ById.{put};
 ghost use Rattle.giop_ids.specs.Runs.{Does};
 ghost use Rattle.giop_mux.specs.Calls.{is_one_too_many, judged};
 ghost use Rattle.giop_session.specs.Sending.{sending_step};
-ghost use Rattle.giop_session.specs.CallTable.{event_reply, First, gathers, Hears, IsTaken, More, Nothing, rules_of, take_reply};
+ghost use Rattle.giop_session.specs.CallTable.{answered, event_reply, First, gathers, Hears, IsTaken, More, Nothing, rules_of, Stays, take_reply};
 
 use crate::plan::Planned;
 use crate::sending::{Sending, Sends};
@@ -160,30 +160,28 @@ impl<R: Side> CallTable<R> {
     }
 
     /// A further piece of a message whose pieces are gathered, with more to come: its octets are
-    /// joined to them.
+    /// joined to them. It is heard as any event that changes nothing else at its call.
     ///
     /// Refusals, in this order: `GatherFull`, `NoMemory`. A refusal changes nothing.
     pub fn go_on(
         &mut self,
         id: u32,
-        planned: Planned<R::Event>,
         order: Order,
         octets: &[u8],
-    ) -> Result<Sends<R::Answer>, TableFault<R::Fault>>
+    ) -> Result<(), TableFault<R::Fault>>
         requires comes { gathers R.gathering (finite.get self.old.table id) ≡ true }
         requires in_order { order_fault (finite.get self.old.gathered id) order ≡ None }
-        requires accepted { IsOk (sending_step (R.next self.old.rule)
-            (finite.get self.old.table id) planned).outcome }
-        requires goes_on { gathers R.gathering (sending_step (R.next self.old.rule)
-            (finite.get self.old.table id) planned).entry ≡ true }
-        ensures { Does (rules_of (R.next self.old.rule) (R.closed self.old.rule) R.gathering)
+        ensures { (planned : _) (sends : _)
+            → Stays (sending_step (R.next self.old.rule) (finite.get self.old.table id) planned)
+            (finite.get self.old.table id) sends
+            → Does (rules_of (R.next self.old.rule) (R.closed self.old.rule) R.gathering)
             self.old (record { id = id; what = Hears planned (More octets.now) })
-            (event_reply result) self.new }
+            (event_reply (answered sends result)) self.new }
     {
         if let Err(fault) = self.gather.add(id, order, octets) {
             return Err(TableFault::from(fault));
         }
-        Ok(stay(&mut self.mux, id, planned))
+        Ok(())
     }
 
     /// The last piece of a message whose pieces are gathered, where the event tells what they all

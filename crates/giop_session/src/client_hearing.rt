@@ -224,8 +224,10 @@ fn add(calls: &mut Calls, id: u32, message: &Msg) -> Result<(), SessionFault>
     ensures { AtClient (Befalls id (Hears (kept (event.More true))
         (More (behind_id message.now)))) calls.old result calls.new }
 {
-    let more = kept(ClientEvent::More { in_order: true });
-    told(id, calls.go_on(id, more, message.order, behind_id(message)))
+    match calls.go_on(id, message.order, behind_id(message)) {
+        Ok(()) => Ok(()),
+        Err(fault) => told(id, Err(fault)),
+    }
 }
 
 // The last Fragment of what is gathered.

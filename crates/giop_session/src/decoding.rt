@@ -5,7 +5,7 @@ ghost use Rattle.giop_msg.specs.Locate.{locate_request};
 ghost use Rattle.giop_msg.specs.Messages.RequestAnswer.{IsWant, request_of_joined};
 ghost use Rattle.giop_session.specs.Decoding.{expected, heard_call, heard_locate_by, heard_request_by, undecoded};
 
-use giop_calls::{Aside, CallKind, HeardCall, UndecodedCall};
+use giop_calls::{Aside, CallKind, HeardCall, UndecodedCall, with_target_aside};
 use giop_cdr::{CdrKind, Octets, Order};
 use giop_msg::{LocateRequest, Request, RequestFault, RequestHead, Version};
 use giop_types::Interface;
@@ -61,7 +61,7 @@ fn heard_locate<S: Octets>(
         (whole_of_joined (locate_request version) order (S.octets joined.now))) }
 {
     match LocateRequest::decode(alloc, joined, version, order) {
-        Ok(request) => Some(HeardCall::Locate(request)),
+        Ok(request) => Some(HeardCall::Locate(with_target_aside(alloc, request).ok()?)),
         Err(fault) if fault.kind == CdrKind::NoMemory => None,
         Err(fault) => {
             let fault = RequestFault::Header(fault);

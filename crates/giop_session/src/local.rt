@@ -38,6 +38,7 @@ pub fn done(
 /// The messages of a kind that encoded joined octets are sent in, within the limits of an end, for
 /// the call of an id. Refused as Unfit where there are no such octets, or where the end doesn't send
 /// them; as NoMemory where memory is wanting.
+#[inline(always)]
 pub fn sent(
     alloc: Global,
     limits: Limits,

@@ -30,6 +30,7 @@ impl Model for Messages {
 
 impl Messages {
     /// One message, of fewer than 2^32 octets behind its header. It takes no memory.
+    #[inline(always)]
     pub fn one(alloc: Global, message: Msg) -> Messages
         requires { length message.payload < 2 ^ 32 }
         ensures { result ≡ message ∷ [] }
@@ -72,6 +73,7 @@ impl Messages {
     }
 
     /// The number of messages.
+    #[inline(always)]
     pub fn len(&self) -> usize
         ensures { result ≡ length self.now }
     {

@@ -14,6 +14,7 @@ use std::alloc::{AllocError, Global};
 /// the end doesn't send them: they are more than it gathers itself, or one of the messages is larger
 /// than it takes itself.
 #[tactic(auto, using(crate::proofs::CutLemmas::cut_sized, crate::proofs::CutLemmas::cut_few))]
+#[inline(always)]
 pub fn messages(
     alloc: Global,
     limits: Limits,
@@ -46,6 +47,7 @@ pub fn messages(
 }
 
 /// The message of this payload, to be sent alone. It takes no memory.
+#[inline(always)]
 pub fn one_message(
     alloc: Global,
     version: Version,

@@ -3,7 +3,8 @@ ghost use Rattle.giop_calls.specs.ClientTable.{answers};
 
 use crate::aside::Aside;
 use crate::kind::CallKind;
-use giop_msg::{LocateRequest, Request, Version};
+use crate::locate_call::LocateCall;
+use giop_msg::{Request, Version};
 
 /// What a client asks of a server.
 #[derive(Debug, Drop)]
@@ -11,7 +12,7 @@ pub enum Call {
     /// That it carry out an operation.
     Request(Aside<Request>),
     /// Whether it has an object.
-    Locate(LocateRequest),
+    Locate(LocateCall),
 }
 
 impl Call {

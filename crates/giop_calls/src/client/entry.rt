@@ -5,9 +5,10 @@ ghost use Rattle.giop_calls.specs.Outcomes.{copied};
 use crate::aside::Aside;
 use crate::client::call::Call;
 use crate::client::late::Late;
+use crate::locate_call::LocateCall;
 use crate::outcome::Outcome;
 use giop_cdr::CdrFault;
-use giop_msg::{LocateReply, LocateRequest, Reply, Request};
+use giop_msg::{LocateReply, Reply, Request};
 
 /// What stands under the id of a call at a client.
 #[derive(Debug, Drop)]
@@ -39,7 +40,7 @@ pub enum ClientEntry {
     /// It was a LocateRequest, and its LocateReply came.
     LocateDone {
         /// The request.
-        request: LocateRequest,
+        request: LocateCall,
         /// Its reply.
         reply: LocateReply,
     },

@@ -88,7 +88,6 @@ fn sending(call: Call, left: u32) -> ClientEntry
 
 /// The client calls in so many pieces, of which the first goes out. Refused as IdInUse where the id
 /// isn't free.
-#[inline(always)]
 pub fn begin(entry: Option<ClientEntry>, call: Call, pieces: u32) -> ClientStep
     ensures { result ≡ table.begins entry call pieces }
 {
@@ -100,7 +99,6 @@ pub fn begin(entry: Option<ClientEntry>, call: Call, pieces: u32) -> ClientStep
 }
 
 /// The next piece of the call is sent. Refused as NothingToSend where none is left.
-#[inline(always)]
 pub fn send(entry: Option<ClientEntry>) -> ClientStep
     ensures { result ≡ table.send entry }
 {
@@ -113,7 +111,6 @@ pub fn send(entry: Option<ClientEntry>) -> ClientStep
 }
 
 /// The client cancels. Refused as NotOpen where nothing is sent or awaited.
-#[inline(always)]
 pub fn cancel(entry: Option<ClientEntry>) -> ClientStep
     ensures { result ≡ table.cancel entry }
 {
@@ -147,7 +144,6 @@ fn dropped(late: Late) -> ClientStep
 
 /// The first piece of a Reply or a LocateReply comes, and more are to come. Refused as WrongKind
 /// where the call waits for another kind or version, and as UnknownReply where it waits for none.
-#[inline(always)]
 pub fn first(entry: Option<ClientEntry>, kind: CallKind, version: Version) -> ClientStep
     ensures { result ≡ table.first entry kind version }
 {
@@ -170,7 +166,6 @@ fn begin_reply(call: Call, kind: CallKind, version: Version) -> ClientStep
 }
 
 /// A Reply or a LocateReply comes in one piece. The refusals are those of `first`.
-#[inline(always)]
 pub fn whole(
     entry: Option<ClientEntry>,
     kind: CallKind,
@@ -244,7 +239,6 @@ fn settle_located(gathered: bool, call: Call, reply: LocateReply) -> ClientStep
 
 /// A Fragment comes, and more are to come. Refused as OrderDiffers, or as Stray where nothing is
 /// gathered; ignored behind a cancel.
-#[inline(always)]
 pub fn more(entry: Option<ClientEntry>, in_order: bool) -> ClientStep
     ensures { result ≡ table.more entry in_order }
 {
@@ -269,7 +263,6 @@ fn gather(call: Call, in_order: bool) -> ClientStep
 
 /// The last Fragment comes: behind a cancel it ends the late reply. The refusals are those of
 /// `more`, and WrongKind where the pieces are no reply to the call.
-#[inline(always)]
 pub fn last(entry: Option<ClientEntry>, in_order: bool, reply: HeardReply) -> ClientStep
     ensures { result ≡ table.last entry in_order reply }
 {

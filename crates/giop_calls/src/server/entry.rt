@@ -4,10 +4,11 @@ ghost use Rattle.giop_calls.specs.Outcomes.{copied};
 
 use crate::aside::Aside;
 use crate::kind::CallKind;
+use crate::locate_call::LocateCall;
 use crate::outcome::Outcome;
 use crate::server::question::Question;
 use crate::server::undecoded::UndecodedCall;
-use giop_msg::{LocateRequest, Reply, Request, Target};
+use giop_msg::{Reply, Request, Target};
 
 /// What stands under the id of a call at a server.
 #[derive(Debug, Drop)]
@@ -30,7 +31,7 @@ pub enum ServerEntry {
     /// A LocateRequest came whole, and isn't answered.
     LocateAsked {
         /// The request, with its version and its target.
-        request: LocateRequest,
+        request: LocateCall,
     },
     /// A Request was answered.
     Answered {
@@ -44,7 +45,7 @@ pub enum ServerEntry {
     /// A LocateRequest was answered.
     LocateAnswered {
         /// Its target, where it could be decoded.
-        target: Option<Target>,
+        target: Option<Aside<Target>>,
         /// Whether the object is here.
         here: bool,
     },

@@ -1,6 +1,7 @@
 use crate::aside::Aside;
+use crate::locate_call::LocateCall;
 use crate::server::undecoded::UndecodedCall;
-use giop_msg::{LocateRequest, Request};
+use giop_msg::Request;
 
 /// What a message that a client sent comes to, once its last piece is there.
 #[derive(Debug, Drop)]
@@ -8,7 +9,7 @@ pub enum HeardCall {
     /// A Request of the interface.
     Request(Aside<Request>),
     /// A LocateRequest.
-    Locate(LocateRequest),
+    Locate(LocateCall),
     /// One of them that can't be decoded.
     Undecoded(UndecodedCall),
 }

@@ -64,7 +64,6 @@ pub fn arrived(call: HeardCall) -> ServerEntry
 
 /// A Request or a LocateRequest comes, and leaves this entry. Refused as IdInUse where the id isn't
 /// free.
-#[inline(always)]
 pub fn begin(entry: Option<ServerEntry>, next: ServerEntry) -> ServerStep
     ensures { result ≡ table.begins entry next }
 {
@@ -77,7 +76,6 @@ pub fn begin(entry: Option<ServerEntry>, next: ServerEntry) -> ServerStep
 
 /// A Fragment comes, and more are to come. Refused as OrderDiffers, or as Stray where nothing is
 /// gathered; ignored behind a cancel.
-#[inline(always)]
 pub fn more(entry: Option<ServerEntry>, in_order: bool) -> ServerStep
     ensures { result ≡ table.more entry in_order }
 {
@@ -103,7 +101,6 @@ fn gather(kind: CallKind, in_order: bool) -> ServerStep
 }
 
 /// The last Fragment comes. The refusals are those of `more`.
-#[inline(always)]
 pub fn last(entry: Option<ServerEntry>, in_order: bool, call: HeardCall) -> ServerStep
     ensures { result ≡ table.last entry in_order call }
 {
@@ -132,7 +129,6 @@ fn complete(kind: CallKind, in_order: bool, call: HeardCall) -> ServerStep
 
 /// A CancelRequest comes: it ends a call that expects a reply, and else changes nothing. It is
 /// never refused.
-#[inline(always)]
 pub fn cancel(entry: Option<ServerEntry>) -> ServerStep
     ensures { result ≡ table.cancel entry }
 {
@@ -172,7 +168,6 @@ fn cancelled(entry: Option<ServerEntry>) -> Option<ServerEntry>
 /// WrongKind for a LocateRequest, as NotOpen where no reply is expected, and as Unfit in another
 /// version than the request's, or where the request couldn't be decoded and the reply is no
 /// exception of the broker.
-#[inline(always)]
 pub fn answer(entry: Option<ServerEntry>, reply: Aside<Reply>, pieces: u32) -> ServerStep
     ensures { result ≡ table.answer entry reply pieces }
 {
@@ -236,7 +231,6 @@ fn answer_undecoded(call: UndecodedCall, reply: Aside<Reply>, pieces: u32) -> Se
 /// The server answers a LocateRequest. Refused as WrongKind for a Request that expects a reply, as
 /// NotOpen where nothing is open, and as Unfit where the target couldn't be decoded and yet is told
 /// to be here.
-#[inline(always)]
 pub fn answer_locate(entry: Option<ServerEntry>, here: bool) -> ServerStep
     ensures { result ≡ table.answer_locate entry here }
 {
@@ -268,7 +262,6 @@ fn answer_locate_undecoded(call: UndecodedCall, here: bool) -> ServerStep
 }
 
 /// The next piece of the reply is sent. Refused as NothingToSend where none is left.
-#[inline(always)]
 pub fn send(entry: Option<ServerEntry>) -> ServerStep
     ensures { result ≡ table.send entry }
 {

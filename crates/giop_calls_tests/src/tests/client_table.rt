@@ -34,7 +34,7 @@ const SEEN: Is = Is::Cancelled(Late::Seen);
 fn call(alloc: Global, kind: CallKind) -> Result<Call, AllocError> {
     Ok(match kind {
         CallKind::Request => Call::Request(made::request(alloc, 3, Version::V12)?),
-        CallKind::Locate => Call::Locate(made::locate_request(alloc, Version::V12)),
+        CallKind::Locate => Call::Locate(made::locate_request(alloc, Version::V12)?),
     })
 }
 
@@ -56,7 +56,7 @@ pub fn entry(alloc: Global, is: Is) -> Result<Option<ClientEntry>, AllocError> {
             reply: made::reply(alloc, Version::V12)?,
         },
         Is::LocateDone => ClientEntry::LocateDone {
-            request: made::locate_request(alloc, Version::V12),
+            request: made::locate_request(alloc, Version::V12)?,
             reply: made::locate_reply(alloc, 1),
         },
         Is::Undecoded => ClientEntry::Undecoded {

@@ -1,9 +1,9 @@
 //! Messages, as small as they can be.
-use giop_calls::{Aside, CallKind, UndecodedCall};
+use giop_calls::{Aside, CallKind, LocateCall, UndecodedCall};
 use giop_cdr::{CdrFault, CdrKind, OctetList};
 use giop_msg::{
-    Completion, LocateReply, LocateReplyHead, LocateRequest, Reply, ReplyBody, Request,
-    RequestFault, RequestHead, ServiceContexts, Target, Version,
+    Completion, LocateReply, LocateReplyHead, Reply, ReplyBody, Request, RequestFault, RequestHead,
+    ServiceContexts, Target, Version,
 };
 use giop_types::ValueList;
 use std::alloc::{AllocError, Global};
@@ -28,12 +28,12 @@ pub fn request(alloc: Global, flags: u8, version: Version) -> Result<Aside<Reque
     Aside::new(alloc, Request { head, body })
 }
 
-pub fn locate_request(alloc: Global, version: Version) -> LocateRequest {
-    LocateRequest {
+pub fn locate_request(alloc: Global, version: Version) -> Result<LocateCall, AllocError> {
+    Ok(LocateCall {
         version,
         id: 1,
-        target: Target::Key(OctetList::new(alloc)),
-    }
+        target: Aside::new(alloc, Target::Key(OctetList::new(alloc)))?,
+    })
 }
 
 pub fn undecoded(expects: Option<CallKind>) -> UndecodedCall {

@@ -144,12 +144,12 @@ fn is_done_replied(alloc: Global) -> Result<bool, AllocError> {
 }
 
 // Whether an object that is located is told as such, at a client.
-fn is_located(alloc: Global) -> bool {
+fn is_located(alloc: Global) -> Result<bool, AllocError> {
     let located = ClientEntry::LocateDone {
-        request: made::locate_request(alloc, Version::V12),
+        request: made::locate_request(alloc, Version::V12)?,
         reply: made::locate_reply(alloc, 2),
     };
-    matches!(located.outcome(), Outcome::Located(2))
+    Ok(matches!(located.outcome(), Outcome::Located(2)))
 }
 
 // The same at a server.
@@ -165,7 +165,7 @@ fn is_here() -> bool {
 fn outcomes_and_faults_are_told(rt: HostRuntime) -> Result<(), Fail> {
     let alloc = rt.alloc();
     assert!(rt; is_done_replied(alloc)?);
-    assert!(rt; is_located(alloc));
+    assert!(rt; is_located(alloc)?);
     assert!(rt; is_here());
     let text = std::format!(in alloc; "{} {}", CallFault::UnknownOperation, CallFault::Stray)?;
     assert_eq!(rt; text.as_str(), "UnknownOperation Stray");

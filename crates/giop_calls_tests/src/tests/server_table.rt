@@ -41,7 +41,7 @@ fn entry(alloc: Global, is: Is) -> Result<Option<ServerEntry>, AllocError> {
             call: made::undecoded(expects),
         },
         Is::LocateAsked => ServerEntry::LocateAsked {
-            request: made::locate_request(alloc, Version::V12),
+            request: made::locate_request(alloc, Version::V12)?,
         },
         Is::Answered(left) => ServerEntry::Answered {
             asked: Question::Request(made::request(alloc, 3, Version::V12)?),
@@ -148,7 +148,7 @@ fn heard(alloc: Global, is: Is) -> Result<HeardCall, AllocError> {
     Ok(match is {
         Is::Delivered => HeardCall::Request(made::request(alloc, 0, Version::V12)?),
         Is::Undecoded(expects) => HeardCall::Undecoded(made::undecoded(expects)),
-        Is::LocateAsked => HeardCall::Locate(made::locate_request(alloc, Version::V12)),
+        Is::LocateAsked => HeardCall::Locate(made::locate_request(alloc, Version::V12)?),
         _ => HeardCall::Request(made::request(alloc, 3, Version::V12)?),
     })
 }
@@ -376,21 +376,28 @@ fn pieces_are_sent_until_none_is_left(rt: HostRuntime) -> Result<(), Fail> {
     Ok(())
 }
 
+// Whether an object is told to be here, and its key with it.
+fn is_located_key(entry: Option<&ServerEntry>) -> bool {
+    match entry {
+        Some(ServerEntry::LocateAnswered {
+            target: Some(target),
+            here: true,
+        }) => is_key(target),
+        _ => false,
+    }
+}
+
+fn is_key(target: &Target) -> bool {
+    matches!(target, Target::Key(_))
+}
+
 // An undecoded LocateRequest has no target to tell; a decoded one has.
 #[test]
 fn a_located_target_is_kept(rt: HostRuntime) -> Result<(), Fail> {
     let alloc = rt.alloc();
     let here = ServerEvent::AnswerLocate { here: true };
     let step = ServerRule.step(entry(alloc, LocateAsked)?, here);
-    assert!(rt;
-        matches!(
-            &step.entry,
-            Some(ServerEntry::LocateAnswered {
-                target: Some(Target::Key(_)),
-                here: true
-            })
-        )
-    );
+    assert!(rt; is_located_key(step.entry.as_ref()));
     let away = ServerEvent::AnswerLocate { here: false };
     let step = ServerRule.step(entry(alloc, BAD_LOCATE)?, away);
     assert!(rt;

@@ -147,6 +147,7 @@ impl<'a> ServerEnd<'a> {
 
     // A Reply befalls its call, in so many pieces, and does this to the messages of the call.
     #[tactic(auto, using(crate::proofs::QuietLemmas::answer_quiet, crate::proofs::LocalLemmas::wanted_puts))]
+    #[inline(always)]
     fn put_reply(&mut self, reply: Reply, pieces: u32, plan: Plan) -> Result<(), SessionFault>
         ensures puts { Puts (rules_of table.server_step table.is_closed table.is_gathering) in_call
             reply.id None
@@ -169,6 +170,7 @@ impl<'a> ServerEnd<'a> {
     }
 
     // The Request that waits for a Reply, where one does; none inside where it couldn't be decoded.
+    #[inline(always)]
     fn question(&self, id: u32) -> Option<Option<&Request>>
         ensures { option_map option_copied result
             ≡ question_of (entry_of (finite.get self.now.calls.table id)) }
@@ -178,6 +180,7 @@ impl<'a> ServerEnd<'a> {
 
     // The messages that a Reply to a Request is sent in.
     #[tactic(auto, using(crate::proofs::LocalLemmas::refused_unsent))]
+    #[inline(always)]
     fn pieces_of_reply(
         &self,
         question: Option<&Request>,

@@ -26,7 +26,7 @@ use crate::plan::{Plan, Planned};
 use crate::putting::put;
 use crate::sendable::one_message;
 use crate::session_fault::SessionFault;
-use giop_calls::{Aside, Call, CallFault, ClientEntry, ClientEvent, Outcome};
+use giop_calls::{Aside, Call, CallFault, ClientEntry, ClientEvent, Outcome, with_target_aside};
 use giop_cdr::{OctetList, Order};
 use giop_msg::{Kind, LocateRequest, Reply, Request, Version};
 use std::alloc::Global;
@@ -102,6 +102,9 @@ impl<'a> ClientEnd<'a> {
         }
         let id = request.id;
         let messages = self.pieces_of_locate(&request, form)?;
+        let Ok(request) = with_target_aside(self.alloc, request) else {
+            return Err(SessionFault::NoMemory);
+        };
         let event = ClientEvent::Call {
             pieces: messages.len() as u32,
             call: Call::Locate(request),
