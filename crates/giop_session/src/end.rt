@@ -130,15 +130,17 @@ impl<'a, R: Hearing> End<'a, R> {
         if let Some(fault) = self.fault {
             return Err(fault);
         }
-        let fed = hear_all(
+        if let Err(fault) = hear_all(
             self.alloc,
             self.interface,
             &mut self.framer,
             &mut self.calls,
             octets,
-        );
-        self.fault = fed.err();
-        fed
+        ) {
+            self.fault = Some(fault);
+            return Err(fault);
+        }
+        Ok(())
     }
 
     /// What stands under the id. It takes no memory.
@@ -298,7 +300,7 @@ fn hear<R: Hearing>(
         (R.befalls interface.now) message calls.old result calls.new }
     ensures framer { framer.new ≡ framer.old }
 {
-    let heard = R::hear(alloc, interface, calls, &message);
+    R::hear(alloc, interface, calls, &message)?;
     framer.reuse(message);
-    heard
+    Ok(())
 }

@@ -112,7 +112,10 @@ fn arrive(
     let Some(call) = heard_call(alloc, interface, kind, version, order, &joined) else {
         return Err(SessionFault::NoMemory);
     };
-    told(id, calls.hear(id, kept(ServerEvent::Whole { call })))
+    match calls.hear(id, kept(ServerEvent::Whole { call })) {
+        Ok(_) => Ok(()),
+        Err(fault) => told(id, Err(fault)),
+    }
 }
 
 fn cancel(calls: &mut Calls, message: &Msg) -> Result<(), SessionFault>
