@@ -33,6 +33,8 @@ impl Hearing for ClientRule {
 
     ghost in_call = { in_call };
 
+    // Out of line, so that a fault which isn't there is never moved.
+    #[inline(never)]
     fn hear(
         alloc: Global,
         interface: &Interface,

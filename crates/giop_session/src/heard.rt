@@ -45,7 +45,7 @@ pub fn kept<V>(event: V) -> Planned<V>
 }
 
 /// What an end tells of what befell a call.
-#[inline(always)]
+#[inline(never)]
 pub fn told(id: u32, answered: Result<Sends<()>, TableFault<CallFault>>) -> Result<(), SessionFault>
     ensures { result ≡ told_of (in_call id) answered }
 {

@@ -30,7 +30,8 @@ pub fn done(
     ensures want { IfNone answered (result ≡ Err NoMemory) }
 {
     match answered {
-        Some(answered) => told(id, answered),
+        Some(Ok(_)) => Ok(()),
+        Some(Err(fault)) => told(id, Err(fault)),
         None => Err(SessionFault::NoMemory),
     }
 }

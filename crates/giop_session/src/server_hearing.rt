@@ -38,6 +38,8 @@ impl Hearing for ServerRule {
 
     ghost in_call = { in_call };
 
+    // Out of line, so that a fault which isn't there is never moved.
+    #[inline(never)]
     fn hear(
         alloc: Global,
         interface: &Interface,
