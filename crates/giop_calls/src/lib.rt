@@ -6,8 +6,8 @@ mod aside;
 mod client;
 mod fault;
 mod kind;
-mod locate_call;
 pub mod laws;
+mod locate_call;
 mod outcome;
 mod server;
 

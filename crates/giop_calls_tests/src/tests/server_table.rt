@@ -379,10 +379,12 @@ fn pieces_are_sent_until_none_is_left(rt: HostRuntime) -> Result<(), Fail> {
 // Whether an object is told to be here, and its key with it.
 fn is_located_key(entry: Option<&ServerEntry>) -> bool {
     match entry {
-        Some(ServerEntry::LocateAnswered {
-            target: Some(target),
-            here: true,
-        }) => is_key(target),
+        Some(
+            ServerEntry::LocateAnswered {
+                target: Some(target),
+                here: true,
+            },
+        ) => is_key(target),
         _ => false,
     }
 }
