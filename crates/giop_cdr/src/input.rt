@@ -7,3 +7,4 @@ pub mod runs;
 pub mod sequences;
 pub mod tagged;
 pub mod tagged_list_at;
+pub mod wide_order;

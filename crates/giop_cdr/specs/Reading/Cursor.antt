@@ -1,6 +1,6 @@
 -- Where a reader stands, and where a value begins (CORBA 3.3 Part 2, 9.3.1: byte order and
 -- alignment).
-use Rattle.std.specs.Prelude.{ℕ, ◌+◌, ◌-◌, ◌%◌, ◌==◌, ◌||◌, Bool, List, take, drop}
+use Rattle.std.specs.Prelude.{ℕ, zero, suc, ◌+◌, ◌-◌, ◌%◌, ◌==◌, ◌||◌, Bool, List, take, drop}
 use Rattle.std.specs.Int.{Width, from_be_bytes, from_le_bytes}
 use Rattle.giop_cdr.specs.declared.order.Order.{Order}
 use Rattle.giop_cdr.specs.declared.order.Order.TheVariants.{Big, Little}
@@ -16,6 +16,11 @@ pub record Cursor : Type 0 where
   pub order : Order
   pub at : ℕ
   pub rest : List ℕ
+
+-- the order that a number stands for where an order fills a word
+abbrev pub order_by : ℕ → Order
+order_by zero = Big
+order_by (suc n) = Little
 
 -- how many octets lie between an offset and the next multiple of n
 abbrev pub pad : ℕ → ℕ → ℕ

@@ -7,6 +7,7 @@ ghost use Rattle.giop_cdr.specs.Reading.Outcome.{Reads, Exactly};
 use crate::fault::{CdrFault, CdrKind};
 use crate::input::octets_at::OctetsAt;
 use crate::input::runs::{copy_of, field_of, text_lies_at};
+use crate::input::wide_order::WideOrder;
 use crate::octets::{Octets, SliceOctets};
 use crate::order::Order;
 use std::alloc::{AllocError, Global};
@@ -21,7 +22,7 @@ use std::marker::Model;
 #[derive(Drop)]
 pub struct CdrIn<'a, S: Octets> {
     source: &'a S,
-    order: Order,
+    order: WideOrder,
     // The offset of the next octet, by which values are aligned.
     at: usize,
     // The place of the next octet in `source`, and of the end of what may be read.
@@ -55,7 +56,7 @@ impl<'a, S: Octets> CdrIn<'a, S> {
     {
         CdrIn {
             source,
-            order,
+            order: WideOrder::new(order),
             at: start,
             index: 0,
             end: source.len(),
@@ -83,7 +84,7 @@ impl<'a, S: Octets> CdrIn<'a, S> {
     pub fn order(&self) -> Order
         ensures { result ≡ self.now.order }
     {
-        self.order
+        self.order.get()
     }
 
     /// Another reader that stands where this one does: to read ahead, and come back by assigning
@@ -94,7 +95,7 @@ impl<'a, S: Octets> CdrIn<'a, S> {
     {
         CdrIn {
             source: self.source,
-            order: self.order,
+            order: self.order.again(),
             at: self.at,
             index: self.index,
             end: self.end,
@@ -174,6 +175,7 @@ impl<'a, S: Octets> CdrIn<'a, S> {
     }
 
     // A copy of the next octets, which are there.
+    #[inline(always)]
     pub(crate) fn copy(&self, alloc: Global, count: usize) -> Result<Vec<u8>, AllocError>
         requires { count ≤ length self.now.rest }
         ensures { IfOk result (λ v. v.items ≡ take count self.now.rest) }
@@ -191,6 +193,7 @@ impl<'a, S: Octets> CdrIn<'a, S> {
     }
 
     // Whether the next octets, which are there, are those that a string's length counts.
+    #[inline(always)]
     pub(crate) fn text_is_next(&self, count: usize) -> bool
         requires { count ≤ length self.now.rest }
         ensures { result ≡ is_text (take count self.now.rest) }
@@ -242,7 +245,7 @@ impl<'a, S: Octets> CdrIn<'a, S> {
         };
         Ok(CdrIn {
             source: self.source,
-            order,
+            order: WideOrder::new(order),
             at: 1,
             index: self.index + 1,
             end: self.index + count,
@@ -265,7 +268,7 @@ impl<'a> CdrIn<'a, SliceOctets<'a>> {
 impl<'a, S: Octets> fmt::Debug for CdrIn<'a, S> {
     fn fmt<W: fmt::Write>(&self, f: &mut fmt::Formatter<W>) -> fmt::Result {
         f.debug_struct("CdrIn")
-            .field("order", &self.order)
+            .field("order", &self.order())
             .field("position", &self.position())
             .field("remaining", &self.remaining())
             .finish()

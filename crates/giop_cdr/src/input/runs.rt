@@ -37,8 +37,28 @@ fn scattered_field<S: Octets, const N: usize>(source: &S, from: usize) -> [u8; N
     octets
 }
 
-/// A copy of the octets from an index on, run by run.
+/// A copy of the octets from an index on: at once where they lie together.
 pub fn copy_of<S: Octets>(
+    alloc: Global,
+    source: &S,
+    from: usize,
+    count: usize,
+) -> Result<Vec<u8>, AllocError>
+    requires within { from + count ≤ length (S.octets source.now) }
+    requires small { from + count < 2 ^ 64 }
+    ensures { IfOk result (λ v. v.items ≡ take count (drop from (S.octets source.now))) }
+{
+    if count > 0 {
+        let run = source.run(from);
+        if count <= run.len() {
+            return Vec::from_slice(alloc, &run[..count]);
+        }
+    }
+    copy_by_runs(alloc, source, from, count)
+}
+
+// The same run by run.
+fn copy_by_runs<S: Octets>(
     alloc: Global,
     source: &S,
     from: usize,

@@ -47,6 +47,7 @@ impl<'a, S: Octets> CdrIn<'a, S> {
     /// Refused at the offset of the count: as `read_count` refuses it, and as BoundPassed where it
     /// is above the bound. The reader then stays where it was.
     #[tactic(auto, unfolding(crate::specs::Reading::Values::octet_count_at))]
+    #[inline(always)]
     pub fn read_bounded_count(&mut self, bound: u32) -> Result<usize, CdrFault>
         ensures value { Reads self.old result self.new (octet_count_at bound self.old) }
         ensures within { IfOk result (λ count. count ≤ length self.new.rest) }

@@ -103,6 +103,7 @@ impl<'a, S: Octets, I: Tagged> TaggedListAt<'a, S, I> {
 
 // A number and octets at which a reader stands.
 #[tactic(auto, unfolding(crate::specs::Reading::View::tagged_at))]
+#[inline(always)]
 fn view_tagged<'a, S: Octets, I: Tagged>(
     input: &mut CdrIn<'a, S>,
 ) -> Result<TaggedAt<'a, S>, CdrFault>
@@ -117,6 +118,7 @@ fn view_tagged<'a, S: Octets, I: Tagged>(
 }
 
 // Passes over as many as were counted.
+#[inline(always)]
 fn skip_tagged<'a, S: Octets, I: Tagged>(
     count: usize,
     input: &mut CdrIn<'a, S>,

@@ -25,10 +25,10 @@ returns g c =
     let within : inside.index + c.args.count ≤ inside.end = omega (arith, c.requires, c.self.invariant.0) in
     let some : 0 < c.args.count = omega arith in
     elim c.match-at.branch [
-      | in-0 w ↦ rw (← c.self.view_is, w.order-is)
+      | in-0 w ↦ rw (← c.self.view_is, c.new.ensures, w.order-is)
           (opened_big c.args.count inside.index inside.end c.args.at octets _ some within c.self.invariant.1
           (let h : c.at.result ≡ 0 = omega (arith, w.in-0) in sym c.at.ensures ∙ h))
-      | in-1 w ↦ rw (← c.self.view_is, w.order-is)
+      | in-1 w ↦ rw (← c.self.view_is, c.new.ensures, w.order-is)
           (opened_little c.args.count inside.index inside.end c.args.at octets _ some within c.self.invariant.1
           (let h : c.at.result ≡ 1 = omega (arith, w.in-1) in sym c.at.ensures ∙ h))
     ]

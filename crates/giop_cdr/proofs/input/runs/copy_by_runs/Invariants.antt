@@ -1,5 +1,5 @@
 use Rattle.std.proofs.Common.{◌≡◌, ◌-◌, ◌≤◌, take, drop, length, vec_len}
-use Rattle.giop_cdr.proofs.input.runs.copy_of.Given as goal
+use Rattle.giop_cdr.proofs.input.runs.copy_by_runs.Given as goal
 
 abbrev pub invariant-runs : goal.invariant-runs
 invariant-runs g l =
