@@ -181,8 +181,8 @@ fn add_slot<E: Drop, F>(
     if table.len() == calls as usize {
         return Err(Refusal::TooManyCalls);
     }
-    table
-        .insert(id, Some(entry))
-        .map_err(|_| Refusal::NoMemory)?;
-    Ok(())
+    match table.insert(id, Some(entry)) {
+        Ok(_) => Ok(()),
+        Err(_) => Err(Refusal::NoMemory),
+    }
 }

@@ -45,6 +45,10 @@ impl Outgoing {
         ensures { self.new ≡ drop n self.old }
     {
         self.octets.advance(n);
+        // So that the next octets have all of its memory before them.
+        if self.octets.is_empty() {
+            self.octets.clear();
+        }
     }
 
     /// Puts a message out. Where memory is wanting nothing changes.
