@@ -137,6 +137,10 @@ impl Framer {
         ensures { TakesMessage self.old message.now self.new }
     {
         self.unread.advance(12 + message.payload.len());
+        // So that the next octets have all of its memory before them.
+        if self.unread.is_empty() {
+            self.unread.clear();
+        }
     }
 }
 

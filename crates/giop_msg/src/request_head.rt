@@ -117,6 +117,7 @@ impl RequestHead {
 
 impl<'a, S: Octets> RequestHeadAt<'a, S> {
     /// A copy of the head on its own. It takes memory for its octets and contexts.
+    #[inline(always)]
     pub fn to_owned(&self, alloc: Global) -> Result<RequestHead, AllocError>
         ensures { IfOk result (λ head. head ≡ self.now) }
     {
@@ -132,6 +133,7 @@ impl<'a, S: Octets> RequestHeadAt<'a, S> {
 }
 
 // The response flags of 1.2.
+#[inline(always)]
 fn read_flags<S: Octets>(input: &mut CdrIn<S>) -> Result<u8, CdrFault>
     ensures { Reads input.old result input.new (response_flags.read input.old) }
 {
@@ -156,6 +158,7 @@ fn read_expected<S: Octets>(input: &mut CdrIn<S>) -> Result<u8, CdrFault>
 }
 
 // The three reserved octets, whatever they are.
+#[inline(always)]
 fn read_reserved<S: Octets>(input: &mut CdrIn<S>) -> Result<(), CdrFault>
     ensures { Skips result input.new (reserved_octets.read input.old) }
 {
@@ -175,17 +178,20 @@ fn read_reserved_of<S: Octets>(version: Version, input: &mut CdrIn<S>) -> Result
     }
 }
 
-// The fields of a head of 1.2 in their order.
+// The fields of a head of 1.2 in their order, by a reader of its own: one that is lent to nothing
+// that isn't inlined needs no place in memory.
 #[inline(always)]
 fn view_head_1_2<'a, S: Octets>(input: &mut CdrIn<'a, S>) -> Result<RequestHeadAt<'a, S>, CdrFault>
     ensures { Exactly result input.new (request_head_1_2.read input.old) }
 {
-    let id = input.read_ulong()?;
-    let flags = read_flags(input)?;
-    read_reserved(input)?;
-    let target = view_target(input)?;
-    let operation = input.view_string(0)?;
-    let contexts = input.view_tagged_list()?;
+    let mut ahead = input.fork();
+    let id = ahead.read_ulong()?;
+    let flags = read_flags(&mut ahead)?;
+    read_reserved(&mut ahead)?;
+    let target = view_target(&mut ahead)?;
+    let operation = ahead.view_string(0)?;
+    let contexts = ahead.view_tagged_list()?;
+    *input = ahead;
     Ok(RequestHead {
         version: Version::V12,
         id,

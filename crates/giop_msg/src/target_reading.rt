@@ -50,12 +50,37 @@ fn view_profile<'a, S: Octets>(input: &mut CdrIn<'a, S>) -> Result<TargetAt<'a, 
     Ok(Target::Profile(profile))
 }
 
+// The same by a reader of its own, so that the reader of the head is lent to nothing that isn't
+// inlined.
+#[inline(always)]
+fn view_profile_ahead<'a, S: Octets>(input: &mut CdrIn<'a, S>) -> Result<TargetAt<'a, S>, CdrFault>
+    ensures { Exactly result input.new (profile_target.read input.old) }
+{
+    let mut ahead = input.fork();
+    let target = view_profile(&mut ahead)?;
+    *input = ahead;
+    Ok(target)
+}
+
 fn view_reference<'a, S: Octets>(input: &mut CdrIn<'a, S>) -> Result<TargetAt<'a, S>, CdrFault>
     ensures { Exactly result input.new (reference_target.read input.old) }
 {
     let index = input.read_ulong()?;
     let ior = view_ior(input)?;
     Ok(Target::Reference { index, ior })
+}
+
+// The same by a reader of its own.
+#[inline(always)]
+fn view_reference_ahead<'a, S: Octets>(
+    input: &mut CdrIn<'a, S>,
+) -> Result<TargetAt<'a, S>, CdrFault>
+    ensures { Exactly result input.new (reference_target.read input.old) }
+{
+    let mut ahead = input.fork();
+    let target = view_reference(&mut ahead)?;
+    *input = ahead;
+    Ok(target)
 }
 
 // A target of 1.2: the disposition, and what it says.
@@ -67,8 +92,8 @@ pub(crate) fn view_target<'a, S: Octets>(
 {
     match read_disposition(input)? {
         0 => view_key(input),
-        1 => view_profile(input),
-        _ => view_reference(input),
+        1 => view_profile_ahead(input),
+        _ => view_reference_ahead(input),
     }
 }
 

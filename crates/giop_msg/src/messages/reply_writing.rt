@@ -4,7 +4,7 @@ ghost use Rattle.giop_cdr.specs.declared.order.Order.{Order};
 ghost use Rattle.giop_cdr.specs.Layout.{AreOctets};
 ghost use Rattle.giop_cdr.specs.Writing.Outcome.{Appends};
 ghost use Rattle.giop_msg.specs.Messages.Outcome.{joined_into};
-ghost use Rattle.giop_msg.specs.Messages.Reply.{reply};
+ghost use Rattle.giop_msg.specs.Messages.Reply.{outs_for, reply};
 
 use crate::joined::joined_output;
 use crate::messages::reply::Reply;
@@ -13,7 +13,7 @@ use crate::messages::reply_reading::{may_answer, outs_for};
 use crate::messages::request::Request;
 use crate::reply_head_writing::{append_parts, are_writable_parts};
 use giop_cdr::{CdrOut, EncodeFault, Order};
-use giop_types::Interface;
+use giop_types::{Interface, Parameter};
 use std::alloc::{AllocError, Global};
 
 impl Reply {
@@ -27,12 +27,26 @@ impl Reply {
         ensures { result ≡ (reply interface.now (option_copied request.entry)
             self.now.version).fits self.now }
     {
+        self.is_writable_by(interface, request, outs_for(interface, request))
+    }
+
+    // The same by the outs that the request expects, which are looked up once.
+    fn is_writable_by(
+        &self,
+        interface: &Interface,
+        request: Option<&Request>,
+        outs: &[Parameter],
+    ) -> bool
+        requires { outs.now ≡ outs_for interface.now (option_copied request) }
+        ensures { result ≡ (reply interface.now (option_copied request.entry)
+            self.now.version).fits self.now }
+    {
         let status = self.body.status();
         if !may_answer(request, status) {
             return false;
         }
         are_writable_parts(self.version, status, self.contexts.as_slice())
-            && is_fitting_body(interface, outs_for(interface, request), &self.body)
+            && is_fitting_body(interface, outs, &self.body)
     }
 
     /// The joined octets of the Reply to a Request of an interface, in an order: its head, and its
@@ -61,13 +75,14 @@ impl Reply {
             → (reply interface.now (option_copied request.entry) self.now.version).spells
             order at self.now octets → ⊥ }
     {
-        if !self.is_writable(interface, request) {
+        let outs = outs_for(interface, request);
+        if !self.is_writable_by(interface, request, outs) {
             return Err(EncodeFault::Unfit);
         }
         let Ok(mut out) = joined_output(alloc, order) else {
             return Err(EncodeFault::NoMemory);
         };
-        if append_reply(self, interface, request, &mut out).is_err() {
+        if append_reply(self, interface, request, outs, &mut out).is_err() {
             return Err(EncodeFault::NoMemory);
         }
         Ok(out.into_bytes())
@@ -80,10 +95,12 @@ fn append_reply(
     answer: &Reply,
     interface: &Interface,
     request: Option<&Request>,
+    outs: &[Parameter],
     out: &mut CdrOut,
 ) -> Result<(), AllocError>
-    requires { (reply interface.now (option_copied request) answer.now.version).fits
+    requires fits { (reply interface.now (option_copied request) answer.now.version).fits
         answer.now ≡ true }
+    requires outs { outs.now ≡ outs_for interface.now (option_copied request) }
     ensures { Appends out.old result out.new
         ((reply interface.now (option_copied request.entry) answer.now.version).written
         answer.now out.old) }
@@ -96,6 +113,5 @@ fn append_reply(
         answer.contexts.as_slice(),
         out,
     )?;
-    let outs = outs_for(interface, request);
     append_reply_body(answer.version, interface, outs, &answer.body, out)
 }

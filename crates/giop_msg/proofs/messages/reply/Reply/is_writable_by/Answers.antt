@@ -1,6 +1,6 @@
 use Rattle.std.specs.Option.{option_copied}
 use Rattle.giop_msg.proofs.WholeMessages.ReplyWritingLemmas.{fits_else, fits_not, fits_then}
-use Rattle.giop_msg.proofs.messages.reply.Reply.is_writable.Goals as goal
+use Rattle.giop_msg.proofs.messages.reply.Reply.is_writable_by.Goals as goal
 
 pub returns-then-not-may_answer : goal.returns-then-not-may_answer
 returns-then-not-may_answer c =
@@ -11,9 +11,9 @@ returns-then-not-may_answer c =
 pub returns-then-are_writable_parts : goal.returns-then-are_writable_parts
 returns-then-are_writable_parts c =
     let r = c.args.self.now in
-    fits_then c.args.interface.now (option_copied c.args.request) r.version r c.status-status.result c.as_slice.result.now c.outs_for.result.now
+    fits_then c.args.interface.now (option_copied c.args.request) r.version r c.status-status.result c.as_slice.result.now c.args.outs.now
     c.may_answer.result c.are_writable_parts.result c.is_fitting_body.result c.status-status.ensures c.as_slice.ensures c.may_answer.ensures
-    c.if-not-may_answer.false (c.are_writable_parts.ensures r.id) c.if-are_writable_parts.true c.outs_for.ensures c.is_fitting_body.ensures
+    c.if-not-may_answer.false (c.are_writable_parts.ensures r.id) c.if-are_writable_parts.true c.requires c.is_fitting_body.ensures
 
 pub returns-else-are_writable_parts : goal.returns-else-are_writable_parts
 returns-else-are_writable_parts c =
