@@ -38,6 +38,7 @@ fn scattered_field<S: Octets, const N: usize>(source: &S, from: usize) -> [u8; N
 }
 
 /// A copy of the octets from an index on: at once where they lie together.
+#[inline(always)]
 pub fn copy_of<S: Octets>(
     alloc: Global,
     source: &S,
