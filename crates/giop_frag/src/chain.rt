@@ -13,7 +13,7 @@ use std::marker::Model;
 #[derive(Drop)]
 pub struct Chain<'a> {
     pool: &'a Pool,
-    numbers: &'a [usize],
+    numbers: &'a [u32],
     size: usize,
 }
 
@@ -30,7 +30,7 @@ impl<'a> Model for Chain<'a> {
 
 impl<'a> Chain<'a> {
     // The first octets of the blocks of these numbers.
-    pub(crate) fn new(pool: &'a Pool, numbers: &'a [usize], size: usize) -> Chain<'a>
+    pub(crate) fn new(pool: &'a Pool, numbers: &'a [u32], size: usize) -> Chain<'a>
         requires { AreChained pool.now.blocks numbers.now size }
         ensures { result ≡ octets_at pool.now.blocks numbers.now size }
     {
@@ -68,6 +68,6 @@ impl<'a> Octets for Chain<'a> {
     fn run(&self, from: usize) -> &[u8] {
         let at = from % 512;
         let end = (at + (self.size - from)).min(512);
-        self.pool.part(self.numbers[from / 512], at, end)
+        self.pool.part(self.numbers[from / 512] as usize, at, end)
     }
 }

@@ -15,7 +15,7 @@ use std::marker::Model;
 pub struct Joined {
     order: Order,
     size: usize,
-    numbers: Vec<usize>,
+    numbers: Vec<u32>,
 }
 
 impl Model for Joined {
@@ -144,7 +144,7 @@ impl Joined {
     }
 
     /// The numbers of their blocks.
-    pub fn numbers(&self) -> &[usize]
+    pub fn numbers(&self) -> &[u32]
         ensures { result.now ≡ self.now.numbers }
     {
         self.numbers.as_slice()

@@ -13,7 +13,7 @@ use std::marker::Model;
 pub struct Pool {
     blocks: Blocks,
     // It has room for the number of each block, so to give blocks back takes no memory.
-    free: Vec<usize>,
+    free: Vec<u32>,
 }
 
 impl Model for Pool {
@@ -80,7 +80,7 @@ impl Pool {
 
     /// Takes so many free blocks: their numbers go behind those in the list, which has room.
     #[inline(always)]
-    pub fn take(&mut self, n: usize, into: &mut Vec<usize>)
+    pub fn take(&mut self, n: usize, into: &mut Vec<u32>)
         requires free { n ≤ length self.old.free }
         requires room { vec_len into.old + n ≤ vec_capacity into.old }
         ensures value { into.new.items
@@ -98,7 +98,7 @@ impl Pool {
     }
 
     /// The blocks of these numbers are free again.
-    pub fn give_back(&mut self, numbers: &[usize])
+    pub fn give_back(&mut self, numbers: &[u32])
         requires { length self.old.free + length numbers.now ≤ length self.old.blocks }
         ensures { self.new ≡ record self.old { free = self.old.free ++ numbers.now } }
     {
@@ -107,7 +107,7 @@ impl Pool {
 
     /// Writes octets from an index on, that counts over all these blocks, one behind the other.
     #[inline(always)]
-    pub fn write(&mut self, numbers: &[usize], at: usize, octets: &[u8])
+    pub fn write(&mut self, numbers: &[u32], at: usize, octets: &[u8])
         requires whole { AreWhole self.old.blocks }
         requires apart { AreApart self.old.blocks numbers.now }
         requires room { at + length octets.now ≤ 512 * length numbers.now }
@@ -122,14 +122,18 @@ impl Pool {
         while done < octets.len() {
             let place = at + done;
             let n = (512 - place % 512).min(octets.len() - done);
-            self.write_part(numbers[place / 512], place % 512, &octets[done..done + n]);
+            self.write_part(
+                numbers[place / 512] as usize,
+                place % 512,
+                &octets[done..done + n],
+            );
             done += n;
         }
     }
 
     /// The same where they go behind others into one block.
     #[inline(always)]
-    pub fn write_behind(&mut self, numbers: &[usize], at: usize, octets: &[u8])
+    pub fn write_behind(&mut self, numbers: &[u32], at: usize, octets: &[u8])
         requires apart { AreApart self.old.blocks numbers.now }
         requires behind { 0 < at % 512 }
         requires within { at % 512 + length octets.now ≤ 512 }
@@ -141,18 +145,20 @@ impl Pool {
         ensures before { AreWhole self.old.blocks }
         ensures whole { AreWhole self.new.blocks }
     {
-        self.write_part(numbers[at / 512], at % 512, octets);
+        self.write_part(numbers[at / 512] as usize, at % 512, octets);
     }
 
-    // Makes a block, which is free. Seldom called; out of line, so that `provide` is short.
-    #[cold]
+    // Makes a block, which is free; not one of a number that four octets can't hold. Out of line, so
+    // that `provide` is short.
     #[inline(never)]
     fn make(&mut self) -> Result<(), AllocError>
         ensures ok { OnOk result (self.new ≡ made self.old) }
         ensures err { OnErr result (self.new ≡ self.old) }
     {
-        let number = self.blocks.len();
-        self.free.reserve(number - self.free.len() + 1)?;
+        let Ok(number) = u32::try_from(self.blocks.len()) else {
+            return Err(AllocError);
+        };
+        self.free.reserve(self.blocks.len() - self.free.len() + 1)?;
         self.blocks.push()?;
         self.free.push(number).unwrap();
         Ok(())
