@@ -1,5 +1,5 @@
-//! The plain Rust twin of `giop_bench fragSIZE IDS`: 64 MB in pieces of SIZE octets, interleaved over
-//! IDS ids. Each id has one growing `Vec`.
+//! The plain Rust twin of `giop_bench frag-SIZE IDS`: 64 MB in pieces of SIZE octets, interleaved over
+//! IDS ids, as often as the third word says. Each id has one growing `Vec`.
 use std::collections::BTreeMap;
 
 const OCTETS: usize = 64 << 20;
@@ -62,12 +62,21 @@ fn number(n: usize, default: usize) -> usize {
 fn main() {
     let size = number(1, 512).min(4096);
     let ids = number(2, 64) as u32;
-    let mut piece = vec![0u8; size];
     let mut gather = Gather {
         limit: OCTETS,
         total: 0,
         lists: BTreeMap::new(),
     };
+    let mut sum = 0;
+    for _ in 0..number(3, 1) {
+        sum ^= gathered(&mut gather, size, ids);
+        sum = decoded(&mut gather, ids, sum);
+    }
+    println!("{sum}");
+}
+
+fn gathered(gather: &mut Gather, size: usize, ids: u32) -> u64 {
+    let mut piece = vec![0u8; size];
     let mut refused = 0u64;
     for turn in 0..OCTETS / (size * ids as usize) {
         piece[0] = (turn % 251) as u8;
@@ -83,7 +92,10 @@ fn main() {
             }
         }
     }
-    let mut sum = refused ^ gather.total as u64;
+    refused ^ gather.total as u64
+}
+
+fn decoded(gather: &mut Gather, ids: u32, mut sum: u64) -> u64 {
     for k in 0..ids {
         let id = k.wrapping_mul(4099);
         if let Some(octets) = gather.chain(id) {
@@ -91,5 +103,5 @@ fn main() {
         }
         gather.discard(id);
     }
-    println!("{sum}");
+    sum
 }

@@ -61,21 +61,41 @@ fn checksum(sum: u64, chain: &Chain<'_>) -> u64
     sum
 }
 
-/// Runs the loop with pieces of `size` octets over so many ids, and gives its checksum.
+/// Runs the loop with pieces of `size` octets over so many ids, as often as `rounds` says by one
+/// gatherer, and gives its checksum.
 #[inline(never)]
-pub fn run(alloc: Global, size: usize, ids: u32) -> u64
+pub fn run(alloc: Global, size: usize, ids: u32, rounds: u32) -> u64
+    requires some { 0 < size }
+    requires most { size ≤ 4096 }
+    requires ids { 0 < ids }
+{
+    let mut gather = Gather::new(alloc, OCTETS);
+    let mut sum = 0u64;
+    for _ in 0..rounds {
+        sum ^= gathered(&mut gather, size, ids);
+        sum = decoded(&mut gather, ids, sum);
+    }
+    sum
+}
+
+// Gathers all pieces. A checksum of how many are refused and of how many octets there are.
+fn gathered(gather: &mut Gather, size: usize, ids: u32) -> u64
     requires some { 0 < size }
     requires most { size ≤ 4096 }
     requires ids { 0 < ids }
 {
     let mut piece = [0u8; 4096];
-    let mut gather = Gather::new(alloc, OCTETS);
     let mut refused = 0u64;
     for turn in 0..OCTETS / (size * ids as usize) {
         piece[0] = (turn % 251) as u8;
-        refused = refused.wrapping_add(round(&mut gather, ids, turn, &piece[..size]));
+        refused = refused.wrapping_add(round(gather, ids, turn, &piece[..size]));
     }
-    let mut sum = refused ^ gather.total() as u64;
+    refused ^ gather.total() as u64
+}
+
+// Reads each id's octets where they lie, and takes them out.
+fn decoded(gather: &mut Gather, ids: u32, sum: u64) -> u64 {
+    let mut sum = sum;
     for k in 0..ids {
         let id = k.wrapping_mul(4099);
         if let Some((_, chain)) = gather.chain(id) {

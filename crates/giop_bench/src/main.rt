@@ -20,7 +20,7 @@ use std::{env, io};
 use work::Work;
 
 const USAGE: &str = "usage: giop_bench mux
-or giop_bench (frag24|frag512|frag4096) IDS, where IDS is 1, 64 or 1024
+or giop_bench frag-(24|512|4096)[-again] IDS, where IDS is 1, 64 or 1024
 or giop_bench types-(structs|longs)-(read|write) or types-json-(write|again)[-10],
 or giop_bench msg-(add|put)-(read|write) or msg-cut or msg-join,
 or giop_bench ior-(text|corbaloc)[-10],
@@ -38,9 +38,12 @@ fn cdr(alloc: Global, name: &str, times: &str) -> Option<u64> {
     }
 }
 
-// The checksum of a loop over values by description, over references, over a server's end, over
-// messages, or over CDR.
+// The checksum of a loop over fragments, over values by description, over references, over a
+// server's end, over messages, or over CDR.
 fn named(alloc: Global, name: &str, times: &str) -> Option<u64> {
+    if let Some(name) = name.strip_prefix("frag-") {
+        return gathered(alloc, name, ids(times));
+    }
     if let Some(name) = name.strip_prefix("types-") {
         return types::run(alloc, name);
     }
@@ -67,6 +70,21 @@ fn ids(times: &str) -> u32
     }
 }
 
+// The checksum of a loop over fragments: once, or four times by one gatherer.
+fn gathered(alloc: Global, name: &str, ids: u32) -> Option<u64>
+    requires { 0 < ids }
+{
+    match name {
+        "24" => Some(frag::run(alloc, 24, ids, 1)),
+        "512" => Some(frag::run(alloc, 512, ids, 1)),
+        "4096" => Some(frag::run(alloc, 4096, ids, 1)),
+        "24-again" => Some(frag::run(alloc, 24, ids, 4)),
+        "512-again" => Some(frag::run(alloc, 512, ids, 4)),
+        "4096-again" => Some(frag::run(alloc, 4096, ids, 4)),
+        _ => None,
+    }
+}
+
 // Prints a checksum, or the usage where there is none.
 fn told(rt: &HostRuntime, sum: Option<u64>) -> io::Result<()> {
     match sum {
@@ -80,9 +98,6 @@ fn main(rt: HostRuntime) -> io::Result<()> {
     let times = env::args(&rt)?.nth(2);
     let times = times.as_ref().map_or("", |times| times.as_str());
     match name.as_ref().map_or("", |name| name.as_str()) {
-        "frag24" => println!(rt; "{}", frag::run(rt.alloc(), 24, ids(times))),
-        "frag512" => println!(rt; "{}", frag::run(rt.alloc(), 512, ids(times))),
-        "frag4096" => println!(rt; "{}", frag::run(rt.alloc(), 4096, ids(times))),
         "mux" => println!(rt; "{}", mux::run(rt.alloc())),
         "session-loopback" => told(&rt, loopback::run(&rt)),
         name => told(&rt, named(rt.alloc(), name, times)),
