@@ -32,6 +32,22 @@ pub trait CallRule {
     ) -> Step<Self::Entry, Self::Answer, Self::Fault>
         ensures { result ≡ next self.now entry event };
 
+    /// The same, of an entry where it lies: what `step` leaves stands there. A rule of large entries
+    /// writes its own, and moves none. It takes no memory.
+    #[inline(always)]
+    fn step_in(
+        &self,
+        entry: &mut Option<Self::Entry>,
+        event: Self::Event,
+    ) -> Result<Self::Answer, Self::Fault>
+        ensures entry { entry.new ≡ (next self.now entry.old event).entry }
+        ensures outcome { result ≡ (next self.now entry.old event).outcome }
+    {
+        let step = self.step(entry.take(), event);
+        *entry = step.entry;
+        step.outcome
+    }
+
     /// Whether the call is over, so that its entry may be taken out. It takes no memory.
     fn is_closed(&self, entry: &Self::Entry) -> bool
         ensures { result ≡ closed self.now entry.now };

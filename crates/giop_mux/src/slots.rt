@@ -14,21 +14,6 @@ use crate::{CallRule, Refusal};
 use std::alloc::{AllocError, Global};
 use std::collections::BTreeMap;
 
-/// Steps the call of one slot.
-#[inline(always)]
-pub fn step_slot<R: CallRule>(
-    rule: &R,
-    slot: &mut Option<R::Entry>,
-    event: R::Event,
-) -> Result<R::Answer, R::Fault>
-    ensures entry { slot.new ≡ (R.next rule.now slot.old event).entry }
-    ensures outcome { result ≡ (R.next rule.now slot.old event).outcome }
-{
-    let step = rule.step(slot.take(), event);
-    *slot = step.entry;
-    step.outcome
-}
-
 /// Steps the call of an id that has an entry, or has none.
 #[inline(always)]
 pub fn step_call<R: CallRule>(
@@ -56,7 +41,7 @@ pub fn step_call<R: CallRule>(
 {
     match table.get_mut(&id) {
         Some(slot) => {
-            let outcome = step_slot(rule, slot, event);
+            let outcome = rule.step_in(slot, event);
             if slot.is_none() {
                 drop_slot(table, id);
             }

@@ -1,8 +1,9 @@
-ghost use Rattle.std.specs.Prelude.{◌≡◌, Option};
+ghost use Rattle.std.specs.Prelude.{◌≡◌, Option, Some};
 ghost use Rattle.giop_session.specs.Sending.{entry_of, message_of, sending_step, settled_by, slot_of, unsent_after, unsent_of};
 ghost use Rattle.giop_session.specs.declared.slot.Slot.{Slot};
 
 use crate::plan::{Plan, Planned};
+use crate::side::Side;
 use crate::slot::Slot;
 use crate::unsent::Unsent;
 use giop_msg::Msg;
@@ -27,7 +28,7 @@ pub struct Sends<A> {
     pub message: Option<Msg>,
 }
 
-impl<R: CallRule> CallRule for Sending<R> {
+impl<R: Side> CallRule for Sending<R> {
     ghost use Rattle.giop_session.specs.Sending.{entry_of, keeps_by, sending_step};
 
     type Entry = Slot<R::Entry>;
@@ -60,8 +61,59 @@ impl<R: CallRule> CallRule for Sending<R> {
         settle(step.entry, event.plan, unsent, step.outcome)
     }
 
+    #[inline(always)]
+    fn step_in(
+        &self,
+        slot: &mut Option<Slot<R::Entry>>,
+        event: Planned<R::Event>,
+    ) -> Result<Sends<R::Answer>, R::Fault>
+        ensures entry { slot.new ≡ (sending_step (R.next self.now.rule) slot.old event).entry }
+        ensures outcome { result ≡ (sending_step (R.next self.now.rule) slot.old event).outcome }
+    {
+        match slot {
+            Some(slot) => step_at(&self.rule, slot, event),
+            None => {
+                let step = self.step(None, event);
+                *slot = step.entry;
+                step.outcome
+            }
+        }
+    }
+
     fn is_closed(&self, entry: &Slot<R::Entry>) -> bool {
         self.rule.is_closed(&entry.entry)
+    }
+}
+
+// The same where there is a slot, which changes where it lies.
+#[inline(always)]
+fn step_at<R: Side>(
+    rule: &R,
+    slot: &mut Slot<R::Entry>,
+    planned: Planned<R::Event>,
+) -> Result<Sends<R::Answer>, R::Fault>
+    ensures { sending_step (R.next rule.now) (Some slot.old) planned
+        ≡ record { entry = Some slot.new; outcome = result } }
+{
+    let answer = rule.step_at(&mut slot.entry, planned.event)?;
+    let message = put_out(&mut slot.unsent, planned.plan);
+    Ok(Sends { answer, message })
+}
+
+// The message that is put out; the others are left.
+#[inline(always)]
+fn put_out(unsent: &mut Unsent, plan: Plan) -> Option<Msg>
+    ensures message { result ≡ message_of plan unsent.old }
+    ensures left { unsent.new ≡ unsent_after plan unsent.old }
+{
+    match plan {
+        Plan::Put(messages) => {
+            let (first, rest) = messages.into_parts();
+            *unsent = rest;
+            Some(first)
+        }
+        Plan::Next => unsent.take_first(),
+        Plan::Keep => None,
     }
 }
 
@@ -90,9 +142,10 @@ fn settle<E: Drop, A: Drop, F: Drop>(
 {
     match outcome {
         Ok(answer) => {
-            let (message, unsent) = carry_out(plan, unsent);
+            let mut left = unsent;
+            let message = put_out(&mut left, plan);
             Step {
-                entry: beside(entry, unsent),
+                entry: beside(entry, left),
                 outcome: Ok(Sends { answer, message }),
             }
         }
@@ -101,32 +154,6 @@ fn settle<E: Drop, A: Drop, F: Drop>(
             outcome: Err(fault),
         },
     }
-}
-
-// The message that is put out, and the messages that are left.
-#[inline(always)]
-fn carry_out(plan: Plan, unsent: Unsent) -> (Option<Msg>, Unsent)
-    ensures message { result.0 ≡ message_of plan unsent }
-    ensures left { result.1 ≡ unsent_after plan unsent }
-{
-    match plan {
-        Plan::Put(messages) => {
-            let (first, rest) = messages.into_parts();
-            (Some(first), rest)
-        }
-        Plan::Next => first_taken(unsent),
-        Plan::Keep => (None, unsent),
-    }
-}
-
-#[inline(always)]
-fn first_taken(messages: Unsent) -> (Option<Msg>, Unsent)
-    ensures message { result.0 ≡ message_of Plan.Next messages }
-    ensures left { result.1 ≡ unsent_after Plan.Next messages }
-{
-    let mut left = messages;
-    let first = left.take_first();
-    (first, left)
 }
 
 #[inline(always)]

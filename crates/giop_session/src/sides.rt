@@ -1,6 +1,8 @@
 //! The two sides of a connection, as rules of calls of which some entries gather pieces.
 use crate::side::Side;
-use giop_calls::{ClientEntry, ClientRule, ServerEntry, ServerRule};
+use giop_calls::{
+    CallFault, ClientEntry, ClientEvent, ClientRule, ServerEntry, ServerEvent, ServerRule,
+};
 
 impl Side for ServerRule {
     ghost use Rattle.giop_calls.specs.ServerTable.{is_gathering};
@@ -12,6 +14,11 @@ impl Side for ServerRule {
 
     fn is_gathering(entry: &ServerEntry) -> bool {
         entry.is_gathering()
+    }
+
+    #[inline(always)]
+    fn step_at(&self, entry: &mut ServerEntry, event: ServerEvent) -> Result<(), CallFault> {
+        ServerRule::step_at(self, entry, event)
     }
 }
 
@@ -25,5 +32,10 @@ impl Side for ClientRule {
 
     fn is_gathering(entry: &ClientEntry) -> bool {
         entry.is_gathering()
+    }
+
+    #[inline(always)]
+    fn step_at(&self, entry: &mut ClientEntry, event: ClientEvent) -> Result<(), CallFault> {
+        ClientRule::step_at(self, entry, event)
     }
 }

@@ -1,4 +1,4 @@
-ghost use Rattle.std.specs.Prelude.{◌≡◌};
+ghost use Rattle.std.specs.Prelude.{◌≡◌, Some};
 ghost use Rattle.giop_calls.specs.ClientTable.{client_step};
 
 use crate::client::entry::ClientEntry;
@@ -6,6 +6,7 @@ use crate::client::event::ClientEvent;
 use crate::client::steps;
 use crate::fault::CallFault;
 use giop_mux::{CallRule, Step};
+use std::mem;
 
 /// The rule by which a client's calls run.
 #[derive(Clone, Copy, Debug, PartialEq, Eq)]
@@ -55,4 +56,30 @@ impl CallRule for ClientRule {
     fn is_closed(&self, entry: &ClientEntry) -> bool {
         entry.is_closed()
     }
+}
+
+impl ClientRule {
+    /// What an event does to a call with this entry, which changes where it lies; `step` tells what.
+    /// Each event leaves an entry. It takes no memory.
+    #[inline(always)]
+    pub fn step_at(&self, entry: &mut ClientEntry, event: ClientEvent) -> Result<(), CallFault>
+        ensures { client_step (Some entry.old) event
+            ≡ record { entry = Some entry.new; outcome = result } }
+    {
+        match event {
+            ClientEvent::Call { call, pieces } => steps::begin_at(entry, call, pieces),
+            event => step_moved(entry, event),
+        }
+    }
+}
+
+// The same, with the entry moved out of its place and back.
+fn step_moved(entry: &mut ClientEntry, event: ClientEvent) -> Result<(), CallFault>
+    ensures { client_step (Some entry.old) event
+        ≡ record { entry = Some entry.new; outcome = result } }
+{
+    let before = mem::replace(entry, steps::DROPPED);
+    let step = ClientRule.step(Some(before), event);
+    *entry = step.entry.unwrap_or(steps::DROPPED);
+    step.outcome
 }

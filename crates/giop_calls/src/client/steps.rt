@@ -19,6 +19,9 @@ use giop_mux::Step;
 
 pub type ClientStep = Step<ClientEntry, (), CallFault>;
 
+/// The entry of a call that was cancelled before anything came of its reply.
+pub const DROPPED: ClientEntry = ClientEntry::Cancelled { late: Late::None };
+
 #[inline(always)]
 fn becomes(entry: ClientEntry) -> ClientStep
     ensures { result ≡ table.becomes entry }
@@ -96,6 +99,19 @@ pub fn begin(entry: Option<ClientEntry>, call: Call, pieces: u32) -> ClientStep
     } else {
         refused(entry, CallFault::IdInUse)
     }
+}
+
+/// The same under an id with this entry, which changes where it lies.
+#[inline(always)]
+pub fn begin_at(entry: &mut ClientEntry, call: Call, pieces: u32) -> Result<(), CallFault>
+    ensures { table.begins (Some entry.old) call pieces
+        ≡ record { entry = Some entry.new; outcome = result } }
+{
+    if !entry.is_closed() {
+        return Err(CallFault::IdInUse);
+    }
+    *entry = sending(call, pieces.saturating_sub(1));
+    Ok(())
 }
 
 /// The next piece of the call is sent. Refused as NothingToSend where none is left.

@@ -1,4 +1,4 @@
-ghost use Rattle.std.specs.Prelude.{◌≡◌};
+ghost use Rattle.std.specs.Prelude.{◌≡◌, Some};
 ghost use Rattle.giop_calls.specs.ServerTable.{server_step};
 
 use crate::fault::CallFault;
@@ -6,6 +6,7 @@ use crate::server::entry::ServerEntry;
 use crate::server::event::ServerEvent;
 use crate::server::steps;
 use giop_mux::{CallRule, Step};
+use std::mem;
 
 /// The rule by which a server's calls run.
 #[derive(Clone, Copy, Debug, PartialEq, Eq)]
@@ -52,4 +53,30 @@ impl CallRule for ServerRule {
     fn is_closed(&self, entry: &ServerEntry) -> bool {
         entry.is_closed()
     }
+}
+
+impl ServerRule {
+    /// What an event does to a call with this entry, which changes where it lies; `step` tells what.
+    /// Each event leaves an entry. It takes no memory.
+    #[inline(always)]
+    pub fn step_at(&self, entry: &mut ServerEntry, event: ServerEvent) -> Result<(), CallFault>
+        ensures { server_step (Some entry.old) event
+            ≡ record { entry = Some entry.new; outcome = result } }
+    {
+        match event {
+            ServerEvent::Whole { call } => steps::begin_at(entry, steps::arrived(call)),
+            event => step_moved(entry, event),
+        }
+    }
+}
+
+// The same, with the entry moved out of its place and back.
+fn step_moved(entry: &mut ServerEntry, event: ServerEvent) -> Result<(), CallFault>
+    ensures { server_step (Some entry.old) event
+        ≡ record { entry = Some entry.new; outcome = result } }
+{
+    let before = mem::replace(entry, steps::DROPPED);
+    let step = ServerRule.step(Some(before), event);
+    *entry = step.entry.unwrap_or(steps::DROPPED);
+    step.outcome
 }

@@ -16,6 +16,12 @@ use giop_mux::Step;
 
 pub type ServerStep = Step<ServerEntry, (), CallFault>;
 
+/// The entry of a call that was cancelled before it was answered.
+pub const DROPPED: ServerEntry = ServerEntry::Cancelled {
+    answered: false,
+    left: 0,
+};
+
 #[inline(always)]
 fn becomes(entry: ServerEntry) -> ServerStep
     ensures { result ≡ table.becomes entry }
@@ -72,6 +78,19 @@ pub fn begin(entry: Option<ServerEntry>, next: ServerEntry) -> ServerStep
     } else {
         refused(entry, CallFault::IdInUse)
     }
+}
+
+/// The same to a call with this entry, which changes where it lies.
+#[inline(always)]
+pub fn begin_at(entry: &mut ServerEntry, next: ServerEntry) -> Result<(), CallFault>
+    ensures { table.begins (Some entry.old) next
+        ≡ record { entry = Some entry.new; outcome = result } }
+{
+    if !entry.is_closed() {
+        return Err(CallFault::IdInUse);
+    }
+    *entry = next;
+    Ok(())
 }
 
 /// A Fragment comes, and more are to come. Refused as OrderDiffers, or as Stray where nothing is
@@ -143,15 +162,11 @@ pub fn cancel(entry: Option<ServerEntry>) -> ServerStep
 fn cancelled(entry: Option<ServerEntry>) -> Option<ServerEntry>
     ensures { result ≡ (table.cancel entry).entry }
 {
-    let dropped = ServerEntry::Cancelled {
-        answered: false,
-        left: 0,
-    };
     match entry {
-        Some(ServerEntry::Gathering { .. }) => Some(dropped),
-        Some(ServerEntry::Asked { .. }) => Some(dropped),
-        Some(ServerEntry::LocateAsked { .. }) => Some(dropped),
-        Some(ServerEntry::Undecoded { call }) if call.expects.is_some() => Some(dropped),
+        Some(ServerEntry::Gathering { .. }) => Some(DROPPED),
+        Some(ServerEntry::Asked { .. }) => Some(DROPPED),
+        Some(ServerEntry::LocateAsked { .. }) => Some(DROPPED),
+        Some(ServerEntry::Undecoded { call }) if call.expects.is_some() => Some(DROPPED),
         Some(ServerEntry::Answered { left, .. }) => Some(ServerEntry::Cancelled {
             answered: true,
             left,

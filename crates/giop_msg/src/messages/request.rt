@@ -109,11 +109,12 @@ fn read_request<S: Octets>(
         (request_of_joined interface.now version order (S.octets octets.now)) }
 {
     let mut input = CdrIn::new(octets, order, 12);
-    let head = match view_head(version, &mut input) {
-        Ok(head) => head,
-        Err(fault) => return Err(RequestFault::Header(fault)),
+    // Copied where it lies: a head is large, and a move of it costs as much as a part of its reading.
+    let head = match &view_head(version, &mut input) {
+        Ok(head) => head.to_owned(alloc),
+        Err(fault) => return Err(RequestFault::Header(*fault)),
     };
-    let Ok(head) = head.to_owned(alloc) else {
+    let Ok(head) = head else {
         return Err(RequestFault::Header(no_memory()));
     };
     let Some(operation) = interface.operation(head.operation.as_slice()) else {

@@ -22,24 +22,24 @@ found g c = found_at (λ slot. slot) _ c.args.id (Some c.in-Some.slot.now) (sym 
 
 -- what the slot holds after the step is put under the id
 becomes : (g : Over) (c : goal.After-map_err g)
-    → Becomes c.args.table.now.entries c.if-is_none.table.entries c.args.id (as_slot c.step_slot-outcome.new.slot)
+    → Becomes c.args.table.now.entries c.if-is_none.table.entries c.args.id (as_slot c.step_in-outcome.new.entry)
 becomes g c =
     let there : IsSome (get_by (nat_cmp c.args.id) c.args.table.now) =
     rw (sym c.get_mut.ensures.value ∙ ap option_copied_mut c.in-Some.is) refl in
-    let written = (c.get_mut.follows.holds c.step_slot-outcome.new.slot).3 there in
+    let written = (c.get_mut.follows.holds c.step_in-outcome.new.entry).3 there in
     elim c.if-is_none.branch [
       | then-is_none w ↦ subst
-          (λ (m : BTreeMap ℕ (Option g.row.R-Entry.Denot)). Becomes c.args.table.now.entries m.entries c.args.id (as_slot c.step_slot-outcome.new.slot))
+          (λ (m : BTreeMap ℕ (Option g.row.R-Entry.Denot)). Becomes c.args.table.now.entries m.entries c.args.id (as_slot c.step_in-outcome.new.entry))
           (sym w.table-is) (Becomes-removed _ _ _ _ _ w.if-is_none.ensures written.0 w.drop_slot.ensures.gone.0)
       | else-is_none w ↦ subst
-          (λ (m : BTreeMap ℕ (Option g.row.R-Entry.Denot)). Becomes c.args.table.now.entries m.entries c.args.id (as_slot c.step_slot-outcome.new.slot))
+          (λ (m : BTreeMap ℕ (Option g.row.R-Entry.Denot)). Becomes c.args.table.now.entries m.entries c.args.id (as_slot c.step_in-outcome.new.entry))
           (sym w.table-is) (Becomes-written _ _ _ _ w.if-is_none.ensures written.0)
     ]
 
 -- the step is that of the entry under the id
-stepped : (g : Over) (c : goal.After-map_err g) → c.step_slot-outcome.new.slot
+stepped : (g : Over) (c : goal.After-map_err g) → c.step_in-outcome.new.entry
     ≡ (g.R.CallRule.next c.args.rule.now (map.get (entries_of c.args.table.now.entries) c.args.id) c.args.event).entry
-stepped g c = c.step_slot-outcome.ensures.entry
+stepped g c = c.step_in-outcome.ensures.entry
     ∙ ap (λ o. (g.R.CallRule.next c.args.rule.now o c.args.event).entry) (sym (found g c))
 
 -- what is put is what the step gives
@@ -58,15 +58,15 @@ held g c = from_full c.in-Some.slot.now (found g c)
     from_full None is full = absurd cc
 
 -- the result is the rule's
-is_the_rules : (g : Over) (c : goal.After-map_err g) → c.map_err.result ≡ by_rule c.step_slot-outcome.result
+is_the_rules : (g : Over) (c : goal.After-map_err g) → c.map_err.result ≡ by_rule c.step_in-outcome.result
 is_the_rules g c = grind (arith, common_steps)
 
 judges : (g : Over) (c : goal.After-map_err g) → c.map_err.result
     ≡ judged (entries_of c.args.table.now.entries) c.args.calls c.args.id
     (g.R.CallRule.next c.args.rule.now (map.get (entries_of c.args.table.now.entries) c.args.id) c.args.event)
 judges g c =
-    let is : c.map_err.result ≡ by_rule c.step_slot-outcome.result = is_the_rules g c in
-    is ∙ ap (by_rule) (c.step_slot-outcome.ensures.outcome
+    let is : c.map_err.result ≡ by_rule c.step_in-outcome.result = is_the_rules g c in
+    is ∙ ap (by_rule) (c.step_in-outcome.ensures.outcome
     ∙ ap (λ o. (g.R.CallRule.next c.args.rule.now o c.args.event).outcome) (sym (found g c)))
     ∙ sym (judged_held _ _ _ _ _ (held g c).1)
 
