@@ -19,6 +19,9 @@ mod LocatedLemmas
 mod LeftLemmas
 mod FollowedLemmas
 mod ClientLeftLemmas
+mod LimitLemmas
+mod ServerLimitLemmas
+mod ClientLimitLemmas
 mod PumpingLemmas
 mod DrivenLemmas
 mod ServerHeadline

@@ -16,6 +16,7 @@ pub mod Form
 pub mod Heard
 pub mod Inputs
 pub mod LeftToSend
+pub mod Limits
 pub mod Pumping
 pub mod Putting
 pub mod Refused
