@@ -24,6 +24,9 @@ mod ServerLimitLemmas
 mod ClientLimitLemmas
 mod PumpingLemmas
 mod DrivenLemmas
+mod RunLimitLemmas
+mod ServerRunLimitLemmas
+mod ClientRunLimitLemmas
 mod ServerHeadline
 mod ClientHeadline
 mod AnswerLemmas

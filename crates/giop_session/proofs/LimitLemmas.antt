@@ -283,7 +283,7 @@ module _ {R E V A F : Type 0} (next : R → Option E → V → Step E A F) (clos
   asked ids id n asking IsTaken rule all listed = tt
 
   -- what a table refuses for no limit, its end does
-  table_free : (id : ℕ) (why : TableFault F) → IsFree why → IsUnlimited (of_table (of_rule id) why)
+  pub table_free : (id : ℕ) (why : TableFault F) → IsFree why → IsUnlimited (of_table (of_rule id) why)
   table_free id (Rule fault) free = own id fault
   table_free id TooManyCalls free = absurd (free.0 refl)
   table_free id GatherFull free = absurd (free.1 refl)

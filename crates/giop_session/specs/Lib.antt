@@ -20,6 +20,7 @@ pub mod Limits
 pub mod Pumping
 pub mod Putting
 pub mod Refused
+pub mod RunLimits
 pub mod Sending
 pub mod Sent
 pub mod ServerAnswers
