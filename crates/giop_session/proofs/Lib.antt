@@ -19,8 +19,14 @@ mod LocatedLemmas
 mod LeftLemmas
 mod FollowedLemmas
 mod ClientLeftLemmas
+mod LimitLemmas
+mod ServerLimitLemmas
+mod ClientLimitLemmas
 mod PumpingLemmas
 mod DrivenLemmas
+mod RunLimitLemmas
+mod ServerRunLimitLemmas
+mod ClientRunLimitLemmas
 mod ServerHeadline
 mod ClientHeadline
 mod AnswerLemmas

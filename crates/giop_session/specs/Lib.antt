@@ -16,9 +16,11 @@ pub mod Form
 pub mod Heard
 pub mod Inputs
 pub mod LeftToSend
+pub mod Limits
 pub mod Pumping
 pub mod Putting
 pub mod Refused
+pub mod RunLimits
 pub mod Sending
 pub mod Sent
 pub mod ServerAnswers

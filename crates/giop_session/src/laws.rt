@@ -14,6 +14,7 @@ ghost use Rattle.giop_session.specs.CallTable.{at, Held, is_of_call, rules_of, t
 mod headline;
 mod inputs;
 mod left;
+mod limits;
 mod running;
 
 use crate::{Hearing, Side};
@@ -23,6 +24,7 @@ pub use headline::{
 };
 pub use inputs::{Answered, CheckedForm, ClientInput, ServerInput};
 pub use left::{what_is_left_is_unsent_at_client, what_is_left_is_unsent_at_server};
+pub use limits::{limits_in_any_order_at_client, limits_in_any_order_at_server};
 pub use running::{run_client, run_server};
 
 /// Whatever befalls other ids in a run of acts, which goes on behind refusals, a call has the

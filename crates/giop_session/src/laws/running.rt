@@ -7,6 +7,7 @@ ghost use Rattle.giop_session.specs.Carries.{behind_all};
 ghost use Rattle.giop_session.specs.ClientCarries.{client_telling, unknown};
 ghost use Rattle.giop_session.specs.ClientRuns.{client_entry, client_named, ClientHolds, ClientRuns, ClientTakesAs};
 ghost use Rattle.giop_session.specs.Driven.{answer_of, Closes, end_state, Feeds, InTurn, IsGiven, item_answers, NoneRefused, own_answers, taken_answer_of, TakesOut};
+ghost use Rattle.giop_session.specs.RunLimits.{ClientIsGivenWithin, NoneForALimit, ServerIsGivenWithin};
 ghost use Rattle.giop_session.specs.ServerCarries.{server_telling};
 ghost use Rattle.giop_session.specs.ServerRuns.{server_entry, server_named, ServerHolds, ServerRuns, ServerTakesAs};
 
@@ -25,6 +26,10 @@ use std::alloc::{AllocError, Global};
 ///
 /// Where the end refuses nothing, and isn't closed, each id's entry is what was said of that one
 /// call, in whatever messages, Fragments, byte orders and reads it came, and whatever lay between.
+///
+/// Where the distinct ids of the Requests and LocateRequests that are fed are at most as many as the
+/// limit `calls`, and the octets of all pieces of fragmented messages at most the limit `gathered`,
+/// no input is refused as TooManyCalls or GatherFull, in whatever order all of it comes.
 /// `alloc` gives the memory of the end and of the answers; where any is wanting nothing is given
 /// back.
 pub fn run_server<'a>(
@@ -50,13 +55,15 @@ pub fn run_server<'a>(
         → ServerHolds interface.now limits inputs.items run.1.items run.0.framer run.0.calls items
         → (id : _) → own_answers server_named id inputs.items run.1.items
         ≡ item_answers (server_telling interface.now) (λ entry. entry) None (items id)) }
+    ensures within { IfOk result (λ run. ServerIsGivenWithin limits inputs.items
+        → NoneForALimit run.1.items) }
 {
     let mut server: ServerEnd<'a> = End::<ServerRule>::new(alloc, interface, limits);
     let answers = take_all(alloc, &mut server, inputs)?;
     Ok((server, answers))
 }
 
-/// The same of a client's end.
+/// The same of a client's end, where the ids are those under which it calls and locates.
 pub fn run_client<'a>(
     alloc: Global,
     interface: &'a Interface,
@@ -80,6 +87,8 @@ pub fn run_client<'a>(
         → ClientHolds interface.now limits inputs.items run.1.items run.0.framer run.0.calls items
         → (id : _) → own_answers client_named id inputs.items run.1.items
         ≡ item_answers (client_telling interface.now) (λ known. known.entry) unknown (items id)) }
+    ensures within { IfOk result (λ run. ClientIsGivenWithin limits inputs.items
+        → NoneForALimit run.1.items) }
 {
     let mut client: ClientEnd<'a> = End::<ClientRule>::new(alloc, interface, limits);
     let answers = take_all(alloc, &mut client, inputs)?;

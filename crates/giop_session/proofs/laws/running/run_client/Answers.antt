@@ -8,6 +8,7 @@ use Rattle.giop_session.specs.ClientHears.{client_befalls, client_breaks}
 use Rattle.giop_session.specs.ClientRuns.{ClientIsGiven, ClientRuns, ClientRunsFrom, client_deed}
 use Rattle.giop_session.proofs.DrivenLemmas.{in_turn_seen, run_taken, taken_takes}
 use Rattle.giop_session.proofs.ClientHeadline.{client_answers, client_entries}
+use Rattle.giop_session.proofs.ClientRunLimitLemmas.{client_run_free}
 use Rattle.giop_session.proofs.laws.running.run_client.Goals as goal
 
 -- the run, as contracts see an end
@@ -66,3 +67,9 @@ pub returns-clause-answers : goal.returns-clause-answers
 returns-clause-answers c = λ items holds id.
     client_answers c.args.interface.now c.args.limits c.args.inputs.items c.in_ok-answers.answers.items c.take_all.new.driven.framer
     c.take_all.new.driven.calls items holds id
+
+pub returns-clause-within : goal.returns-clause-within
+returns-clause-within c = λ given.
+    client_run_free c.args.interface.now c.args.limits c.args.inputs.items c.in_ok-answers.answers.items
+    (end_state c.take_all.new.driven.framer c.take_all.new.driven.calls c.take_all.new.driven.outgoing c.take_all.new.driven.fault)
+    given (seen c).1

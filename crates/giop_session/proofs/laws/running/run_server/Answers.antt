@@ -8,6 +8,7 @@ use Rattle.giop_session.specs.ServerHears.{server_befalls, server_breaks}
 use Rattle.giop_session.specs.ServerRuns.{ServerIsGiven, ServerRuns, ServerRunsFrom, server_deed}
 use Rattle.giop_session.proofs.DrivenLemmas.{in_turn_seen, run_taken, taken_takes}
 use Rattle.giop_session.proofs.ServerHeadline.{server_answers, server_entries}
+use Rattle.giop_session.proofs.ServerRunLimitLemmas.{server_run_free}
 use Rattle.giop_session.proofs.laws.running.run_server.Goals as goal
 
 -- the run, as contracts see an end
@@ -66,3 +67,9 @@ pub returns-clause-answers : goal.returns-clause-answers
 returns-clause-answers c = λ items holds id.
     server_answers c.args.interface.now c.args.limits c.args.inputs.items c.in_ok-answers.answers.items c.take_all.new.driven.framer
     c.take_all.new.driven.calls items holds id
+
+pub returns-clause-within : goal.returns-clause-within
+returns-clause-within c = λ given.
+    server_run_free c.args.interface.now c.args.limits c.args.inputs.items c.in_ok-answers.answers.items
+    (end_state c.take_all.new.driven.framer c.take_all.new.driven.calls c.take_all.new.driven.outgoing c.take_all.new.driven.fault)
+    given (seen c).1
