@@ -55,7 +55,7 @@ still_some None octets = refl
 still_some (Some pieces) octets = refl
 
 -- ids with pieces have entries, so there are no more of them
-pub lists_within : {E : Type 0} (gathering : E → Bool) (table : ById (Slot E)) (gathered : Lists) → IsTied gathering table gathered
+lists_within : {E : Type 0} (gathering : E → Bool) (table : ById (Slot E)) (gathered : Lists) → IsTied gathering table gathered
     → finite.len gathered ≤ finite.len table
 lists_within {E} gathering table gathered tied =
     len_within_other gathered table (λ id there. has_entry (finite.get table id) (sym (tied id) ∙ there))
