@@ -1,16 +1,19 @@
 -- What each act leaves of the table and of the pieces, and that both stay tied.
-use Rattle.std.proofs.Common.{◌≡◌, ◌≢◌, ℕ, Bool, true, false, cond, List, length, Option, Some, None, is_some, is_none, Result, Ok, Err, IsOk, refl, sym, ap, subst, ◌∙◌, ◌&&◌, ◌==◌, inl, inr}
+use Rattle.std.proofs.Common.{◌≡◌, ◌≢◌, ◌≤◌, ◌+◌, ◌/◌, ℕ, Bool, true, false, cond, List, length, Option, Some, None, is_some, is_none, Result, Ok, Err, IsOk, refl, sym, ap, subst, ◌∙◌, ◌&&◌, ◌==◌, inl, inr, arith}
+use Rattle.std.proofs.lemmas.Bool.Decides.{nat_tests}
 use Rattle.std.specs.Option.{option_map, option_or}
 use Rattle.std.specs.FinMap as finite
 use Rattle.giop_cdr.specs.declared.order.Order.{Order}
 use Rattle.giop_ids.specs.ById.{ById, put}
 use Rattle.giop_ids.specs.Runs.{Does, told, within, left, refusal_of, RefusedAs, IsApart, Distinguishes}
-use Rattle.giop_ids.proofs.Puts.{get-put, put_same, put-put, put_absent}
+use Rattle.giop_ids.proofs.Puts.{get-put, put_same, put-put, put_absent, len-put_new, len-put_old}
+use Rattle.giop_ids.proofs.Lengths.{len_within_other}
 use Rattle.giop_mux.specs.Calls.{Calls, is_one_too_many, by_rule, judged}
 use Rattle.giop_mux.specs.declared.step.Step.{Step}
 use Rattle.giop_mux.specs.declared.refusal.Refusal.{Refusal}
 use Rattle.giop_mux.specs.declared.refusal.Refusal.TheVariants as refusal
-use Rattle.giop_frag.specs.Gathered.{Gathered, Pieces, Lists, grown, is_over}
+use Rattle.giop_frag.specs.Gathered.{Gathered, Pieces, Lists, grown, is_over, octets_in, total_of, blocks_after, IsBlocksAfter}
+use Rattle.giop_frag.proofs.TotalLemmas.{total_put, blocks_kept, octets_in-grown}
 use Rattle.giop_frag.specs.declared.fault.GatherFault.{GatherFault}
 use Rattle.giop_frag.specs.declared.fault.GatherFault.TheVariants as gathering
 use Rattle.giop_session.specs.declared.slot.Slot.{Slot}
@@ -19,7 +22,7 @@ use Rattle.giop_session.specs.declared.sending.Sends.{Sends}
 use Rattle.giop_session.specs.declared.table_fault.TableFault.{TableFault}
 use Rattle.giop_session.specs.declared.table_fault.TableFault.TheVariants.{Rule, TooManyCalls, GatherFull, NoMemory}
 use Rattle.giop_session.specs.Sending.{sending_step}
-use Rattle.giop_session.specs.CallTable.{Held, Call, at, put_call, Brings, First, More, Nothing, Act, Hears, IsTaken, Answers, Gives, brought, fault_of, gather_fault, Turned, taken, gathers, IsTied, turned, turn, room_fault, calls_fault, limit, rules_of, Stays, is_of_call}
+use Rattle.giop_session.specs.CallTable.{Held, Call, at, put_call, Brings, First, More, Nothing, Act, Hears, IsTaken, Answers, Gives, brought, fault_of, gather_fault, Turned, taken, gathers, IsTied, IsTable, turned, turn, room_fault, calls_fault, limit, rules_of, Stays, is_of_call}
 
 -- both structures, as the calls of an end
 abbrev pub held : {S R E : Type 0} → R → Calls S (Slot E) → Gathered → Held R E
@@ -40,6 +43,141 @@ tied_after gathering table table' gathered gathered' id slot pieces tied is_tabl
 -- what stands there already changes nothing
 pub put_itself : {V : Type 0} (m : ById V) (id : ℕ) → m ≡ put m id (finite.get m id)
 put_itself m id = sym (put_same m id (finite.get m id) refl)
+
+-- an id that doesn't gather has no pieces
+pub no_pieces : (pieces : Option Pieces) (b : Bool) → is_some pieces ≡ b → b ≡ false → pieces ≡ None
+no_pieces None b same away = refl
+no_pieces (Some pieces) b same away = absurd cc
+
+-- octets that are added leave an id with pieces, or without
+pub still_some : (pieces : Option Pieces) (octets : List ℕ) → is_some (grown pieces octets) ≡ is_some pieces
+still_some None octets = refl
+still_some (Some pieces) octets = refl
+
+-- ids with pieces have entries, so there are no more of them
+lists_within : {E : Type 0} (gathering : E → Bool) (table : ById (Slot E)) (gathered : Lists) → IsTied gathering table gathered
+    → finite.len gathered ≤ finite.len table
+lists_within {E} gathering table gathered tied =
+    len_within_other gathered table (λ id there. has_entry (finite.get table id) (sym (tied id) ∙ there))
+  where
+    has_entry : (slot : Option (Slot E)) → gathers gathering slot ≡ true → is_some slot ≡ true
+    has_entry None here = absurd cc
+    has_entry (Some slot) here = refl
+
+-- an entry that is not one too many leaves no more than there may be
+entries_within : {V : Type 0} (m : ById V) (calls id : ℕ) (entry : V) → finite.len m ≤ calls
+    → (is_none (finite.get m id) && (finite.len m == calls)) ≡ false → finite.len (put m id (Some entry)) ≤ calls
+entries_within m calls id entry within fits =
+    elim (finite.get m id) as (λ held. finite.get m id ≡ held → (is_none held && (finite.len m == calls)) ≡ false
+    → finite.len (put m id (Some entry)) ≤ calls) [
+      | None ↦ λ absent few. let more = len-put_new m id entry absent in grind (arith, nat_tests)
+      | Some old ↦ λ found few. let same = len-put_old m id old entry found in omega arith
+    ] refl fits
+
+-- so a first piece is one of no more ids than there may be entries
+begun_within : {S E : Type 0} (is_gathering : E → Bool) (m : Calls S (Slot E)) (g : Gathered) (id : ℕ) (slot : Option (Slot E)) (pieces : Pieces)
+    → IsTable is_gathering m g → gathers is_gathering slot ≡ true → (is_none (finite.get m.entries id) && (finite.len m.entries == m.limit)) ≡ false
+    → finite.len (put g.lists id (Some pieces)) ≤ m.limit
+begun_within is_gathering m g id None pieces table here fits = absurd cc
+begun_within is_gathering m g id (Some slot) pieces table here fits =
+    let tied = tied_after is_gathering m.entries (put m.entries id (Some slot)) g.lists (put g.lists id (Some pieces)) id (Some slot) (Some pieces) table.tied
+    refl refl (sym here) in
+    let most = lists_within is_gathering (put m.entries id (Some slot)) (put g.lists id (Some pieces)) tied in
+    let entries = entries_within m.entries m.limit id slot table.within fits in
+    omega arith
+
+-- and further octets leave the number of ids with pieces
+grown_within : {S E : Type 0} (is_gathering : E → Bool) (m : Calls S (Slot E)) (g : Gathered) (id : ℕ) (pieces : Option Pieces)
+    → IsTable is_gathering m g → is_some pieces ≡ is_some (finite.get g.lists id) → finite.len (put g.lists id pieces) ≤ m.limit
+grown_within is_gathering m g id pieces table same =
+    let tied = tied_after is_gathering m.entries m.entries g.lists (put g.lists id pieces) id (finite.get m.entries id) pieces table.tied
+    (put_itself m.entries id) refl (same ∙ table.tied id) in
+    let most = lists_within is_gathering m.entries (put g.lists id pieces) tied in
+    let all = table.within in
+    omega arith
+
+-- pieces that come under an id, with so many octets more, of no more ids than there may be entries
+pub record Comes {S E : Type 0} (is_gathering : E → Bool) (m : Calls S (Slot E)) (g : Gathered) (id : ℕ) (pieces : Option Pieces) (n : ℕ) : Type 0 where
+  pub table : IsTable is_gathering m g
+  pub few : finite.len (put g.lists id pieces) ≤ m.limit
+  pub more : octets_in pieces ≡ octets_in (finite.get g.lists id) + n
+
+-- the first octets of an id are more than none
+first_more : (held : Option Pieces) (octets : List ℕ) → held ≡ None → length octets ≡ octets_in held + length octets
+first_more None octets none = omega arith
+first_more (Some pieces) octets none = absurd cc
+
+-- a first piece comes so, and so does a further one
+pub begins : {S R E : Type 0} (is_gathering : E → Bool) (rule : R) (m : Calls S (Slot E)) (g : Gathered) (h : Held R E) (id : ℕ)
+    (step : Held R E → Option (Slot E)) (order : Order) (octets : List ℕ) (many : Bool) → held rule m g ≡ h → IsTable is_gathering m g
+    → gathers is_gathering (finite.get h.table id) ≡ false → gathers is_gathering (step h) ≡ true
+    → many ≡ (is_none (finite.get h.table id) && (finite.len h.table == h.calls)) → many ≡ false
+    → Comes is_gathering m g id (Some (record { order = order; octets = octets })) (length octets)
+begins is_gathering rule m g h id step order octets many view table away here is one = record {
+  table = table;
+  few = begun_within is_gathering m g id (step (held rule m g)) (record { order = order; octets = octets }) table
+      (ap (λ h. gathers is_gathering (step h)) view ∙ here) (ap (λ h. is_none (finite.get h.table id) && (finite.len h.table == h.calls)) view ∙ sym is ∙ one);
+  more = first_more (finite.get g.lists id) octets (no_pieces (finite.get g.lists id) (gathers is_gathering (finite.get m.entries id)) (table.tied id)
+      (ap (λ h. gathers is_gathering (finite.get h.table id)) view ∙ away));
+}
+
+pub goes_on : {S E : Type 0} (is_gathering : E → Bool) (m : Calls S (Slot E)) (g : Gathered) (id : ℕ) (octets : List ℕ)
+    → IsTable is_gathering m g → gathers is_gathering (finite.get m.entries id) ≡ true
+    → Comes is_gathering m g id (grown (finite.get g.lists id) octets) (length octets)
+goes_on is_gathering m g id octets table here = record {
+  table = table;
+  few = grown_within is_gathering m g id (grown (finite.get g.lists id) octets) table (still_some (finite.get g.lists id) octets);
+  more = octets_in-grown (finite.get g.lists id) octets (table.tied id ∙ here);
+}
+
+-- the octets are within the limit where there was room for those that came
+total_within : (g : Gathered) (id : ℕ) (pieces : Option Pieces) (n : ℕ) → octets_in pieces ≡ octets_in (finite.get g.lists id) + n
+    → is_over g.limit g.lists n ≡ false → total_of (put g.lists id pieces) ≤ g.limit
+total_within g id pieces n is fits =
+    let all = total_put g.lists id pieces in
+    let room : total_of g.lists + n ≤ g.limit = grind (arith, nat_tests) in
+    omega arith
+
+-- so where there was room for a piece, there are no more blocks than there may be
+pub enough_blocks : {S E : Type 0} (is_gathering : E → Bool) (m : Calls S (Slot E)) (g : Gathered) (id : ℕ) (pieces : Option Pieces)
+    (n limit calls blocks : ℕ) → Comes is_gathering m g id pieces n → is_over g.limit g.lists n ≡ false → limit ≡ g.limit → calls ≡ m.limit
+    → blocks ≡ blocks_after g.blocks (put g.lists id pieces) → blocks ≤ limit / 512 + calls
+enough_blocks is_gathering m g id pieces n limit calls blocks comes fits same_limit same_calls same_blocks =
+    rw (same_limit, same_calls, same_blocks)
+    (blocks_kept g.limit m.limit g.blocks (put g.lists id pieces) (total_within g id pieces n comes.more fits) comes.few comes.table.blocks)
+
+-- the gatherer tells want of memory only where there was room
+had_room : (over : Bool) (fault : GatherFault) → RefusedAs gathering.NoMemory fault (cond over (Some gathering.GatherFull) None)
+    → fault ≡ gathering.NoMemory → over ≡ false
+had_room true fault (inl is) wanting = absurd cc
+had_room true fault (inr both) wanting = absurd cc
+had_room false fault is wanting = refl
+
+-- a refusal leaves no more blocks than there may be
+blocks_between : (limit ids old new : ℕ) (m : Lists) (fault : GatherFault) → IsBlocksAfter fault old m new → finite.len m ≤ ids
+    → (fault ≡ gathering.NoMemory → total_of m ≤ limit) → old ≤ limit / 512 + ids → new ≤ limit / 512 + ids
+blocks_between limit ids old new m gathering.Stray same few fits had = let is : new ≡ old = same in omega arith
+blocks_between limit ids old new m gathering.OrderDiffers same few fits had = let is : new ≡ old = same in omega arith
+blocks_between limit ids old new m gathering.GatherFull same few fits had = let is : new ≡ old = same in omega arith
+blocks_between limit ids old new m gathering.NoMemory between few fits had = let most = blocks_kept limit ids old m (fits refl) few had in omega arith
+
+-- a piece that the gatherer refuses leaves the calls of an end
+pub refused_piece : {S E : Type 0} (is_gathering : E → Bool) (m : Calls S (Slot E)) (g g' : Gathered) (id : ℕ) (pieces : Option Pieces) (n : ℕ)
+    (fault : GatherFault) → Comes is_gathering m g id pieces n
+    → RefusedAs gathering.NoMemory fault (cond (is_over g.limit g.lists n) (Some gathering.GatherFull) None)
+    → IsBlocksAfter fault g.blocks (put g.lists id pieces) g'.blocks → g' ≡ record g { blocks = g'.blocks } → IsTable is_gathering m g'
+refused_piece is_gathering m g g' id pieces n fault comes refused between after = record {
+  tied = subst (IsTied is_gathering m.entries) (sym (ap (λ g. g.lists) after)) comes.table.tied;
+  within = comes.table.within;
+  blocks = subst (λ limit. g'.blocks ≤ limit / 512 + m.limit) (sym (ap (λ g. g.limit) after))
+      (blocks_between g.limit m.limit g.blocks g'.blocks (put g.lists id pieces) fault between comes.few
+      (λ wanting. total_within g id pieces n comes.more (had_room (is_over g.limit g.lists n) fault refused wanting)) comes.table.blocks);
+}
+
+-- as many blocks, within the same limits
+pub as_many_blocks : {S E : Type 0} (is_gathering : E → Bool) (m : Calls S (Slot E)) (g : Gathered) (limit calls blocks : ℕ) → IsTable is_gathering m g
+    → limit ≡ g.limit → calls ≡ m.limit → blocks ≡ g.blocks → blocks ≤ limit / 512 + calls
+as_many_blocks is_gathering m g limit calls blocks table same_limit same_calls same_blocks = rw (same_limit, same_calls, same_blocks) table.blocks
 
 -- the pieces that are left of a call: they are there exactly where it gathers
 pub kept : (b : Bool) (pieces : Option Pieces) → (b ≡ true → is_some pieces ≡ true) → is_some (cond b pieces None) ≡ b
@@ -205,11 +343,6 @@ over_is_away closed gathering law (Some slot) over = by_test (gathering slot.ent
     by_test : (b : Bool) → (b ≡ true → ⊥) → b ≡ false
     by_test true not_so = absurd (not_so refl)
     by_test false not_so = refl
-
--- an id that doesn't gather has no pieces
-pub no_pieces : (pieces : Option Pieces) (b : Bool) → is_some pieces ≡ b → b ≡ false → pieces ≡ None
-no_pieces None b same away = refl
-no_pieces (Some pieces) b same away = absurd cc
 
 -- an id that is not in the table twice: a first piece that is begun and then dropped leaves what was gathered
 pub dropped : (m m' m'' : Lists) (id : ℕ) (pieces : Option Pieces) → finite.get m id ≡ None → m' ≡ put m id pieces → m'' ≡ put m' id None → m'' ≡ m

@@ -1,17 +1,17 @@
 -- The calls of one end: their entries, with the messages that are still to be sent, and the pieces
 -- that are gathered (CORBA 3.3 Part 2, 9.4.9); and what an act does to one of them.
-use Rattle.std.specs.Prelude.{◌≡◌, ℕ, Bool, true, false, if◌then◌else◌, List, length, Option, Some, None, is_some, Result, Ok, Err, refl}
+use Rattle.std.specs.Prelude.{◌≡◌, ◌≤◌, ◌+◌, ◌/◌, ℕ, Bool, true, false, if◌then◌else◌, List, length, Option, Some, None, is_some, Result, Ok, Err, refl}
 use Rattle.std.specs.Option.{option_map, option_or}
 use Rattle.std.specs.FinMap as finite
 use Rattle.std.specs.Coded.{Coded, code_by, coded×, coded_ℕ}
 use Rattle.giop_cdr.specs.declared.order.Order.{Order}
 use Rattle.giop_ids.specs.ById.{ById, by_id_code, put}
 use Rattle.giop_ids.specs.Runs.{Done, Rules}
-use Rattle.giop_mux.specs.Calls.{is_one_too_many}
+use Rattle.giop_mux.specs.Calls.{Calls, is_one_too_many}
 use Rattle.giop_mux.specs.declared.step.Step.{Step}
 use Rattle.giop_mux.specs.declared.refusal.Refusal.{Refusal}
 use Rattle.giop_mux.specs.declared.refusal.Refusal.TheVariants as refusal
-use Rattle.giop_frag.specs.Gathered.{Pieces, Lists, pieces_code, grown, is_over}
+use Rattle.giop_frag.specs.Gathered.{Gathered, Pieces, Lists, pieces_code, grown, is_over}
 use Rattle.giop_frag.specs.declared.fault.GatherFault.{GatherFault}
 use Rattle.giop_frag.specs.declared.fault.GatherFault.TheVariants as gathering
 use Rattle.giop_session.specs.declared.slot.Slot.{Slot}
@@ -104,6 +104,14 @@ gathers gathering (Some slot) = gathering slot.entry
 abbrev pub IsTied : {E : Type 0} → (E → Bool) → ById (Slot E) → Lists → Type 0
 IsTied gathering table gathered =
     (id : ℕ) → is_some (finite.get gathered id) ≡ gathers gathering (finite.get table id)
+
+-- a table of calls and a gatherer are the calls of an end: they are tied, and there are no more
+-- entries, and no more blocks for pieces, than there may be
+pub record IsTable {S E : Type 0} (gathering : E → Bool) (m : Calls S (Slot E)) (g : Gathered)
+    : Type 0 where
+  pub tied : IsTied gathering m.entries g.lists
+  pub within : finite.len m.entries ≤ m.limit
+  pub blocks : g.blocks ≤ g.limit / 512 + m.limit
 
 -- a step: where it is accepted, the pieces are those with what the event brings, as long as they
 -- are gathered

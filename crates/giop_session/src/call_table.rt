@@ -1,4 +1,4 @@
-ghost use Rattle.std.specs.Prelude.{◌≡◌, ◌==◌, ◌&&◌, ◌≤◌, ◌^◌, ◌+◌, not, is_some, true, false, if◌then◌else◌, Ok, None, length, is_none, IfNone, IfErr, IfOk, IfSome, IsOk, OnErr, IsSome, option_copied};
+ghost use Rattle.std.specs.Prelude.{◌≡◌, ◌==◌, ◌&&◌, ◌≤◌, ◌^◌, ◌+◌, ◌/◌, not, is_some, true, false, if◌then◌else◌, Ok, None, length, is_none, IfNone, IfErr, IfOk, IfSome, IsOk, OnErr, IsSome, option_copied};
 ghost use Rattle.std.specs.FinMap as finite;
 ghost use Rattle.std.specs.Option.{option_map};
 ghost use Rattle.giop_frag.specs.Gathered.{is_over, octets_in, order_fault};
@@ -30,7 +30,7 @@ pub struct CallTable<R: Side> {
 }
 
 impl<R: Side> Model for CallTable<R> {
-    ghost use Rattle.giop_session.specs.CallTable.{Held, IsTied, held_code};
+    ghost use Rattle.giop_session.specs.CallTable.{Held, IsTable, held_code};
     ghost use Rattle.giop_session.specs.Codes.{slot_code};
 
     ghost Value = { Held R R.Entry };
@@ -45,7 +45,7 @@ impl<R: Side> Model for CallTable<R> {
       gathered = t.gather.lists;
     } };
 
-    ghost invariant = { λ t. IsTied R.gathering t.mux.entries t.gather.lists };
+    ghost invariant = { λ t. IsTable R.gathering t.mux t.gather };
 }
 
 impl<R: Side> CallTable<R> {
@@ -99,6 +99,17 @@ impl<R: Side> CallTable<R> {
             → octets_in (finite.get self.now.gathered id) + more ≤ 2 ^ 62 }
     {
         more <= self.gather.limit() - self.gather.total()
+    }
+
+    /// How many blocks of 512 octets were taken for pieces; none is given back while the table
+    /// lives. They are at most the limit of gathered octets over 512, and one for each entry that
+    /// there may be. It takes no memory.
+    ///
+    /// The clause bounds the number and no more; that it is the gatherer's own, tests show.
+    pub fn blocks(&self) -> usize
+        ensures within { result ≤ self.now.room / 512 + self.now.calls }
+    {
+        self.gather.blocks()
     }
 
     /// An event that brings no octets to be gathered befalls a call.
@@ -277,6 +288,7 @@ fn enter<R: Side>(
               (finite.get mux.old.entries id) planned).entry;
         })) }
     ensures none { IfNone result (mux.new ≡ mux.old) }
+    ensures within { finite.len mux.new.entries ≤ mux.new.limit }
 {
     mux.apply(id, planned).ok()
 }
@@ -293,6 +305,7 @@ fn stay<R: Side>(mux: &mut Mux<Sending<R>>, id: u32, planned: Planned<R::Event>)
       entries = put mux.old.entries id (sending_step (R.next mux.old.rule.rule)
           (finite.get mux.old.entries id) planned).entry;
     } }
+    ensures within { finite.len mux.new.entries ≤ mux.new.limit }
 {
     mux.apply(id, planned).unwrap()
 }

@@ -1,4 +1,4 @@
-ghost use Rattle.std.specs.Prelude.{◌≡◌, ◌≤◌, ◌^◌, ◌++◌, [], drop, false, None, Some, Err, Ok, length, option_copied, IfErr, IfOk, OnErr, OnOk};
+ghost use Rattle.std.specs.Prelude.{◌≡◌, ◌≤◌, ◌^◌, ◌+◌, ◌/◌, ◌++◌, [], drop, false, None, Some, Err, Ok, length, option_copied, IfErr, IfOk, OnErr, OnOk};
 ghost use Rattle.std.specs.FinMap as finite;
 ghost use Rattle.std.specs.Option.{option_map};
 ghost use Rattle.giop_cdr.specs.declared.order.Order.TheVariants.{Big};
@@ -211,6 +211,17 @@ impl<'a, R: Hearing> End<'a, R> {
         ensures { result ≡ length self.now.framer.octets }
     {
         self.framer.rest()
+    }
+
+    /// How many blocks of 512 octets the end has taken for pieces; none is given back until it is
+    /// dropped. They are at most the limit of gathered octets over 512, and one for each entry that
+    /// there may be. It takes no memory.
+    ///
+    /// The clause bounds the number and no more; that it is the gatherer's own, tests show.
+    pub fn blocks(&self) -> usize
+        ensures within { result ≤ self.now.calls.room / 512 + self.now.calls.calls }
+    {
+        self.calls.blocks()
     }
 
     /// The fault that made the end failed, if one did. It takes no memory.

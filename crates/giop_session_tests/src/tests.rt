@@ -1,4 +1,5 @@
 mod answering;
+mod blocks;
 mod both_ends;
 mod calling;
 mod clients;

@@ -1,17 +1,21 @@
-use Rattle.std.proofs.Common.{None, Ok, ap, subst, ◌∙◌}
+use Rattle.std.proofs.Common.{None, Ok, refl, ap, subst, ◌∙◌}
 use Rattle.std.specs.FinMap as finite
 use Rattle.giop_ids.specs.Runs.{Does}
 use Rattle.giop_session.specs.CallTable.{Held, rules_of, IsTaken, Gives}
-use Rattle.giop_session.proofs.TableLemmas.{held, tied_after, put_itself, does_take, over_is_away}
+use Rattle.giop_session.proofs.TableLemmas.{held, tied_after, as_many_blocks, put_itself, does_take, over_is_away}
 use Rattle.giop_session.proofs.call_table.CallTable.take.Goals as goal
 
 pub invariant_of-self-2 : goal.invariant_of-self-2
 invariant_of-self-2 g c =
     let m = c.self.inside.mux in
-    tied_after g.R.Side.gathering m.entries _ c.self.inside.gather.lists _ c.args.id None (finite.get c.self.inside.gather.lists c.args.id)
-    c.self.invariant (ap (λ m. m.entries) c.in-Ok.ensures.ok) (put_itself c.self.inside.gather.lists c.args.id)
-    (c.self.invariant c.args.id ∙ over_is_away (g.R.CallRule.closed m.rule.rule) g.R.Side.gathering (g.met.R.Side.gathering_is_open m.rule.rule)
-    (finite.get m.entries c.args.id) (λ open_yet. let wrong = c.in-Ok.ensures.err.1 open_yet in absurd cc))
+    record {
+      tied = tied_after g.R.Side.gathering m.entries _ c.self.inside.gather.lists _ c.args.id None (finite.get c.self.inside.gather.lists c.args.id)
+          c.self.invariant.tied (ap (λ m. m.entries) c.in-Ok.ensures.ok) (put_itself c.self.inside.gather.lists c.args.id)
+          (c.self.invariant.tied c.args.id ∙ over_is_away (g.R.CallRule.closed m.rule.rule) g.R.Side.gathering (g.met.R.Side.gathering_is_open m.rule.rule)
+          (finite.get m.entries c.args.id) (λ open_yet. let wrong = c.in-Ok.ensures.err.1 open_yet in absurd cc));
+      within = c.in-Ok.ensures.within;
+      blocks = as_many_blocks g.R.Side.gathering m c.self.inside.gather _ _ _ c.self.invariant refl (ap (λ m. m.limit) c.in-Ok.ensures.ok) refl;
+    }
 
 pub returns-clause-does : goal.returns-clause-does
 returns-clause-does g c =
