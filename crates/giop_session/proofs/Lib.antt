@@ -20,6 +20,7 @@ mod LeftLemmas
 mod FollowedLemmas
 mod ClientLeftLemmas
 mod LimitLemmas
+mod FewLemmas
 mod ServerLimitLemmas
 mod ClientLimitLemmas
 mod PumpingLemmas

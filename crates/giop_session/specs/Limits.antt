@@ -37,6 +37,11 @@ abbrev pub octets_of : {V : Type 0} → Event V → ℕ
 octets_of (Comes m) = octets_with m
 octets_of (Does id act) = 0
 
+-- how many octets the message that comes has behind its header
+abbrev pub payload_of : {V : Type 0} → Event V → ℕ
+payload_of (Comes m) = length m.payload
+payload_of (Does id act) = 0
+
 -- whether a message of this kind asks a server for a call
 abbrev pub is_asking : Kind → Bool
 is_asking message.Request = true

@@ -1,6 +1,6 @@
 // Limits in any order: events that are within the limits of an end meet none. Each function's
 // contract is a law; the bodies are empty, and no program calls these.
-ghost use Rattle.std.specs.Prelude.{◌≢◌, List};
+ghost use Rattle.std.specs.Prelude.{◌≢◌, ◌≤◌, List, length, sum_by};
 ghost use Rattle.giop_types.specs.declared.json.interface.Interface.{Interface};
 ghost use Rattle.giop_calls.specs.ClientTable as client;
 ghost use Rattle.giop_calls.specs.ServerTable as server;
@@ -18,15 +18,17 @@ ghost use Rattle.giop_session.specs.CallTable.{Held};
 ghost use Rattle.giop_session.specs.ClientHears.{client_befalls, client_breaks};
 ghost use Rattle.giop_session.specs.Events.{Event, Meets};
 ghost use Rattle.giop_session.specs.Heard.{in_call};
-ghost use Rattle.giop_session.specs.Limits.{AreWithinAtClient, AreWithinAtServer, IsNext, Refuses};
+ghost use Rattle.giop_session.specs.Limits.{AreWithinAtClient, AreWithinAtServer, IsNext, payload_of, Refuses};
 ghost use Rattle.giop_session.specs.ServerHears.{server_befalls, server_breaks};
 
 /// Where the distinct ids of a server's Requests and LocateRequests are at most as many as its
 /// limit `calls`, and the octets of all pieces of fragmented messages at most its limit `gathered`,
 /// no order of its events meets a limit: whichever of them came, and whichever is next, that is
 /// never refused as TooManyCalls or GatherFull.
+///
+/// So it is of at most `calls` events, whose messages have at most `gathered` octets in all.
 pub fn limits_in_any_order_at_server()
-    ensures { (interface : Interface) (limits : Limits) (all came : List (Event ServerEvent))
+    ensures order { (interface : Interface) (limits : Limits) (all came : List (Event ServerEvent))
         (e : Event ServerEvent) (h : Held ServerRule ServerEntry) (why : SessionFault)
         → AreWithinAtServer limits all → IsNext all came e
         → Meets (λ rule. server.server_step) (λ rule. server.is_closed) server.is_gathering in_call
@@ -34,11 +36,14 @@ pub fn limits_in_any_order_at_server()
         → Refuses (λ rule. server.server_step) (λ rule. server.is_closed) server.is_gathering
         in_call server_breaks (server_befalls interface) e h why
         → (why ≢ TooManyCalls) × (why ≢ GatherFull) }
+    ensures few { (limits : Limits) (all : List (Event ServerEvent))
+        → length all ≤ limits.calls → sum_by payload_of all ≤ limits.gathered
+        → AreWithinAtServer limits all }
 {}
 
 /// The same of a client's end, where the ids are those that it calls or locates under itself.
 pub fn limits_in_any_order_at_client()
-    ensures { (interface : Interface) (limits : Limits) (all came : List (Event ClientEvent))
+    ensures order { (interface : Interface) (limits : Limits) (all came : List (Event ClientEvent))
         (e : Event ClientEvent) (h : Held ClientRule ClientEntry) (why : SessionFault)
         → AreWithinAtClient limits all → IsNext all came e
         → Meets (λ rule. client.client_step) (λ rule. client.is_closed) client.is_gathering in_call
@@ -46,4 +51,7 @@ pub fn limits_in_any_order_at_client()
         → Refuses (λ rule. client.client_step) (λ rule. client.is_closed) client.is_gathering
         in_call client_breaks (client_befalls interface) e h why
         → (why ≢ TooManyCalls) × (why ≢ GatherFull) }
+    ensures few { (limits : Limits) (all : List (Event ClientEvent))
+        → length all ≤ limits.calls → sum_by payload_of all ≤ limits.gathered
+        → AreWithinAtClient limits all }
 {}

@@ -30,6 +30,7 @@ use std::alloc::{AllocError, Global};
 /// Where the distinct ids of the Requests and LocateRequests that are fed are at most as many as the
 /// limit `calls`, and the octets of all pieces of fragmented messages at most the limit `gathered`,
 /// no input is refused as TooManyCalls or GatherFull, in whatever order all of it comes.
+///
 /// `alloc` gives the memory of the end and of the answers; where any is wanting nothing is given
 /// back.
 pub fn run_server<'a>(

@@ -2,11 +2,15 @@ use Rattle.giop_calls.specs.ServerTable.{is_closed, is_gathering, server_step}
 use Rattle.giop_session.specs.Heard.{in_call}
 use Rattle.giop_session.specs.Limits.{begins_at_server, is_asking}
 use Rattle.giop_session.specs.ServerHears.{server_befalls, server_breaks}
+use Rattle.giop_session.proofs.FewLemmas.{few_within}
 use Rattle.giop_session.proofs.LimitLemmas.{in_any_order}
 use Rattle.giop_session.proofs.ServerLimitLemmas.{begins_only, broken, own, small}
 use Rattle.giop_session.proofs.laws.limits.limits_in_any_order_at_server.Goals as goal
 
-pub returns : goal.returns
-returns c = λ interface limits all came e h why are_within is_next met refuses.
+pub returns-clause-order : goal.returns-clause-order
+returns-clause-order c = λ interface limits all came e h why are_within is_next met refuses.
     in_any_order (λ rule. server_step) (λ rule. is_closed) is_gathering in_call server_breaks (server_befalls interface) is_asking begins_at_server
     (λ rule v. begins_only v) (small interface) own broken (record {}) limits all came e h why are_within is_next met refuses
+
+pub returns-clause-few : goal.returns-clause-few
+returns-clause-few c = λ limits all few small. few_within is_asking begins_at_server limits all few small
