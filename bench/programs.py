@@ -6,7 +6,8 @@ import subprocess
 TOP = pathlib.Path(__file__).resolve().parents[1]
 OUT = TOP / 'bench' / 'out'
 GIOPCTL = TOP / 'crates' / 'giopctl' / 'out' / 'giopctl'
-ROUNDS = 5
+# A processor whose core is shared runs at two speeds: so many rounds meet the faster of them.
+ROUNDS = 15
 
 
 def build(source):
