@@ -30,4 +30,5 @@ mod ServerRunLimitLemmas
 mod ClientRunLimitLemmas
 mod ServerHeadline
 mod ClientHeadline
+mod WorldLemmas
 mod AnswerLemmas

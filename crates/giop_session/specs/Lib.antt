@@ -30,3 +30,4 @@ pub mod ServerRuns
 pub mod SessionFaults
 pub mod Sides
 pub mod Unsent
+pub mod World

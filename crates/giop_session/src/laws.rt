@@ -16,16 +16,18 @@ mod inputs;
 mod left;
 mod limits;
 mod running;
+mod world;
 
 use crate::{Hearing, Side};
 pub use headline::{
     each_call_of_a_run, same_calls_same_entries_at_client, same_calls_same_entries_at_server,
     what_is_cut_is_carried,
 };
-pub use inputs::{Answered, CheckedForm, ClientInput, ServerInput};
+pub use inputs::{Answered, CheckedForm, ClientInput, ServerInput, WorldEvent};
 pub use left::{what_is_left_is_unsent_at_client, what_is_left_is_unsent_at_server};
 pub use limits::{limits_in_any_order_at_client, limits_in_any_order_at_server};
 pub use running::{run_client, run_server};
+pub use world::{World, run_world};
 
 /// Whatever befalls other ids in a run of acts, which goes on behind refusals, a call has the
 /// entry, the unsent messages, the pieces and the answers of its own acts alone; unless one of them

@@ -1,4 +1,4 @@
-//! What an end is given, and what it answers.
+//! What an end is given, and what it answers; and what happens in a world of two ends.
 ghost use Rattle.std.specs.Prelude.{◌≡◌, ◌↔◌, IfSome, IsSome};
 ghost use Rattle.giop_session.specs.Form.{IsForm};
 
@@ -100,4 +100,54 @@ pub enum Answered<E> {
     Taken(Option<E>),
     /// It was refused, for this.
     Refused(SessionFault),
+}
+
+/// What happens in a world: what the program of one end does, or octets that arrive.
+#[derive(Debug, Drop)]
+pub enum WorldEvent {
+    /// The client calls an operation.
+    Call {
+        /// The Request, with its id.
+        request: Request,
+        /// How it is sent.
+        form: CheckedForm,
+    },
+    /// The client asks where an object is.
+    Locate {
+        /// The LocateRequest, with its id.
+        request: LocateRequest,
+        /// How it is sent.
+        form: CheckedForm,
+    },
+    /// The client cancels the call of an id.
+    Cancel {
+        /// The id.
+        id: u32,
+        /// The byte order of the CancelRequest.
+        order: Order,
+    },
+    /// The client puts out the next piece of the call under this id.
+    SendClient(u32),
+    /// The server answers a Request.
+    Answer {
+        /// The Reply, with the id of the Request.
+        reply: Reply,
+        /// How it is sent.
+        form: CheckedForm,
+    },
+    /// The server answers a LocateRequest.
+    AnswerLocate {
+        /// Its id.
+        id: u32,
+        /// Whether the object is here.
+        here: bool,
+        /// The byte order of the LocateReply.
+        order: Order,
+    },
+    /// The server puts out the next piece of the Reply under this id.
+    SendServer(u32),
+    /// Up to so many octets arrive at the server's end: the first that are on their way.
+    ToServer(usize),
+    /// Up to so many octets arrive at the client's end.
+    ToClient(usize),
 }

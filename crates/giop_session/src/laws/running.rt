@@ -97,18 +97,17 @@ pub fn run_client<'a>(
 }
 
 // What is given inputs and answers them.
-trait Driven {
+pub(super) trait Driven {
     ghost use Rattle.std.specs.Prelude.{IfOk};
-    ghost use Rattle.giop_session.specs.declared.laws.inputs.Answered.{Answered};
 
     type Input: Drop;
 
-    type Entry: Drop;
+    type Answer: Drop;
 
-    ghost is_given: { Self → Self.Input → Answered Self.Entry → Self → Type 0 };
+    ghost is_given: { Self → Self.Input → Self.Answer → Self → Type 0 };
 
     // Takes an input, and answers it. AllocError where memory is wanting.
-    fn take_input(&mut self, input: Self::Input) -> Result<Answered<Self::Entry>, AllocError>
+    fn take_input(&mut self, input: Self::Input) -> Result<Self::Answer, AllocError>
         ensures { IfOk result (λ answered. is_given self.old input answered self.new) };
 }
 
@@ -119,7 +118,7 @@ impl<'a> Driven for End<'a, ServerRule> {
 
     type Input = ServerInput;
 
-    type Entry = ServerEntry;
+    type Answer = Answered<ServerEntry>;
 
     ghost is_given = { λ end input answered after. ServerIsGiven end.interface.now end.limits
         (end_state end.framer end.calls end.outgoing end.fault) input answered
@@ -152,7 +151,7 @@ impl<'a> Driven for End<'a, ClientRule> {
 
     type Input = ClientInput;
 
-    type Entry = ClientEntry;
+    type Answer = Answered<ClientEntry>;
 
     ghost is_given = { λ end input answered after. ClientIsGiven end.interface.now end.limits
         (end_state end.framer end.calls end.outgoing end.fault) input answered
@@ -178,11 +177,11 @@ impl<'a> Driven for End<'a, ClientRule> {
 }
 
 // Gives inputs, one after another.
-fn take_all<D: Driven>(
+pub(super) fn take_all<D: Driven>(
     alloc: Global,
     driven: &mut D,
     inputs: Vec<D::Input>,
-) -> Result<Vec<Answered<D::Entry>>, AllocError>
+) -> Result<Vec<D::Answer>, AllocError>
     ensures { IfOk result (λ answers.
         InTurn D.is_given driven.old inputs.items answers.items driven.new) }
 {
@@ -194,7 +193,7 @@ fn take_all<D: Driven>(
 }
 
 // Octets are fed.
-fn feed_to<R: Hearing>(
+pub(super) fn feed_to<R: Hearing>(
     end: &mut End<'_, R>,
     octets: &[u8],
 ) -> Result<Answered<R::Entry>, AllocError>

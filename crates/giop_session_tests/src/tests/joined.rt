@@ -1,9 +1,13 @@
 //! A client's end and a server's end, joined by what each puts out, step by step.
 use super::clients::{Client, at_client, client_end};
 use super::interfaces::interface;
+use super::messages::{form, locate_request, reply, request};
 use super::servers::{Server, at_server, server_end};
 use super::shown::{client_table, server_table, shown_outcome, told};
+use giop_msg::Version;
+use giop_session::laws::{CheckedForm, WorldEvent, run_world};
 use giop_session::{ClientEnd, End, Hearing, Limits, ServerEnd, SessionFault};
+use giop_types::Interface;
 use std::alloc::Global;
 use std::process::Abort;
 use std::test::Fail;
@@ -89,8 +93,90 @@ fn stands(
     Some(())
 }
 
+// What a client does, as an event of a world; none where it is no such event.
+fn client_event(alloc: Global, what: Client) -> Option<WorldEvent> {
+    Some(match what {
+        Client::Call(asks, order, piece) => WorldEvent::Call {
+            request: request(alloc, asks).ok()?,
+            form: CheckedForm {
+                form: form(order, piece),
+            },
+        },
+        Client::Locate(version, id, order, piece) => WorldEvent::Locate {
+            request: locate_request(alloc, version, id).ok()?,
+            form: CheckedForm {
+                form: form(order, piece),
+            },
+        },
+        Client::Cancel(id, order) => WorldEvent::Cancel { id, order },
+        Client::Send(id) => WorldEvent::SendClient(id),
+        Client::Hear(_) | Client::Close | Client::Take(_) => return None,
+    })
+}
+
+// The same of a server.
+fn server_event(alloc: Global, what: Server) -> Option<WorldEvent> {
+    let (version, id, body, order, piece) = match what {
+        Server::Answer(id, body, order, piece) => (Version::V12, id, body, order, piece),
+        Server::AnswerIn(version, id, body, order, piece) => (version, id, body, order, piece),
+        Server::AnswerLocate(id, here, order) => {
+            return Some(WorldEvent::AnswerLocate { id, here, order });
+        }
+        Server::Send(id) => return Some(WorldEvent::SendServer(id)),
+        Server::Hear(_) | Server::Close | Server::Take(_) => return None,
+    };
+    Some(WorldEvent::Answer {
+        reply: reply(alloc, version, id, body).ok()?,
+        form: CheckedForm {
+            form: form(order, piece),
+        },
+    })
+}
+
+fn event(alloc: Global, step: Step) -> Option<WorldEvent> {
+    match step {
+        Step::AtClient(what) => client_event(alloc, what),
+        Step::AtServer(what) => server_event(alloc, what),
+        Step::ToServer(n) => Some(WorldEvent::ToServer(n)),
+        Step::ToClient(n) => Some(WorldEvent::ToClient(n)),
+    }
+}
+
+// Whether a step is one that may happen in a world.
+fn happens(row: &JoinedRow) -> bool {
+    !matches!(
+        row.0,
+        Step::AtClient(Client::Hear(_) | Client::Close | Client::Take(_))
+            | Step::AtServer(Server::Hear(_) | Server::Close | Server::Take(_))
+    )
+}
+
+// The same steps as a schedule: `run_world` tells the same of each, and leaves the same.
+fn world_stands(
+    rt: &impl Abort,
+    alloc: Global,
+    interface: &Interface,
+    limits: Limits,
+    rows: &[JoinedRow],
+    standing: Standing,
+) -> Option<()> {
+    let mut schedule = Vec::new(alloc);
+    for row in rows {
+        schedule.push(event(alloc, row.0)?).ok()?;
+    }
+    let gathered = limits.gathered.min(1 << 62);
+    let limits = Limits { gathered, ..limits };
+    let (world, answers) =
+        run_world(alloc, interface, Limits::default(), limits, schedule).ok()?;
+    assert_eq!(rt; answers.len(), rows.len());
+    for (i, (answer, row)) in answers.iter().zip(rows).enumerate() {
+        assert_eq!(rt; told(alloc, *answer)?.as_str(), row.1, "at event {i}");
+    }
+    stands(rt, alloc, &world.client, &world.server, standing)
+}
+
 /// All this, in turn, at two ends without calls, of which the server has these limits; and then
-/// this stands.
+/// this stands. So it does where all this is the schedule of a world.
 pub fn ends_as(
     rt: &impl Abort,
     alloc: Global,
@@ -103,5 +189,8 @@ pub fn ends_as(
     let mut server = server_end(alloc, &interface, limits);
     all_go(rt, alloc, &mut client, &mut server, rows).ok_or("no memory")?;
     stands(rt, alloc, &client, &server, standing).ok_or("no memory")?;
+    if rows.iter().all(happens) {
+        world_stands(rt, alloc, &interface, limits, rows, standing).ok_or("no memory")?;
+    }
     Ok(())
 }

@@ -1,4 +1,4 @@
-use Rattle.std.proofs.Common.{◌≡◌, ℕ, true, List, Result, Ok, Err, refl, subst, inr}
+use Rattle.std.proofs.Common.{ℕ, true, List, Result, Ok, Err, refl, subst, inr}
 use Rattle.std.specs.FinMap as finite
 use Rattle.giop_ids.specs.Runs.{Does}
 use Rattle.giop_calls.specs.declared.fault.CallFault.{CallFault}

@@ -1,0 +1,172 @@
+//! A client's end and a server's end that hear one another, and what happens between them.
+ghost use Rattle.std.specs.Prelude.{◌≡◌, ◌≤◌, ◌^◌, IfOk, length, take, drop};
+ghost use Rattle.giop_types.specs.declared.json.interface.Interface.{Interface};
+ghost use Rattle.giop_session.specs.World.{AreJoined, ArriveAtClient, ArriveAtServer, AtClient, AtServer};
+ghost use Rattle.giop_session.specs.World.{ends_of, GoesBy, told_of_answer, WorldRuns};
+
+use super::inputs::{Answered, ClientInput, ServerInput, WorldEvent};
+use super::running::{Driven, feed_to, take_all};
+use crate::end::{ClientEnd, End, ServerEnd};
+use crate::limits::Limits;
+use crate::session_fault::SessionFault;
+use giop_calls::{ClientRule, ServerRule};
+use giop_types::Interface;
+use std::alloc::{AllocError, Global};
+
+/// A client's end and a server's end of one connection. What is outgoing at one is on its way to
+/// the other.
+#[derive(Drop)]
+pub struct World<'a> {
+    /// The client's end.
+    pub client: ClientEnd<'a>,
+    /// The server's end.
+    pub server: ServerEnd<'a>,
+}
+
+/// Makes both ends, and lets these events happen, one after another: for each it is told whether
+/// the end did it, or why it refused. A world goes on behind a refusal, also one that fails an end,
+/// which then refuses all that is left; what arrives at it is lost.
+///
+/// Each end of a world is what `run_client` or `run_server` makes of some inputs, so all that these
+/// say of an end holds of it; and what the one put out is what the other was fed, octet for octet,
+/// and behind it what is still on its way.
+///
+/// `alloc` gives the memory of the ends and of what is told; where any is wanting nothing is given
+/// back.
+pub fn run_world<'a>(
+    alloc: Global,
+    interface: &'a Interface,
+    client_limits: Limits,
+    server_limits: Limits,
+    schedule: Vec<WorldEvent>,
+) -> Result<(World<'a>, Vec<Result<(), SessionFault>>), AllocError>
+    requires client { client_limits.gathered ≤ 2 ^ 62 }
+    requires server { server_limits.gathered ≤ 2 ^ 62 }
+    ensures value { IfOk result (λ run. WorldRuns interface.now client_limits server_limits
+        schedule.items run.1.items (ends_of run.0)) }
+    ensures same { IfOk result (λ run.
+        GoesBy interface.now client_limits server_limits run.0) }
+    ensures joined { IfOk result (λ run.
+        AreJoined interface.now client_limits server_limits (ends_of run.0)) }
+{
+    let mut world = World {
+        client: End::<ClientRule>::new(alloc, interface, client_limits),
+        server: End::<ServerRule>::new(alloc, interface, server_limits),
+    };
+    let told = take_all(alloc, &mut world, schedule)?;
+    Ok((world, told))
+}
+
+impl<'a> Driven for World<'a> {
+    ghost use Rattle.giop_session.specs.World.{ends_of, GoesBy, Happens};
+
+    type Input = WorldEvent;
+
+    type Answer = Result<(), SessionFault>;
+
+    ghost is_given = { λ world event told after. (interface : _) (client_limits server_limits : _)
+        → GoesBy interface client_limits server_limits world
+        → GoesBy interface client_limits server_limits after
+        × Happens interface client_limits server_limits (ends_of world) event told
+        (ends_of after) };
+
+    fn take_input(&mut self, event: WorldEvent) -> Result<Result<(), SessionFault>, AllocError> {
+        match event {
+            WorldEvent::Call { request, form } => {
+                at_client(self, ClientInput::Call { request, form })
+            }
+            WorldEvent::Locate { request, form } => {
+                at_client(self, ClientInput::Locate { request, form })
+            }
+            WorldEvent::Cancel { id, order } => at_client(self, ClientInput::Cancel { id, order }),
+            WorldEvent::SendClient(id) => at_client(self, ClientInput::Send(id)),
+            WorldEvent::Answer { reply, form } => at_server(
+                self,
+                ServerInput::Answer { reply, form },
+            ),
+            WorldEvent::AnswerLocate { id, here, order } => {
+                at_server(self, ServerInput::AnswerLocate { id, here, order })
+            }
+            WorldEvent::SendServer(id) => at_server(self, ServerInput::Send(id)),
+            WorldEvent::ToServer(n) => to_server(self, n),
+            WorldEvent::ToClient(n) => to_client(self, n),
+        }
+    }
+}
+
+// The client's end is given something.
+fn at_client(
+    world: &mut World<'_>,
+    given: ClientInput,
+) -> Result<Result<(), SessionFault>, AllocError>
+    ensures { IfOk result (λ told. (interface : Interface) (client_limits server_limits : _)
+        → GoesBy interface client_limits server_limits world.old
+        → GoesBy interface client_limits server_limits world.new
+        × AtClient interface client_limits server_limits (ends_of world.old) given told
+        (ends_of world.new)) }
+{
+    Ok(told_of(world.client.take_input(given)?))
+}
+
+// The server's end is given something.
+fn at_server(
+    world: &mut World<'_>,
+    given: ServerInput,
+) -> Result<Result<(), SessionFault>, AllocError>
+    ensures { IfOk result (λ told. (interface : Interface) (client_limits server_limits : _)
+        → GoesBy interface client_limits server_limits world.old
+        → GoesBy interface client_limits server_limits world.new
+        × AtServer interface client_limits server_limits (ends_of world.old) given told
+        (ends_of world.new)) }
+{
+    Ok(told_of(world.server.take_input(given)?))
+}
+
+// Octets arrive at the server's end.
+fn to_server(world: &mut World<'_>, n: usize) -> Result<Result<(), SessionFault>, AllocError>
+    ensures { IfOk result (λ told. (interface : Interface) (client_limits server_limits : _)
+        → GoesBy interface client_limits server_limits world.old
+        → GoesBy interface client_limits server_limits world.new
+        × ArriveAtServer interface client_limits server_limits (ends_of world.old) n told
+        (ends_of world.new)) }
+{
+    let octets = front(world.client.outgoing(), n);
+    let count = octets.len();
+    let answered = feed_to(&mut world.server, octets)?;
+    world.client.wrote(count);
+    Ok(told_of(answered))
+}
+
+// Octets arrive at the client's end.
+fn to_client(world: &mut World<'_>, n: usize) -> Result<Result<(), SessionFault>, AllocError>
+    ensures { IfOk result (λ told. (interface : Interface) (client_limits server_limits : _)
+        → GoesBy interface client_limits server_limits world.old
+        → GoesBy interface client_limits server_limits world.new
+        × ArriveAtClient interface client_limits server_limits (ends_of world.old) n told
+        (ends_of world.new)) }
+{
+    let octets = front(world.server.outgoing(), n);
+    let count = octets.len();
+    let answered = feed_to(&mut world.client, octets)?;
+    world.server.wrote(count);
+    Ok(told_of(answered))
+}
+
+// Up to so many octets, the first of these.
+fn front(octets: &[u8], n: usize) -> &[u8]
+    ensures value { result.now ≡ take n octets.now }
+    ensures within { length result.now ≤ length octets.now }
+    ensures rest { drop (length result.now) octets.now ≡ drop n octets.now }
+{
+    &octets[..n.min(octets.len())]
+}
+
+// Whether an end did what it was given, or why it refused.
+fn told_of<E: Drop>(answered: Answered<E>) -> Result<(), SessionFault>
+    ensures { result ≡ told_of_answer answered }
+{
+    match answered {
+        Answered::Done | Answered::Taken(_) => Ok(()),
+        Answered::Refused(why) => Err(why),
+    }
+}
