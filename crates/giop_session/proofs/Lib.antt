@@ -30,5 +30,7 @@ mod ServerRunLimitLemmas
 mod ClientRunLimitLemmas
 mod ServerHeadline
 mod ClientHeadline
+mod PutOutLemmas
+mod SidesPutOut
 mod WorldLemmas
 mod AnswerLemmas

@@ -38,6 +38,7 @@ use Rattle.giop_session.specs.ServerHears.{server_befalls, server_breaks}
 use Rattle.giop_session.specs.ServerRuns.{ServerIsGiven, ServerRunsFrom, server_deed}
 use Rattle.giop_session.specs.World.{AreJoined, ArriveAtClient, ArriveAtServer, AtClient, AtServer, Happens, Told, WorldRuns, WorldState}
 use Rattle.giop_session.specs.World.{fed_to_client, fed_to_server, new_world}
+use Rattle.giop_session.proofs.SidesPutOut.{client_puts_out, server_puts_out}
 
 -- an end with octets before those that are outgoing
 abbrev behind : {H : Type 0} → List ℕ → EndState H → EndState H
@@ -233,4 +234,8 @@ module _ (interface : Interface) (client_limits server_limits : Limits) where
         server_answers = on.server_answers;
         client = on.client [];
         server = on.server [];
+        asked = client_puts_out interface client_limits on.client_inputs on.client_answers
+            (behind (fed_to_server on.server_inputs) w.client) (on.client []);
+        answered = server_puts_out interface server_limits on.server_inputs on.server_answers
+            (behind (fed_to_client on.client_inputs) w.server) (on.server []);
       }

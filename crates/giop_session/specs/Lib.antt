@@ -18,6 +18,7 @@ pub mod Inputs
 pub mod LeftToSend
 pub mod Limits
 pub mod Pumping
+pub mod PutOut
 pub mod Putting
 pub mod Refused
 pub mod RunLimits

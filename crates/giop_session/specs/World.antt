@@ -21,6 +21,7 @@ use Rattle.giop_session.specs.declared.session_fault.SessionFault.{SessionFault}
 use Rattle.giop_session.specs.CallTable.{Held}
 use Rattle.giop_session.specs.ClientRuns.{ClientIsGiven, ClientRuns}
 use Rattle.giop_session.specs.Driven.{EndState, InTurn, end_state, new_end}
+use Rattle.giop_session.specs.PutOut.{ArePutOut, is_of_client, is_of_server}
 use Rattle.giop_session.specs.ServerRuns.{ServerIsGiven, ServerRuns}
 
 -- both ends, as they stand
@@ -117,8 +118,8 @@ module _ (interface : Interface) (client_limits server_limits : Limits) where
   WorldRuns schedule told w =
       InTurn Happens (new_world client_limits server_limits) schedule told w
 
-  -- each end of a world is what a run by itself makes of some inputs, and what the two put out is
-  -- what the other was fed, and behind it what is still on its way
+  -- each end of a world is what a run by itself makes of some inputs, and what the one put out is
+  -- what the other was fed, and behind it what is still on its way: whole messages of its side
   pub record AreJoined (w : WorldState) : Type 0 where
     pub client_inputs : List ClientInput
     pub client_answers : List (Answered ClientEntry)
@@ -130,3 +131,5 @@ module _ (interface : Interface) (client_limits server_limits : Limits) where
     pub server : ServerRuns interface server_limits server_inputs server_answers (record w.server {
       outgoing = fed_to_client client_inputs ++ w.server.outgoing;
     })
+    pub asked : ArePutOut is_of_client (fed_to_server server_inputs ++ w.client.outgoing)
+    pub answered : ArePutOut is_of_server (fed_to_client client_inputs ++ w.server.outgoing)

@@ -7,6 +7,7 @@ ghost use Rattle.giop_session.specs.Carries.{behind_all};
 ghost use Rattle.giop_session.specs.ClientCarries.{client_telling, unknown};
 ghost use Rattle.giop_session.specs.ClientRuns.{client_entry, client_named, ClientHolds, ClientRuns, ClientTakesAs};
 ghost use Rattle.giop_session.specs.Driven.{answer_of, Closes, end_state, Feeds, InTurn, IsGiven, item_answers, NoneRefused, own_answers, taken_answer_of, TakesOut};
+ghost use Rattle.giop_session.specs.PutOut.{ArePutOut, is_of_client, is_of_server};
 ghost use Rattle.giop_session.specs.RunLimits.{ClientIsGivenWithin, NoneForALimit, ServerIsGivenWithin};
 ghost use Rattle.giop_session.specs.ServerCarries.{server_telling};
 ghost use Rattle.giop_session.specs.ServerRuns.{server_entry, server_named, ServerHolds, ServerRuns, ServerTakesAs};
@@ -30,6 +31,8 @@ use std::alloc::{AllocError, Global};
 /// Where the distinct ids of the Requests and LocateRequests that are fed are at most as many as the
 /// limit `calls`, and the octets of all pieces of fragmented messages at most the limit `gathered`,
 /// no input is refused as TooManyCalls or GatherFull, in whatever order all of it comes.
+///
+/// What is outgoing at the end of a run is whole messages, each of a kind that a server sends.
 ///
 /// `alloc` gives the memory of the end and of the answers; where any is wanting nothing is given
 /// back.
@@ -58,6 +61,7 @@ pub fn run_server<'a>(
         ≡ item_answers (server_telling interface.now) (λ entry. entry) None (items id)) }
     ensures within { IfOk result (λ run. ServerIsGivenWithin limits inputs.items
         → NoneForALimit run.1.items) }
+    ensures put_out { IfOk result (λ run. ArePutOut is_of_server run.0.outgoing) }
 {
     let mut server: ServerEnd<'a> = End::<ServerRule>::new(alloc, interface, limits);
     let answers = take_all(alloc, &mut server, inputs)?;
@@ -90,6 +94,7 @@ pub fn run_client<'a>(
         ≡ item_answers (client_telling interface.now) (λ known. known.entry) unknown (items id)) }
     ensures within { IfOk result (λ run. ClientIsGivenWithin limits inputs.items
         → NoneForALimit run.1.items) }
+    ensures put_out { IfOk result (λ run. ArePutOut is_of_client run.0.outgoing) }
 {
     let mut client: ClientEnd<'a> = End::<ClientRule>::new(alloc, interface, limits);
     let answers = take_all(alloc, &mut client, inputs)?;

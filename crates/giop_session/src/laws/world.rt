@@ -29,7 +29,7 @@ pub struct World<'a> {
 ///
 /// Each end of a world is what `run_client` or `run_server` makes of some inputs, so all that these
 /// say of an end holds of it; and what the one put out is what the other was fed, octet for octet,
-/// and behind it what is still on its way.
+/// and behind it what is still on its way: whole messages, of kinds that its side sends.
 ///
 /// `alloc` gives the memory of the ends and of what is told; where any is wanting nothing is given
 /// back.

@@ -7,6 +7,7 @@ use Rattle.giop_session.specs.Inputs.{nothing_unread}
 use Rattle.giop_session.specs.ServerHears.{server_befalls, server_breaks}
 use Rattle.giop_session.specs.ServerRuns.{ServerIsGiven, ServerRuns, ServerRunsFrom, server_deed}
 use Rattle.giop_session.proofs.DrivenLemmas.{in_turn_seen, run_taken, taken_takes}
+use Rattle.giop_session.proofs.SidesPutOut.{server_puts_out}
 use Rattle.giop_session.proofs.ServerHeadline.{server_answers, server_entries}
 use Rattle.giop_session.proofs.ServerRunLimitLemmas.{server_run_free}
 use Rattle.giop_session.proofs.laws.running.run_server.Goals as goal
@@ -73,3 +74,9 @@ returns-clause-within c = λ given.
     server_run_free c.args.interface.now c.args.limits c.args.inputs.items c.in_ok-answers.answers.items
     (end_state c.take_all.new.driven.framer c.take_all.new.driven.calls c.take_all.new.driven.outgoing c.take_all.new.driven.fault)
     given (seen c).1
+
+pub returns-clause-put_out : goal.returns-clause-put_out
+returns-clause-put_out c =
+    server_puts_out c.args.interface.now c.args.limits c.args.inputs.items c.in_ok-answers.answers.items
+    (end_state c.take_all.new.driven.framer c.take_all.new.driven.calls c.take_all.new.driven.outgoing c.take_all.new.driven.fault)
+    (seen c).1
