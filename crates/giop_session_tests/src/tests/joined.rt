@@ -166,8 +166,7 @@ fn world_stands(
     }
     let gathered = limits.gathered.min(1 << 62);
     let limits = Limits { gathered, ..limits };
-    let (world, answers) =
-        run_world(alloc, interface, Limits::default(), limits, schedule).ok()?;
+    let (world, answers) = run_world(alloc, interface, Limits::default(), limits, schedule).ok()?;
     assert_eq!(rt; answers.len(), rows.len());
     for (i, (answer, row)) in answers.iter().zip(rows).enumerate() {
         assert_eq!(rt; told(alloc, *answer)?.as_str(), row.1, "at event {i}");
