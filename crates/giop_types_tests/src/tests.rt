@@ -4,6 +4,5 @@ mod encoding;
 mod interface;
 mod json;
 mod memory;
-mod recorded;
 mod samples;
 mod values;

@@ -72,16 +72,6 @@ fn waits_for_close(rt: &impl Abort, framer: &mut Framer) -> Result<(), Fail> {
 }
 
 #[test]
-fn each_proper_prefix_of_a_request_waits(rt: HostRuntime) -> Result<(), Fail> {
-    for length in 0..PING.len() {
-        let mut framer = Framer::new(rt.alloc(), LIMIT);
-        feed(&rt, &mut framer, &PING[..length])?;
-        waits(&rt, &mut framer, length)?;
-    }
-    Ok(())
-}
-
-#[test]
 fn fed_octet_by_octet_the_request_comes_with_its_last(rt: HostRuntime) -> Result<(), Fail> {
     let mut framer = Framer::new(rt.alloc(), LIMIT);
     for length in 0..47 {
@@ -107,31 +97,6 @@ fn the_last_octet_of_a_request_may_open_the_next_feed(rt: HostRuntime) -> Result
     is_ping(&rt, next(&rt, &mut framer)?)?;
     is_close(&rt, next(&rt, &mut framer)?)?;
     waits(&rt, &mut framer, 0)
-}
-
-#[test]
-fn one_cancel_is_spelled_in_both_byte_orders(rt: HostRuntime) -> Result<(), Fail> {
-    let rows = [
-        (
-            Order::Big,
-            [0x47, 0x49, 0x4F, 0x50, 1, 2, 0, 2, 0, 0, 0, 4, 0, 0, 0, 5],
-        ),
-        (
-            Order::Little,
-            [0x47, 0x49, 0x4F, 0x50, 1, 2, 1, 2, 4, 0, 0, 0, 5, 0, 0, 0],
-        ),
-    ];
-    for (order, octets) in rows {
-        let mut framer = Framer::new(rt.alloc(), LIMIT);
-        feed(&rt, &mut framer, &octets)?;
-        let message = next(&rt, &mut framer)?.ok_or("no message")?;
-        assert_eq!(rt; message.kind, Kind::CancelRequest);
-        assert_eq!(rt; message.order, order);
-        assert!(rt; !message.more);
-        assert_eq!(rt; message.payload.len(), 4);
-        assert_eq!(rt; message.request_id(), Some(Ok(5)));
-    }
-    Ok(())
 }
 
 #[test]

@@ -1,3 +1,5 @@
+//! Heads that are read and written again. Heads that are read, and each of their faults, are cases of
+//! the built program (tests/cases/heads).
 use giop_cdr::{CdrFault, CdrKind, CdrOut, EncodeFault, OctetList, Order, SliceOctets};
 use giop_ior::{Ior, Sequence, TaggedProfile};
 use giop_msg::{
@@ -34,15 +36,6 @@ const WITH_CONTEXT: [u8; 32] = [
 
 fn bad(at: usize, kind: CdrKind) -> CdrFault {
     CdrFault { at, kind }
-}
-
-// BadLabel at a place, for a status from the first one that is none on.
-fn bad_from(first: u8, status: u8, place: usize) -> Option<CdrFault> {
-    if status >= first {
-        Some(bad(place, CdrKind::BadLabel))
-    } else {
-        None
-    }
 }
 
 // The head and the place of the body; again where memory was wanting.
@@ -166,26 +159,6 @@ fn a_principal_is_dropped_and_no_response_is_expected(rt: HostRuntime) -> Result
 }
 
 #[test]
-fn reserved_octets_stand_in_1_1_alone(rt: HostRuntime) {
-    // A key of no octets that begins right behind response_expected in 1.0 would be cut short in
-    // 1.1.
-    let rows = [
-        (20, bad(20, CdrKind::Short)),
-        (21, bad(21, CdrKind::Short)),
-        (22, bad(22, CdrKind::Short)),
-        (23, bad(23, CdrKind::Short)),
-        (24, bad(24, CdrKind::Short)),
-    ];
-    for (end, want) in rows {
-        let refused = request(rt.alloc(), &ADD[..end - 12], Version::V11).err();
-        assert_eq!(rt; refused, Some(want), "1.1 {end}");
-        let place = if end == 20 { 20 } else { 24 };
-        let refused = request(rt.alloc(), &ADD[..end - 12], Version::V10).err();
-        assert_eq!(rt; refused, Some(bad(place, CdrKind::Short)), "1.0 {end}");
-    }
-}
-
-#[test]
 fn a_target_is_a_key_a_profile_or_a_reference(rt: HostRuntime) -> Result<(), Fail> {
     let (head, body) = request(rt.alloc(), &BY_PROFILE, Version::V12)
         .ok()
@@ -238,30 +211,6 @@ fn a_reply_is_read_and_written(rt: HostRuntime) -> Result<(), Fail> {
         assert_eq!(rt; out.as_slice(), &early[..12]);
     }
     Ok(())
-}
-
-#[test]
-fn each_version_has_its_statuses(rt: HostRuntime) {
-    let rows = [
-        (Version::V10, 4, 3),
-        (Version::V11, 4, 3),
-        (Version::V12, 6, 6),
-    ];
-    for (version, past_reply, past_locate) in rows {
-        for status in 0u8..8 {
-            let place = if version == Version::V12 { 16 } else { 20 };
-            let octets = match version {
-                Version::V12 => [0, 0, 0, 1, 0, 0, 0, status, 0, 0, 0, 0],
-                _ => [0, 0, 0, 0, 0, 0, 0, 1, 0, 0, 0, status],
-            };
-            let refused = reply(rt.alloc(), &octets, version).err();
-            let want = bad_from(past_reply, status, place);
-            assert_eq!(rt; refused, want, "{version:?} {status}");
-            let refused = located(&[0, 0, 0, 1, 0, 0, 0, status], version).err();
-            let want = bad_from(past_locate, status, 16);
-            assert_eq!(rt; refused, want, "{version:?} {status}");
-        }
-    }
 }
 
 #[test]

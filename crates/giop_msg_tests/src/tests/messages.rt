@@ -1,4 +1,5 @@
-// Whole messages: the worked octets of each version, both ways, and each refusal.
+//! Whole messages that are read and written again. Bodies that are read, and each refusal, are cases of
+//! the built program (tests/cases/bodies).
 use giop_cdr::{CdrFault, CdrKind, EncodeFault, Order, SliceOctets};
 use giop_msg::{LocateReply, LocateRequest, Request, RequestFault, Version};
 use giop_types::{FormFault, Interface, Value, ValueList};
@@ -19,12 +20,6 @@ pub const ADD: &[u8] = &[
 const EARLY_ADD: &[u8] = &[
     0, 0, 0, 0, 0, 0, 0, 1, 1, 0, 0, 0, 0, 0, 0, 1, 0x6B, 0, 0, 0, 0, 0, 0, 4, 0x61, 0x64, 0x64, 0,
     0, 0, 0, 0, 0, 0, 0, 2, 0, 0, 0, 5,
-];
-
-// Request 3: `list`, of more longs than there are octets.
-const LONG_LIST: &[u8] = &[
-    0, 0, 0, 3, 3, 0, 0, 0, 0, 0, 0, 0, 0, 0, 0, 1, 0x6B, 0, 0, 0, 0, 0, 0, 5, 0x6C, 0x69, 0x73,
-    0x74, 0, 0, 0, 0, 0, 0, 0, 0, 0xFF, 0xFF, 0xFF, 0xFF, 0, 0, 0, 0,
 ];
 
 // Request 1: `ping` with a context (9, AA), whose head ends at 57; seven octets of padding, and one
@@ -149,52 +144,6 @@ fn an_empty_body_may_have_a_part_of_its_padding(rt: HostRuntime) -> Result<(), F
             .ok_or("not encoded")?;
         assert_eq!(rt; again.as_slice(), &PADDED_PING[..45]);
     }
-    let behind = decode(rt.alloc(), &interface, PADDED_PING, Version::V12).err();
-    assert_eq!(rt; behind, Some(RequestFault::Body(at(64, CdrKind::Trailing))));
-    Ok(())
-}
-
-#[test]
-fn a_body_is_refused_at_its_first_field(rt: HostRuntime) -> Result<(), Fail> {
-    let interface = interface(rt.alloc())?;
-    // A body that isn't there is short at the multiple of 8, whatever of its padding is there.
-    for pads in 0..5 {
-        let missing = decode(rt.alloc(), &interface, &ADD[..32 + pads], Version::V12).err();
-        assert_eq!(rt; missing, Some(RequestFault::Body(at(48, CdrKind::Short))));
-    }
-    let second = decode(rt.alloc(), &interface, &ADD[..40], Version::V12).err();
-    assert_eq!(rt; second, Some(RequestFault::Body(at(52, CdrKind::Short))));
-    let early = decode(rt.alloc(), &interface, &EARLY_ADD[..32], Version::V10).err();
-    assert_eq!(rt; early, Some(RequestFault::Body(at(44, CdrKind::Short))));
-    let count = decode(rt.alloc(), &interface, LONG_LIST, Version::V12).err();
-    assert_eq!(rt; count, Some(RequestFault::Body(at(48, CdrKind::BadCount))));
-    Ok(())
-}
-
-#[test]
-fn octets_behind_a_body_are_refused(rt: HostRuntime) -> Result<(), Fail> {
-    let interface = interface(rt.alloc())?;
-    let mut octets = [0; 48];
-    octets[..44].copy_from_slice(ADD);
-    let behind = decode(rt.alloc(), &interface, &octets, Version::V12).err();
-    assert_eq!(rt; behind, Some(RequestFault::Body(at(56, CdrKind::Trailing))));
-    Ok(())
-}
-
-#[test]
-fn a_head_is_refused_before_its_operation(rt: HostRuntime) -> Result<(), Fail> {
-    let interface = interface(rt.alloc())?;
-    let mut octets = [0; 44];
-    octets.copy_from_slice(ADD);
-    octets[24] = 0x62;
-    let unknown = decode(rt.alloc(), &interface, &octets, Version::V12).err();
-    assert_eq!(rt; unknown, Some(RequestFault::Operation));
-    octets[4] = 2;
-    let flags = decode(rt.alloc(), &interface, &octets, Version::V12).err();
-    assert_eq!(rt;
-        flags,
-        Some(RequestFault::Header(at(16, CdrKind::BadLabel)))
-    );
     Ok(())
 }
 

@@ -1,5 +1,6 @@
-//! Pieces of five calls, interleaved and cut into reads at random from a fixed seed, each call in a
-//! byte order at random: one table, written by hand, for all of ten thousand runs.
+//! Pieces of five calls, interleaved and cut into reads at random from fixed seeds, each call in a
+//! byte order at random: one table, written by hand, for all of ten thousand runs. They are four
+//! tests, since each test has a minute.
 use super::interfaces::interface;
 use super::octets::{
     ADD_1, ADD_2, ADD_3, ADD_4, ADD_5, LOCATE_1, LOCATE_2, ONE_1, ONE_2, ONE_3, ONE_4, TELL_1,
@@ -10,9 +11,11 @@ use super::shown::server_table;
 use giop_session::{Limits, ServerEnd, SessionFault};
 use giop_types::Interface;
 use std::alloc::Global;
+use std::process::Abort;
 use std::test::Fail;
 
-const RUNS: usize = 10_000;
+// From each seed.
+const RUNS: usize = 2_500;
 
 const CALLS: usize = 5;
 
@@ -172,15 +175,35 @@ fn run(
     server_table(alloc, &end)
 }
 
-#[test]
-fn any_interleaving_in_any_reads_gives_one_table(rt: HostRuntime) -> Result<(), Fail> {
+// All runs from a seed give the table.
+fn all_give_the_table(rt: &(impl Abort + AllocGlobal), seed: u64) -> Result<(), Fail> {
     let alloc = rt.alloc();
     let interface = interface(alloc)?;
     let pieces = octets_of(alloc, &PIECES).ok_or("no memory")?;
-    let mut random = Random(88_172_645_463_325_252);
+    let mut random = Random(seed);
     for i in 0..RUNS {
         let text = run(alloc, &interface, &pieces, &mut random).ok_or("refused")?;
         assert_eq!(rt; text.as_str(), TABLE, "in run {i}");
     }
     Ok(())
+}
+
+#[test]
+fn any_interleaving_in_any_reads_gives_one_table(rt: HostRuntime) -> Result<(), Fail> {
+    all_give_the_table(&rt, 88_172_645_463_325_252)
+}
+
+#[test]
+fn so_do_those_of_a_second_seed(rt: HostRuntime) -> Result<(), Fail> {
+    all_give_the_table(&rt, 1_070_372_123_456_789)
+}
+
+#[test]
+fn so_do_those_of_a_third_seed(rt: HostRuntime) -> Result<(), Fail> {
+    all_give_the_table(&rt, 2_862_933_555_777_941_757)
+}
+
+#[test]
+fn so_do_those_of_a_fourth_seed(rt: HostRuntime) -> Result<(), Fail> {
+    all_give_the_table(&rt, 3_202_034_522_624_059_733)
 }

@@ -1,4 +1,5 @@
-//! What a server's end makes of octets: tables written by hand.
+//! What a server's end makes of octets within other limits, and what is taken out. What it makes of
+//! octets within the default limits is cases of the built program (tests/cases/check).
 use super::sessions::{fed, interface, table};
 use giop_calls::{CallFault, ServerEntry};
 use giop_session::{ClientEnd, Limits, ServerEnd, SessionFault};
@@ -31,89 +32,11 @@ const PING: &str =
 const ADD: &str =
     "47494f50010200000000002c000000040300000000000000000000016b000000000000046164640000000000000000000000000200000005";
 
-// `list` of more longs than there are octets, as id 3.
-const LONG_LIST: &str =
-    "47494f50010200000000002c000000030300000000000000000000016b000000000000056c6973740000000000000000ffffffff00000000";
-
-// A LocateRequest, as id 6.
-const LOCATE: &str = "47494f50010200030000000d0000000600000000000000016b";
-
 // A CancelRequest of id 1.
 const CANCEL_1: &str = "47494f50010200020000000400000001";
 
-// CloseConnection.
-const CLOSE: &str = "47494f500102000500000000";
-
-// MessageError.
-const ERROR: &str = "47494f500102000600000000";
-
 // A Reply.
 const REPLY: &str = "47494f50010200010000000c000000010000000000000000";
-
-#[test]
-fn messages_in_any_interleaving_give_one_table(rt: HostRuntime) -> Result<(), Fail> {
-    let alloc = rt.alloc();
-    let runs: [[&str; 8]; 4] = [
-        [ONE_1, ONE_2, ONE_3, ONE_4, TWO_1, TWO_2, TWO_3, TWO_4],
-        [TWO_1, TWO_2, TWO_3, TWO_4, ONE_1, ONE_2, ONE_3, ONE_4],
-        [ONE_1, TWO_1, ONE_2, TWO_2, ONE_3, TWO_3, ONE_4, TWO_4],
-        [TWO_1, ONE_1, ONE_2, ONE_3, TWO_2, TWO_3, TWO_4, ONE_4],
-    ];
-    for run in &runs {
-        let text = fed(alloc, Limits::default(), run)?;
-        assert_eq!(rt; text.as_str(), "1 Asked, 2 Asked, rest 0");
-    }
-    Ok(())
-}
-
-#[test]
-fn each_message_does_what_it_does(rt: HostRuntime) -> Result<(), Fail> {
-    let alloc = rt.alloc();
-    let rows: [(&[&str], &str); 17] = [
-        (&[PING], "1 Asked, rest 0"),
-        (&[ADD, LONG_LIST], "3 Undecoded, 4 Asked, rest 0"),
-        (&[LOCATE], "6 LocateAsked, rest 0"),
-        (
-            &[
-                "47494f50010200000000002a000000080000000000000000000000016b0000000000000574656c6c0000000000000000000000027800",
-            ],
-            "8 Delivered, rest 0",
-        ),
-        (&[CANCEL_1], "rest 0"),
-        (&[PING, CANCEL_1], "1 Cancelled, rest 0"),
-        (&[ONE_1, ONE_2, CANCEL_1, ONE_3], "1 Cancelled, rest 0"),
-        (&[ONE_1], "1 Gathering, rest 0"),
-        (&["47494f5001020000000000"], "rest 11"),
-        (
-            &[ONE_1, "47494f500102020000000020"],
-            "1 Gathering, fault 1 no message: FragmentSize at 8",
-        ),
-        (
-            &[ONE_1, "47494f50010203070c00000001000000010000006b000000"],
-            "1 Gathering, fault 2 call 1: OrderDiffers",
-        ),
-        (
-            &[ONE_1, "47494f50010200070000000c000000090000000000000000"],
-            "1 Gathering, fault 2 call 9: Stray",
-        ),
-        (&[PING, PING], "1 Asked, fault 2 call 1: IdInUse"),
-        (
-            &[PING, REPLY],
-            "1 Asked, fault 3 a message of the wrong direction",
-        ),
-        (&[PING, CLOSE], "1 Asked, fault 7 the connection is closed"),
-        (&[PING, ERROR], "1 Asked, fault 6 the peer tells an error"),
-        (
-            &["47494f500100000000000008ffffffff00000001"],
-            "fault 10 no request id: BadCount at 12",
-        ),
-    ];
-    for (pieces, expected) in &rows {
-        let text = fed(alloc, Limits::default(), pieces)?;
-        assert_eq!(rt; text.as_str(), *expected);
-    }
-    Ok(())
-}
 
 #[test]
 fn limits_are_met_where_they_would_be_passed(rt: HostRuntime) -> Result<(), Fail> {
