@@ -2,7 +2,8 @@
 use Rattle.std.specs.Prelude.{◌≡◌, ℕ, ◌+◌, ◌-◌, ◌==◌, Bool, true, false, if◌then◌else◌, List, [], ◌∷◌, ◌++◌, length, Option, Some, None, refl}
 use Rattle.std.proofs.Common.{sym, subst, ap, ◌∙◌, inl, inr, append_assoc}
 use Rattle.giop_msg.specs.declared.messages.request.Request.{Request}
-use Rattle.giop_calls.specs.declared.fault.CallFault.TheVariants.{IdInUse}
+use Rattle.giop_calls.specs.declared.fault.CallFault.TheVariants.{IdInUse, OrderDiffers}
+use Rattle.giop_calls.specs.declared.kind.CallKind.{CallKind}
 use Rattle.giop_calls.specs.declared.client.call.Call.{Call}
 use Rattle.giop_calls.specs.declared.client.call.Call.TheVariants as asked
 use Rattle.giop_calls.specs.declared.client.late.Late.TheVariants as late
@@ -13,9 +14,9 @@ use Rattle.giop_calls.specs.declared.server.entry.ServerEntry.TheVariants as at_
 use Rattle.giop_calls.specs.Messages.{is_oneway}
 use Rattle.giop_calls.specs.ClientTable as client
 use Rattle.giop_calls.specs.ServerTable as server
-use Rattle.giop_calls.specs.Lane.{Piece, Message, Opens, Continues, Stops, Codec, Lane, kind_of, version_of, heard_call, is_last, fragments, taken, served, Calls, step, calls, sends, cancels}
+use Rattle.giop_calls.specs.Lane.{Piece, Message, Opens, Continues, Stops, Cut, pieces_of, count, in_order, Codec, CutsCall, Lane, kind_of, version_of, heard_call, is_last, fragments, taken, served, Calls, step, calls, sends, cancels}
 use Rattle.giop_calls.proofs.LaneStands.{is_still, Server, at, read_at, Given, Replied, Located, answered, told_by, Reaches, Quiet, Replying, Behind, Stopping, Stopped, Crossing, Crossed, Phase, Stands, Goes, lane_of}
-use Rattle.giop_calls.proofs.LaneServer.{not_none, one_less, no_length}
+use Rattle.giop_calls.proofs.LaneServer.{not_none, one_less, no_length, piece_in_order}
 use Rattle.giop_calls.proofs.LanePipes.{stops_given}
 
 pub none_left : (tc ws : List Message) → tc ++ ws ≡ [] → (tc ≡ []) × (ws ≡ [])
@@ -71,54 +72,54 @@ module _ (codec : Codec) where
   sending_phase false call left got uses us ts s ws tc h st = st
 
   -- a call begins
-  begun_by : (call : Call) (n : ℕ) (got : List Piece) (uses : ℕ) (ts : List Message) (s : Server) (ws tc : List Message) (rest : List Piece)
-      → codec.call_rest call n ≡ rest → length rest ≡ n - 1 → codec.fits_call call ≡ true → Idle uses ts s ws tc
-      → Phase codec (Some (client.sending call (n - 1))) got (uses + 1) (fragments rest)
-      (ts ++ Opens (kind_of call) (version_of call) (is_last rest) (codec.call_first call n) ∷ []) s ws tc
+  begun_by : (call : Call) (n : Cut) (got : List Piece) (uses : ℕ) (ts : List Message) (s : Server) (ws tc : List Message) (rest : List Piece)
+      → n.rest ≡ rest → length rest ≡ count n - 1 → CutsCall codec call (pieces_of n) → Idle uses ts s ws tc
+      → Phase codec (Some (client.sending call (count n - 1))) got (uses + 1) (fragments rest)
+      (ts ++ Opens (kind_of call) (version_of call) (is_last rest) n.first ∷ []) s ws tc
   begun_by call n got uses ts s ws tc [] e l fit i =
       subst (λ x. Phase codec (Some (client.sending call x)) got (uses + 1) []
-      (ts ++ Opens (kind_of call) (version_of call) true (codec.call_first call n) ∷ []) s ws tc) l
+      (ts ++ Opens (kind_of call) (version_of call) true n.first ∷ []) s ws tc) l
       (sent_phase call got (uses + 1) _ s ws tc (
         i.no_rest,
         i.no_pipe,
         reach_on s ts i.comes_to (read_at call (uses + 1)) _ i.reaches i.still
-            (subst (λ x. served codec i.comes_to (Opens (kind_of call) (version_of call) true (codec.call_first call n))
+            (subst (λ x. served codec i.comes_to (Opens (kind_of call) (version_of call) true n.first)
             ≡ Some (at (server.arrived x) [] (uses + 1)))
-            (subst (λ l. codec.read_call (codec.call_first call n ∷ l) ≡ heard_call call) e (codec.call_read call n fit))
+            (subst (λ l. codec.read_call (n.first ∷ l) ≡ heard_call call) e (fit.read))
             (begin_by (server.is_free i.comes_to.entry) i.comes_to.entry _ [] i.comes_to.uses uses i.free i.used)),
       ))
   begun_by call n got uses ts s ws tc (p ∷ rest) e l fit i =
-      sending_phase ((n - 1) == 0) call (n - 1) got (uses + 1) _ _ s ws tc (not_none p rest (n - 1) l) (
-        fit,
+      sending_phase ((count n - 1) == 0) call (count n - 1) got (uses + 1) _ _ s ws tc (not_none p rest (count n - 1) l) (
         n,
-        codec.call_first call n ∷ [],
+        fit,
+        n.first ∷ [],
         p ∷ rest,
-        ap (λ l. codec.call_first call n ∷ l) (sym e),
+        ap (λ l. n.first ∷ l) (sym e),
         refl,
         l,
-        not_none p rest (n - 1) l,
+        not_none p rest (count n - 1) l,
         (
           i.no_rest,
           i.no_pipe,
-          reach_on s ts i.comes_to (at (at_server.Gathering (kind_of call)) (codec.call_first call n ∷ []) (uses + 1)) _ i.reaches i.still
+          reach_on s ts i.comes_to (at (at_server.Gathering (kind_of call)) (n.first ∷ []) (uses + 1)) _ i.reaches i.still
               (begin_by (server.is_free i.comes_to.entry) i.comes_to.entry _ _ i.comes_to.uses uses i.free i.used),
         ),
       )
 
-  begun : (call : Call) (n : ℕ) (got : List Piece) (uses : ℕ) (ts : List Message) (s : Server) (ws tc : List Message)
-      → codec.fits_call call ≡ true → Idle uses ts s ws tc
-      → Phase codec (Some (client.sending call (n - 1))) got (uses + 1) (fragments (codec.call_rest call n))
-      (ts ++ Opens (kind_of call) (version_of call) (is_last (codec.call_rest call n)) (codec.call_first call n) ∷ []) s ws tc
-  begun call n got uses ts s ws tc fit i = begun_by call n got uses ts s ws tc (codec.call_rest call n) refl (codec.call_pieces call n) fit i
+  begun : (call : Call) (n : Cut) (got : List Piece) (uses : ℕ) (ts : List Message) (s : Server) (ws tc : List Message)
+      → CutsCall codec call (pieces_of n) → Idle uses ts s ws tc
+      → Phase codec (Some (client.sending call (count n - 1))) got (uses + 1) (fragments n.rest)
+      (ts ++ Opens (kind_of call) (version_of call) (is_last n.rest) n.first ∷ []) s ws tc
+  begun call n got uses ts s ws tc fit i = begun_by call n got uses ts s ws tc n.rest refl (one_less n.first n.rest (count n) refl) fit i
 
   -- an answer all of which came
   given_still : (g : Given) (left : ℕ) → 0 ≡ left → is_still (Some (answered g left)) ≡ true
   given_still (Replied q r n) left e = nothing left e
-  given_still (Located q here) left e = refl
+  given_still (Located q here piece told) left e = refl
 
   given_free : (g : Given) (left : ℕ) → 0 ≡ left → server.is_free (Some (answered g left)) ≡ true
   given_free (Replied q r n) left e = nothing left e
-  given_free (Located q here) left e = refl
+  given_free (Located q here piece told) left e = refl
 
   idle_given : (g : Given) (uses : ℕ) (ts : List Message) (s : Server) (ws tc : List Message)
       → ts ≡ [] → Replying codec g s ws tc uses [] → Idle uses ts s ws tc
@@ -194,8 +195,8 @@ module _ (codec : Codec) where
   idle_late uses ts s ws tc (Crossing g ms a r c) = idle_crossing g uses ts s ws tc a (subst (λ x. Replying codec g s ws tc uses x) c r)
   idle_late uses ts s ws tc (Crossed left a is x c) = idle_crossed left uses ts s ws tc a is x c
 
-  call_by : (call : Call) (n : ℕ) (c : Option ClientEntry) (got : List Piece) (uses : ℕ) (us ts : List Message) (s : Server) (ws tc : List Message)
-      → codec.fits_call call ≡ true → Phase codec c got uses us ts s ws tc → Goes codec (calls codec (lane_of c got uses us ts s ws tc) call n)
+  call_by : (call : Call) (n : Cut) (c : Option ClientEntry) (got : List Piece) (uses : ℕ) (us ts : List Message) (s : Server) (ws tc : List Message)
+      → CutsCall codec call (pieces_of n) → Phase codec c got uses us ts s ws tc → Goes codec (calls codec (lane_of c got uses us ts s ws tc) call n)
   call_by call n None got uses us ts s ws tc fit (u, (x, y, r)) = begun call n got uses ts s ws tc fit (record {
     no_rest = x;
     no_pipe = y;
@@ -217,19 +218,23 @@ module _ (codec : Codec) where
   call_by call n (Some (at_client.Cancelled late.Begun)) got uses us ts s ws tc fit st = st
   call_by call n (Some (at_client.Cancelled late.Seen)) got uses us ts s ws tc fit (u, b) = begun call n got uses ts s ws tc fit (idle_late uses ts s ws tc b)
 
-  call_if : (b : Bool) (call : Call) (n : ℕ) (lane : Lane) → codec.fits_call call ≡ b → Stands codec lane
-      → Goes codec (if b then calls codec lane call n else Some lane)
-  call_if true call n lane fit st = call_by call n lane.client.entry lane.client.pieces lane.client.uses
+  pub keeps_call : (lane : Lane) (call : Call) (n : Cut) → CutsCall codec call (pieces_of n) → Stands codec lane
+      → Goes codec (step codec lane (Calls call n))
+  keeps_call lane call n fit st = call_by call n lane.client.entry lane.client.pieces lane.client.uses
       lane.unsent lane.to_server lane.server lane.unanswered lane.to_client fit st
-  call_if false call n lane fit st = st
 
-  pub keeps_call : (lane : Lane) (call : Call) (n : ℕ) → Stands codec lane → Goes codec (step codec lane (Calls call n))
-  keeps_call lane call n st = call_if (codec.fits_call call) call n lane refl st
+  -- a piece in order is gathered
+  in_order_by : (b : Bool) (k : CallKind) (after : ServerEntry) (pieces : List Piece) (uses : ℕ) → b ≡ true
+      → taken {A = Server} (server.becomes_if b (at_server.Gathering k) after OrderDiffers).outcome
+      (record { entry = (server.becomes_if b (at_server.Gathering k) after OrderDiffers).entry; pieces = pieces; uses = uses })
+      ≡ Some (at after pieces uses)
+  in_order_by true k after pieces uses h = refl
+  in_order_by false k after pieces uses h = absurd cc
 
   -- the next piece of the call goes out
-  send_piece : (call : Call) (left n : ℕ) (before rest : List Piece) (p : Piece)
+  send_piece : (call : Call) (left : ℕ) (n : Cut) (before rest : List Piece) (p : Piece)
       (got : List Piece) (uses : ℕ) (ts : List Message) (s : Server) (ws tc : List Message)
-      → codec.fits_call call ≡ true → before ++ p ∷ rest ≡ codec.call_first call n ∷ codec.call_rest call n → length (p ∷ rest) ≡ left
+      → CutsCall codec call (pieces_of n) → before ++ p ∷ rest ≡ n.first ∷ n.rest → length (p ∷ rest) ≡ left
       → Quiet codec s ts ws tc (at (at_server.Gathering (kind_of call)) before uses)
       → Phase codec (Some (client.sending call (left - 1))) got uses (fragments rest) (ts ++ Continues (is_last rest) p ∷ []) s ws tc
   send_piece call left n before [] p got uses ts s ws tc fit a l (x, y, r) =
@@ -238,23 +243,29 @@ module _ (codec : Codec) where
         x,
         y,
         reach_on s ts _ (read_at call uses) (Continues true p) r refl
-            (ap (λ z. Some (at (server.arrived z) [] uses)) (ap codec.read_call a ∙ codec.call_read call n fit)),
+            (in_order_by (in_order before p) (kind_of call) _ [] uses (piece_in_order fit.order before p [] _ a fit.one_order)
+            ∙ ap (λ z. Some (at (server.arrived z) [] uses)) (ap codec.read_call a ∙ fit.read)),
       ))
   send_piece call left n before (q ∷ rest) p got uses ts s ws tc fit a l (x, y, r) =
       sending_phase ((left - 1) == 0) call (left - 1) got uses _ _ s ws tc (not_none q rest (left - 1) (one_less p (q ∷ rest) left l)) (
-        fit,
         n,
+        fit,
         before ++ p ∷ [],
         q ∷ rest,
         append_assoc before (p ∷ []) (q ∷ rest) ∙ a,
         refl,
         one_less p (q ∷ rest) left l,
         not_none q rest (left - 1) (one_less p (q ∷ rest) left l),
-        (x, y, reach_on s ts _ (at (at_server.Gathering (kind_of call)) (before ++ p ∷ []) uses) (Continues false p) r refl refl),
+        (
+          x,
+          y,
+          reach_on s ts _ (at (at_server.Gathering (kind_of call)) (before ++ p ∷ []) uses) (Continues false p) r refl
+              (in_order_by (in_order before p) (kind_of call) _ _ uses (piece_in_order fit.order before p (q ∷ rest) _ a fit.one_order)),
+        ),
       )
 
-  send_rest : (call : Call) (left n : ℕ) (before rest : List Piece) (got : List Piece) (uses : ℕ) (us ts : List Message) (s : Server) (ws tc : List Message)
-      → codec.fits_call call ≡ true → before ++ rest ≡ codec.call_first call n ∷ codec.call_rest call n → us ≡ fragments rest → length rest ≡ left
+  send_rest : (call : Call) (left : ℕ) (n : Cut) (before rest : List Piece) (got : List Piece) (uses : ℕ)
+      (us ts : List Message) (s : Server) (ws tc : List Message) → CutsCall codec call (pieces_of n) → before ++ rest ≡ n.first ∷ n.rest → us ≡ fragments rest → length rest ≡ left
       → (left == 0) ≡ false → Quiet codec s ts ws tc (at (at_server.Gathering (kind_of call)) before uses)
       → Goes codec (sends codec (lane_of (Some (at_client.Sending call left)) got uses us ts s ws tc))
   send_rest call left n before [] got uses us ts s ws tc fit a u l z r = never (nothing left l) z
@@ -268,7 +279,7 @@ module _ (codec : Codec) where
   send_by : (c : Option ClientEntry) (got : List Piece) (uses : ℕ) (us ts : List Message) (s : Server) (ws tc : List Message)
       → Phase codec c got uses us ts s ws tc → Goes codec (sends codec (lane_of c got uses us ts s ws tc))
   send_by None got uses us ts s ws tc st = st
-  send_by (Some (at_client.Sending call left)) got uses us ts s ws tc (fit, n, b, rest, a, u, l, z, r) =
+  send_by (Some (at_client.Sending call left)) got uses us ts s ws tc (n, fit, b, rest, a, u, l, z, r) =
       send_rest call left n b rest got uses us ts s ws tc fit a u l z r
   send_by (Some (at_client.Waiting one)) got uses us ts s ws tc st = st
   send_by (Some (at_client.Gathering one)) got uses us ts s ws tc st = st
@@ -286,11 +297,11 @@ module _ (codec : Codec) where
   cancel_by : (c : Option ClientEntry) (got : List Piece) (uses : ℕ) (us ts : List Message) (s : Server) (ws tc : List Message)
       → Phase codec c got uses us ts s ws tc → Goes codec (cancels codec (lane_of c got uses us ts s ws tc))
   cancel_by None got uses us ts s ws tc st = st
-  cancel_by (Some (at_client.Sending call left)) got uses us ts s ws tc (fit, n, b, rest, a, u, l, z, r) =
+  cancel_by (Some (at_client.Sending call left)) got uses us ts s ws tc (n, fit, b, rest, a, u, l, z, r) =
       (refl, Stopping ts _ refl refl (inl (kind_of call, b, refl)) r)
   cancel_by (Some (at_client.Waiting call)) got uses us ts s ws tc (u, w, inl r) = (refl, Stopping ts _ refl refl (inr (call, w, refl)) r)
   cancel_by (Some (at_client.Waiting call)) got uses us ts s ws tc (u, w, inr (g, e, t, r)) =
-      (refl, Crossing g (told_by codec g) (ap (λ x. x ++ Stops ∷ []) t) r (_, _, _, _, refl))
+      (refl, Crossing g (told_by g) (ap (λ x. x ++ Stops ∷ []) t) r (_, _, _, _, refl))
   cancel_by (Some (at_client.Gathering call)) got uses us ts s ws tc (u, g, e, t, p, rest, a, r) =
       (refl, Crossing g (fragments (p ∷ rest)) (ap (λ x. x ++ Stops ∷ []) t) r (p, rest, refl))
   cancel_by (Some (at_client.Done q r)) got uses us ts s ws tc st = st

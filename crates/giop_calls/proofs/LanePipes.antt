@@ -3,6 +3,7 @@ use Rattle.std.specs.Prelude.{◌≡◌, ℕ, ◌==◌, Bool, true, false, if◌
 use Rattle.std.specs.Option.{option_map}
 use Rattle.std.proofs.Common.{arith, sym, subst, ap, ◌∙◌, inl, inr, append_assoc}
 use Rattle.std.proofs.lemmas.Bool.Decides.{nat_tests}
+use Rattle.giop_cdr.specs.declared.order.Order.{Order}
 use Rattle.giop_msg.specs.Version.{minor_of}
 use Rattle.giop_msg.specs.declared.version.Version.{Version}
 use Rattle.giop_msg.specs.declared.messages.request.Request.{Request}
@@ -18,9 +19,9 @@ use Rattle.giop_calls.specs.declared.client.entry.ClientEntry.TheVariants as at_
 use Rattle.giop_calls.specs.declared.server.entry.ServerEntry.TheVariants as at_server
 use Rattle.giop_calls.specs.Messages.{is_oneway}
 use Rattle.giop_calls.specs.ClientTable as client
-use Rattle.giop_calls.specs.Lane.{Piece, Message, Opens, Continues, Stops, Codec, Standing, Lane, kind_of, is_last, fragments, taken, later, served, hears, client_event, to_server, to_client}
+use Rattle.giop_calls.specs.Lane.{Piece, Message, Opens, Continues, Stops, AreIn, in_order, Codec, Standing, Lane, kind_of, is_last, fragments, taken, later, served, hears, client_event, to_server, to_client}
 use Rattle.giop_calls.proofs.LaneStands.{Server, at, read_at, Coming, Given, Replied, Located, call_of, answer_version, answered, HasLeft, first_of, rest_of, Fits, done_by, Replying, MayStop, Stopping, Stopped, Crossing, Crossed, Phase, Stands, Goes, lane_of}
-use Rattle.giop_calls.proofs.LaneServer.{waits}
+use Rattle.giop_calls.proofs.LaneServer.{waits, piece_in_order}
 
 same_is : (n : ℕ) → (n == n) ≡ true
 same_is n = grind (arith, nat_tests)
@@ -63,15 +64,15 @@ module _ (codec : Codec) where
   pub stops_given : (g : Given) (left uses : ℕ) → HasLeft g left
       → served codec (at (answered g left) [] uses) Stops ≡ Some (at (at_server.Cancelled true left) [] uses)
   stops_given (Replied q r n) left uses h = refl
-  stops_given (Located q here) left uses h = ap (λ x. Some (at (at_server.Cancelled true x) [] uses)) (sym h)
+  stops_given (Located q here piece told) left uses h = ap (λ x. Some (at (at_server.Cancelled true x) [] uses)) (sym h)
 
   server_hears : (c : Option ClientEntry) (got : List Piece) (uses : ℕ) (us ts : List Message) (s : Server) (ws tc : List Message)
       → Phase codec c got uses us ts s ws tc → Goes codec (to_server codec (lane_of c got uses us ts s ws tc) ts)
   server_hears c got uses us [] s ws tc st = st
   server_hears None got uses us (m ∷ ts) s ws tc (u, (x, y, (h, (mid, e, r)))) =
       arrives None got uses us (m ∷ ts) s mid ws tc m ts e (u, (x, y, r))
-  server_hears (Some (at_client.Sending call left)) got uses us (m ∷ ts) s ws tc (fit, n, b, rest, a, u, l, z, (x, y, (h, (mid, e, r)))) =
-      arrives _ got uses us (m ∷ ts) s mid ws tc m ts e (fit, n, b, rest, a, u, l, z, (x, y, r))
+  server_hears (Some (at_client.Sending call left)) got uses us (m ∷ ts) s ws tc (n, fit, b, rest, a, u, l, z, (x, y, (h, (mid, e, r)))) =
+      arrives _ got uses us (m ∷ ts) s mid ws tc m ts e (n, fit, b, rest, a, u, l, z, (x, y, r))
   server_hears (Some (at_client.Waiting call)) got uses us (m ∷ ts) s ws tc (u, w, inl (x, y, (h, (mid, e, r)))) =
       arrives _ got uses us (m ∷ ts) s mid ws tc m ts e (u, w, inl (x, y, r))
   server_hears (Some (at_client.Waiting call)) got uses us (m ∷ ts) s ws tc (u, w, inr (g, e, t, r)) = absurd cc
@@ -105,26 +106,30 @@ module _ (codec : Codec) where
   -- what the client hears of an answer
   heard_by : Given → HeardReply
   heard_by (Replied q r n) = heard.Reply r
-  heard_by (Located q here) = heard.Locate (codec.locate_read q here).0
+  heard_by (Located q here piece told) = heard.Locate told
 
-  reads : (g : Given) → Fits codec g → codec.read_reply (call_of g) (first_of codec g ∷ rest_of codec g) ≡ heard_by g
+  reads : (g : Given) → Fits codec g → codec.read_reply (call_of g) (first_of g ∷ rest_of g) ≡ heard_by g
   unfolding heard_by
-  reads (Replied q r n) f = codec.reply_read q r n f.0
-  reads (Located q here) f = (codec.locate_read q here).1
+  reads (Replied q r n) f = f.0.read
+  reads (Located q here piece told) f = f.read
+
+  order_of : (g : Given) → Fits codec g → (order : Order) × AreIn order (first_of g ∷ rest_of g)
+  order_of (Replied q r n) f = (f.0.order, f.0.one_order)
+  order_of (Located q here piece told) f = (piece.order, (refl, tt))
 
   answers_it : (g : Given) → Fits codec g → client.answers (kind_of (call_of g)) (answer_version g) (call_of g) ≡ true
   answers_it (Replied q r n) f = f.1
-  answers_it (Located q here) f = same_is (minor_of q.version)
+  answers_it (Located q here piece told) f = same_is (minor_of q.version)
 
-  settled : (g : Given) (before : ClientEntry) → client.settles before (call_of g) (heard_by g) ≡ client.becomes (done_by codec g)
+  settled : (g : Given) (before : ClientEntry) → client.settles before (call_of g) (heard_by g) ≡ client.becomes (done_by g)
   unfolding heard_by
   settled (Replied q r n) before = refl
-  settled (Located q here) before = refl
+  settled (Located q here piece told) before = refl
 
   done_stands : (g : Given) (got : List Piece) (uses : ℕ) (us ts : List Message) (s : Server) (ws tc : List Message)
-      → us ≡ [] → ts ≡ [] → Replying codec g s ws tc uses [] → Phase codec (Some (done_by codec g)) got uses us ts s ws tc
+      → us ≡ [] → ts ≡ [] → Replying codec g s ws tc uses [] → Phase codec (Some (done_by g)) got uses us ts s ws tc
   done_stands (Replied q r n) got uses us ts s ws tc u t is = (u, t, n, is)
-  done_stands (Located q here) got uses us ts s ws tc u t is = (u, t, here, refl, is)
+  done_stands (Located q here piece told) got uses us ts s ws tc u t is = (u, t, here, piece, is)
 
   comes_on : (g : Given) (s : Server) (ws tc : List Message) (uses : ℕ) (m x : Message) (ms : List Message)
       → Replying codec g s ws (m ∷ tc) uses (x ∷ ms) → Replying codec g s ws tc uses ms
@@ -160,7 +165,7 @@ module _ (codec : Codec) where
   chosen false one other h = absurd cc
 
   whole_comes : (g : Given) (x : HeardReply) → Fits codec g → x ≡ heard_by g
-      → client.whole (Some (at_client.Waiting (call_of g))) (kind_of (call_of g)) (answer_version g) x ≡ client.becomes (done_by codec g)
+      → client.whole (Some (at_client.Waiting (call_of g))) (kind_of (call_of g)) (answer_version g) x ≡ client.becomes (done_by g)
   whole_comes g x f e = chosen (client.answers (kind_of (call_of g)) (answer_version g) (call_of g)) _ _ (answers_it g f)
       ∙ ap (λ y. client.settles (at_client.Waiting (call_of g)) (call_of g) y) e ∙ settled g _
 
@@ -170,32 +175,36 @@ module _ (codec : Codec) where
 
   -- the first piece of the reply
   first_heard : (g : Given) (got : List Piece) (uses : ℕ) (us ts : List Message) (s : Server) (ws : List Message) (m : Message) (tc : List Message)
-      (rest : List Piece) → rest_of codec g ≡ rest → us ≡ [] → ts ≡ []
-      → Replying codec g s ws (m ∷ tc) uses (Opens (kind_of (call_of g)) (answer_version g) (is_last rest) (first_of codec g) ∷ fragments rest)
+      (rest : List Piece) → rest_of g ≡ rest → us ≡ [] → ts ≡ []
+      → Replying codec g s ws (m ∷ tc) uses (Opens (kind_of (call_of g)) (answer_version g) (is_last rest) (first_of g) ∷ fragments rest)
       → Goes codec (to_client codec (lane_of (Some (at_client.Waiting (call_of g))) got uses us ts s ws (m ∷ tc)) (m ∷ tc))
-  first_heard g got uses us ts s ws m tc [] e u t r = comes (at_client.Waiting (call_of g)) (done_by codec g) got [] uses us ts (m ∷ tc) s ws m _ tc
+  first_heard g got uses us ts s ws m tc [] e u t r = comes (at_client.Waiting (call_of g)) (done_by g) got [] uses us ts (m ∷ tc) s ws m _ tc
       (head_is m _ (tc ++ ws) _ r.coming)
       (became _ _ [] uses (whole_comes g _ r.fits
-      (subst (λ l. codec.read_reply (call_of g) (first_of codec g ∷ l) ≡ heard_by g) e (reads g r.fits))))
+      (subst (λ l. codec.read_reply (call_of g) (first_of g ∷ l) ≡ heard_by g) e (reads g r.fits))))
       (done_stands g [] uses us ts s ws tc u t (comes_on g s ws tc uses m _ _ r))
   first_heard g got uses us ts s ws m tc (p ∷ rest) e u t r =
-      comes (at_client.Waiting (call_of g)) (at_client.Gathering (call_of g)) got (first_of codec g ∷ []) uses us ts (m ∷ tc) s ws m _ tc
+      comes (at_client.Waiting (call_of g)) (at_client.Gathering (call_of g)) got (first_of g ∷ []) uses us ts (m ∷ tc) s ws m _ tc
       (head_is m _ (tc ++ ws) _ r.coming) (became _ _ _ uses (first_comes g r.fits))
-      (u, g, refl, t, p, rest, ap (λ l. first_of codec g ∷ l) (sym e), comes_on g s ws tc uses m _ _ r)
+      (u, g, refl, t, p, rest, ap (λ l. first_of g ∷ l) (sym e), comes_on g s ws tc uses m _ _ r)
 
   -- a further piece
+  in_its_order : (g : Given) (got : List Piece) (p : Piece) (rest : List Piece) → Fits codec g → got ++ p ∷ rest ≡ first_of g ∷ rest_of g
+      → in_order got p ≡ true
+  in_its_order g got p rest f a = let o = order_of g f in piece_in_order o.0 got p rest _ a o.1
+
   further_heard : (g : Given) (got : List Piece) (uses : ℕ) (us ts : List Message) (s : Server) (ws : List Message) (m : Message) (tc : List Message)
-      (p : Piece) (rest : List Piece) → us ≡ [] → ts ≡ [] → got ++ p ∷ rest ≡ first_of codec g ∷ rest_of codec g
+      (p : Piece) (rest : List Piece) → us ≡ [] → ts ≡ [] → got ++ p ∷ rest ≡ first_of g ∷ rest_of g
       → Replying codec g s ws (m ∷ tc) uses (fragments (p ∷ rest))
       → Goes codec (to_client codec (lane_of (Some (at_client.Gathering (call_of g))) got uses us ts s ws (m ∷ tc)) (m ∷ tc))
-  further_heard g got uses us ts s ws m tc p [] u t a r = comes (at_client.Gathering (call_of g)) (done_by codec g) got [] uses us ts (m ∷ tc) s ws m _ tc
+  further_heard g got uses us ts s ws m tc p [] u t a r = comes (at_client.Gathering (call_of g)) (done_by g) got [] uses us ts (m ∷ tc) s ws m _ tc
       (head_is m _ (tc ++ ws) _ r.coming)
-      (became _ _ [] uses (ap (λ y. client.settles (at_client.Gathering (call_of g)) (call_of g) y)
-      (ap (λ l. codec.read_reply (call_of g) l) a ∙ reads g r.fits) ∙ settled g _))
+      (became _ _ [] uses (chosen (in_order got p) _ _ (in_its_order g got p [] r.fits a)
+      ∙ ap (λ y. client.settles (at_client.Gathering (call_of g)) (call_of g) y) (ap (λ l. codec.read_reply (call_of g) l) a ∙ reads g r.fits) ∙ settled g _))
       (done_stands g [] uses us ts s ws tc u t (comes_on g s ws tc uses m _ _ r))
   further_heard g got uses us ts s ws m tc p (x ∷ rest) u t a r =
       comes (at_client.Gathering (call_of g)) (at_client.Gathering (call_of g)) got (got ++ p ∷ []) uses us ts (m ∷ tc) s ws m _ tc
-      (head_is m _ (tc ++ ws) _ r.coming) refl
+      (head_is m _ (tc ++ ws) _ r.coming) (became _ _ _ uses (chosen (in_order got p) _ _ (in_its_order g got p (x ∷ rest) r.fits a)))
       (u, g, refl, t, x, rest, append_assoc got (p ∷ []) (x ∷ rest) ∙ a, comes_on g s ws tc uses m _ _ r)
 
   -- a late reply
@@ -234,11 +243,11 @@ module _ (codec : Codec) where
       → Phase codec c got uses us ts s ws tc → Goes codec (to_client codec (lane_of c got uses us ts s ws tc) tc)
   client_hears c got uses us ts s ws [] st = st
   client_hears None got uses us ts s ws (m ∷ tc) (u, (x, y, r)) = absurd cc
-  client_hears (Some (at_client.Sending call left)) got uses us ts s ws (m ∷ tc) (fit, n, b, rest, a, u, l, z, (x, y, r)) = absurd cc
+  client_hears (Some (at_client.Sending call left)) got uses us ts s ws (m ∷ tc) (n, fit, b, rest, a, u, l, z, (x, y, r)) = absurd cc
   client_hears (Some (at_client.Waiting call)) got uses us ts s ws (m ∷ tc) (u, w, inl (x, y, r)) = absurd cc
   client_hears (Some (at_client.Waiting call)) got uses us ts s ws (m ∷ tc) (u, w, inr (g, e, t, r)) =
       subst (λ z. Goes codec (to_client codec (lane_of (Some (at_client.Waiting z)) got uses us ts s ws (m ∷ tc)) (m ∷ tc))) e
-      (first_heard g got uses us ts s ws m tc (rest_of codec g) refl u t r)
+      (first_heard g got uses us ts s ws m tc (rest_of g) refl u t r)
   client_hears (Some (at_client.Gathering call)) got uses us ts s ws (m ∷ tc) (u, g, e, t, p, rest, a, r) =
       subst (λ z. Goes codec (to_client codec (lane_of (Some (at_client.Gathering z)) got uses us ts s ws (m ∷ tc)) (m ∷ tc))) e
       (further_heard g got uses us ts s ws m tc p rest u t a r)

@@ -2,7 +2,10 @@
 use Rattle.std.specs.Prelude.{◌≡◌, ◌⊎◌, ℕ, suc, ◌-◌, ◌==◌, Bool, true, false, if◌then◌else◌, List, [], ◌∷◌, ◌++◌, length, Option, Some, None, refl}
 use Rattle.std.proofs.Common.{sym, subst, ap, ◌∙◌, inl, inr, arith, append_assoc}
 use Rattle.std.proofs.Math.Dec.{eqb-suc-zero}
+use Rattle.giop_cdr.specs.declared.order.Order.{Order}
+use Rattle.giop_cdr.specs.declared.order.Order.TheVariants.{Big, Little}
 use Rattle.giop_msg.specs.declared.messages.reply.Reply.{Reply}
+use Rattle.giop_msg.specs.declared.messages.locate_reply.LocateReply.{LocateReply}
 use Rattle.giop_msg.specs.declared.messages.request.Request.{Request}
 use Rattle.giop_calls.specs.declared.kind.CallKind.TheVariants as kind
 use Rattle.giop_calls.specs.declared.fault.CallFault.TheVariants.{NothingToSend, Unfit}
@@ -14,10 +17,10 @@ use Rattle.giop_calls.specs.declared.server.question.Question.TheVariants as que
 use Rattle.giop_calls.specs.declared.server.entry.ServerEntry.{ServerEntry}
 use Rattle.giop_calls.specs.declared.server.entry.ServerEntry.TheVariants as at_server
 use Rattle.giop_calls.specs.declared.server.event.ServerEvent.TheVariants as event
-use Rattle.giop_calls.specs.Messages.{is_oneway, is_same_version}
+use Rattle.giop_calls.specs.Messages.{is_oneway, is_same_version, is_same_order}
 use Rattle.giop_calls.specs.ClientTable.{sent}
 use Rattle.giop_calls.specs.ServerTable.{server_step, send, becomes, refused, left_of}
-use Rattle.giop_calls.specs.Lane.{Piece, Message, Opens, Stops, Codec, Lane, is_last, fragments, tried, next, later, fits, step, Act, Answers, Locates, SendsReply}
+use Rattle.giop_calls.specs.Lane.{Piece, Message, Opens, Stops, Cut, pieces_of, count, AreIn, in_order, Codec, CutsReply, CutsLocated, Lane, is_last, fragments, tried, next, later, Suits, step, Act, Answers, Locates, SendsReply}
 use Rattle.giop_calls.proofs.LaneStands.{is_still, Server, at, read_at, Coming, Given, Replied, Located, call_of, answered, told_by, Reaches, Quiet, Replying, Stopping, Stopped, Crossing, Crossed, Phase, Stands, Goes, lane_of}
 
 -- a call that the server could answer
@@ -68,6 +71,24 @@ one_less a l n e = omega arith
 pub no_length : {A : Type 0} (l : List A) (n : ℕ) → l ≡ [] → length l ≡ n → n ≡ 0
 no_length l n e h = sym (subst (λ x. length x ≡ n) e h)
 
+-- in pieces of one byte order each comes in the order of the first
+order_of_it : (order : Order) (before : List Piece) (p : Piece) (rest : List Piece) → AreIn order (before ++ p ∷ rest) → p.order ≡ order
+order_of_it order [] p rest h = h.0
+order_of_it order (b ∷ before) p rest h = order_of_it order before p rest h.1
+
+order_is : (order : Order) → is_same_order order order ≡ true
+order_is Big = refl
+order_is Little = refl
+
+in_one_order : (order : Order) (before : List Piece) (p : Piece) (rest : List Piece) → AreIn order (before ++ p ∷ rest) → in_order before p ≡ true
+in_one_order order [] p rest h = refl
+in_one_order order (b ∷ before) p rest h = subst (λ x. is_same_order x b.order ≡ true) (sym (order_of_it order before p rest h.1))
+    (subst (λ x. is_same_order order x ≡ true) (sym h.0) (order_is order))
+
+pub piece_in_order : (order : Order) (before : List Piece) (p : Piece) (rest all : List Piece) → before ++ p ∷ rest ≡ all
+    → AreIn order all → in_order before p ≡ true
+piece_in_order order before p rest all a h = in_one_order order before p rest (subst (λ l. AreIn order l) (sym a) h)
+
 module _ (codec : Codec) where
   -- an act that is refused changes nothing
   shut_answer : (e : Option ServerEntry) (reply : Reply) (n : ℕ) (lane after : Lane) → is_open e ≡ false
@@ -110,11 +131,6 @@ module _ (codec : Codec) where
   silent_send (at_server.Delivered request) lane after h st = st
   silent_send (at_server.Cancelled was left) lane after h st = denied (left == 0) _ _ lane after h st
 
-  either : (b : Bool) (one other : Option Lane) → (b ≡ true → Goes codec one) → Goes codec other
-      → Goes codec (if b then one else other)
-  either true one other f z = f refl
-  either false one other f z = z
-
   -- where the server ends still, it is still
   reach_still : (s : Server) (ts : List Message) (t : Server) → Reaches codec s ts t → is_still t.entry ≡ true → is_still s.entry ≡ true
   reach_still s [] t r h = subst (λ x. is_still x.entry ≡ true) (sym r) h
@@ -128,12 +144,12 @@ module _ (codec : Codec) where
     no_rest : ws ≡ []
     no_pipe : tc ≡ []
     then_stands : (g : Given) (t : Server) (xs ys : List Message) → call_of g ≡ call
-        → Replying codec g t xs ys uses (told_by codec g) → Phase codec c got uses us ts t xs ys
+        → Replying codec g t xs ys uses (told_by g) → Phase codec c got uses us ts t xs ys
 
   asks_or_shut : (call : Call) (c : Option ClientEntry) (got : List Piece) (uses : ℕ) (us before ts : List Message) (s : Server) (ws tc : List Message)
       → sent call ≡ at_client.Waiting call → Quiet codec s before ws tc (read_at call uses)
       → (before ≡ [] → (g : Given) (t : Server) (xs ys : List Message) → call_of g ≡ call
-      → Replying codec g t xs ys uses (told_by codec g) → Phase codec c got uses us ts t xs ys)
+      → Replying codec g t xs ys uses (told_by g) → Phase codec c got uses us ts t xs ys)
       → (is_open s.entry ≡ false) ⊎ Asks c got uses us ts s ws tc
   asks_or_shut call c got uses us [] ts s ws tc w (e, f, r) k = inr (record {
     call = call;
@@ -151,7 +167,7 @@ module _ (codec : Codec) where
     where
       by : (g : Given) (left : ℕ) → is_open (Some (answered g left)) ≡ false
       by (Replied q r n) left = refl
-      by (Located q here) left = refl
+      by (Located q here piece told) left = refl
 
   oneway_still : (q : Request) (b : Bool) → b ≡ true → is_still (Some (if b then at_server.Delivered q else at_server.Asked q)) ≡ true
   oneway_still q true h = refl
@@ -160,7 +176,7 @@ module _ (codec : Codec) where
   open_or_shut : (c : Option ClientEntry) (got : List Piece) (uses : ℕ) (us ts : List Message) (s : Server) (ws tc : List Message)
       → Phase codec c got uses us ts s ws tc → (is_open s.entry ≡ false) ⊎ Asks c got uses us ts s ws tc
   open_or_shut None got uses us ts s ws tc (u, (e, f, r)) = inl (still_shut _ (reach_still s ts _ r refl))
-  open_or_shut (Some (at_client.Sending call left)) got uses us ts s ws tc (fit, n, b, rest, e, u, l, z, (x, y, r)) =
+  open_or_shut (Some (at_client.Sending call left)) got uses us ts s ws tc (n, fit, b, rest, e, u, l, z, (x, y, r)) =
       inl (still_shut _ (reach_still s ts _ r refl))
   open_or_shut (Some (at_client.Waiting call)) got uses us ts s ws tc (u, w, inl q) =
       asks_or_shut call _ got uses us ts ts s ws tc w q (λ none g t xs ys e r. (u, w, inr (g, e, none, r)))
@@ -177,71 +193,76 @@ module _ (codec : Codec) where
       asks_or_shut call _ got uses us before ts s ws tc w (subst (λ x. Quiet codec s before ws tc x) is q)
       (λ none g t xs ys c r. (
         u,
-        Crossing g (told_by codec g) (a ∙ ap (λ l. l ++ Stops ∷ []) none) r
-            (subst (λ x. Coming x (told_by codec g)) (sym e) (_, _, _, _, refl)),
+        Crossing g (told_by g) (a ∙ ap (λ l. l ++ Stops ∷ []) none) r
+            (subst (λ x. Coming x (told_by g)) (sym e) (_, _, _, _, refl)),
       ))
   open_or_shut (Some (at_client.Cancelled l)) got uses us ts s ws tc (u, Stopped e a x y is) = inl (rw is refl)
   open_or_shut (Some (at_client.Cancelled l)) got uses us ts s ws tc (u, Crossing g ms a r c) = inl (replying_shut g s ws tc uses _ r)
   open_or_shut (Some (at_client.Cancelled l)) got uses us ts s ws tc (u, Crossed left a is x c) = inl (rw is refl)
 
   -- the server answers a Request
-  fit_answer : (c : Option ClientEntry) (got : List Piece) (uses : ℕ) (us ts : List Message) (q : Request) (reply : Reply) (n : ℕ)
-      (b : Bool) → is_same_version q.head.version reply.version ≡ b → codec.fits_reply q reply ≡ true
+  fit_answer : (c : Option ClientEntry) (got : List Piece) (uses : ℕ) (us ts : List Message) (q : Request) (reply : Reply) (n : Cut)
+      (b : Bool) → is_same_version q.head.version reply.version ≡ b → CutsReply codec q reply (pieces_of n)
       → Phase codec c got uses us ts (at (at_server.Asked q) [] uses) [] []
       → ((g : Given) (t : Server) (xs ys : List Message) → call_of g ≡ asked.Request q
-      → Replying codec g t xs ys uses (told_by codec g) → Phase codec c got uses us ts t xs ys)
-      → Goes codec (let one = (if b then becomes (at_server.Answered (question.Request q) reply (n - 1))
+      → Replying codec g t xs ys uses (told_by g) → Phase codec c got uses us ts t xs ys)
+      → Goes codec (let one = (if b then becomes (at_server.Answered (question.Request q) reply (count n - 1))
       else refused (Some (at_server.Asked q)) Unfit) in
       tried one.outcome (lane_of c got uses us ts (at (at_server.Asked q) [] uses) [] [])
       (lane_of c got uses us ts (record { entry = one.entry; pieces = []; uses = uses })
-      (fragments (codec.reply_rest reply n))
-      (Opens kind.Request reply.version (is_last (codec.reply_rest reply n)) (codec.reply_first reply n) ∷ [])))
+      (fragments n.rest) (Opens kind.Request reply.version (is_last n.rest) n.first ∷ [])))
   fit_answer c got uses us ts q reply n true same fit st k = k (Replied q reply n) _ _ _ refl (record {
     fits = (fit, same);
-    left = n - 1;
+    left = count n - 1;
     stands = refl;
     has = tt;
-    rest = length_of (codec.reply_rest reply n) ∙ codec.reply_pieces reply n;
+    rest = length_of n.rest ∙ one_less n.first n.rest (count n) refl;
     coming = refl;
   })
   fit_answer c got uses us ts q reply n false same fit st k = st
 
-  request_answer : (c : Option ClientEntry) (got : List Piece) (uses : ℕ) (us ts : List Message) (q : Request) (reply : Reply) (n : ℕ)
+  request_answer : (c : Option ClientEntry) (got : List Piece) (uses : ℕ) (us ts : List Message) (q : Request) (reply : Reply) (n : Cut)
       (b : Bool) → b ≡ false
+      → ((p : Request) → Some (if b then at_server.Delivered q else at_server.Asked q) ≡ Some (at_server.Asked p)
+      → CutsReply codec p reply (pieces_of n))
       → Phase codec c got uses us ts (at (if b then at_server.Delivered q else at_server.Asked q) [] uses) [] []
       → ((g : Given) (t : Server) (xs ys : List Message) → call_of g ≡ asked.Request q
-      → Replying codec g t xs ys uses (told_by codec g) → Phase codec c got uses us ts t xs ys)
+      → Replying codec g t xs ys uses (told_by g) → Phase codec c got uses us ts t xs ys)
       → Goes codec (step codec (lane_of c got uses us ts (at (if b then at_server.Delivered q else at_server.Asked q) [] uses) [] []) (Answers reply n))
-  request_answer c got uses us ts q reply n true h st k = absurd cc
-  request_answer c got uses us ts q reply n false h st k = either (codec.fits_reply q reply) _ _
-      (λ fit. fit_answer c got uses us ts q reply n (is_same_version q.head.version reply.version) refl fit st k) st
+  request_answer c got uses us ts q reply n true h fit st k = absurd cc
+  request_answer c got uses us ts q reply n false h fit st k =
+      fit_answer c got uses us ts q reply n (is_same_version q.head.version reply.version) refl (fit q refl) st k
 
-  answer_at : (call : Call) (c : Option ClientEntry) (got : List Piece) (uses : ℕ) (us ts : List Message) (reply : Reply) (n : ℕ)
-      → sent call ≡ at_client.Waiting call → Phase codec c got uses us ts (read_at call uses) [] []
+  answer_at : (call : Call) (c : Option ClientEntry) (got : List Piece) (uses : ℕ) (us ts : List Message) (reply : Reply) (n : Cut)
+      → sent call ≡ at_client.Waiting call
+      → ((p : Request) → (read_at call uses).entry ≡ Some (at_server.Asked p) → CutsReply codec p reply (pieces_of n))
+      → Phase codec c got uses us ts (read_at call uses) [] []
       → ((g : Given) (t : Server) (xs ys : List Message) → call_of g ≡ call
-      → Replying codec g t xs ys uses (told_by codec g) → Phase codec c got uses us ts t xs ys)
+      → Replying codec g t xs ys uses (told_by g) → Phase codec c got uses us ts t xs ys)
       → Goes codec (step codec (lane_of c got uses us ts (read_at call uses) [] []) (Answers reply n))
-  answer_at (asked.Request q) c got uses us ts reply n w st k =
-      request_answer c got uses us ts q reply n (is_oneway q) (waits q (is_oneway q) w) st k
-  answer_at (asked.Locate q) c got uses us ts reply n w st k = st
+  answer_at (asked.Request q) c got uses us ts reply n w fit st k =
+      request_answer c got uses us ts q reply n (is_oneway q) (waits q (is_oneway q) w) fit st k
+  answer_at (asked.Locate q) c got uses us ts reply n w fit st k = st
 
   -- and a LocateRequest
-  request_locate : (c : Option ClientEntry) (got : List Piece) (uses : ℕ) (us ts : List Message) (q : Request) (here : Bool)
+  request_locate : (c : Option ClientEntry) (got : List Piece) (uses : ℕ) (us ts : List Message) (q : Request) (here : Bool) (piece : Piece)
       (b : Bool) → b ≡ false
       → Phase codec c got uses us ts (at (if b then at_server.Delivered q else at_server.Asked q) [] uses) [] []
-      → Goes codec (step codec (lane_of c got uses us ts (at (if b then at_server.Delivered q else at_server.Asked q) [] uses) [] []) (Locates here))
-  request_locate c got uses us ts q here true h st = absurd cc
-  request_locate c got uses us ts q here false h st = st
+      → Goes codec (step codec (lane_of c got uses us ts (at (if b then at_server.Delivered q else at_server.Asked q) [] uses) [] []) (Locates here piece))
+  request_locate c got uses us ts q here piece true h st = absurd cc
+  request_locate c got uses us ts q here piece false h st = st
 
-  locate_at : (call : Call) (c : Option ClientEntry) (got : List Piece) (uses : ℕ) (us ts : List Message) (here : Bool)
-      → sent call ≡ at_client.Waiting call → Phase codec c got uses us ts (read_at call uses) [] []
+  locate_at : (call : Call) (c : Option ClientEntry) (got : List Piece) (uses : ℕ) (us ts : List Message) (here : Bool) (piece : Piece)
+      → sent call ≡ at_client.Waiting call
+      → ((p : _) → (read_at call uses).entry ≡ Some (at_server.LocateAsked p) → (told : LocateReply) × CutsLocated codec p here piece told)
+      → Phase codec c got uses us ts (read_at call uses) [] []
       → ((g : Given) (t : Server) (xs ys : List Message) → call_of g ≡ call
-      → Replying codec g t xs ys uses (told_by codec g) → Phase codec c got uses us ts t xs ys)
-      → Goes codec (step codec (lane_of c got uses us ts (read_at call uses) [] []) (Locates here))
-  locate_at (asked.Request q) c got uses us ts here w st k =
-      request_locate c got uses us ts q here (is_oneway q) (waits q (is_oneway q) w) st
-  locate_at (asked.Locate q) c got uses us ts here w st k = k (Located q here) _ _ _ refl (record {
-    fits = tt;
+      → Replying codec g t xs ys uses (told_by g) → Phase codec c got uses us ts t xs ys)
+      → Goes codec (step codec (lane_of c got uses us ts (read_at call uses) [] []) (Locates here piece))
+  locate_at (asked.Request q) c got uses us ts here piece w fit st k =
+      request_locate c got uses us ts q here piece (is_oneway q) (waits q (is_oneway q) w) st
+  locate_at (asked.Locate q) c got uses us ts here piece w fit st k = k (Located q here piece (fit q refl).0) _ _ _ refl (record {
+    fits = (fit q refl).1;
     left = 0;
     stands = refl;
     has = refl;
@@ -261,26 +282,32 @@ module _ (codec : Codec) where
       (k (subst (λ x. Phase codec c got uses us ts t [] x) h (subst (λ x. Phase codec c got uses us ts t x tc) f
       (subst (λ x. Phase codec c got uses us ts x ws tc) e st))))))
 
-  answer_by : (c : Option ClientEntry) (got : List Piece) (uses : ℕ) (us ts : List Message) (s : Server) (ws tc : List Message) (reply : Reply) (n : ℕ)
+  answer_by : (c : Option ClientEntry) (got : List Piece) (uses : ℕ) (us ts : List Message) (s : Server) (ws tc : List Message) (reply : Reply) (n : Cut)
+      → ((p : Request) → s.entry ≡ Some (at_server.Asked p) → CutsReply codec p reply (pieces_of n))
       → Phase codec c got uses us ts s ws tc → (is_open s.entry ≡ false) ⊎ Asks c got uses us ts s ws tc
       → Goes codec (step codec (lane_of c got uses us ts s ws tc) (Answers reply n))
-  answer_by c got uses us ts s ws tc reply n st (inl h) = either (fits codec s.entry reply) _ _ (λ fit. shut_answer s.entry reply n _ _ h st) st
-  answer_by c got uses us ts s ws tc reply n st (inr a) = moved (Answers reply n) c got uses us ts s _ ws tc a.at_it a.no_rest a.no_pipe st
-      (λ st. answer_at a.call c got uses us ts reply n a.waits st a.then_stands)
+  answer_by c got uses us ts s ws tc reply n fit st (inl h) = shut_answer s.entry reply (count n) _ _ h st
+  answer_by c got uses us ts s ws tc reply n fit st (inr a) = moved (Answers reply n) c got uses us ts s _ ws tc a.at_it a.no_rest a.no_pipe st
+      (λ st. answer_at a.call c got uses us ts reply n a.waits
+      (λ p e. fit p (subst (λ x. x.entry ≡ Some (at_server.Asked p)) (sym a.at_it) e)) st a.then_stands)
 
-  locate_by : (c : Option ClientEntry) (got : List Piece) (uses : ℕ) (us ts : List Message) (s : Server) (ws tc : List Message) (here : Bool)
+  locate_by : (c : Option ClientEntry) (got : List Piece) (uses : ℕ) (us ts : List Message) (s : Server) (ws tc : List Message) (here : Bool) (piece : Piece)
+      → ((p : _) → s.entry ≡ Some (at_server.LocateAsked p) → (told : LocateReply) × CutsLocated codec p here piece told)
       → Phase codec c got uses us ts s ws tc → (is_open s.entry ≡ false) ⊎ Asks c got uses us ts s ws tc
-      → Goes codec (step codec (lane_of c got uses us ts s ws tc) (Locates here))
-  locate_by c got uses us ts s ws tc here st (inl h) = shut_locate s.entry here _ _ h st
-  locate_by c got uses us ts s ws tc here st (inr a) = moved (Locates here) c got uses us ts s _ ws tc a.at_it a.no_rest a.no_pipe st
-      (λ st. locate_at a.call c got uses us ts here a.waits st a.then_stands)
+      → Goes codec (step codec (lane_of c got uses us ts s ws tc) (Locates here piece))
+  locate_by c got uses us ts s ws tc here piece fit st (inl h) = shut_locate s.entry here _ _ h st
+  locate_by c got uses us ts s ws tc here piece fit st (inr a) = moved (Locates here piece) c got uses us ts s _ ws tc a.at_it a.no_rest a.no_pipe st
+      (λ st. locate_at a.call c got uses us ts here piece a.waits
+      (λ p e. fit p (subst (λ x. x.entry ≡ Some (at_server.LocateAsked p)) (sym a.at_it) e)) st a.then_stands)
 
-  pub keeps_answer : (lane : Lane) (reply : Reply) (n : ℕ) → Stands codec lane → Goes codec (step codec lane (Answers reply n))
-  keeps_answer lane reply n st = answer_by _ _ _ _ _ _ _ _ reply n st (open_or_shut lane.client.entry lane.client.pieces lane.client.uses
+  pub keeps_answer : (lane : Lane) (reply : Reply) (n : Cut) → Suits codec lane (Answers reply n) → Stands codec lane
+      → Goes codec (step codec lane (Answers reply n))
+  keeps_answer lane reply n fit st = answer_by _ _ _ _ _ _ _ _ reply n fit st (open_or_shut lane.client.entry lane.client.pieces lane.client.uses
       lane.unsent lane.to_server lane.server lane.unanswered lane.to_client st)
 
-  pub keeps_locate : (lane : Lane) (here : Bool) → Stands codec lane → Goes codec (step codec lane (Locates here))
-  keeps_locate lane here st = locate_by _ _ _ _ _ _ _ _ here st (open_or_shut lane.client.entry lane.client.pieces lane.client.uses
+  pub keeps_locate : (lane : Lane) (here : Bool) (piece : Piece) → Suits codec lane (Locates here piece) → Stands codec lane
+      → Goes codec (step codec lane (Locates here piece))
+  keeps_locate lane here piece fit st = locate_by _ _ _ _ _ _ _ _ here piece fit st (open_or_shut lane.client.entry lane.client.pieces lane.client.uses
       lane.unsent lane.to_server lane.server lane.unanswered lane.to_client st)
 
   -- the server has nothing to send, or this is what it sends and what stands once it did
@@ -303,7 +330,7 @@ module _ (codec : Codec) where
 
   silent_given : (g : Given) (left : ℕ) → 0 ≡ left → (left_of (answered g left) == 0) ≡ true
   silent_given (Replied q r n) left e = subst (λ x. (x == 0) ≡ true) e refl
-  silent_given (Located q here) left e = refl
+  silent_given (Located q here piece told) left e = refl
 
   passes : (ws tc ms : List Message) (m : Message) (rest : List Message) → ws ≡ m ∷ rest → tc ++ ws ≡ ms → (tc ++ m ∷ []) ++ rest ≡ ms
   passes ws tc ms m rest e c = append_assoc tc (m ∷ []) rest ∙ ap (λ x. tc ++ x) (sym e) ∙ c
@@ -313,7 +340,7 @@ module _ (codec : Codec) where
       × Replying codec g (at x.now [] uses) x.rest (tc ++ x.message ∷ []) uses ms)
   unfolding Silent
   replying_sends g s [] tc uses ms r = inl (inr (answered g r.left, ap (λ x. x.entry) r.stands, silent_given g r.left r.rest))
-  replying_sends (Located q here) s (m ∷ rest) tc uses ms r =
+  replying_sends (Located q here piece told) s (m ∷ rest) tc uses ms r =
       absurd (false_true (subst (λ x. (x == 0) ≡ false) r.has (not_none m rest r.left r.rest)))
     where
       false_true : true ≡ false → ⊥
@@ -427,8 +454,8 @@ module _ (codec : Codec) where
   send_by : (c : Option ClientEntry) (got : List Piece) (uses : ℕ) (us ts : List Message) (s : Server) (ws tc : List Message)
       → Phase codec c got uses us ts s ws tc → Goes codec (step codec (lane_of c got uses us ts s ws tc) SendsReply)
   send_by None got uses us ts s ws tc (u, (e, f, r)) = still_silent_send None got uses us ts s ws tc (reach_still s ts _ r refl) (u, (e, f, r))
-  send_by (Some (at_client.Sending call left)) got uses us ts s ws tc (fit, n, b, rest, e, u, l, z, (x, y, r)) =
-      still_silent_send _ got uses us ts s ws tc (reach_still s ts _ r refl) (fit, n, b, rest, e, u, l, z, (x, y, r))
+  send_by (Some (at_client.Sending call left)) got uses us ts s ws tc (n, fit, b, rest, e, u, l, z, (x, y, r)) =
+      still_silent_send _ got uses us ts s ws tc (reach_still s ts _ r refl) (n, fit, b, rest, e, u, l, z, (x, y, r))
   send_by (Some (at_client.Waiting call)) got uses us ts s ws tc (u, w, inl (x, y, r)) =
       quiet_send call _ got uses us ts ts s ws tc r (u, w, inl (x, y, r))
   send_by (Some (at_client.Waiting call)) got uses us ts s ws tc (u, w, inr (g, e, t, r)) =

@@ -4,6 +4,7 @@ use Rattle.giop_msg.specs.declared.version.Version.{Version}
 use Rattle.giop_msg.specs.Locate.{AnyLocateRequest}
 use Rattle.giop_msg.specs.declared.messages.request.Request.{Request}
 use Rattle.giop_msg.specs.declared.messages.reply.Reply.{Reply}
+use Rattle.giop_msg.specs.declared.messages.locate_reply.LocateReply.{LocateReply}
 use Rattle.giop_calls.specs.declared.kind.CallKind.{CallKind}
 use Rattle.giop_calls.specs.declared.client.call.Call.{Call}
 use Rattle.giop_calls.specs.declared.client.call.Call.TheVariants as asked
@@ -17,7 +18,7 @@ use Rattle.giop_calls.specs.declared.server.entry.ServerEntry.TheVariants as at_
 use Rattle.giop_calls.specs.Messages.{is_oneway, is_same_version}
 use Rattle.giop_calls.specs.ClientTable.{sent}
 use Rattle.giop_calls.specs.ServerTable.{arrived}
-use Rattle.giop_calls.specs.Lane.{Piece, Message, Opens, Stops, Codec, Standing, Lane, heard_call, is_last, fragments, kind_of, served}
+use Rattle.giop_calls.specs.Lane.{Piece, Message, Opens, Stops, Cut, pieces_of, Codec, CutsCall, CutsReply, CutsLocated, Standing, Lane, heard_call, is_last, fragments, kind_of, served}
 
 -- a server at which the server itself can do nothing
 abbrev pub is_still : Option ServerEntry → Bool
@@ -51,25 +52,25 @@ Coming late.Seen ms = ms ≡ []
 
 -- an answer that a server gave
 pub data Given : Type 0 where
-  Replied : Request → Reply → ℕ → Given
-  Located : AnyLocateRequest → Bool → Given
+  Replied : Request → Reply → Cut → Given
+  Located : AnyLocateRequest → Bool → Piece → LocateReply → Given
 
 abbrev pub call_of : Given → Call
 call_of (Replied q r n) = asked.Request q
-call_of (Located q here) = asked.Locate q
+call_of (Located q here piece told) = asked.Locate q
 
 abbrev pub answer_version : Given → Version
 answer_version (Replied q r n) = r.version
-answer_version (Located q here) = q.version
+answer_version (Located q here piece told) = q.version
 
 -- what stands at the server then, of which so many pieces aren't sent
 abbrev pub answered : Given → ℕ → ServerEntry
 answered (Replied q r n) left = at_server.Answered (question.Request q) r left
-answered (Located q here) left = at_server.LocateAnswered (Some q.target) here
+answered (Located q here piece told) left = at_server.LocateAnswered (Some q.target) here
 
 abbrev pub HasLeft : Given → ℕ → Type 0
 HasLeft (Replied q r n) left = Unit {0}
-HasLeft (Located q here) left = left ≡ 0
+HasLeft (Located q here piece told) left = left ≡ 0
 
 -- a lane of these
 abbrev pub lane_of : Option ClientEntry → List Piece → ℕ → (us ts : List Message) → Server → (ws tc : List Message) → Lane
@@ -82,28 +83,29 @@ lane_of c got uses us ts s ws tc = record {
   to_client = tc;
 }
 
+abbrev pub first_of : Given → Piece
+first_of (Replied q r n) = n.first
+first_of (Located q here piece told) = piece
+
+abbrev pub rest_of : Given → List Piece
+rest_of (Replied q r n) = n.rest
+rest_of (Located q here piece told) = []
+
+abbrev pub done_by : Given → ClientEntry
+done_by (Replied q r n) = at_client.Done q r
+done_by (Located q here piece told) = at_client.LocateDone q told
+
+-- all of it, as it is put out
+abbrev pub told_by : Given → List Message
+told_by g = Opens (kind_of (call_of g)) (answer_version g) (is_last (rest_of g)) (first_of g)
+    ∷ fragments (rest_of g)
+
 module _ (codec : Codec) where
-  abbrev pub first_of : Given → Piece
-  first_of (Replied q r n) = codec.reply_first r n
-  first_of (Located q here) = codec.locate_reply q.version here
-
-  abbrev pub rest_of : Given → List Piece
-  rest_of (Replied q r n) = codec.reply_rest r n
-  rest_of (Located q here) = []
-
+  -- its pieces are read back as what it is
   abbrev pub Fits : Given → Type 0
-  Fits (Replied q r n) = (codec.fits_reply q r ≡ true)
+  Fits (Replied q r n) = CutsReply codec q r (pieces_of n)
       × (is_same_version q.head.version r.version ≡ true)
-  Fits (Located q here) = Unit {0}
-
-  abbrev pub done_by : Given → ClientEntry
-  done_by (Replied q r n) = at_client.Done q r
-  done_by (Located q here) = at_client.LocateDone q (codec.locate_read q here).0
-
-  -- all of it, as it is put out
-  abbrev pub told_by : Given → List Message
-  told_by g = Opens (kind_of (call_of g)) (answer_version g) (is_last (rest_of g)) (first_of g)
-      ∷ fragments (rest_of g)
+  Fits (Located q here piece told) = CutsLocated codec q here piece told
 
   -- the server reads these and comes to that, and is still until then
   abbrev pub Reaches : Server → List Message → Server → Type 0
@@ -144,8 +146,8 @@ module _ (codec : Codec) where
   abbrev pub Phase : Option ClientEntry → List Piece → ℕ → (us ts : List Message) → Server → (ws tc : List Message) → Type 0
   Phase None got uses us ts s ws tc =
       (us ≡ []) × Quiet s ts ws tc (record { entry = None; pieces = []; uses = uses })
-  Phase (Some (at_client.Sending call left)) got uses us ts s ws tc = (codec.fits_call call ≡ true)
-      × (n : ℕ) × (before rest : List Piece) × (before ++ rest ≡ codec.call_first call n ∷ codec.call_rest call n)
+  Phase (Some (at_client.Sending call left)) got uses us ts s ws tc = (n : Cut)
+      × CutsCall codec call (pieces_of n) × (before rest : List Piece) × (before ++ rest ≡ pieces_of n)
       × (us ≡ fragments rest) × (length rest ≡ left) × ((left == 0) ≡ false)
       × Quiet s ts ws tc (at (at_server.Gathering (kind_of call)) before uses)
   Phase (Some (at_client.Waiting call)) got uses us ts s ws tc = (us ≡ []) × (sent call ≡ at_client.Waiting call)
@@ -155,9 +157,9 @@ module _ (codec : Codec) where
       × (ts ≡ []) × (piece : Piece) × (rest : List Piece) × (got ++ piece ∷ rest ≡ first_of g ∷ rest_of g)
       × Replying g s ws tc uses (fragments (piece ∷ rest))
   Phase (Some (at_client.Done q r)) got uses us ts s ws tc =
-      (us ≡ []) × (ts ≡ []) × (n : ℕ) × Replying (Replied q r n) s ws tc uses []
+      (us ≡ []) × (ts ≡ []) × (n : Cut) × Replying (Replied q r n) s ws tc uses []
   Phase (Some (at_client.LocateDone q r)) got uses us ts s ws tc = (us ≡ []) × (ts ≡ []) × (here : Bool)
-      × (r ≡ (codec.locate_read q here).0) × Replying (Located q here) s ws tc uses []
+      × (piece : Piece) × Replying (Located q here piece r) s ws tc uses []
   Phase (Some (at_client.Undecoded call fault)) got uses us ts s ws tc = ⊥
   Phase (Some (at_client.OnewaySent q)) got uses us ts s ws tc = (us ≡ []) × (is_oneway q ≡ true)
       × Quiet s ts ws tc (read_at (asked.Request q) uses)

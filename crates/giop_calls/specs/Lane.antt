@@ -1,6 +1,9 @@
 -- One lane: all that a client and a server do under one id, and what is on its way between them.
-use Rattle.std.specs.Prelude.{◌≡◌, ℕ, ◌+◌, ◌-◌, Bool, true, false, if◌then◌else◌, List, [], ◌∷◌, ◌++◌, length, Option, Some, None, Result, Ok, Err}
+use Rattle.std.specs.Prelude.{◌≡◌, ℕ, ◌+◌, Bool, true, false, if◌then◌else◌, List, [], ◌∷◌, ◌++◌, length, Option, Some, None, Result, Ok, Err}
 use Rattle.std.specs.Option.{option_map}
+use Rattle.giop_cdr.specs.declared.order.Order.{Order}
+use Rattle.giop_msg.specs.declared.msg.Msg.{Msg}
+use Rattle.giop_msg.specs.Locate.{AnyLocateRequest}
 use Rattle.giop_msg.specs.declared.version.Version.{Version}
 use Rattle.giop_msg.specs.declared.messages.request.Request.{Request}
 use Rattle.giop_msg.specs.declared.messages.reply.Reply.{Reply}
@@ -14,6 +17,7 @@ use Rattle.giop_calls.specs.declared.client.heard.HeardReply.{HeardReply}
 use Rattle.giop_calls.specs.declared.client.heard.HeardReply.TheVariants as reply
 use Rattle.giop_calls.specs.declared.client.entry.ClientEntry.{ClientEntry}
 use Rattle.giop_calls.specs.declared.client.entry.ClientEntry.TheVariants.{Waiting, Gathering, Done, LocateDone}
+use Rattle.giop_calls.specs.declared.client.entry.ClientEntry.TheVariants as client_side
 use Rattle.giop_calls.specs.declared.client.event.ClientEvent.{ClientEvent}
 use Rattle.giop_calls.specs.declared.client.event.ClientEvent.TheVariants as at_client
 use Rattle.giop_calls.specs.declared.server.heard.HeardCall.{HeardCall}
@@ -23,12 +27,13 @@ use Rattle.giop_calls.specs.declared.server.entry.ServerEntry.{ServerEntry}
 use Rattle.giop_calls.specs.declared.server.entry.ServerEntry.TheVariants.{Asked, LocateAsked, Undecoded, Answered, LocateAnswered}
 use Rattle.giop_calls.specs.declared.server.event.ServerEvent.{ServerEvent}
 use Rattle.giop_calls.specs.declared.server.event.ServerEvent.TheVariants as at_server
+use Rattle.giop_calls.specs.Messages.{is_same_order}
 use Rattle.giop_calls.specs.ClientTable as client
 use Rattle.giop_calls.specs.ServerTable as server
 
--- the octets of a piece, with its header
+-- a piece is a message, with its header
 abbrev pub Piece : Type 0
-Piece = List ℕ
+Piece = Msg
 
 -- what goes over a pipe: the first piece of a message and a Fragment, each with whether it is the
 -- last, and a CancelRequest
@@ -42,26 +47,52 @@ abbrev pub heard_call : Call → HeardCall
 heard_call (asked.Request request) = call.Request request
 heard_call (asked.Locate request) = call.Locate request
 
--- how both ends cut messages into pieces and read them, of one interface: what is cut is read back
+-- a message that is cut: its first piece and those behind it
+pub record Cut : Type 0 where
+  pub first : Piece
+  pub rest : List Piece
+
+-- all of its pieces, and how many they are
+abbrev pub pieces_of : Cut → List Piece
+pieces_of cut = cut.first ∷ cut.rest
+
+abbrev pub count : Cut → ℕ
+count cut = length (pieces_of cut)
+
+-- these pieces are all in one byte order
+abbrev pub AreIn : Order → List Piece → Type 0
+AreIn order [] = Unit {0}
+AreIn order (piece ∷ pieces) = (piece.order ≡ order) × AreIn order pieces
+
+-- whether a piece comes in the byte order of the first one that was gathered
+abbrev pub in_order : List Piece → Piece → Bool
+in_order [] piece = true
+in_order (first ∷ pieces) piece = is_same_order piece.order first.order
+
+-- how both ends read the pieces of a message: any way to read
 pub record Codec : Type 0 where
-  pub fits_call : Call → Bool
-  pub call_first : Call → ℕ → Piece
-  pub call_rest : Call → ℕ → List Piece
   pub read_call : List Piece → HeardCall
-  pub fits_reply : Request → Reply → Bool
-  pub reply_first : Reply → ℕ → Piece
-  pub reply_rest : Reply → ℕ → List Piece
-  pub locate_reply : Version → Bool → Piece
   pub read_reply : Call → List Piece → HeardReply
-  pub call_pieces : (c : Call) (n : ℕ) → length (call_rest c n) ≡ n - 1
-  pub call_read : (c : Call) (n : ℕ) → fits_call c ≡ true
-      → read_call (call_first c n ∷ call_rest c n) ≡ heard_call c
-  pub reply_pieces : (r : Reply) (n : ℕ) → length (reply_rest r n) ≡ n - 1
-  pub reply_read : (q : Request) (r : Reply) (n : ℕ) → fits_reply q r ≡ true
-      → read_reply (asked.Request q) (reply_first r n ∷ reply_rest r n) ≡ reply.Reply r
-  pub locate_read : (q : _) (here : Bool) → (r : LocateReply)
-      × (read_reply (asked.Locate q) (locate_reply q.version here ∷ []) ≡ reply.Locate r)
-      × (r.head.status ≡ (if here then 1 else 0))
+
+-- pieces of one byte order that are read back as this call: whatever way to cut and to write it
+-- comes to such pieces is one
+pub record CutsCall (codec : Codec) (call : Call) (pieces : List Piece) : Type 0 where
+  pub order : Order
+  pub one_order : AreIn order pieces
+  pub read : codec.read_call pieces ≡ heard_call call
+
+-- and as this reply, by a client that asked so
+pub record CutsReply (codec : Codec) (q : Request) (r : Reply) (pieces : List Piece) : Type 0 where
+  pub order : Order
+  pub one_order : AreIn order pieces
+  pub read : codec.read_reply (asked.Request q) pieces ≡ reply.Reply r
+
+-- a piece that is read back as this LocateReply, which says whether the target is here and no more
+pub record CutsLocated (codec : Codec) (q : AnyLocateRequest) (here : Bool) (piece : Piece)
+    (told : LocateReply) : Type 0 where
+  pub read : codec.read_reply (asked.Locate q) (piece ∷ []) ≡ reply.Locate told
+  pub status : told.head.status ≡ (if here then 1 else 0)
+  pub no_rest : told.rest ≡ []
 
 -- what stands at an end: its entry, the pieces that it gathered, which count while its entry
 -- gathers, and how many calls began under the id
@@ -148,13 +179,14 @@ abbrev pub tried : Result (Unit {0}) CallFault → (before after : Lane) → Opt
 tried (Ok done) before after = Some after
 tried (Err fault) before after = Some before
 
--- what may happen on a lane
+-- what may happen on a lane; a call, a reply and a LocateReply come with the pieces that they are
+-- cut into
 pub data Act : Type 0 where
-  Calls : Call → ℕ → Act
+  Calls : Call → Cut → Act
   Sends : Act
   Cancels : Act
-  Answers : Reply → ℕ → Act
-  Locates : Bool → Act
+  Answers : Reply → Cut → Act
+  Locates : Bool → Piece → Act
   SendsReply : Act
   ToServer : Act
   ToClient : Act
@@ -166,8 +198,8 @@ module _ (codec : Codec) where
       at_server.Whole (codec.read_call (piece ∷ []))
   server_event pieces (Opens kind version false piece) = at_server.First kind
   server_event pieces (Continues true piece) =
-      at_server.Last true (codec.read_call (pieces ++ piece ∷ []))
-  server_event pieces (Continues false piece) = at_server.More true
+      at_server.Last (in_order pieces piece) (codec.read_call (pieces ++ piece ∷ []))
+  server_event pieces (Continues false piece) = at_server.More (in_order pieces piece)
   server_event pieces Stops = at_server.Cancel
 
   -- what it comes to by it
@@ -192,8 +224,9 @@ module _ (codec : Codec) where
       Some (at_client.Whole kind version (reading c.entry (piece ∷ [])))
   client_event c (Opens kind version false piece) = Some (at_client.First kind version)
   client_event c (Continues true piece) =
-      Some (at_client.Last true (reading c.entry (c.pieces ++ piece ∷ [])))
-  client_event c (Continues false piece) = Some (at_client.More true)
+      Some (at_client.Last (in_order c.pieces piece)
+      (reading c.entry (c.pieces ++ piece ∷ [])))
+  client_event c (Continues false piece) = Some (at_client.More (in_order c.pieces piece))
   client_event c Stops = None
 
   -- what it comes to by it
@@ -208,27 +241,20 @@ module _ (codec : Codec) where
         uses = c.uses;
       })
 
-  -- whether a reply is one to what is asked, of its interface
-  abbrev pub fits : Option ServerEntry → Reply → Bool
-  fits (Some (Asked request)) reply = codec.fits_reply request reply
-  fits _ reply = true
-
   -- the message that answers a LocateRequest
-  abbrev pub located : Option Version → Bool → List Message
-  located None here = []
-  located (Some version) here =
-      Opens kind.Locate version true (codec.locate_reply version here) ∷ []
+  abbrev pub located : Option Version → Piece → List Message
+  located None piece = []
+  located (Some version) piece = Opens kind.Locate version true piece ∷ []
 
   -- the client calls, and puts the first piece on its way
-  abbrev pub calls : Lane → Call → ℕ → Option Lane
-  calls lane call n =
-      let step = client.client_step lane.client.entry (at_client.Call call n) in
-      let rest = codec.call_rest call n in
+  abbrev pub calls : Lane → Call → Cut → Option Lane
+  calls lane call cut =
+      let step = client.client_step lane.client.entry (at_client.Call call (count cut)) in
       tried step.outcome lane (record lane {
         client = record lane.client { entry = step.entry; uses = lane.client.uses + 1 };
-        to_server = lane.to_server ++ Opens (kind_of call) (version_of call) (is_last rest)
-            (codec.call_first call n) ∷ [];
-        unsent = fragments rest;
+        to_server = lane.to_server ++ Opens (kind_of call) (version_of call) (is_last cut.rest)
+            cut.first ∷ [];
+        unsent = fragments cut.rest;
       })
 
   -- it sends a further piece
@@ -252,24 +278,24 @@ module _ (codec : Codec) where
       })
 
   -- the server answers, and puts the first piece on its way
-  abbrev pub answers : Lane → Reply → ℕ → Option Lane
-  answers lane reply n =
-      let step = server.server_step lane.server.entry (at_server.Answer reply n) in
-      let rest = codec.reply_rest reply n in
+  abbrev pub answers : Lane → Reply → Cut → Option Lane
+  answers lane reply cut =
+      let step = server.server_step lane.server.entry (at_server.Answer reply (count cut)) in
       tried step.outcome lane (record lane {
         server = record lane.server { entry = step.entry };
-        to_client = lane.to_client ++ Opens kind.Request reply.version (is_last rest)
-            (codec.reply_first reply n) ∷ [];
-        unanswered = fragments rest;
+        to_client =
+            lane.to_client
+            ++ Opens kind.Request reply.version (is_last cut.rest) cut.first ∷ [];
+        unanswered = fragments cut.rest;
       })
 
   -- it answers a LocateRequest, in one message
-  abbrev pub locates : Lane → Bool → Option Lane
-  locates lane here =
+  abbrev pub locates : Lane → Bool → Piece → Option Lane
+  locates lane here piece =
       let step = server.server_step lane.server.entry (at_server.AnswerLocate here) in
       tried step.outcome lane (record lane {
         server = record lane.server { entry = step.entry };
-        to_client = lane.to_client ++ located (asked_in lane.server.entry) here;
+        to_client = lane.to_client ++ located (asked_in lane.server.entry) piece;
         unanswered = [];
       })
 
@@ -295,27 +321,35 @@ module _ (codec : Codec) where
   to_client lane (m ∷ ms) = option_map (λ c. record lane { client = c; to_client = ms })
       (hears lane.client m (client_event lane.client m))
 
-  -- what an act leads to; where a value doesn't fit nothing is done
+  -- what an act leads to
   abbrev pub step : Lane → Act → Option Lane
-  step lane (Calls call n) = if codec.fits_call call then calls lane call n else Some lane
+  step lane (Calls call cut) = calls lane call cut
   step lane Sends = sends lane
   step lane Cancels = cancels lane
-  step lane (Answers reply n) =
-      if fits lane.server.entry reply then answers lane reply n else Some lane
-  step lane (Locates here) = locates lane here
+  step lane (Answers reply cut) = answers lane reply cut
+  step lane (Locates here piece) = locates lane here piece
   step lane SendsReply = sends_reply lane
   step lane ToServer = to_server lane lane.to_server
   step lane ToClient = to_client lane lane.to_client
 
-  -- where a schedule of them leads: nowhere once a message is refused
-  abbrev pub run : Option Lane → List Act → Option Lane
-  run lane [] = lane
-  run None (act ∷ acts) = None
-  run (Some lane) (act ∷ acts) = run (step lane act) acts
+  -- the pieces of an act are those of what it puts out, to what stands there; a LocateReply is one
+  abbrev pub Suits : Lane → Act → Type 0
+  Suits lane (Calls call cut) = CutsCall codec call (pieces_of cut)
+  Suits lane (Answers reply cut) = (q : Request) → lane.server.entry ≡ Some (Asked q)
+      → CutsReply codec q reply (pieces_of cut)
+  Suits lane (Locates here piece) = (q : _) → lane.server.entry ≡ Some (LocateAsked q)
+      → (told : LocateReply) × CutsLocated codec q here piece told
+  Suits lane act = Unit {0}
 
--- once nothing is on its way and nothing unsent, both ends came to the same
+  -- a schedule of them leads from one lane to another
+  abbrev pub Runs : Lane → List Act → Lane → Type 0
+  Runs lane [] end = lane ≡ end
+  Runs lane (act ∷ acts) end = Suits lane act
+      × ((after : Lane) × (step lane act ≡ Some after) × Runs after acts end)
+
+-- once nothing is on its way, both ends came to the same, whatever is unsent
 abbrev pub Agrees : Lane → Type 0
-Agrees lane = lane.unsent ≡ [] → lane.to_server ≡ [] → lane.unanswered ≡ [] → lane.to_client ≡ []
+Agrees lane = lane.to_server ≡ [] → lane.to_client ≡ []
     → option_map client.outcome lane.client.entry ≡ option_map server.outcome lane.server.entry
 
 -- the reply that stands at the client is the one that the server gave this call
@@ -328,9 +362,21 @@ IsRight lane = (q : Request) (r : Reply) → lane.client.entry ≡ Some (Done q 
 abbrev pub IsRightLocate : Lane → Type 0
 IsRightLocate lane = (q : _) (r : LocateReply) → lane.client.entry ≡ Some (LocateDone q r)
     → (here : Bool) × (lane.server.entry ≡ Some (LocateAnswered (Some q.target) here))
-    × (r.head.status ≡ (if here then 1 else 0)) × (lane.server.uses ≡ lane.client.uses)
+    × (r.head.status ≡ (if here then 1 else 0)) × (r.rest ≡ [])
+    × (lane.server.uses ≡ lane.client.uses)
 
--- no message is refused, both ends agree, and a reply is that to its call
-abbrev pub IsSound : Codec → List Act → Type 0
-IsSound codec acts = (lane : Lane) × (run codec (Some new) acts ≡ Some lane)
-    × Agrees lane × IsRight lane × IsRightLocate lane
+-- neither end stands before a message that it couldn't read
+abbrev pub IsRead : Lane → Type 0
+IsRead lane =
+    ((call : Call) (fault : _) → lane.client.entry ≡ Some (client_side.Undecoded call fault) → ⊥)
+    × ((call : _) → lane.server.entry ≡ Some (Undecoded call) → ⊥)
+
+-- the message that arrives next isn't refused, at either end
+abbrev pub NextIsHeard : Codec → Lane → Type 0
+NextIsHeard codec lane = ((after : Lane) × (step codec lane ToServer ≡ Some after))
+    × ((after : Lane) × (step codec lane ToClient ≡ Some after))
+
+-- both ends agree, a reply is that to its call, all is read, and no message will be refused
+abbrev pub IsSound : Codec → Lane → Type 0
+IsSound codec lane = Agrees lane × IsRight lane × IsRightLocate lane × IsRead lane
+    × NextIsHeard codec lane

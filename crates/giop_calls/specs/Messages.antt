@@ -1,5 +1,7 @@
 -- What a rule asks of a message.
 use Rattle.std.specs.Prelude.{◌==◌, Bool, true, false}
+use Rattle.giop_cdr.specs.declared.order.Order.{Order}
+use Rattle.giop_cdr.specs.declared.order.Order.TheVariants.{Big, Little}
 use Rattle.giop_msg.specs.declared.version.Version.{Version}
 use Rattle.giop_msg.specs.Version.{minor_of}
 use Rattle.giop_msg.specs.declared.messages.request.Request.{Request}
@@ -13,6 +15,13 @@ is_oneway request = request.head.flags == 0
 -- two versions are one
 abbrev pub is_same_version : Version → Version → Bool
 is_same_version one other = minor_of one == minor_of other
+
+-- two byte orders are one
+abbrev pub is_same_order : Order → Order → Bool
+is_same_order Big Big = true
+is_same_order Little Little = true
+is_same_order Big Little = false
+is_same_order Little Big = false
 
 -- the reply tells an exception of the broker (9.4.3)
 abbrev pub is_system_exception : ReplyBody → Bool

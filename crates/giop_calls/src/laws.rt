@@ -8,7 +8,7 @@ ghost use Rattle.giop_calls.specs.ClientTable as client;
 ghost use Rattle.giop_calls.specs.Items.{Says, AreAlike};
 ghost use Rattle.giop_calls.specs.ServerItems as server_said;
 ghost use Rattle.giop_calls.specs.ClientItems as client_said;
-ghost use Rattle.giop_calls.specs.Lane.{Codec, Act, IsSound};
+ghost use Rattle.giop_calls.specs.Lane.{Codec, Act, Lane, new, Runs, IsSound};
 ghost use Rattle.giop_calls.specs.ServerStanding as server_acts;
 ghost use Rattle.giop_calls.specs.ClientStanding as client_acts;
 ghost use Rattle.giop_calls.specs.declared.server.entry.ServerEntry.{ServerEntry};
@@ -50,9 +50,11 @@ pub fn equal_items_equal_at_client()
 {}
 
 /// Whatever a client and a server do under one id, in whatever order, an id used again included,
-/// and however their messages travel, as long as each pipe keeps its order: no message is refused;
-/// once nothing is on its way and nothing unsent, both ends tell the same outcome; and a reply that
-/// stands at the client is the one that the server gave to that very call.
+/// and however their messages travel, as long as each pipe keeps its order: no message is refused,
+/// now or next, and each call and reply is read; whenever nothing is on its way, both ends tell the
+/// same outcome, whatever of a call or a reply is unsent; and a reply that stands at the client is
+/// the one that the server gave to that very call.
 pub fn ends_of_one_lane_agree()
-    ensures value { (codec : Codec) (acts : List Act) → IsSound codec acts }
+    ensures value { (codec : Codec) (acts : List Act) (lane : Lane) → Runs codec new acts lane
+        → IsSound codec lane }
 {}
