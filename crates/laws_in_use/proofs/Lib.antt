@@ -1,0 +1,6 @@
+mod Taking
+mod LocatingMessages
+mod LocatingReads
+mod LocatingRuns
+mod LocatingSpelled
+mod LocatingHolds

@@ -1,0 +1,7 @@
+//! The laws in use: each is applied to a worked instance, and what it says of that is told in
+//! concrete values.
+#![tactic(auto)]
+
+mod calls;
+mod locating;
+mod sides;
