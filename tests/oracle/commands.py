@@ -1,0 +1,132 @@
+"""What giopctl's `dump`, `check` and `convert` print for given octets, and their exit status, by
+docs/FORMATS.md. Each command answers both: (text, status)."""
+from cdr import Fault, Reader, Writer
+from forms import FormFault, description_of, interface_of, value_of, value_text
+from messages import HEADS, messages
+from references import BadText, corbaloc_of, iiop_profile, octets_of_hex, reference_of, text_of
+from server import heard
+from text import escaped, hexed
+
+
+def foretold(words, file, other):
+    """What a command line prints, and its exit status; of it, FILE is a file of the first octets
+    and OTHER one of the second, an interface or a description."""
+    if words[0] == 'dump':
+        return dump(file)
+    if words[0] == 'check':
+        return check(other, file)
+    return convert(words[1], file, other, '--little' in words)
+
+
+def printed(lines, status):
+    return ''.join(line + '\n' for line in lines), status
+
+
+# dump
+
+def dump(stream):
+    found, at, fault = messages(stream)
+    lines = [line for offset, message in found for line in message_lines(offset, message)]
+    if fault:
+        return printed([*lines, f'{at} fault {fault}'], 1)
+    left = len(stream) - at
+    return printed([*lines, f'rest {left}'], 1 if left else 0)
+
+
+def message_lines(offset, message):
+    """The line of a message, and that of its head where it isn't fragmented."""
+    yield (f'{offset} {message.kind}' + ('' if message.minor == 2 else f' 1.{message.minor}')
+           + (' LE' if message.little else ' BE') + (' more' if message.more else '')
+           + f' size {len(message.octets)}' + id_text(message))
+    if message.kind in HEADS and not message.more:
+        yield '  ' + head_text(message)
+
+
+def id_text(message):
+    try:
+        return f' id {message.id()}'
+    except Fault:
+        return ''
+
+
+def head_text(message):
+    reader = message.reader()
+    try:
+        head = HEADS[message.kind](message, reader)
+    except Fault as fault:
+        return f'fault {fault}'
+    body = f'body {max(reader.end - head.body, 0)}'
+    if message.kind == 'Request':
+        return (f'flags {head.flags} {target_text(head.target)} operation '
+                f'{escaped(head.operation)} contexts {len(head.contexts)} {body}')
+    if message.kind == 'Reply':
+        return f'status {head.status} contexts {len(head.contexts)} {body}'
+    if message.kind == 'LocateRequest':
+        return target_text(head.target)
+    return f'status {head.status} {body}'
+
+
+def target_text(target):
+    return f'{target[0]} {hexed(target[1]) if target[0] == "key" else target[1]}'
+
+
+# check
+
+def check(interface, stream):
+    """Of an interface's text, and what a client sent."""
+    try:
+        interface = interface_of(interface)
+    except FormFault as fault:
+        return printed([f'fault {fault}'], 1)
+    table, last = heard(interface, stream)
+    lines = [f'{call} {entry.name}{entry.told}' for call, entry in sorted(table.items())]
+    return printed([*lines, last], 0 if last in ('rest 0', 'fault 7 Closed') else 1)
+
+
+# convert
+
+def convert(kind, text, description=b'', little=False):
+    """Of the octets of FILE, and of the file of --desc."""
+    text = text.removesuffix(b'\n')
+    try:
+        return printed(CONVERSIONS[kind](text, description, little), 0)
+    except (BadText, FormFault, Fault) as fault:
+        return printed([f'fault {fault}'], 1)
+
+
+def convert_ior(text, _description, _little):
+    type_id, profiles = reference = reference_of(text)
+    return [f'type {escaped(type_id)}', *(profile_line(*profile) for profile in profiles),
+            text_of(reference)]
+
+
+def profile_line(tag, octets):
+    profile = iiop_profile(tag, octets)
+    if not profile:
+        return f'profile {tag} {hexed(octets)}'
+    return (f'iiop {profile.major}.{profile.minor} {escaped(profile.host)} {profile.port} '
+            f'{hexed(profile.key)} components {len(profile.components)}')
+
+
+def convert_corbaloc(text, _description, _little):
+    corbaloc = corbaloc_of(text)
+    return [corbaloc.text(), text_of(corbaloc.reference())]
+
+
+def convert_encode(text, description, little):
+    kind = description_of(description)
+    writer = Writer(little)
+    kind.write(writer, value_of(kind, text))
+    return [writer.octets.hex()]
+
+
+def convert_decode(text, description, little):
+    kind = description_of(description)
+    reader = Reader(octets_of_hex(text), little)
+    value = kind.read(reader)
+    reader.must_end()
+    return [value_text(kind, value)]
+
+
+CONVERSIONS = {'ior': convert_ior, 'corbaloc': convert_corbaloc, 'encode': convert_encode,
+               'decode': convert_decode}
