@@ -8,6 +8,7 @@ use Rattle.giop_msg.specs.Msg.{message_octets}
 use Rattle.giop_msg.specs.Stream.{TakesMessage, Unread, Waits}
 use Rattle.giop_msg.proofs.StreamLemmas.{fault_stands, length-message_octets}
 use Rattle.giop_types.specs.declared.json.interface.Interface.{Interface}
+use Rattle.giop_session.specs.declared.limits.Limits.{Limits}
 use Rattle.giop_session.specs.declared.session_fault.SessionFault.{SessionFault}
 use Rattle.giop_session.specs.Feeding.{Fed, Stops, with_octets}
 use Rattle.giop_session.proofs.FeedingLemmas.{fed_in_turn}
@@ -18,7 +19,7 @@ use Rattle.giop_session.specs.CallTable.{Held}
 use Rattle.giopctl.specs.declared.failure.Failure.{Failure}
 use Rattle.giopctl.specs.declared.status.Status.{Status}
 use Rattle.giopctl.specs.declared.status.Status.TheVariants.{Done, Refused, Usage, InputOutput, Memory}
-use Rattle.giopctl.specs.Check.{Checks, ChecksKnown, HeardKnown, Hears, IsChecked, default_limits, last_status, nothing_read, server_hears}
+use Rattle.giopctl.specs.Check.{Checks, ChecksKnown, HeardKnown, Hears, IsChecked, last_status, nothing_read, server_hears}
 use Rattle.giopctl.specs.Dump.{ended}
 use Rattle.giopctl.specs.SessionLines.{last_line}
 use Rattle.giopctl.specs.Table.{server_entry_line, table_text}
@@ -182,25 +183,25 @@ module _ {S : Type 0} (hears : Msg → S → Result (Unit {0}) SessionFault → 
 
 -- ---- what is told
 
-pub of_status : (interface : Interface) (octets : List ℕ) (old new : Option (List ℕ)) (status : Status)
-    → IsChecked interface octets old new status → Checks interface octets old new status
-of_status interface octets old new Done is = is
-of_status interface octets old new Refused is = is
-of_status interface octets old new Usage is = is
-of_status interface octets old new InputOutput is = tt
-of_status interface octets old new Memory is = tt
+pub of_status : (interface : Interface) (limits : Limits) (octets : List ℕ) (old new : Option (List ℕ)) (status : Status)
+    → IsChecked interface limits octets old new status → Checks interface limits octets old new status
+of_status interface limits octets old new Done is = is
+of_status interface limits octets old new Refused is = is
+of_status interface limits octets old new Usage is = is
+of_status interface limits octets old new InputOutput is = tt
+of_status interface limits octets old new Memory is = tt
 
 -- the table and the last line of an end that heard what a reader gave
-pub checked : (interface : Interface) (all old middle new : Option (List ℕ)) (fault : Option SessionFault) (left : Unread)
+pub checked : (interface : Interface) (limits : Limits) (all old middle new : Option (List ℕ)) (fault : Option SessionFault) (left : Unread)
     (calls : Held ServerRule ServerEntry) (r : Result Status Failure)
-    → HeardKnown (server_hears interface) all nothing_read (no_calls (record {}) default_limits) fault left calls
+    → HeardKnown (server_hears interface) all (nothing_read limits) (no_calls (record {}) limits) fault left calls
     → Appends old middle (table_text (server_entry_line interface) calls.table)
     → OnOk r (Appends middle new (ended (last_line fault (length left.octets))))
     → IfOk r (λ status. status ≡ last_status fault (length left.octets))
-    → IfOk r (ChecksKnown interface all old new)
-checked interface all old middle new fault left calls (Err failure) heard table line status = tt
-checked interface None old middle new fault left calls (Ok s) heard table line status = tt
-checked interface (Some octets) old middle new fault left calls (Ok s) heard table line status = record {
+    → IfOk r (ChecksKnown interface limits all old new)
+checked interface limits all old middle new fault left calls (Err failure) heard table line status = tt
+checked interface limits None old middle new fault left calls (Ok s) heard table line status = tt
+checked interface limits (Some octets) old middle new fault left calls (Ok s) heard table line status = record {
   fault = fault;
   left = left;
   calls = calls;

@@ -11,7 +11,6 @@ use Rattle.giopctl.specs.declared.status.Status.{Status}
 use Rattle.giopctl.specs.declared.status.Status.TheVariants.{Done, Refused, Usage, InputOutput, Memory}
 use Rattle.giopctl.specs.Acts.{Outbox}
 use Rattle.giopctl.specs.Calling.{Asked, CallsAll, ClientCalls, Converses, ConversesIf, Talks, are_over, begun, client_hears, new_box}
-use Rattle.giopctl.specs.Check.{default_limits}
 use Rattle.giopctl.specs.Dump.{ended}
 use Rattle.giopctl.specs.Sessions.{Calls, IsCalled, IsServed, Serves, Wire, call_status, connection_line, serve_status, session_text, told}
 use Rattle.giopctl.specs.Serving as serving
@@ -22,8 +21,8 @@ use Rattle.giopctl.specs.Table.{client_entry_line, server_entry_line}
 -- the calls of a client's end, its table and its fault
 pub called : (asked : Asked) (before after : Wire) (old new : Option (List ℕ)) (refused : Option SessionFault) (box : Outbox ClientCalls) (outgoing : List ℕ)
     (unread : Unread) (left : ClientCalls) (fault : Option SessionFault) (r : Result Status Failure)
-    → CallsAll asked default_limits None new_box refused box
-    → Talks asked.interface refused (begun before.input before.output box) (between after.input after.output outgoing unread left fault)
+    → CallsAll asked None (new_box asked.limits) refused box
+    → Talks asked.interface refused (begun asked.limits before.input before.output box) (between after.input after.output outgoing unread left fault)
     → OnOk r (Appends old new (session_text (client_entry_line asked.interface) left.table (told refused fault)))
     → IfOk r (λ status. status ≡ call_status refused left.table) → IfOk r (IsCalled asked before after old new)
 called asked before after old new refused box outgoing unread left fault (Err failure) calls talks text is = tt
@@ -52,7 +51,7 @@ calls_told asked before after old new Memory is = tt
 -- the connection of a server's end: its number, its table and its fault
 pub served : (number : ℕ) (it : Served) (before after : Wire) (old new : Option (List ℕ)) (refused : Option SessionFault) (outgoing : List ℕ)
     (unread : Unread) (left : ServerCalls) (fault : Option SessionFault) (r : Result Status Failure)
-    → serving.Converses it default_limits (new_server before.input before.output) refused (between after.input after.output outgoing unread left fault)
+    → serving.Converses it it.limits (new_server it.limits before.input before.output) refused (between after.input after.output outgoing unread left fault)
     → OnOk r (Appends old new (ended (connection_line number) ++ session_text (server_entry_line it.interface) left.table (told refused fault)))
     → IfOk r (λ status. status ≡ serve_status (told refused fault)) → IfOk r (IsServed number it before after old new)
 served number it before after old new refused outgoing unread left fault (Err failure) talks text is = tt

@@ -23,8 +23,9 @@ use Rattle.giop_session.specs.Heard.{hears_by, in_call}
 use Rattle.giop_session.specs.Pumping.{Between, between}
 use Rattle.giop_session.specs.Sending.{entry_of}
 use Rattle.giopctl.specs.declared.calls.CallLine.{CallLine}
+use Rattle.giopctl.specs.declared.commands.calling.Calling.{Calling}
 use Rattle.giopctl.specs.Acts.{ActsOrTells, Outbox, SendsAll, outbox}
-use Rattle.giopctl.specs.Check.{default_limits, nothing_read}
+use Rattle.giopctl.specs.Check.{nothing_read}
 use Rattle.giopctl.specs.Steps.{AndThen, Upto}
 use Rattle.giopctl.specs.Turns.{Waits, WritesOut}
 
@@ -51,20 +52,31 @@ abbrev pub entry_at : ClientCalls → ℕ → Option ClientEntry
 entry_at calls id = entry_of (finite.get calls.table id)
 
 -- what is asked of `call`: these calls of an interface, of the object of a key, in a version and a
--- form
+-- form, by an end with these limits
 pub record Asked : Type 0 where
   pub interface : Interface
   pub calls : List CallLine
   pub key : List ℕ
   pub version : Version
   pub form : Form
+  pub limits : Limits
 
--- a call is made, by an end with these limits at which this fault stands, if one does
-abbrev pub CallsOne : Asked → Limits → Option SessionFault → CallLine → Outbox ClientCalls
+abbrev pub asked_of : Calling → List CallLine → Asked
+asked_of calling calls = record {
+  interface = calling.interface.now;
+  calls = calls;
+  key = calling.key.now;
+  version = calling.version;
+  form = calling.form;
+  limits = calling.limits;
+}
+
+-- a call is made, by an end at which this fault stands, if one does
+abbrev pub CallsOne : Asked → Option SessionFault → CallLine → Outbox ClientCalls
     → Option SessionFault → Outbox ClientCalls → Type 0
-CallsOne asked limits fault call s =
+CallsOne asked fault call s =
     ActsOrTells (rules_of client_step is_closed is_gathering) in_call fault call.id
-    (call_fault asked.interface limits (entry_at s.calls call.id)
+    (call_fault asked.interface asked.limits (entry_at s.calls call.id)
     (request_of call asked.key asked.version) asked.form)
     (IsCall asked.interface (request_of call asked.key asked.version) asked.form) s
 
@@ -75,10 +87,9 @@ CallsSent fault =
     SendsAll (λ rule. client_step) (λ rule. is_closed) is_gathering in_call event.Send fault left_of
 
 -- each call is made, in their order, and then the pieces that are left are put out
-abbrev pub CallsAll : Asked → Limits → Option SessionFault → Outbox ClientCalls
-    → Option SessionFault → Outbox ClientCalls → Type 0
-CallsAll asked limits fault =
-    AndThen (Upto (CallsOne asked limits fault) asked.calls) (CallsSent fault)
+abbrev pub CallsAll : Asked → Option SessionFault → Outbox ClientCalls → Option SessionFault
+    → Outbox ClientCalls → Type 0
+CallsAll asked fault = AndThen (Upto (CallsOne asked fault) asked.calls) (CallsSent fault)
 
 -- whether a call is over
 abbrev pub is_over : Option ClientEntry → Bool
@@ -113,10 +124,12 @@ abbrev pub Talks : Interface → Option SessionFault → Between ClientCalls →
 Talks interface None s t = Converses interface s t
 Talks interface (Some why) s t = t ≡ s
 
--- a new end, of which nothing is outgoing
-abbrev pub new_box : Outbox ClientCalls
-new_box = outbox (no_calls (record {}) default_limits) []
+-- a new end with these limits, of which nothing is outgoing
+abbrev pub new_box : Limits → Outbox ClientCalls
+new_box limits = outbox (no_calls (record {}) limits) []
 
 -- such an end once its calls are made, between a reader and a writer
-abbrev pub begun : Option (List ℕ) → Option (List ℕ) → Outbox ClientCalls → Between ClientCalls
-begun input output box = between input output box.outgoing nothing_read box.calls None
+abbrev pub begun : Limits → Option (List ℕ) → Option (List ℕ) → Outbox ClientCalls
+    → Between ClientCalls
+begun limits input output box =
+    between input output box.outgoing (nothing_read limits) box.calls None

@@ -1,5 +1,5 @@
 -- What a run of `check` does: a server's end hears the octets of a file.
-use Rattle.std.specs.Prelude.{◌≡◌, ◌⊎◌, ℕ, ◌==◌, List, [], ◌++◌, Option, Some, None, Result, Ok, Err, ⊤, if◌then◌else◌, length}
+use Rattle.std.specs.Prelude.{◌≡◌, ◌≤◌, ◌^◌, ◌⊎◌, ℕ, ◌==◌, List, [], ◌++◌, Option, Some, None, Result, Ok, Err, ⊤, if◌then◌else◌, length}
 use Rattle.std.specs.Io.KnownBytes.{Appends}
 use Rattle.giop_msg.specs.declared.msg.Msg.{Msg}
 use Rattle.giop_msg.specs.Stream.{Unread}
@@ -65,49 +65,55 @@ server_hears interface =
     hears_by (λ rule. server_step) (λ rule. is_closed) is_gathering in_call server_breaks
     (server_befalls interface)
 
+-- limits that an end can be given: what it gathers is counted in 62 bits
+abbrev pub AreLimits : Limits → Type 0
+AreLimits limits = limits.gathered ≤ 2 ^ 62
+
 -- the limits of an end where none are given
 abbrev pub default_limits : Limits
 default_limits = record { calls = 1024; message = 1048576; gathered = 8388608 }
 
--- nothing is read
-abbrev pub nothing_read : Unread
-nothing_read = record { limit = default_limits.message; octets = [] }
+-- nothing is read, by an end with these limits
+abbrev pub nothing_read : Limits → Unread
+nothing_read limits = record { limit = limits.message; octets = [] }
 
 -- the text of a server's end: its table, and the last line
 abbrev pub end_text : Interface → Held ServerRule ServerEntry → Option SessionFault → ℕ → List ℕ
 end_text interface calls fault unread =
     table_text (server_entry_line interface) calls.table ++ ended (last_line fault unread)
 
--- a new server's end of an interface heard these octets, the writer's contents grew by its text,
--- and this is its status
-pub record IsChecked (interface : Interface) (octets : List ℕ) (old new : Option (List ℕ))
-    (status : Status) : Type 0 where
+-- a new server's end of an interface, with these limits, heard these octets, the writer's contents
+-- grew by its text, and this is its status
+pub record IsChecked (interface : Interface) (limits : Limits) (octets : List ℕ)
+    (old new : Option (List ℕ)) (status : Status) : Type 0 where
   pub fault : Option SessionFault
   pub left : Unread
   pub calls : Held ServerRule ServerEntry
   pub heard :
-      Hears (server_hears interface) octets nothing_read (no_calls (record {}) default_limits) fault
+      Hears (server_hears interface) octets (nothing_read limits) (no_calls (record {}) limits) fault
       left calls
   pub text : Appends old new (end_text interface calls fault (length left.octets))
   pub is : status ≡ last_status fault (length left.octets)
 
 -- what a check of these octets does to the writer's contents, by the status that it answers
-abbrev pub Checks : Interface → List ℕ → Option (List ℕ) → Option (List ℕ) → Status → Type 0
-Checks interface octets old new InputOutput = ⊤
-Checks interface octets old new Memory = ⊤
-Checks interface octets old new status = IsChecked interface octets old new status
+abbrev pub Checks : Interface → Limits → List ℕ → Option (List ℕ) → Option (List ℕ) → Status
+    → Type 0
+Checks interface limits octets old new InputOutput = ⊤
+Checks interface limits octets old new Memory = ⊤
+Checks interface limits octets old new status = IsChecked interface limits octets old new status
 
 -- the same of the octets that a reader gives, where they are known and nothing failed
-abbrev pub ChecksKnown : Interface → Option (List ℕ) → Option (List ℕ) → Option (List ℕ) → Status
-    → Type 0
-ChecksKnown interface None old new status = ⊤
-ChecksKnown interface (Some octets) old new status = IsChecked interface octets old new status
+abbrev pub ChecksKnown : Interface → Limits → Option (List ℕ) → Option (List ℕ) → Option (List ℕ)
+    → Status → Type 0
+ChecksKnown interface limits None old new status = ⊤
+ChecksKnown interface limits (Some octets) old new status =
+    IsChecked interface limits octets old new status
 
 -- the same by the interface that a JSON text is; where it is none, its fault is told, and no other
-abbrev pub ChecksText : List ℕ → Option (List ℕ) → Option (List ℕ) → Option (List ℕ) → Status
-    → Type 0
-ChecksText text octets old new status =
+abbrev pub ChecksText : List ℕ → Limits → Option (List ℕ) → Option (List ℕ) → Option (List ℕ)
+    → Status → Type 0
+ChecksText text limits octets old new status =
     ((interface : Interface) × (interface_told (json_in text) ≡ Ok (interface_view interface))
-    × ChecksKnown interface octets old new status)
+    × ChecksKnown interface limits octets old new status)
     ⊎ ((status ≡ Refused) × ((e : FormFault) × (interface_told (json_in text) ≡ Err e)
     × Tells old new (Form e)))

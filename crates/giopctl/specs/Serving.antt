@@ -24,7 +24,7 @@ use Rattle.giopctl.specs.declared.commands.answering.Due.TheVariants.{Nothing, L
 use Rattle.giopctl.specs.declared.commands.serving.Serving.{Serving}
 use Rattle.giopctl.specs.Acts.{ActsOrTells, Outbox, SendsAll, outbox}
 use Rattle.giopctl.specs.Answering.{due_to, reply_of}
-use Rattle.giopctl.specs.Check.{default_limits, nothing_read, server_hears}
+use Rattle.giopctl.specs.Check.{nothing_read, server_hears}
 use Rattle.giopctl.specs.Steps.{AndThen, Each, Upto}
 use Rattle.giopctl.specs.Turns.{GoesOn, most_turns}
 
@@ -38,12 +38,14 @@ abbrev pub AnswersSent : Option SessionFault → Outbox ServerCalls → Option S
 AnswersSent fault =
     SendsAll (λ rule. server_step) (λ rule. is_closed) is_gathering in_call event.Send fault left_of
 
--- what is served: the object of a key, with answers to the operations of an interface, in a form
+-- what is served: the object of a key, with answers to the operations of an interface, in a form, by
+-- an end with these limits
 pub record Served : Type 0 where
   pub interface : Interface
   pub answers : Data
   pub key : List ℕ
   pub form : Form
+  pub limits : Limits
 
 abbrev pub served_of : Serving → Served
 served_of serving = record {
@@ -51,6 +53,7 @@ served_of serving = record {
   answers = view serving.answers.now.json;
   key = serving.key.now;
   form = serving.form;
+  limits = serving.limits;
 }
 
 -- an end with these limits, at which this fault stands, if one does
@@ -119,7 +122,7 @@ module _ (served : Served) (limits : Limits) where
     pub each : Each (λ turn s t. TurnAnswers s None t) turns s mid
     pub ends : ServeEnds mid refused t
 
--- a new server's end between a reader and a writer
-abbrev pub new_server : Option (List ℕ) → Option (List ℕ) → Between ServerCalls
-new_server input output =
-    between input output [] nothing_read (no_calls (record {}) default_limits) None
+-- a new server's end with these limits, between a reader and a writer
+abbrev pub new_server : Limits → Option (List ℕ) → Option (List ℕ) → Between ServerCalls
+new_server limits input output =
+    between input output [] (nothing_read limits) (no_calls (record {}) limits) None

@@ -19,7 +19,7 @@ use Rattle.giopctl.specs.declared.status.Status.{Status}
 use Rattle.giopctl.specs.declared.status.Status.TheVariants.{Done, Refused, InputOutput, Memory}
 use Rattle.giopctl.specs.Acts.{Outbox}
 use Rattle.giopctl.specs.Calling.{Asked, CallsAll, ClientCalls, Talks, begun, new_box}
-use Rattle.giopctl.specs.Check.{default_limits, fault_status}
+use Rattle.giopctl.specs.Check.{fault_status}
 use Rattle.giopctl.specs.Dump.{ended}
 use Rattle.giopctl.specs.Serving as serving
 use Rattle.giopctl.specs.Serving.{Served, ServerCalls, new_server}
@@ -84,13 +84,13 @@ pub record IsCalled (asked : Asked) (before after : Wire) (old new : Option (Lis
     (status : Status) : Type 0 where
   pub refused : Option SessionFault
   pub box : Outbox ClientCalls
-  pub calls : CallsAll asked default_limits None new_box refused box
+  pub calls : CallsAll asked None (new_box asked.limits) refused box
   pub outgoing : List ℕ
   pub unread : Unread
   pub left : ClientCalls
   pub fault : Option SessionFault
   pub talks :
-      Talks asked.interface refused (begun before.input before.output box)
+      Talks asked.interface refused (begun asked.limits before.input before.output box)
       (between after.input after.output outgoing unread left fault)
   pub text : Appends old new
       (session_text (client_entry_line asked.interface) left.table (told refused fault))
@@ -120,7 +120,7 @@ pub record IsServed (number : ℕ) (served : Served) (before after : Wire)
   pub left : ServerCalls
   pub fault : Option SessionFault
   pub talks :
-      serving.Converses served default_limits (new_server before.input before.output) refused
+      serving.Converses served served.limits (new_server served.limits before.input before.output) refused
       (between after.input after.output outgoing unread left fault)
   pub text : Appends old new (ended (connection_line number)
       ++ session_text (server_entry_line served.interface) left.table (told refused fault))

@@ -1,18 +1,14 @@
 //! `call` over files, a connection and the standard output.
 
-ghost use Rattle.giop_session.specs.Form.{IsForm};
-
 use crate::calls::{CallLine, calls_from_json};
 use crate::cli::CallWords;
-use crate::commands::{Endpoint, Targeted, call_over, target_of};
+use crate::commands::{Calling, Endpoint, Targeted, call_over, target_of};
 use crate::failure::Failure;
 use crate::files::OUTPUT_BUFFER;
 use crate::lines::EscapedText;
 use crate::report;
 use crate::session_files::{interface_of, read, refused, refused_form};
 use crate::status::Status;
-use giop_session::Form;
-use giop_types::Interface;
 use std::io::{BufWriter, ErrorKind, Write};
 use std::net::TcpStream;
 use std::{io, str};
@@ -40,7 +36,14 @@ fn called(rt: &HostRuntime, words: CallWords) -> Result<Status, Status> {
         Ok(peer) => peer,
         Err(failure) => return Err(report::answer(rt, words.target, Err(failure))),
     };
-    let answered = call_at(rt, &interface, calls, &endpoint, words.form);
+    let calling = Calling {
+        interface: &interface,
+        key: endpoint.key.as_slice(),
+        version: endpoint.version,
+        form: words.form,
+        limits: words.limits,
+    };
+    let answered = call_at(rt, calls, &endpoint, calling);
     Ok(report::answer(rt, peer.as_str(), answered))
 }
 
@@ -60,22 +63,16 @@ fn peer_of(rt: &HostRuntime, endpoint: &Endpoint) -> Result<String, Failure> {
 
 fn call_at(
     rt: &HostRuntime,
-    interface: &Interface,
     calls: Vec<CallLine>,
     endpoint: &Endpoint,
-    form: Form,
-) -> Result<Status, Failure>
-    requires { IsForm form }
-{
+    calling: Calling<'_>,
+) -> Result<Status, Failure> {
     let stream = connected(rt, endpoint)?;
     let mut out = BufWriter::with_capacity(rt.alloc(), OUTPUT_BUFFER, io::writer(rt))?;
     let status = call_over(
         rt.alloc(),
-        interface,
+        calling,
         calls,
-        endpoint.key.as_slice(),
-        endpoint.version,
-        form,
         &mut &stream,
         &mut &stream,
         &mut out,

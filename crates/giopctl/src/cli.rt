@@ -1,11 +1,14 @@
 //! The command line.
+ghost use Rattle.giopctl.specs.Check.{AreLimits};
 
 use crate::commands::Way;
+use crate::limit_words::{limited, limits_of, message_limit, message_limit_of};
 use crate::session_words::{call, call_words, serve, serve_words};
 pub use crate::session_words::{CallWords, ServeWords};
 use clap::error::ErrorKind;
 use clap::{Arg, ArgAction, ArgMatches, Command, Error};
 use giop_cdr::Order;
+use giop_session::Limits;
 use std::alloc::{AllocError, Global};
 
 /// What the command line asks for.
@@ -15,14 +18,11 @@ pub enum Task<'a> {
     Dump {
         /// The file's name, or `-` for the standard input.
         file: &'a str,
+        /// The greatest message size, the header not counted.
+        limit: u32,
     },
     /// Show what becomes of the calls of a file.
-    Check {
-        /// The name of the interface's file, or `-` for the standard input.
-        interface: &'a str,
-        /// The file's name, or `-` for the standard input.
-        file: &'a str,
-    },
+    Check(CheckWords<'a>),
     /// Write what a file holds in another form.
     Convert {
         /// The file's name, or `-` for the standard input.
@@ -34,6 +34,18 @@ pub enum Task<'a> {
     Call(CallWords<'a>),
     /// Serve an object.
     Serve(ServeWords<'a>),
+}
+
+/// What `check` is asked for.
+#[derive(Clone, Copy, Debug)]
+pub struct CheckWords<'a> {
+    /// The name of the interface's file, or `-` for the standard input.
+    pub interface: &'a str,
+    /// The file's name, or `-` for the standard input.
+    pub file: &'a str,
+    /// What the end that hears it holds at most.
+    pub limits: Limits,
+    pub ghost bounded: { AreLimits limits },
 }
 
 /// The kinds of `convert`.
@@ -164,10 +176,16 @@ Example:
 pub fn task_of<'a>(alloc: Global, words: &'a [String]) -> Result<Option<Task<'a>>, Error> {
     let matches = giopctl(alloc)?.try_get_matches_from(words)?;
     if let Some(dump) = matches.subcommand_matches("dump") {
-        return Ok(dump.get_str("FILE").map(|file| Task::Dump { file }));
+        return match dumped(dump) {
+            Ok(task) => Ok(task),
+            Err(wrong) => Err(misused(alloc, wrong)?),
+        };
     }
     if let Some(check) = matches.subcommand_matches("check") {
-        return Ok(checked(check));
+        return match checked(check) {
+            Ok(task) => Ok(task),
+            Err(wrong) => Err(misused(alloc, wrong)?),
+        };
     }
     if let Some(call) = matches.subcommand_matches("call") {
         return match call_words(call) {
@@ -207,10 +225,25 @@ fn conversion<'a>(convert: &ArgMatches<'a>) -> Option<Task<'a>> {
     converted(decode, value_of(decode, Way::Decode))
 }
 
-fn checked<'a>(matches: &ArgMatches<'a>) -> Option<Task<'a>> {
-    let interface = matches.get_str("interface")?;
-    let file = matches.get_str("FILE")?;
-    Some(Task::Check { interface, file })
+fn dumped<'a>(matches: &ArgMatches<'a>) -> Result<Option<Task<'a>>, &'static str> {
+    let limit = message_limit_of(matches)?;
+    let Some(file) = matches.get_str("FILE") else {
+        return Ok(None);
+    };
+    Ok(Some(Task::Dump { file, limit }))
+}
+
+fn checked<'a>(matches: &ArgMatches<'a>) -> Result<Option<Task<'a>>, &'static str> {
+    let limits = limits_of(matches)?;
+    let (Some(interface), Some(file)) = (matches.get_str("interface"), matches.get_str("FILE"))
+    else {
+        return Ok(None);
+    };
+    Ok(Some(Task::Check(CheckWords {
+        interface,
+        file,
+        limits,
+    })))
 }
 
 fn converted<'a>(matches: &ArgMatches<'a>, kind: Option<ConvertKind<'a>>) -> Option<Task<'a>> {
@@ -252,6 +285,7 @@ fn dump<'a>(alloc: Global) -> Result<Command<'a>, AllocError> {
     Command::new(alloc, "dump")
         .about("Shows each message of a file")
         .after_help(DUMP_HELP)
+        .arg(message_limit(alloc))?
         .arg(file)
 }
 
@@ -264,11 +298,11 @@ fn check<'a>(alloc: Global) -> Result<Command<'a>, AllocError> {
     let file = Arg::new(alloc, "FILE").required(true).help(
         "A file of what a client sent, or - for the standard input",
     );
-    Command::new(alloc, "check")
+    let command = Command::new(alloc, "check")
         .about("Shows what becomes of the calls of a file")
         .after_help(CHECK_HELP)
-        .arg(interface)?
-        .arg(file)
+        .arg(interface)?;
+    limited(alloc, command)?.arg(file)
 }
 
 fn convert<'a>(alloc: Global) -> Result<Command<'a>, AllocError> {

@@ -3,6 +3,7 @@
 mod answering;
 mod bodies;
 mod call;
+mod calling;
 mod check;
 mod check_text;
 mod client_table;
@@ -23,13 +24,14 @@ mod target;
 
 pub use answering::{Answer, Due, due_to};
 pub use call::{call_over, call_session};
+pub use calling::Calling;
 pub use check::{check_octets, check_stream};
 pub use check_text::check_text;
 pub use convert::refuse;
 pub use convert_reference::{convert_corbaloc, convert_ior};
 pub use convert_value::form_refusal;
 pub use described::{Way, convert_value};
-pub use dump::{BehindFault, dump_octets, dump_stream};
+pub use dump::{BehindFault, MESSAGE_LIMIT, dump_octets, dump_stream};
 pub use serve::{serve_over, serve_session};
 pub use serving::Serving;
 pub use table::{Tabled, write_table};

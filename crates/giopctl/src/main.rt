@@ -12,6 +12,7 @@ mod converting;
 mod failure;
 mod files;
 mod json;
+mod limit_words;
 mod lines;
 mod pieces;
 mod report;
@@ -41,8 +42,8 @@ fn run(rt: &HostRuntime) -> Status {
         Err(error) => return report::arguments(rt, &error),
     };
     match cli::task_of(rt.alloc(), words.as_slice()) {
-        Ok(Some(Task::Dump { file })) => report::answer(rt, file, dump(rt, file)),
-        Ok(Some(Task::Check { interface, file })) => checking::check(rt, interface, file),
+        Ok(Some(Task::Dump { file, limit })) => report::answer(rt, file, dump(rt, file, limit)),
+        Ok(Some(Task::Check(words))) => checking::check(rt, words),
         Ok(Some(Task::Convert { file, kind })) => converting::convert(rt, file, kind),
         Ok(Some(Task::Call(words))) => calling::call(rt, words),
         Ok(Some(Task::Serve(words))) => serving::serve(rt, words),
@@ -56,21 +57,22 @@ fn words(rt: &HostRuntime) -> io::Result<Vec<String>> {
     Ok(env::args(rt)?.collect(rt.alloc())?)
 }
 
-fn dump(rt: &HostRuntime, file: &str) -> Result<Status, Failure> {
+fn dump(rt: &HostRuntime, file: &str, limit: u32) -> Result<Status, Failure> {
     if file == "-" {
-        return dump_from(rt, &mut rt.reader(), BehindFault::Leave);
+        return dump_from(rt, limit, &mut rt.reader(), BehindFault::Leave);
     }
     let (mut file, behind) = files::opened(rt, file)?;
-    dump_from(rt, &mut file, behind)
+    dump_from(rt, limit, &mut file, behind)
 }
 
 fn dump_from<R: Read>(
     rt: &HostRuntime,
+    limit: u32,
     reader: &mut R,
     behind: BehindFault,
 ) -> Result<Status, Failure> {
     let mut writer = BufWriter::with_capacity(rt.alloc(), OUTPUT_BUFFER, io::writer(rt))?;
-    let status = commands::dump_stream(rt.alloc(), reader, &mut writer, behind)?;
+    let status = commands::dump_stream(rt.alloc(), limit, reader, &mut writer, behind)?;
     writer.flush()?;
     Ok(status)
 }

@@ -42,6 +42,7 @@ fn served(rt: &HostRuntime, words: ServeWords) -> Result<Status, Status> {
         answers: &answers,
         key: key.as_slice(),
         form: words.form,
+        limits: words.limits,
     };
     let listener = listening(rt, words.port)?;
     Ok(serve_each(rt, &listener, words.connections, &serving))
@@ -106,10 +107,7 @@ fn serve_stream(
     let status = serve_over(
         rt.alloc(),
         number,
-        serving.interface,
-        serving.answers,
-        serving.key,
-        serving.form,
+        *serving,
         &mut reader,
         &mut writer,
         &mut out,

@@ -1,11 +1,13 @@
 //! The words of `call` and `serve`.
 ghost use Rattle.std.specs.Prelude.{IfOk};
 ghost use Rattle.giop_session.specs.Form.{IsForm};
+ghost use Rattle.giopctl.specs.Check.{AreLimits};
 
+use crate::limit_words::{limited, limits_of};
 use clap::builder::ValueParser;
 use clap::{Arg, ArgAction, ArgMatches, Command};
 use giop_cdr::Order;
-use giop_session::Form;
+use giop_session::{Form, Limits};
 use std::alloc::{AllocError, Global};
 
 /// What `call` is asked for.
@@ -19,7 +21,10 @@ pub struct CallWords<'a> {
     pub file: &'a str,
     /// How Requests are sent.
     pub form: Form,
+    /// What the end holds at most.
+    pub limits: Limits,
     pub ghost sent: { IsForm form },
+    pub ghost bounded: { AreLimits limits },
 }
 
 /// What `serve` is asked for.
@@ -37,7 +42,10 @@ pub struct ServeWords<'a> {
     pub connections: u32,
     /// How Replies are sent.
     pub form: Form,
+    /// What the end of each connection holds at most.
+    pub limits: Limits,
     pub ghost sent: { IsForm form },
+    pub ghost bounded: { AreLimits limits },
 }
 
 const CALL_HELP: &str = "\
@@ -158,7 +166,7 @@ fn number<'a>(alloc: Global, name: &'a str, help: &'a str) -> Arg<'a> {
     Arg::new(alloc, name).long(name).value_name("N").help(help)
 }
 
-// A command with how messages are sent.
+// A command with how messages are sent, and the limits.
 fn sent<'a>(alloc: Global, command: Command<'a>) -> Result<Command<'a>, AllocError> {
     let piece = number(
         alloc,
@@ -171,12 +179,13 @@ fn sent<'a>(alloc: Global, command: Command<'a>) -> Result<Command<'a>, AllocErr
         .long("little")
         .action(ArgAction::SetTrue)
         .help("Messages are sent little-endian, not big-endian");
-    command.arg(piece)?.arg(little)
+    limited(alloc, command.arg(piece)?.arg(little)?)
 }
 
 /// What `call` is asked for, or what is wrong with a word.
 pub fn call_words<'a>(matches: &ArgMatches<'a>) -> Result<CallWords<'a>, &'static str> {
     let form = form_of(matches)?;
+    let limits = limits_of(matches)?;
     let (Some(target), Some(interface), Some(file)) = (
         matches.get_str("target"),
         matches.get_str("interface"),
@@ -189,12 +198,14 @@ pub fn call_words<'a>(matches: &ArgMatches<'a>) -> Result<CallWords<'a>, &'stati
         interface,
         file,
         form,
+        limits,
     })
 }
 
 /// What `serve` is asked for, or what is wrong with a word.
 pub fn serve_words<'a>(matches: &ArgMatches<'a>) -> Result<ServeWords<'a>, &'static str> {
     let form = form_of(matches)?;
+    let limits = limits_of(matches)?;
     let Some(port) = port_of(matches) else {
         return Err("--port is a number from 1 to 65535, in decimal digits");
     };
@@ -218,6 +229,7 @@ pub fn serve_words<'a>(matches: &ArgMatches<'a>) -> Result<ServeWords<'a>, &'sta
         key,
         connections,
         form,
+        limits,
     })
 }
 

@@ -2,12 +2,10 @@
 
 mod calling;
 mod check;
-mod convert;
 mod dump;
 mod failing;
 mod octets;
 mod reading;
-mod recorded;
 mod serving;
 mod session_files;
 mod session_words;

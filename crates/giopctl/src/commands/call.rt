@@ -7,13 +7,15 @@ ghost use Rattle.giop_session.specs.Form.{IsForm};
 ghost use Rattle.giop_session.specs.Sending.{entry_of};
 ghost use Rattle.giop_session.specs.Pumping.{between};
 ghost use Rattle.giopctl.specs.Acts.{outbox};
-ghost use Rattle.giopctl.specs.Calling.{CallsAll, CallsOne, Converses, Talks, are_over, client_hears, is_over, request_of};
+ghost use Rattle.giopctl.specs.Calling.{CallsAll, CallsOne, Converses, Talks, are_over, asked_of, client_hears, is_over, request_of};
+ghost use Rattle.giopctl.specs.Check.{default_limits};
 ghost use Rattle.giopctl.specs.Sessions.{Calls, IsCalled, all_well, call_status, is_well, session_text, told, wire};
 ghost use Rattle.giopctl.specs.Steps.{Upto};
 ghost use Rattle.giopctl.specs.Table.{client_entry_line};
 ghost use Rattle.giopctl.specs.Turns.{Waits};
 
 use crate::calls::CallLine;
+use crate::commands::calling::Calling;
 use crate::commands::sending::send_all;
 use crate::commands::session::{TURNS, goes_on, told, told_of, write_all_out, write_session};
 use crate::failure::Failure;
@@ -57,47 +59,44 @@ pub fn call_session<R: Read, W: Write, O: Write>(
       key = key.now;
       version = version;
       form = form;
+      limits = default_limits;
     })
         (wire (R.remaining reader.old) (W.contents writer.old))
         (wire (R.remaining reader.new) (W.contents writer.new))
         (O.contents out.old) (O.contents out.new) result }
 {
-    match call_over(
-        alloc, interface, calls, key, version, form, reader, writer, out,
-    ) {
+    let calling = Calling {
+        interface,
+        key,
+        version,
+        form,
+        limits: Limits::default(),
+    };
+    match call_over(alloc, calling, calls, reader, writer, out) {
         Ok(status) => status,
         Err(failure) => failure.status(),
     }
 }
 
-/// The same, with what failed where something did.
+/// The same by an end with limits of its own, with what failed where something did.
 pub fn call_over<R: Read, W: Write, O: Write>(
     alloc: Global,
-    interface: &Interface,
+    calling: Calling<'_>,
     calls: Vec<CallLine>,
-    key: &[u8],
-    version: Version,
-    form: Form,
     reader: &mut R,
     writer: &mut W,
     out: &mut O,
 ) -> Result<Status, Failure>
-    requires { IsForm form }
-    ensures { IfOk result (IsCalled (record {
-      interface = interface.now;
-      calls = calls.items;
-      key = key.now;
-      version = version;
-      form = form;
-    })
+    ensures { IfOk result (IsCalled (asked_of calling.entry calls.items)
         (wire (R.remaining reader.old) (W.contents writer.old))
         (wire (R.remaining reader.new) (W.contents writer.new))
         (O.contents out.old) (O.contents out.new)) }
 {
-    let mut end = ClientEnd::new(alloc, interface, Limits::default());
+    let mut end = ClientEnd::new(alloc, calling.interface, calling.limits);
+    let (key, version, form) = (calling.key, calling.version, calling.form);
     let refused = call_all(alloc, &mut end, calls, key, version, form)?;
     talk(alloc, &mut end, refused, reader, writer)?;
-    tell(alloc, interface, &end, refused, out)
+    tell(alloc, calling.interface, &end, refused, out)
 }
 
 // Writes what is told of the calls.
@@ -135,8 +134,9 @@ fn call_all(
       key = key.now;
       version = version;
       form = form;
+      limits = end.old.limits;
     })
-        end.old.limits end.old.fault (outbox end.old.calls end.old.outgoing) refused
+        end.old.fault (outbox end.old.calls end.old.outgoing) refused
         (outbox end.new.calls end.new.outgoing)) }
     ensures others { end.new ≡ record end.old {
       calls = end.new.calls;
@@ -165,8 +165,9 @@ fn call_each(
       key = key.now;
       version = version;
       form = form;
+      limits = end.old.limits;
     })
-        end.old.limits end.old.fault) calls.items (outbox end.old.calls end.old.outgoing) refused
+        end.old.fault) calls.items (outbox end.old.calls end.old.outgoing) refused
         (outbox end.new.calls end.new.outgoing)) }
     ensures others { end.new ≡ record end.old {
       calls = end.new.calls;
@@ -197,8 +198,9 @@ fn call_one(
       key = key.now;
       version = version;
       form = form;
+      limits = end.old.limits;
     })
-        end.old.limits end.old.fault call (outbox end.old.calls end.old.outgoing) refused
+        end.old.fault call (outbox end.old.calls end.old.outgoing) refused
         (outbox end.new.calls end.new.outgoing)) }
     ensures others { end.new ≡ record end.old {
       calls = end.new.calls;

@@ -3,7 +3,7 @@ ghost use Rattle.std.specs.Prelude.{◌≡◌, ◌≢◌, [], IfOk, OnOk, Some, 
 ghost use Rattle.std.specs.Io.KnownBytes.{Appends, IsAtEnd};
 ghost use Rattle.giop_session.specs.declared.session_fault.SessionFault.TheVariants.{NoMemory};
 ghost use Rattle.giop_session.specs.Heard.{hears_by};
-ghost use Rattle.giopctl.specs.Check.{Checks, ChecksKnown, HeardKnown, fault_status, last_status};
+ghost use Rattle.giopctl.specs.Check.{AreLimits, Checks, ChecksKnown, HeardKnown, default_limits, fault_status, last_status};
 ghost use Rattle.giopctl.specs.Dump.{ended};
 ghost use Rattle.giopctl.specs.SessionLines.{last_line, session_fault_line};
 
@@ -33,30 +33,39 @@ pub fn check_octets<W: Write>(
     octets: &[u8],
     writer: &mut W,
 ) -> Status
-    ensures { Checks interface.now octets.now (W.contents writer.old) (W.contents writer.new)
+    ensures { Checks interface.now default_limits octets.now (W.contents writer.old) (W.contents writer.new)
         result }
 {
     let mut left = octets;
-    match check_stream(alloc, interface, &mut left, writer, BehindFault::Read) {
+    match check_stream(
+        alloc,
+        interface,
+        Limits::default(),
+        &mut left,
+        writer,
+        BehindFault::Read,
+    ) {
         Ok(status) => status,
         Err(failure) => failure.status(),
     }
 }
 
-/// The same for the octets that a reader gives, with what failed where something did. No more of
-/// them is held than a message, a piece, and the calls. Nothing is written before all is heard.
+/// The same for the octets that a reader gives, by an end with these limits; with what failed where
+/// something did. No more octets are held than a message, a piece, and the calls. Nothing is written before all is heard.
 pub fn check_stream<R: Read, W: Write>(
     alloc: Global,
     interface: &Interface,
+    limits: Limits,
     reader: &mut R,
     writer: &mut W,
     behind: BehindFault,
 ) -> Result<Status, Failure>
-    ensures text { IfOk result (ChecksKnown interface.now (R.remaining reader.old)
+    requires { AreLimits limits }
+    ensures text { IfOk result (ChecksKnown interface.now limits (R.remaining reader.old)
         (W.contents writer.old) (W.contents writer.new)) }
     ensures end { OnOk result (behind ≡ BehindFault.Read → IsAtEnd (R.remaining reader.new)) }
 {
-    let mut end = ServerEnd::new(alloc, interface, Limits::default());
+    let mut end = ServerEnd::new(alloc, interface, limits);
     hear(alloc, &mut end, reader, behind)?;
     write_table(alloc, interface, &end, writer)?;
     write_last(&end, writer)

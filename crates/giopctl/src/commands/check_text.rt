@@ -1,7 +1,7 @@
 //! `check` by the text of an interface.
 ghost use Rattle.std.specs.Prelude.{◌≡◌, IfOk, OnOk};
 ghost use Rattle.std.specs.Io.KnownBytes.{IsAtEnd};
-ghost use Rattle.giopctl.specs.Check.{ChecksText};
+ghost use Rattle.giopctl.specs.Check.{AreLimits, ChecksText};
 
 use crate::commands::check::check_stream;
 use crate::commands::convert::refuse;
@@ -10,6 +10,7 @@ use crate::commands::dump::BehindFault;
 use crate::failure::Failure;
 use crate::pieces::{PieceBuffer, drain};
 use crate::status::Status;
+use giop_session::Limits;
 use giop_types::Interface;
 use std::alloc::Global;
 use std::io::{Read, Write};
@@ -20,16 +21,18 @@ use std::io::{Read, Write};
 pub fn check_text<R: Read, W: Write>(
     alloc: Global,
     interface: &[u8],
+    limits: Limits,
     reader: &mut R,
     writer: &mut W,
     behind: BehindFault,
 ) -> Result<Status, Failure>
-    ensures text { IfOk result (ChecksText interface.now (R.remaining reader.old)
+    requires { AreLimits limits }
+    ensures text { IfOk result (ChecksText interface.now limits (R.remaining reader.old)
         (W.contents writer.old) (W.contents writer.new)) }
     ensures end { OnOk result (behind ≡ BehindFault.Read → IsAtEnd (R.remaining reader.new)) }
 {
     match Interface::from_json(alloc, interface) {
-        Ok(interface) => check_stream(alloc, &interface, reader, writer, behind),
+        Ok(interface) => check_stream(alloc, &interface, limits, reader, writer, behind),
         Err(fault) => {
             let line = form_refusal(fault)?;
             read_on(alloc, reader, behind)?;

@@ -11,7 +11,7 @@ use std::alloc::Global;
 use std::io;
 use std::io::{ErrorKind, Read, Write};
 
-/// The greatest message size that the program takes, the header not counted.
+/// The greatest message size that is taken where none is given, the header not counted.
 pub const MESSAGE_LIMIT: u32 = 1_048_576;
 
 /// What becomes of the input behind a fault in a header, of which nothing is shown.
@@ -34,29 +34,30 @@ pub fn dump_octets<W: Write>(alloc: Global, octets: &[u8], writer: &mut W) -> St
         (W.contents writer.new) result }
 {
     let mut left = octets;
-    match dump_stream(alloc, &mut left, writer, BehindFault::Read) {
+    match dump_stream(alloc, MESSAGE_LIMIT, &mut left, writer, BehindFault::Read) {
         Ok(status) => status,
         Err(failure) => failure.status(),
     }
 }
 
-/// The same for the octets that a reader gives, with what failed where something did. No more of
-/// them is held than a message and a piece.
+/// The same for the octets that a reader gives, and messages of up to this size, the header not
+/// counted; with what failed where something did. No more octets are held than a message and a piece.
 ///
 /// The writer is flushed before each read, so that a message is shown as soon as it is whole. What
 /// is written last, the rest or the fault, is left to the caller to flush.
 pub fn dump_stream<R: Read, W: Write>(
     alloc: Global,
+    limit: u32,
     reader: &mut R,
     writer: &mut W,
     behind: BehindFault,
 ) -> Result<Status, Failure>
-    ensures text { IfOk result (DumpsKnown MESSAGE_LIMIT (R.remaining reader.old)
+    ensures text { IfOk result (DumpsKnown limit (R.remaining reader.old)
         (W.contents writer.old) (W.contents writer.new)) }
     ensures end { OnOk result (behind ≡ BehindFault.Read → IsAtEnd (R.remaining reader.new)) }
     ensures done { IfOk result (λ status. status ≡ Status.Done → IsAtEnd (R.remaining reader.new)) }
 {
-    let mut framer = Framer::new(alloc, MESSAGE_LIMIT);
+    let mut framer = Framer::new(alloc, limit);
     let mut buffer = PieceBuffer::new(alloc)?;
     let mut at = 0usize;
     'messages: for _ in 0..u64::MAX {

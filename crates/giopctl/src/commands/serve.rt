@@ -5,6 +5,7 @@ ghost use Rattle.serde_json.specs.View.{view};
 ghost use Rattle.giop_session.specs.Form.{IsForm};
 ghost use Rattle.giop_session.specs.Pumping.{between};
 ghost use Rattle.giopctl.specs.Acts.{outbox};
+ghost use Rattle.giopctl.specs.Check.{default_limits};
 ghost use Rattle.giopctl.specs.Dump.{ended};
 ghost use Rattle.giopctl.specs.Serving.{AnswersAll, AnswersOne, Converses, served_of};
 ghost use Rattle.giopctl.specs.Sessions.{IsServed, Serves, connection_line, serve_status, session_text, wire};
@@ -53,49 +54,41 @@ pub fn serve_session<R: Read, W: Write, O: Write>(
       answers = view answers.now.json;
       key = key.now;
       form = form;
+      limits = default_limits;
     })
         (wire (R.remaining reader.old) (W.contents writer.old))
         (wire (R.remaining reader.new) (W.contents writer.new))
         (O.contents out.old) (O.contents out.new) result }
 {
-    match serve_over(
-        alloc, number, interface, answers, key, form, reader, writer, out,
-    ) {
-        Ok(status) => status,
-        Err(failure) => failure.status(),
-    }
-}
-
-/// The same, with what failed where something did.
-pub fn serve_over<R: Read, W: Write, O: Write>(
-    alloc: Global,
-    number: u32,
-    interface: &Interface,
-    answers: &Answers,
-    key: &[u8],
-    form: Form,
-    reader: &mut R,
-    writer: &mut W,
-    out: &mut O,
-) -> Result<Status, Failure>
-    requires { IsForm form }
-    ensures { IfOk result (IsServed number (record {
-      interface = interface.now;
-      answers = view answers.now.json;
-      key = key.now;
-      form = form;
-    })
-        (wire (R.remaining reader.old) (W.contents writer.old))
-        (wire (R.remaining reader.new) (W.contents writer.new))
-        (O.contents out.old) (O.contents out.new)) }
-{
-    let mut end = ServerEnd::new(alloc, interface, Limits::default());
     let serving = Serving {
         interface,
         answers,
         key,
         form,
+        limits: Limits::default(),
     };
+    match serve_over(alloc, number, serving, reader, writer, out) {
+        Ok(status) => status,
+        Err(failure) => failure.status(),
+    }
+}
+
+/// The same by an end with limits of its own, with what failed where something did.
+pub fn serve_over<R: Read, W: Write, O: Write>(
+    alloc: Global,
+    number: u32,
+    serving: Serving<'_>,
+    reader: &mut R,
+    writer: &mut W,
+    out: &mut O,
+) -> Result<Status, Failure>
+    ensures { IfOk result (IsServed number (served_of serving.entry)
+        (wire (R.remaining reader.old) (W.contents writer.old))
+        (wire (R.remaining reader.new) (W.contents writer.new))
+        (O.contents out.old) (O.contents out.new)) }
+{
+    let interface = serving.interface;
+    let mut end = ServerEnd::new(alloc, interface, serving.limits);
     let refused = converse(alloc, &mut end, serving, reader, writer)?;
     let fault = told(refused, end.fault());
     tell(alloc, number, interface, &end, fault, out)

@@ -1,7 +1,8 @@
 ghost use Rattle.giop_session.specs.Form.{IsForm};
+ghost use Rattle.giopctl.specs.Check.{AreLimits};
 
 use crate::answers::Answers;
-use giop_session::Form;
+use giop_session::{Form, Limits};
 use giop_types::Interface;
 
 /// What is served.
@@ -15,5 +16,8 @@ pub struct Serving<'a> {
     pub key: &'a [u8],
     /// The form of what is sent.
     pub form: Form,
+    /// What the end holds at most.
+    pub limits: Limits,
     ghost sent: { IsForm form },
+    ghost bounded: { AreLimits limits },
 }

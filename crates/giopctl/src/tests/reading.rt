@@ -1,4 +1,4 @@
-use crate::commands::{BehindFault, dump_stream};
+use crate::commands::{BehindFault, MESSAGE_LIMIT, dump_stream};
 use crate::failure::Failure;
 use crate::status::Status;
 use std::io;
@@ -62,7 +62,13 @@ fn the_pieces_that_come_do_not_matter(rt: HostRuntime) -> Result<(), Fail> {
     for piece in 1..octets.len() + 1 {
         let mut written: Vec<u8> = Vec::new(rt.alloc());
         let mut reader = Halting::new(octets.as_slice(), piece, usize::MAX);
-        let answered = dump_stream(rt.alloc(), &mut reader, &mut written, BehindFault::Read);
+        let answered = dump_stream(
+            rt.alloc(),
+            MESSAGE_LIMIT,
+            &mut reader,
+            &mut written,
+            BehindFault::Read,
+        );
         assert!(rt; matches!(answered, Ok(Status::Done)), "{piece}");
         let mut wanted: Vec<u8> = Vec::new(rt.alloc());
         for text in [REQUEST, CLOSE, "rest 0\n"] {
@@ -88,7 +94,13 @@ fn a_read_that_fails_leaves_the_lines_before_it(rt: HostRuntime) -> Result<(), F
     for reads in 0..octets.len() + 1 {
         let mut written: Vec<u8> = Vec::new(rt.alloc());
         let mut reader = Halting::new(octets.as_slice(), 1, reads);
-        let answered = dump_stream(rt.alloc(), &mut reader, &mut written, BehindFault::Read);
+        let answered = dump_stream(
+            rt.alloc(),
+            MESSAGE_LIMIT,
+            &mut reader,
+            &mut written,
+            BehindFault::Read,
+        );
         assert!(rt; is_input_failure(&answered), "{reads}");
         let mut wanted: Vec<u8> = Vec::new(rt.alloc());
         for text in lines_before(reads) {
@@ -106,7 +118,13 @@ fn a_read_that_fails_behind_a_fault_is_told(rt: HostRuntime) -> Result<(), Fail>
     for reads in 12..octets.len() + 1 {
         let mut written: Vec<u8> = Vec::new(rt.alloc());
         let mut reader = Halting::new(octets.as_slice(), 1, reads);
-        let answered = dump_stream(rt.alloc(), &mut reader, &mut written, BehindFault::Read);
+        let answered = dump_stream(
+            rt.alloc(),
+            MESSAGE_LIMIT,
+            &mut reader,
+            &mut written,
+            BehindFault::Read,
+        );
         assert!(rt; is_input_failure(&answered), "{reads}");
         assert!(rt; written.is_empty(), "{reads}");
     }
@@ -127,7 +145,13 @@ impl Read for Zeros {
 #[test]
 fn a_fault_ends_an_input_that_never_ends(rt: HostRuntime) -> Result<(), Fail> {
     let mut written: Vec<u8> = Vec::new(rt.alloc());
-    let answered = dump_stream(rt.alloc(), &mut Zeros, &mut written, BehindFault::Leave);
+    let answered = dump_stream(
+        rt.alloc(),
+        MESSAGE_LIMIT,
+        &mut Zeros,
+        &mut written,
+        BehindFault::Leave,
+    );
     assert!(rt; matches!(answered, Ok(Status::Refused)));
     assert_eq!(rt; written.as_slice(), "0 fault 1 BadMagic at 0\n".as_bytes());
     Ok(())
@@ -162,7 +186,13 @@ fn what_is_whole_is_shown_before_a_read(rt: HostRuntime) -> Result<(), Fail> {
             taken: 0,
             flushed: 0,
         };
-        let answered = dump_stream(rt.alloc(), &mut reader, &mut writer, BehindFault::Leave);
+        let answered = dump_stream(
+            rt.alloc(),
+            MESSAGE_LIMIT,
+            &mut reader,
+            &mut writer,
+            BehindFault::Leave,
+        );
         assert!(rt; is_input_failure(&answered), "{reads}");
         let lines: usize = lines_before(reads).iter().map(|line| line.len()).sum();
         assert_eq!(rt; (writer.taken, writer.flushed), (lines, lines), "{reads}");

@@ -1,3 +1,5 @@
+//! Calls and answers that are read. Those that are refused are cases of the built program
+//! (tests/cases/calls, answers).
 use crate::answers::{AnswerGiven, answers_from_json};
 use crate::calls::calls_from_json;
 use giop_types::Interface;
@@ -28,8 +30,8 @@ fn calls_in(alloc: Global, interface: &Interface, text: &str) -> Result<usize, u
 }
 
 #[test]
-fn calls_are_read_or_refused_by_their_first_fault(rt: HostRuntime) -> Result<(), Fail> {
-    let rows: [(&str, Result<usize, u8>); 24] = [
+fn calls_are_read(rt: HostRuntime) -> Result<(), Fail> {
+    let rows: [(&str, Result<usize, u8>); 4] = [
         ("[]", Ok(0)),
         ("[{\"id\":1,\"operation\":\"add\",\"ins\":[2,5]}]", Ok(1)),
         (
@@ -40,43 +42,6 @@ fn calls_are_read_or_refused_by_their_first_fault(rt: HostRuntime) -> Result<(),
             "[{\"id\":1,\"operation\":\"ping\",\"ins\":[]},\
             {\"id\":1,\"operation\":\"tell\",\"ins\":[\"x\"]}]",
             Ok(2),
-        ),
-        ("", Err(1)),
-        ("[{\"id\":1,\"operation\":\"ping\",\"ins\":[]}", Err(1)),
-        ("{}", Err(2)),
-        ("[1]", Err(2)),
-        ("[{}]", Err(2)),
-        ("[{\"id\":1,\"operation\":\"ping\"}]", Err(2)),
-        ("[{\"id\":1,\"ins\":[]}]", Err(2)),
-        ("[{\"operation\":\"ping\",\"ins\":[]}]", Err(2)),
-        (
-            "[{\"id\":1,\"operation\":\"ping\",\"ins\":[],\"flags\":3}]",
-            Err(2),
-        ),
-        ("[{\"id\":\"1\",\"operation\":\"ping\",\"ins\":[]}]", Err(2)),
-        ("[{\"id\":1.0,\"operation\":\"ping\",\"ins\":[]}]", Err(2)),
-        ("[{\"id\":1,\"operation\":1,\"ins\":[]}]", Err(2)),
-        ("[{\"id\":1,\"operation\":\"pong\",\"ins\":[]}]", Err(2)),
-        ("[{\"id\":1,\"operation\":\"ping\",\"ins\":{}}]", Err(2)),
-        (
-            "[{\"id\":1,\"operation\":\"add\",\"ins\":[2,\"5\"]}]",
-            Err(2),
-        ),
-        (
-            "[{\"id\":1,\"operation\":\"add\",\"ins\":[2,2147483648]}]",
-            Err(4),
-        ),
-        ("[{\"id\":1,\"operation\":\"add\",\"ins\":[2]}]", Err(4)),
-        ("[{\"id\":1,\"operation\":\"ping\",\"ins\":[2]}]", Err(4)),
-        (
-            "[{\"id\":4294967296,\"operation\":\"ping\",\"ins\":[]}]",
-            Err(4),
-        ),
-        // What doesn't fit stands first, and what has another form is told.
-        (
-            "[{\"id\":-1,\"operation\":\"add\",\"ins\":[2]},\
-            {\"id\":2,\"operation\":\"add\",\"ins\":[2,null]}]",
-            Err(2),
         ),
     ];
     let interface = interface(rt.alloc())?;
@@ -114,8 +79,8 @@ fn answers_in(alloc: Global, interface: &Interface, text: &str) -> u8 {
 }
 
 #[test]
-fn answers_are_read_or_refused_by_their_first_fault(rt: HostRuntime) -> Result<(), Fail> {
-    let rows: [(&str, u8); 17] = [
+fn answers_are_read(rt: HostRuntime) -> Result<(), Fail> {
+    let rows: [(&str, u8); 2] = [
         (
             "{\"ping\":{\"ok\":[]},\"add\":{\"ok\":[7]},\"list\":{\"ok\":[]}}",
             0,
@@ -124,58 +89,6 @@ fn answers_are_read_or_refused_by_their_first_fault(rt: HostRuntime) -> Result<(
             "{\"ping\":{\"ok\":[]},\"add\":{\"user\":\"IDL:Demo/Bad:1.0\",\"members\":[3]},\
             \"list\":{\"ok\":[]}}",
             0,
-        ),
-        ("{", 1),
-        ("[]", 2),
-        // One is missing; one is oneway; one isn't in the interface.
-        ("{\"ping\":{\"ok\":[]},\"add\":{\"ok\":[7]}}", 2),
-        (
-            "{\"ping\":{\"ok\":[]},\"add\":{\"ok\":[7]},\"list\":{\"ok\":[]},\"tell\":{\"ok\":[]}}",
-            2,
-        ),
-        (
-            "{\"ping\":{\"ok\":[]},\"add\":{\"ok\":[7]},\"list\":{\"ok\":[]},\"pong\":{\"ok\":[]}}",
-            2,
-        ),
-        ("{\"ping\":{},\"add\":{\"ok\":[7]},\"list\":{\"ok\":[]}}", 2),
-        (
-            "{\"ping\":{\"ok\":[],\"user\":\"\"},\"add\":{\"ok\":[7]},\"list\":{\"ok\":[]}}",
-            2,
-        ),
-        (
-            "{\"ping\":{\"ok\":1},\"add\":{\"ok\":[7]},\"list\":{\"ok\":[]}}",
-            2,
-        ),
-        (
-            "{\"ping\":{\"ok\":[]},\"add\":{\"ok\":[\"7\"]},\"list\":{\"ok\":[]}}",
-            2,
-        ),
-        (
-            "{\"ping\":{\"user\":\"IDL:Demo/Bad:1.0\"},\"add\":{\"ok\":[7]},\"list\":{\"ok\":[]}}",
-            2,
-        ),
-        (
-            "{\"ping\":{\"user\":\"IDL:Demo/No:1.0\",\"members\":[]},\"add\":{\"ok\":[7]},\
-            \"list\":{\"ok\":[]}}",
-            2,
-        ),
-        (
-            "{\"ping\":{\"ok\":[]},\"add\":{\"ok\":[2147483648]},\"list\":{\"ok\":[]}}",
-            4,
-        ),
-        (
-            "{\"ping\":{\"ok\":[1]},\"add\":{\"ok\":[7]},\"list\":{\"ok\":[]}}",
-            4,
-        ),
-        (
-            "{\"ping\":{\"user\":\"IDL:Demo/Bad:1.0\",\"members\":[]},\"add\":{\"ok\":[7]},\
-            \"list\":{\"ok\":[]}}",
-            4,
-        ),
-        // What doesn't fit stands first, and what has another form is told.
-        (
-            "{\"add\":{\"ok\":[]},\"list\":{\"ok\":[]},\"ping\":{\"no\":[]}}",
-            2,
         ),
     ];
     let interface = interface(rt.alloc())?;

@@ -7,10 +7,10 @@ use Rattle.giopctl.proofs.commands.call.call_each.Given as goal
 
 abbrev pub invariant-calls : goal.invariant-calls
 invariant-calls l =
-    let asked : Asked = record { interface = l.fn.end.interface.now; calls = l.fn.calls.items; key = l.key; version = l.version; form = l.form } in
+    let asked : Asked = record { interface = l.fn.end.interface.now; calls = l.fn.calls.items; key = l.key; version = l.version; form = l.form; limits = l.fn.end.limits } in
     record {
       called :
-          Before (λ call s t. CallsOne asked l.fn.end.limits l.fn.end.fault call s None t) l.fn.calls.items (into_iter_items l.call-iterator)
+          Before (λ call s t. CallsOne asked l.fn.end.fault call s None t) l.fn.calls.items (into_iter_items l.call-iterator)
           (outbox l.fn.end.calls l.fn.end.outgoing) (outbox l.end.calls l.end.outgoing);
       left : into_iter_len l.call-iterator ≡ length (into_iter_items l.call-iterator);
       others : l.end ≡ record l.fn.end { calls = l.end.calls; outgoing = l.end.outgoing };

@@ -3,5 +3,5 @@ use Rattle.giopctl.proofs.commands.check.check_stream.Goals as goal
 
 pub returns-clause-text : goal.returns-clause-text
 returns-clause-text g c =
-    let heard = rw (c.new-end.ensures.interface, c.new-end.ensures.unread, c.new-end.ensures.calls, c.default.ensures) at c.in_ok-hear.ensures.heard in
-    checked c.args.interface.now _ _ _ _ _ _ _ c.write_last.result heard c.in_ok-write_table.ensures c.write_last.ensures.text c.write_last.ensures.ok
+    let heard = rw (c.new-end.ensures.interface, c.new-end.ensures.unread, c.new-end.ensures.calls) at c.in_ok-hear.ensures.heard in
+    checked c.args.interface.now c.args.limits _ _ _ _ _ _ _ c.write_last.result heard c.in_ok-write_table.ensures c.write_last.ensures.text c.write_last.ensures.ok

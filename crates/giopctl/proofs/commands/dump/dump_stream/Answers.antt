@@ -7,7 +7,7 @@ use Rattle.giopctl.proofs.commands.dump.dump_stream.Goals as goal
 
 pub messages-init : goal.messages-init
 messages-init g c = record {
-  shown = rw c.new-framer.ensures (of_none 1048576 (g.R.Read.remaining c.args.reader.now) (g.W.Write.contents c.args.writer.now));
+  shown = rw c.new-framer.ensures (of_none c.args.limit (g.R.Read.remaining c.args.reader.now) (g.W.Write.contents c.args.writer.now));
   limit = ap (λ (u : Unread). u.limit) c.new-framer.ensures;
 }
 

@@ -5,7 +5,7 @@ use Rattle.giopctl.proofs.commands.dump.dump_stream.Given as goal
 abbrev pub invariant-messages : goal.invariant-messages
 invariant-messages g l = record {
   shown :
-      ShownOf 1048576 (g.R.Read.remaining l.fn.reader) (g.R.Read.remaining l.reader) (g.W.Write.contents l.fn.writer) (g.W.Write.contents l.writer)
+      ShownOf l.fn.limit (g.R.Read.remaining l.fn.reader) (g.R.Read.remaining l.reader) (g.W.Write.contents l.fn.writer) (g.W.Write.contents l.writer)
       l.framer.octets l.at;
-  limit : l.framer.limit ≡ 1048576;
+  limit : l.framer.limit ≡ l.fn.limit;
 }

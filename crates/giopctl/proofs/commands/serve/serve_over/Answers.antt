@@ -1,12 +1,11 @@
-use Rattle.serde_json.specs.View.{view}
 use Rattle.giop_session.specs.Pumping.{between}
-use Rattle.giopctl.specs.Serving.{Served}
+use Rattle.giopctl.specs.Serving.{Served, served_of}
 use Rattle.giopctl.proofs.SessionsLemmas.{served}
 use Rattle.giopctl.proofs.commands.serve.serve_over.Goals as goal
 
 pub returns : goal.returns
 returns g c =
-    let it : Served = record { interface = c.args.interface.now; answers = view c.args.answers.now.json; key = c.args.key.now; form = c.args.form } in
+    let it : Served = served_of c.args.serving in
     served c.args.number it _ _ _ _ c.in_ok-refused.refused c.converse.new.end.outgoing c.converse.new.end.framer c.converse.new.end.calls
     c.converse.new.end.fault c.tell.result
     (rw (
@@ -15,7 +14,6 @@ returns g c =
       c.new-end.ensures.calls,
       c.new-end.ensures.outgoing,
       c.new-end.ensures.unread,
-      c.default.ensures,
     )
     at c.in_ok-refused.ensures.converses)
     (rw (c.told-fault.ensures, c.fault.ensures) at c.tell.ensures.text) (rw (c.told-fault.ensures, c.fault.ensures) at c.tell.ensures.ok)
