@@ -1,3 +1,5 @@
+//! Why a text is no corbaloc, and where. The numbers and names of the kinds are those of
+//! `specs/CorbalocFault.antt`, and `docs/PROFILE.md` lists them: change all three.
 ghost use Rattle.std.specs.Prelude.{◌≡◌};
 
 use std::alloc::AllocError;
@@ -22,7 +24,7 @@ pub enum CorbalocKind {
     BadEscape,
     /// An octet of the key that has to be escaped.
     BadChar,
-    /// Memory ran out, for a text that is a corbaloc.
+    /// Out of memory, for a text that is a corbaloc.
     NoMemory,
 }
 
@@ -81,7 +83,7 @@ pub struct CorbalocFault {
 impl CorbalocFault {
     ghost use Rattle.giop_ior.specs.CorbalocFault.{corbaloc_kind_number};
 
-    /// The number of its kind, 1 to 8.
+    /// The number of the fault's kind, 1 to 8.
     pub fn number(self) -> u8
         ensures { result ≡ corbaloc_kind_number self.kind }
     {
@@ -102,7 +104,7 @@ impl From<AllocError> for CorbalocFault {
     }
 }
 
-/// The name of its kind and its place, as `BadPort at 12`.
+/// The name of its kind and its offset, as in `BadPort at 12`.
 impl fmt::Display for CorbalocFault {
     ghost use Rattle.std.specs.Prelude.{Some};
     ghost use Rattle.giop_ior.specs.CorbalocFault.{corbaloc_fault_text};
