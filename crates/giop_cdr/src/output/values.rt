@@ -118,7 +118,7 @@ impl CdrOut {
     }
 
     /// A string (9.3.2.7): an unsigned long length, aligned to 4, that counts the null, the octets,
-    /// the null. So the empty string is its length 1 and a null. The caller sees to it that `text`
+    /// the null. So the empty string is its length 1 and a null. The contract requires that `text`
     /// has no null, and is short enough for its length.
     #[tactic(auto, unfolding(crate::specs::Writing::Output::string_out, crate::specs::Writing::Output::number_out))]
     #[inline(always)]
