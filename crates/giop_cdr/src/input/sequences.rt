@@ -47,7 +47,7 @@ impl<'a, S: Octets> CdrIn<'a, S> {
     /// The count of a sequence (9.3.2.5) that is at most `bound`, where 0 is no bound.
     ///
     /// Refused at the offset of the count: as `read_count` refuses it, and as BoundPassed where it
-    /// is above the bound. The reader then stays where it was.
+    /// is above `bound`. The reader then stays where it was.
     #[tactic(auto, unfolding(crate::specs::Reading::Values::octet_count_at))]
     #[inline(always)]
     pub fn read_bounded_count(&mut self, bound: u32) -> Result<usize, CdrFault>
@@ -100,10 +100,14 @@ impl<'a, S: Octets> CdrIn<'a, S> {
     /// A sequence of octets (9.3.2.5): an unsigned long length, aligned to 4, and as many octets. A
     /// `bound` of 0 is no bound.
     ///
-    /// Refused, all at the offset of the length: as Short where it isn't there, as BadCount where
-    /// it is above the number of octets behind it, as BoundPassed where it is above `bound`, as
-    /// NoMemory when out of memory. The first of these that holds is returned, and the reader stays
-    /// where it was. No memory is asked for a length that is refused.
+    /// Refused at the offset of the length, as the first of these that holds:
+    ///
+    /// - Short: the length isn't there.
+    /// - BadCount: it is above the number of octets behind it.
+    /// - BoundPassed: it is above `bound`.
+    /// - NoMemory: out of memory.
+    ///
+    /// The reader then stays where it was. No memory is asked for a length that is refused.
     #[tactic(auto, using(crate::proofs::Reading::CountSteps::octets_counted, crate::proofs::Reading::CountSteps::octets_there, crate::proofs::Reading::CountSteps::octets_uncounted))]
     pub fn read_octets(&mut self, alloc: Global, bound: u32) -> Result<Vec<u8>, CdrFault>
         ensures value { Allocates (λ v. v.items) self.old result self.new
@@ -143,11 +147,15 @@ impl<'a, S: Octets> CdrIn<'a, S> {
     /// the octets, the null. The octets before the null are returned. A length of 0 is read as the
     /// empty string. A `bound` of 0 is no bound; another counts the octets without the null.
     ///
-    /// Refused, all at the offset of the length: as Short where it isn't there, as BadCount where
-    /// it is above the number of octets behind it, as BadString where no null is at the end or
-    /// another one is inside, as BoundPassed where the string is longer than `bound`, as NoMemory
-    /// when out of memory. The first of these that holds is returned, and the reader stays where it
-    /// was. No memory is asked for a length that is refused.
+    /// Refused at the offset of the length, as the first of these that holds:
+    ///
+    /// - Short: the length isn't there.
+    /// - BadCount: it is above the number of octets behind it.
+    /// - BadString: no null is at the end, or another one is inside.
+    /// - BoundPassed: the string is longer than `bound`.
+    /// - NoMemory: out of memory.
+    ///
+    /// The reader then stays where it was. No memory is asked for a length that is refused.
     #[tactic(auto, using(crate::proofs::Reading::CountSteps::text_counted, crate::proofs::Reading::CountSteps::text_there, crate::proofs::Reading::CountSteps::text_uncounted))]
     pub fn read_string(&mut self, alloc: Global, bound: u32) -> Result<Vec<u8>, CdrFault>
         ensures value { Allocates (λ v. v.items) self.old result self.new
