@@ -71,10 +71,15 @@ impl fmt::Display for CorbalocKind {
 /// Why a text is no corbaloc, and where: the first fault from the left.
 #[derive(Clone, Copy, Debug, PartialEq, Eq)]
 pub struct CorbalocFault {
-    /// The offset of what is wrong, in octets from the first of the text: for `BadPrefix` 0, for
-    /// `BadProtocol` the first octet of the address, for `BadVersion`, `BadHost` and `BadPort` the
-    /// first octet of that part, for `BadEscape` the `%`, for `BadChar` the octet itself. The
-    /// offset is the end of the text where the part would begin there. It is 0 for `NoMemory`.
+    /// The offset of what is wrong, in octets from the first of the text:
+    ///
+    /// - `BadPrefix` and `NoMemory`: 0.
+    /// - `BadProtocol`: the first octet of the address.
+    /// - `BadVersion`, `BadHost` and `BadPort`: the first octet of that part.
+    /// - `BadEscape`: the `%`.
+    /// - `BadChar`: the octet itself.
+    ///
+    /// It is the end of the text where the part would begin there.
     pub at: usize,
     /// What is wrong there.
     pub kind: CorbalocKind,

@@ -22,10 +22,10 @@ type ProfileAt<'a, 's> = IiopProfile<Lies<'a, 's>, Option<ComponentsAt<'a, 's>>>
 /// The profile that the octets of tag 0 are (CORBA 3.3 Part 2, 9.7.2). Octets behind the last field
 /// are passed over.
 ///
-/// Refused as the first field that is refused, in reading order, with its offset from the first
-/// octet, which is the byte order: that one as Short or BadOrder at 0, a major version other than 1
-/// as BadLabel at 1, each other field as its own reader says. When out of memory, for octets that
-/// no field refuses, it is NoMemory at 0.
+/// Refused as the first field that is refused, in reading order. Its offset counts from the first
+/// octet, which is the byte order. That one is refused as Short or BadOrder at 0, a major version
+/// other than 1 as BadLabel at 1, each other field as its own reader says. When out of memory, for
+/// octets that no field refuses, it is NoMemory at 0.
 pub fn iiop_view(alloc: Global, profile: &TaggedProfile) -> Result<IiopProfile, CdrFault>
     requires tag { profile.now.tag ≡ 0 }
     requires short { length profile.now.octets ≤ 2 ^ 62 }
