@@ -27,7 +27,7 @@ pub struct CdrIn<'a, S: Octets> {
     order: WideOrder,
     // The offset of the next octet, by which values are aligned.
     at: usize,
-    // The place of the next octet in `source`, and of the end of what may be read.
+    // The indices in `source` of the next octet, and of the end of what may be read.
     index: usize,
     end: usize,
 }

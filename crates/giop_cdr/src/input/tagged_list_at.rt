@@ -52,7 +52,7 @@ impl<'a, S: Octets, I: Tagged> TaggedListAt<'a, S, I> {
         self.count
     }
 
-    /// Whether there are none.
+    /// Whether there are no values.
     pub fn is_empty(&self) -> bool
         ensures { result ≡ (length self.now == 0) }
     {

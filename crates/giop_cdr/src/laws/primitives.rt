@@ -46,8 +46,8 @@ pub fn strings_are_spelled()
     ensures alone { StandsAlone SpellsString }
 {}
 
-/// Booleans: what `read_boolean` returns is what is spelled, and where nothing is spelled no octet
-/// is there or another than 0 and 1. What `write_boolean` appends is read back.
+/// Booleans: what `read_boolean` returns is what is spelled, and where nothing is spelled there is
+/// no octet, or it is neither 0 nor 1. What `write_boolean` appends is read back.
 pub fn booleans_are_spelled()
     ensures exact { IsExact (Took SpellsBoolean) RefusedBoolean boolean_at }
     ensures alone { StandsAlone SpellsBoolean }

@@ -55,8 +55,8 @@ impl CdrOut {
         }
     }
 
-    /// An empty output, whose first octet will have the offset `start`, with memory for `room`
-    /// octets before it grows.
+    /// An empty output, whose first octet will have the offset `start`. It takes memory for `room`
+    /// octets in advance.
     pub fn with_room(
         alloc: Global,
         order: Order,
@@ -175,9 +175,8 @@ impl CdrOut {
     }
 
     /// Whether an encapsulation that began at `mark` can be ended here: the output is as long as it
-    /// was there, or longer, and by fewer than 2^32 octets, as a length has to be. It doesn't see
-    /// whether `mark` is of this output, and the latest that isn't ended: that is for the caller to
-    /// know.
+    /// was there, or longer, and by fewer than 2^32 octets, as a length has to be. It doesn't check
+    /// that `mark` is of this output, and the latest that isn't ended: the caller has to.
     pub fn can_end(&self, mark: &Mark) -> bool
         ensures { IsTrue result
             ↔ ((mark.now.len ≤ length self.now.octets) × (length self.now.octets - mark.now.len < 2 ^ 32)) }
