@@ -6,7 +6,8 @@ use crate::Step;
 
 /// The rule by which one call runs: what each event does to the call's entry.
 ///
-/// Its meaning is the two ghost members: a step depends on this entry and this event alone.
+/// Its meaning is the ghost members `next` and `closed`: a step depends on this entry and this
+/// event alone.
 pub trait CallRule {
     ghost use Rattle.std.specs.Prelude.{◌≡◌, Bool, Option, IsErr};
     ghost use Rattle.giop_mux.specs.declared.step.Step.{Step};
