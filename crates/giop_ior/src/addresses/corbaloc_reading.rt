@@ -85,7 +85,7 @@ fn judge_addresses(start: usize, text: &[u8]) -> Result<(), CorbalocFault>
     Ok(())
 }
 
-// The corbaloc that a text is, in one pass. Out of memory, a fault behind that place isn't found.
+// The corbaloc that a text is, in one pass. When it is out of memory, a later fault isn't found.
 #[tactic(auto, unfolding(crate::specs::CorbalocReading::corbaloc_of))]
 fn read_corbaloc(alloc: Global, text: &[u8]) -> Result<Corbaloc, CorbalocFault>
     ensures { AnswersOrWants (λ c. c) result (corbaloc_of text.now) }

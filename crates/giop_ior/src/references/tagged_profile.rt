@@ -29,7 +29,7 @@ pub trait TaggedParts: Tagged {
     // The number, as contracts see it.
     ghost tag_of: { Self → ℕ };
 
-    // The octets.
+    // The octets, as contracts see them.
     ghost contents_of: { Self → List ℕ };
 
     /// The number, which says what the octets are.
