@@ -1,5 +1,5 @@
--- Messages and bodies, which go on to the end of their octets (CORBA 3.3 Part 2, 9.4.2): a table of
--- fields of which the last is an ending.
+-- Messages and bodies, which continue to the end of their octets (CORBA 3.3 Part 2, 9.4.2): a table
+-- of fields of which the last is an ending.
 use Rattle.std.specs.Prelude.{◌≡◌, ℕ, ◌+◌, ◌<◌, ◌==◌, ◌&&◌, Bool, true, false, if◌then◌else◌, List, length, drop, Result, Ok, Err, ⊤}
 use Rattle.giop_cdr.specs.declared.order.Order.{Order}
 use Rattle.giop_cdr.specs.declared.fault.CdrFault.{CdrFault}

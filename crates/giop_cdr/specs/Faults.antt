@@ -1,4 +1,4 @@
--- How refusals are told: their numbers, and their names.
+-- How refusals are reported: their numbers, and their names.
 use Rattle.std.specs.Prelude.{ℕ, List, codes, ◌++◌}
 use Rattle.std.specs.Fmt.{decimal}
 use Rattle.giop_cdr.specs.declared.encode_fault.EncodeFault.{EncodeFault}

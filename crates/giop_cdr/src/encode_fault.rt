@@ -1,3 +1,4 @@
+//! Why a value isn't written. The numbers and names are those of `specs/Faults.antt`.
 ghost use Rattle.std.specs.Prelude.{◌≡◌};
 
 use std::alloc::AllocError;
@@ -7,10 +8,10 @@ use std::fmt;
 /// Why a value wasn't written. The output is then as it was.
 #[derive(Clone, Copy, Debug, PartialEq, Eq)]
 pub enum EncodeFault {
-    /// No octets spell the value: a number of its own rule, a null in a text, or a text or a list
-    /// that is too long for its count.
+    /// No octets spell the value: a number breaks the rule of its field, a null is inside a string,
+    /// or a string or a list is too long for its count.
     Unfit,
-    /// Memory ran out, for a value that fits.
+    /// Out of memory, for a value that fits.
     NoMemory,
 }
 
@@ -28,7 +29,7 @@ impl EncodeFault {
     }
 }
 
-/// The name of the refusal, as `Unfit`.
+/// The name of the refusal, such as `Unfit`.
 impl fmt::Display for EncodeFault {
     ghost use Rattle.std.specs.Prelude.{Some};
     ghost use Rattle.giop_cdr.specs.Faults.{encode_fault_name};

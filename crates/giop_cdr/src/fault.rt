@@ -1,3 +1,5 @@
+//! Why a reader refuses octets, and where. The numbers and names of the kinds are those of
+//! `specs/Faults.antt`, and `docs/PROFILE.md` lists them: change all three.
 ghost use Rattle.std.specs.Prelude.{◌≡◌};
 
 use std::error::Error;
@@ -22,10 +24,10 @@ pub enum CdrKind {
     BoundPassed,
     /// Octets are left after the last value.
     Trailing,
-    /// Memory ran out, of octets that spell a value. It is told at the offset of the value that the
-    /// call reads: of a string or a sequence of octets that is the offset of its length, behind the
-    /// padding; of a value of several parts, whose padding is its first part's, it is where the
-    /// reader stood.
+    /// Out of memory, for octets that spell a value. The offset is that of the value which the call
+    /// reads. For a string or a sequence of octets that is the offset of its length, after the
+    /// padding. For a value of several parts it is where the reader stood, since its padding is
+    /// that of its first part.
     NoMemory,
 }
 
@@ -50,7 +52,7 @@ impl CdrKind {
     }
 }
 
-/// The name of the kind, as `BadCount`.
+/// The name of the kind, such as `BadCount`.
 impl fmt::Display for CdrKind {
     ghost use Rattle.std.specs.Prelude.{Some};
     ghost use Rattle.giop_cdr.specs.Faults.{cdr_kind_name};
@@ -75,9 +77,9 @@ impl fmt::Display for CdrKind {
 /// Why octets were refused, and where.
 #[derive(Clone, Copy, Debug, PartialEq, Eq)]
 pub struct CdrFault {
-    /// The offset of the refused value's first octet after its padding, also where that offset is
-    /// past the end. It counts from the first octet of the message's header, or from the byte-order
-    /// octet of an encapsulation. For a string or a sequence it is the offset of its length.
+    /// The offset of the refused value's first octet after its padding, even if that is past the
+    /// end. It counts from the first octet of the message's header, or from the byte-order octet of
+    /// an encapsulation. For a string or a sequence it is the offset of its length.
     pub at: usize,
     /// What is wrong there.
     pub kind: CdrKind,
@@ -86,7 +88,7 @@ pub struct CdrFault {
 impl CdrFault {
     ghost use Rattle.giop_cdr.specs.Faults.{cdr_kind_number};
 
-    /// The number of its kind, 1 to 9.
+    /// The number of the fault's kind, 1 to 9.
     pub fn number(self) -> u8
         ensures { result ≡ cdr_kind_number self.kind }
     {
@@ -94,7 +96,7 @@ impl CdrFault {
     }
 }
 
-/// The name of its kind and its place, as `BadCount at 24`.
+/// The name of its kind and its offset, as in `BadCount at 24`.
 impl fmt::Display for CdrFault {
     ghost use Rattle.std.specs.Prelude.{Some};
     ghost use Rattle.giop_cdr.specs.Faults.{cdr_fault_text};

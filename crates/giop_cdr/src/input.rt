@@ -1,4 +1,5 @@
-//! Readers, and views of what lies in their octets.
+//! Reading CDR (CORBA 3.3 Part 2, 9.3): the reader `CdrIn`, and views of values where they lie.
+//! What each read returns is defined in `specs/Reading/Values.antt`.
 pub mod borrowing;
 pub mod numbers;
 pub mod octets_at;

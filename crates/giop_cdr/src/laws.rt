@@ -1,5 +1,5 @@
 //! Laws of the definitions that contracts cite. Each function's contract is one of them; the bodies
-//! are empty, and no program calls them.
+//! are empty, and no program calls them. A definition that changes must still satisfy them.
 mod layouts;
 mod primitives;
 

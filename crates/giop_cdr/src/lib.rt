@@ -1,5 +1,6 @@
-//! CDR, the Common Data Representation (CORBA 3.3 Part 2, 9.3): aligned primitives in either byte
-//! order, read from any store of octets.
+//! CDR, the Common Data Representation (CORBA 3.3 Part 2, 9.3): aligned numbers, strings, sequences
+//! of octets and encapsulations, in either byte order. `CdrIn` reads them from any store of octets,
+//! and `CdrOut` writes them.
 #![tactic(auto)]
 
 mod encode_fault;

@@ -1,3 +1,5 @@
+//! Octets that a value owns, such as those of a string or an object key. `OctetsAt` is their view
+//! where they lie, and contracts see both as a plain list.
 ghost use Rattle.std.specs.Prelude.{◌≡◌, ◌==◌, ◌++◌, List, [], ℕ, length, IfOk, OnOk, OnErr};
 
 use std::alloc::{AllocError, Global};
@@ -16,7 +18,7 @@ impl Model for OctetList {
 }
 
 impl OctetList {
-    /// No octets. It takes no memory.
+    /// An empty list. It takes no memory.
     pub fn new(alloc: Global) -> OctetList
         ensures { result ≡ [] }
     {
@@ -25,7 +27,7 @@ impl OctetList {
         }
     }
 
-    /// A copy of `octets`. It takes memory for these, once.
+    /// A copy of `octets`. It takes memory once, for all of them.
     pub fn from_slice(alloc: Global, octets: &[u8]) -> Result<OctetList, AllocError>
         ensures { IfOk result (λ l. l ≡ octets.now) }
     {
@@ -48,14 +50,14 @@ impl OctetList {
         self.octets.len()
     }
 
-    /// Whether there are none.
+    /// Whether there are no octets.
     pub fn is_empty(&self) -> bool
         ensures { result ≡ (length self.now == 0) }
     {
         self.octets.is_empty()
     }
 
-    /// Appends `octets`. Where memory is wanting nothing changes.
+    /// Appends `octets`. Out of memory, nothing changes.
     pub fn extend_from_slice(&mut self, octets: &[u8]) -> Result<(), AllocError>
         ensures ok { OnOk result (self.new ≡ self.old ++ octets.now) }
         ensures err { OnErr result (self.new ≡ self.old) }

@@ -1,10 +1,12 @@
+//! Stores of octets, from which a `CdrIn` reads: the trait `Octets`, and the octets of one slice.
+//! Readers are proved for any store, so a store in several parts needs only this trait.
 ghost use Rattle.std.specs.Prelude.{◌≡◌, ◌<◌, List, ℕ, length, slice_index, take, drop};
 
 use std::marker::Model;
 
 /// A list of octets, wherever they lie: in one slice, or in several parts.
 pub trait Octets {
-    // The list itself.
+    // The octets, as contracts see a store.
     ghost octets: { Self → List ℕ };
 
     /// The number of octets.
@@ -16,7 +18,7 @@ pub trait Octets {
         requires { i < length (octets self.now) }
         ensures { result ≡ slice_index (octets self.now) i };
 
-    /// Octets from an index on that lie together, one or more.
+    /// Octets from index `from` on that lie together: one or more, and how many is up to the store.
     fn run(&self, from: usize) -> &[u8]
         requires { from < length (octets self.now) }
         ensures some { 0 < length result.now }
@@ -43,7 +45,7 @@ impl<'a> SliceOctets<'a> {
         SliceOctets { slice }
     }
 
-    /// The slice.
+    /// The slice that `new` was given.
     pub fn as_slice(&self) -> &'a [u8]
         ensures { result.now ≡ self.now }
     {

@@ -1,3 +1,4 @@
+//! Byte order (CORBA 3.3 Part 2, 9.3.1.1): its two values, and the octet that says each of them.
 ghost use Rattle.std.specs.Prelude.{◌≡◌};
 ghost use Rattle.std.specs.Int.{w32};
 
@@ -15,7 +16,7 @@ impl Order {
     ghost use Rattle.giop_cdr.specs.Encapsulation.Opened.{order_octet};
     ghost use Rattle.giop_cdr.specs.Writing.Output.{octets_of};
 
-    /// The octet that tells this order at the head of an encapsulation (9.3.3): 0 or 1.
+    /// The octet that says this order at the start of an encapsulation (9.3.3): 0 or 1.
     pub fn octet(self) -> u8
         ensures { result ≡ order_octet self }
     {
@@ -25,7 +26,7 @@ impl Order {
         }
     }
 
-    /// The octets of an unsigned long in this order.
+    /// The four octets of an unsigned long in this order.
     pub fn ulong_octets(self, value: u32) -> [u8; 4]
         ensures { result ≡ octets_of self w32 value }
     {

@@ -1,4 +1,5 @@
-//! The writer.
+//! Writing CDR (CORBA 3.3 Part 2, 9.3): the writer `CdrOut`, and the places in it to which a caller
+//! goes back. What each write appends is defined in `specs/Writing/Output.antt`.
 pub mod appending;
 pub mod checkpoint;
 pub mod mark;

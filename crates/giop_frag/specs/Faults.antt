@@ -1,4 +1,4 @@
--- How refusals are told: their numbers, and their names.
+-- How refusals are reported: their numbers, and their names.
 use Rattle.std.specs.Prelude.{ℕ, List, codes}
 use Rattle.giop_frag.specs.declared.fault.GatherFault.{GatherFault}
 use Rattle.giop_frag.specs.declared.fault.GatherFault.TheVariants.{Stray, OrderDiffers, GatherFull, NoMemory}

@@ -74,12 +74,12 @@ blocks_for n = (n + 511) / 512
 abbrev pub blocks_of : Lists → ℕ
 blocks_of m = sum_of (λ p. blocks_for (length p.octets)) m
 
--- the blocks there are then: none is given back
+-- the blocks there are then: none is freed
 abbrev pub blocks_after : ℕ → Lists → ℕ
 blocks_after blocks m = max blocks (blocks_of m)
 
 -- how many blocks there may be after a refusal on the way to these lists: as many as before, or,
--- where memory was wanting, some of those that they need
+-- when out of memory, some of those that they need
 abbrev pub IsBlocksAfter : GatherFault → ℕ → Lists → ℕ → Type 0
 IsBlocksAfter Stray old m new = new ≡ old
 IsBlocksAfter OrderDiffers old m new = new ≡ old
@@ -112,19 +112,19 @@ abbrev pub first_fault : Option GatherFault → Option GatherFault → Option Ga
 first_fault None second = second
 first_fault (Some fault) second = Some fault
 
--- why n octets are not begun with, want of memory aside
+-- why n octets are not begun with, out of memory aside
 abbrev pub begin_fault : Gathered → ℕ → Option GatherFault
 begin_fault g n = room_fault (is_over g.limit g.lists n)
 
--- why octets are not joined to these, want of memory aside: the order comes before the room
+-- why octets are not joined to these, out of memory aside: the order comes before the room
 abbrev pub add_fault_by : Bool → Option Pieces → Order → Option GatherFault
 add_fault_by over held order = first_fault (order_fault held order) (room_fault over)
 
--- why n octets of this order are not joined to those of the id, want of memory aside
+-- why n octets of this order are not joined to those of the id, out of memory aside
 abbrev pub add_fault : Gathered → ℕ → Order → ℕ → Option GatherFault
 add_fault g id order n = add_fault_by (is_over g.limit g.lists n) (map.get g.lists id) order
 
--- why nothing is handed out, want of memory aside
+-- why nothing is handed out, out of memory aside
 abbrev pub finish_fault : Option Pieces → Option GatherFault
 finish_fault None = Some Stray
 finish_fault (Some pieces) = None

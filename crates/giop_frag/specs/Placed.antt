@@ -48,7 +48,7 @@ pieces_at blocks p = record { order = p.order; octets = octets_at blocks p.numbe
 abbrev pub lists_at : List (List ℕ) → List (ℕ × Placed) → Lists
 lists_at blocks slots = entries_by (λ p. Some (pieces_at blocks p)) slots
 
--- the same, as it is placed
+-- the places of what is gathered, by id
 abbrev pub places_of : List (ℕ × Placed) → ById Placed
 places_of slots = entries_by (λ p. Some p) slots
 
@@ -89,7 +89,7 @@ pub record IsFilled (old : Placed) (from : Pooled) (new : Placed) (to : Pooled)
       → block to.blocks n ≡ block from.blocks n
   pub whole : AreWhole to.blocks
 
--- blocks were made until so many are free, or until memory was wanting
+-- blocks were made until so many are free, or until out of memory
 pub record IsProvided (wanted : ℕ) (old new : Pooled) : Type 0 where
   pub grown : HasGrown old new
   pub few : length new.free ≤ max (length old.free) wanted
@@ -122,7 +122,7 @@ pub record IsJoinedTo (old : Placed) (from : Pooled) (new : Placed) (to : Pooled
   pub provided : IsProvided (lacking old (length more)) from between
   pub filled : IsFilled old between new to more
 
--- what a refusal leaves: no block more, or, where memory was wanting, some of those that are wanted
+-- what a refusal leaves: no block more, or, when out of memory, some of those that are wanted
 abbrev pub IsLeft : GatherFault → ℕ → Pooled → Pooled → Type 0
 IsLeft Stray wanted old new = new ≡ old
 IsLeft OrderDiffers wanted old new = new ≡ old

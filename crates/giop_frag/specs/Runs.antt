@@ -19,7 +19,7 @@ pub data Reply : Type 0 where
   IsDone : Reply
   Gives : Pieces → Reply
 
--- what the caller of `begin` and `add` is told, and of `finish`
+-- what `begin` and `add` return to their caller, and what `finish` returns
 abbrev pub call_reply : Result (Unit {0}) GatherFault → Result Reply GatherFault
 call_reply (Ok done) = Ok IsDone
 call_reply (Err fault) = Err fault
@@ -28,7 +28,7 @@ abbrev pub finish_reply : Result (Order × List ℕ) GatherFault → Result Repl
 finish_reply (Ok joined) = Ok (Gives (record { order = joined.0; octets = joined.1 }))
 finish_reply (Err fault) = Err fault
 
--- whether the id's own octets are why it is refused, and not the limit or want of memory
+-- whether the id's own octets are why it is refused, and not the limit or being out of memory
 abbrev pub is_of_id : GatherFault → Bool
 is_of_id Stray = true
 is_of_id OrderDiffers = true

@@ -1,3 +1,5 @@
+//! One block of 512 octets, the unit in which gathered octets are stored. That number is written
+//! out wherever this crate's files and specs count octets of blocks.
 ghost use Rattle.std.specs.Prelude.{◌≡◌, ◌≤◌, ◌+◌, ◌++◌, length, take, drop};
 ghost use Rattle.std.specs.List.{slice_range};
 ghost use Rattle.giop_frag.specs.Blocks.{blank};
@@ -21,7 +23,7 @@ impl Model for Block {
 }
 
 impl Block {
-    /// A block without meaning.
+    /// A block whose octets mean nothing yet.
     #[inline(always)]
     pub fn new() -> Block
         ensures { result ≡ blank }
@@ -29,7 +31,7 @@ impl Block {
         Block { octets: [0; 512] }
     }
 
-    /// Writes octets from an index on.
+    /// Writes octets over those from an index on.
     #[inline(always)]
     pub fn write(&mut self, from: usize, octets: &[u8])
         requires { from + length octets.now ≤ 512 }
@@ -50,7 +52,7 @@ impl Block {
 }
 
 // Writes octets over as many others. From 16 to 32 they are copied as the first 16 and the last 16,
-// which may overlap: arrays of a known size lie in registers, and their copy is no call.
+// which may overlap: arrays of a known size lie in registers, and are copied without a call.
 #[inline(always)]
 fn copy(to: &mut [u8], octets: &[u8])
     requires { length to.old ≡ length octets.now }

@@ -1,3 +1,5 @@
+//! All blocks of a gatherer by their numbers, over the chunks in which they lie. Which chunk has
+//! which number is defined in `specs/Chunks.antt`.
 ghost use Rattle.std.specs.Prelude.{◌≡◌, ◌≤◌, ◌<◌, ◌+◌, ◌%◌, ◌^◌, ◌++◌, ◌∷◌, [], OnOk, OnErr, length, take, drop, slice_set};
 ghost use Rattle.std.specs.List.{slice_range};
 ghost use Rattle.giop_frag.specs.Blocks.{blank, block};
@@ -6,8 +8,8 @@ use crate::chunk::Chunk;
 use std::alloc::{AllocError, Global};
 use std::marker::Model;
 
-/// All blocks, by number. They lie in chunks of 64: a chunk is taken at once and never moves, so
-/// nothing is copied where blocks become more.
+/// All blocks, by number. They lie in chunks of 64: a chunk is taken in one allocation and never
+/// moves, so nothing is copied when blocks are added.
 #[derive(Drop)]
 pub struct Blocks {
     alloc: Global,
@@ -67,7 +69,7 @@ impl Blocks {
         self.chunks[number / 64].write(number % 64, from, octets);
     }
 
-    /// Makes a block, behind all others.
+    /// Makes a block, after all others. Out of memory, there are as many as before.
     pub fn push(&mut self) -> Result<(), AllocError>
         requires { length self.old + 1 < 2 ^ 64 }
         ensures ok { OnOk result (self.new ≡ self.old ++ blank ∷ []) }
@@ -81,7 +83,7 @@ impl Blocks {
         Ok(())
     }
 
-    // Takes a chunk, and makes its first block.
+    // Takes a chunk, and makes the first block in it.
     fn begin_chunk(&mut self) -> Result<(), AllocError>
         requires even { length self.old % 64 ≡ 0 }
         requires small { length self.old + 1 < 2 ^ 64 }

@@ -1,3 +1,5 @@
+//! The octets of a fragmented message as a store, which any reader of giop_cdr reads without a
+//! copy.
 ghost use Rattle.std.specs.Prelude.{◌≡◌, ◌+◌, ◌<◌, ◌≤◌, ◌^◌, length, IfOk};
 ghost use Rattle.giop_frag.specs.Blocks.{AreChained, octets_at};
 
@@ -6,8 +8,8 @@ use giop_cdr::{OctetList, Octets};
 use std::alloc::{AllocError, Global};
 use std::marker::Model;
 
-/// The octets gathered under an id, where they lie: in blocks, one behind the other, that need not
-/// lie together. `run` gives the rest of a block.
+/// The octets gathered for an id, where they lie: in blocks, one after the other, which need not
+/// lie together. `run` returns the rest of a block.
 ///
 /// Contracts see the list of the octets.
 #[derive(Drop)]
@@ -29,7 +31,7 @@ impl<'a> Model for Chain<'a> {
 }
 
 impl<'a> Chain<'a> {
-    // The first octets of the blocks of these numbers.
+    // The first `size` octets of the blocks of these numbers.
     pub(crate) fn new(pool: &'a Pool, numbers: &'a [u32], size: usize) -> Chain<'a>
         requires { AreChained pool.now.blocks numbers.now size }
         ensures { result ≡ octets_at pool.now.blocks numbers.now size }
@@ -41,7 +43,7 @@ impl<'a> Chain<'a> {
         }
     }
 
-    // A copy of all of them, in one list.
+    // A copy of all octets, in one list.
     pub(crate) fn to_list(&self, alloc: Global) -> Result<OctetList, AllocError>
         requires { length self.now < 2 ^ 64 }
         ensures { IfOk result (λ list. list ≡ self.now) }

@@ -1,3 +1,5 @@
+//! The allocation of blocks: 64 at a time. A chunk is taken whole and never grows, so that blocks
+//! never move.
 ghost use Rattle.std.specs.Prelude.{◌≡◌, ◌≤◌, ◌<◌, ◌+◌, ◌++◌, ◌∷◌, [], IfOk, length, take, drop, slice_set};
 ghost use Rattle.std.specs.List.{slice_range};
 ghost use Rattle.giop_frag.specs.Blocks.{blank, block};
@@ -6,7 +8,7 @@ use crate::block::Block;
 use std::alloc::{AllocError, Global};
 use std::marker::Model;
 
-/// Up to 64 blocks. Their memory is taken at once, and never moves.
+/// Up to 64 blocks. Their memory is taken in one allocation, and never moves.
 #[derive(Drop)]
 pub struct Chunk {
     blocks: Vec<Block>,
@@ -32,7 +34,7 @@ impl Chunk {
         })
     }
 
-    /// Makes a block, behind the others. It takes no memory.
+    /// Makes a block, after the others. It takes no memory.
     pub fn push(&mut self)
         requires { length self.old < 64 }
         ensures { self.new ≡ self.old ++ blank ∷ [] }

@@ -1,20 +1,21 @@
+//! Why a gatherer refuses a call. The numbers and names are those of `specs/Faults.antt`.
 ghost use Rattle.std.specs.Prelude.{◌≡◌};
 
 use std::alloc::AllocError;
 use std::error::Error;
 use std::fmt;
 
-/// Why octets are not gathered, or not handed out. A refusal changes nothing. Where several hold,
-/// the first of them is told.
+/// Why octets are not gathered, or not returned. A refusal leaves the limit and what is gathered as
+/// they were. Where several hold, the first of them is returned.
 #[derive(Clone, Copy, Debug, PartialEq, Eq)]
 pub enum GatherFault {
-    /// Nothing is gathered under the id.
+    /// Nothing is gathered for the id.
     Stray,
-    /// The octets under the id came in the other byte order.
+    /// The octets of the id came in the other byte order.
     OrderDiffers,
     /// All gathered octets together would be more than the limit.
     GatherFull,
-    /// There is no memory for the octets.
+    /// Out of memory for the octets.
     NoMemory,
 }
 
@@ -34,7 +35,7 @@ impl GatherFault {
     }
 }
 
-/// The name of the refusal, as `GatherFull`.
+/// The name of the refusal, such as `GatherFull`.
 impl fmt::Display for GatherFault {
     ghost use Rattle.std.specs.Prelude.{Some};
     ghost use Rattle.giop_frag.specs.Faults.{gather_fault_name};

@@ -1,3 +1,6 @@
+//! The gatherer `Gather`: the octets of fragmented messages, joined by request id within a limit
+//! (CORBA 3.3 Part 2, 9.4.9). Its steps are in `lists.rt`; what contracts see of it is
+//! `specs/Gathered.antt`.
 ghost use Rattle.std.specs.Prelude.{◌≡◌, ◌≤◌, ◌^◌, ◌==◌, ◌+◌, length, is_some, Some, None, IfSome, OnOk, OnErr, IfOk, IfErr};
 ghost use Rattle.std.specs.Option.{option_map};
 ghost use Rattle.std.specs.FinMap as map;
@@ -25,7 +28,7 @@ pub struct Gather {
     limit: usize,
     // The number of all gathered octets.
     total: usize,
-    // All blocks. None is let go: a block that a list leaves serves the lists to come.
+    // All blocks. None is freed: a block that a list leaves serves later lists.
     pool: Pool,
     table: BTreeMap<u32, Joined>,
 }
@@ -65,12 +68,12 @@ impl Gather {
         }
     }
 
-    /// Begins with `octets`, the first of a message in this byte order, under an id that has none;
-    /// `contains` is the test.
+    /// Begins the list of an id that has none, with `octets`, the first of a message in this byte
+    /// order. `contains` tests whether the id has one.
     ///
     /// Refusals, in this order: `GatherFull`, exactly where `total` and the number of `octets`
     /// together are more than the limit; `NoMemory`. A refusal leaves the limit and what is
-    /// gathered as they were; only want of memory may leave more blocks, and no more than these
+    /// gathered as they were; only `NoMemory` may leave more blocks, and no more than these
     /// octets need.
     pub fn begin(&mut self, id: u32, order: Order, octets: &[u8]) -> Result<(), GatherFault>
         requires { map.get self.old.lists id ≡ None }
@@ -107,12 +110,12 @@ impl Gather {
         Ok(())
     }
 
-    /// Joins `octets` to those of the id, behind them.
+    /// Appends `octets` to those of the id.
     ///
     /// Refusals, in this order: `Stray`, exactly where the id has none; `OrderDiffers`, where it
     /// began in the other byte order; `GatherFull`, where `total` and the number of `octets`
     /// together are more than the limit; `NoMemory`. A refusal leaves the limit and what is
-    /// gathered as they were; only want of memory may leave more blocks, and no more than these
+    /// gathered as they were; only `NoMemory` may leave more blocks, and no more than these
     /// octets need.
     #[inline(always)]
     pub fn add(&mut self, id: u32, order: Order, octets: &[u8]) -> Result<(), GatherFault>
@@ -140,11 +143,11 @@ impl Gather {
         Ok(())
     }
 
-    /// Takes the id out, and gives its byte order and all its octets, as they were joined, in one
+    /// Takes the id out, and returns its byte order and all its octets, as they were joined, in one
     /// list.
     ///
-    /// Refusals, in this order: `Stray`, exactly where the id has none; `NoMemory`, where there is
-    /// none for that list. A refusal changes nothing.
+    /// Refusals, in this order: `Stray`, exactly where the id has none; `NoMemory`, when out of
+    /// memory for that list. A refusal changes nothing.
     pub fn finish(&mut self, id: u32) -> Result<(Order, OctetList), GatherFault>
         ensures ok { OnOk result
             (self.new ≡ record self.old { lists = map.remove self.old.lists id }) }
@@ -175,7 +178,8 @@ impl Gather {
         self.take(id);
     }
 
-    /// The byte order and the octets of the id, where they lie. It takes no memory.
+    /// The byte order and the octets of the id, where they lie; `None` where the id has none. It
+    /// takes no memory.
     pub fn chain(&self, id: u32) -> Option<(Order, Chain<'_>)>
         ensures value { result
             ≡ option_map (λ p. (p.order, p.octets)) (map.get self.now.lists id) }
@@ -200,9 +204,9 @@ impl Gather {
         self.total
     }
 
-    /// The number of blocks of 512 octets: the most that the lists have needed at a time, each
-    /// list its octets over 512, rounded up. None is given back: a block that a list leaves serves
-    /// the lists to come.
+    /// The number of blocks of 512 octets: the most that the lists have needed at a time, each list
+    /// its octets over 512, rounded up. None is freed: a block that a list leaves serves later
+    /// lists.
     ///
     /// It takes no memory.
     pub fn blocks(&self) -> usize
@@ -250,7 +254,7 @@ impl Gather {
     }
 }
 
-/// The limit, and how many octets, ids and blocks there are; not the octets themselves.
+/// Shows the limit, and how many octets, ids and blocks there are; not the octets themselves.
 impl fmt::Debug for Gather {
     fn fmt<W: fmt::Write>(&self, f: &mut fmt::Formatter<W>) -> fmt::Result {
         f.debug_struct("Gather")

@@ -1,3 +1,5 @@
+//! One slot of a gatherer: the joined octets of one message (CORBA 3.3 Part 2, 9.4.9), by the
+//! numbers of the blocks in which they lie.
 ghost use Rattle.std.specs.Prelude.{◌≡◌, ◌≤◌, ◌<◌, ◌+◌, ◌-◌, ◌/◌, ◌%◌, ◌^◌, ◌++◌, [], Some, None, false, length, IfOk, IfErr, OnOk, OnErr};
 ghost use Rattle.giop_ids.specs.Runs.{RefusedAs};
 ghost use Rattle.giop_frag.specs.Blocks.{AreApart};
@@ -10,7 +12,7 @@ use giop_cdr::Order;
 use std::alloc::{AllocError, Global};
 use std::marker::Model;
 
-/// Where the octets of one message lie, and their byte order.
+/// Where the octets of one message lie, how many there are, and their byte order.
 #[derive(Drop)]
 pub struct Joined {
     order: Order,
@@ -35,7 +37,7 @@ impl Model for Joined {
 }
 
 impl Joined {
-    /// No octets, and room for the numbers of so many blocks.
+    /// No octets, and room for the numbers of `room` blocks.
     pub fn with_room(alloc: Global, order: Order, room: usize) -> Result<Joined, AllocError>
         ensures value { IfOk result (λ joined. joined
             ≡ record { order = order; size = 0; numbers = []; room = joined.room }) }
@@ -48,7 +50,10 @@ impl Joined {
         })
     }
 
-    /// Appends octets, where they come in the same order and `over` says that there is room.
+    /// Appends octets. `over` says whether they would pass the gatherer's limit.
+    ///
+    /// Refusals, in this order: OrderDiffers where they come in the other byte order, GatherFull
+    /// where `over` is true, NoMemory.
     #[inline(always)]
     pub fn append(
         &mut self,
@@ -85,7 +90,7 @@ impl Joined {
     }
 
     // Appends octets, and takes memory for the blocks that they lack. Kept out of line, so that the
-    // short way of a small piece is short.
+    // fast way for a small piece is short.
     #[inline(never)]
     fn grow(&mut self, pool: &mut Pool, octets: &[u8]) -> Result<(), AllocError>
         requires count { length self.old.numbers ≡ blocks_for self.old.size }
@@ -121,7 +126,7 @@ impl Joined {
         self.size = size;
     }
 
-    // Appends octets behind those in the last block, which has room for them: the short way of a
+    // Appends octets after those in the last block, which has room for them: the fast way for a
     // small piece.
     #[inline(always)]
     fn fill_last(&mut self, pool: &mut Pool, octets: &[u8])
@@ -136,14 +141,14 @@ impl Joined {
         self.size += octets.len();
     }
 
-    /// Their byte order.
+    /// The byte order of the octets.
     pub fn order(&self) -> Order
         ensures { result ≡ self.now.order }
     {
         self.order
     }
 
-    /// The numbers of their blocks.
+    /// The numbers of the blocks in which the octets lie, in their order.
     pub fn numbers(&self) -> &[u32]
         ensures { result.now ≡ self.now.numbers }
     {
@@ -165,7 +170,7 @@ impl Joined {
     }
 }
 
-/// How many blocks of 512 octets these need.
+/// How many blocks of 512 octets so many octets need.
 #[inline(always)]
 pub fn blocks_for(octets: usize) -> usize
     requires { octets ≤ 2 ^ 62 }

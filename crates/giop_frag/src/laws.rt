@@ -1,5 +1,6 @@
-//! Laws of any run of calls, whatever is refused in it. `Does`, in the contracts of `Gather`, says
-//! that a call is such an act.
+//! Laws of any run of calls of a `Gather`, whatever is refused in it. In the contracts of `Gather`,
+//! `Does` says that a call is an act of such a run. Each function's contract is a law; the bodies
+//! are empty, and no program calls them.
 ghost use Rattle.std.specs.Prelude.{◌≡◌, ◌≢◌, ◌≤◌, ◌+◌, ◌/◌, ◌↔◌, ℕ, List, Option, Some, None, Result, Err};
 ghost use Rattle.std.specs.List.{AllByRecursion};
 ghost use Rattle.std.specs.FinMap as map;
@@ -10,8 +11,9 @@ ghost use Rattle.giop_frag.specs.declared.fault.GatherFault.TheVariants.{GatherF
 ghost use Rattle.giop_frag.specs.Gathered.{Lists, Pieces, total_of, blocks_of, blocks_after, IsBlocksAfter};
 ghost use Rattle.giop_frag.specs.Runs.{Happening, Reply, turn, is_of_id, gather_rules, octets_with, all_octets, IsJoined};
 
-/// After any run of calls the octets under an id that had none are those of the id's own accepted
-/// calls: of the latest that began it and of all that were added since, joined in their order.
+/// After any run of calls, the octets of an id that had none are those of its own accepted calls.
+/// They are the octets of the latest call that began it and of all that added to it since, joined
+/// in their order.
 pub fn own_pieces_are_joined()
     ensures value { (limit : ℕ) (m n : Lists) (acts : List (Addressed Happening))
         (results : List (Result Reply GatherFault)) (id : ℕ) (pieces : Pieces)
@@ -21,8 +23,8 @@ pub fn own_pieces_are_joined()
         → IsJoined pieces heard → alone turn held heard ≡ Some pieces }
 {}
 
-/// In any run of calls what is gathered under an id, and what its own calls are told, are those of
-/// its own calls alone; unless one of them met the limit or want of memory.
+/// In any run of calls, what is gathered for an id and the results of its own calls are those of
+/// its own calls alone. This holds unless one of them met the limit or was out of memory.
 pub fn each_id_alone()
     ensures value { (limit : ℕ) (m n : Lists) (acts : List (Addressed Happening))
         (results : List (Result Reply GatherFault)) (id : ℕ)
@@ -34,8 +36,8 @@ pub fn each_id_alone()
         → own id (addressed acts results) ≡ told_alone turn (map.get m id) (own id acts) }
 {}
 
-/// Two runs whose calls are equal for each id, in any interleaving, leave the same and tell each id
-/// the same, where they meet no limit and no want of memory.
+/// Two runs whose calls are equal for each id, in any interleaving, leave equal lists and return
+/// the same results for each id. This holds where they meet no limit and are never out of memory.
 pub fn any_interleaving()
     ensures value { (limit : ℕ) (m n n' : Lists) (one other : List (Addressed Happening))
         (results results' : List (Result Reply GatherFault))
@@ -60,7 +62,7 @@ pub fn total_stays_within()
 {}
 
 /// Where what is gathered and the octets of all pieces to come add up to at most the limit, no
-/// order of these calls meets `GatherFull`.
+/// order of these calls is refused as `GatherFull`.
 pub fn limits_in_any_order()
     ensures { (limit : ℕ) (m n : Lists) (acts : List (Addressed Happening))
         (results : List (Result Reply GatherFault)) → Runs (gather_rules limit) m acts results n
@@ -68,9 +70,10 @@ pub fn limits_in_any_order()
         → AllByRecursion (λ result. result ≢ Err GatherFull) results }
 {}
 
-/// Lists need at most as many blocks as fit their octets, and one more for each id. So where the
-/// number of ids never passes some number, that of blocks never passes the limit over 512 and it.
-/// After a refusal there are as many as before, or, for want of memory alone, some more.
+/// Lists need at most one block for each 512 octets in them, and one more for each id. So where
+/// there are never more ids than some number, there are never more blocks than the limit over 512
+/// plus that number. A refusal leaves as many blocks as before. Only `NoMemory` may leave more, but
+/// no more than an accepted call would.
 pub fn blocks_stay_within()
     ensures need { (m : Lists) → blocks_of m ≤ total_of m / 512 + map.len m }
     ensures kept { (limit ids blocks : ℕ) (m : Lists) → total_of m ≤ limit → map.len m ≤ ids

@@ -1,5 +1,6 @@
-//! Gathering: the pieces of many messages come interleaved, and the octets of each are joined under
-//! its id, in a list of its own (CORBA 3.3 Part 2, 9.4.9).
+//! The fragments of messages, joined (CORBA 3.3 Part 2, 9.4.9). The pieces of many messages come
+//! interleaved, and a `Gather` joins the octets of each under its request id, in a list of its own.
+//! They are stored in blocks from one pool; the design is in `docs/ARCHITECTURE.md`.
 #![tactic(auto)]
 
 mod block;

@@ -1,4 +1,5 @@
-//! The steps over the slots and the pool: what each leaves of the lists.
+//! The steps of a `Gather` over its slots and its pool: what each leaves of the lists. How slots
+//! and pool show the lists is defined in `specs/Placed.antt`.
 ghost use Rattle.std.specs.Prelude.{◌≡◌, ◌≤◌, ◌+◌, ◌^◌, OnOk, OnErr, IfOk, IfErr, Some, None, false, is_some, length};
 ghost use Rattle.std.specs.Option.{option_map};
 ghost use Rattle.std.specs.Ordering.{nat_cmp};
@@ -17,7 +18,7 @@ use giop_cdr::Order;
 use std::alloc::{AllocError, Global};
 use std::collections::BTreeMap;
 
-/// Puts octets under an id that has none. All memory is taken before a slot changes.
+/// Stores octets for an id that has none. All memory is taken before a slot changes.
 pub fn begin_list(
     alloc: Global,
     table: &mut BTreeMap<u32, Joined>,
@@ -48,8 +49,8 @@ pub fn begin_list(
     Ok(())
 }
 
-// Takes all memory for a list of so many blocks, and puts it under an id that has none, with no
-// octets as yet.
+// Takes all memory for a list of `wanted` blocks, and stores the list for an id that has none, with
+// no octets as yet.
 fn open_list(
     alloc: Global,
     table: &mut BTreeMap<u32, Joined>,
@@ -69,8 +70,8 @@ fn open_list(
     Ok(())
 }
 
-// Appends octets to those under an id. It takes no memory: enough blocks are free, and there is
-// room for their numbers.
+// Appends octets to those of an id. It takes no memory: enough blocks are free, and there is room
+// for their numbers.
 fn fill_list(table: &mut BTreeMap<u32, Joined>, pool: &mut Pool, id: u32, octets: &[u8])
     requires held { AreHeld pool.old table.old.entries }
     requires ready { IsReady pool.old (lookup (is_at (nat_cmp id)) table.old.entries)
@@ -85,8 +86,10 @@ fn fill_list(table: &mut BTreeMap<u32, Joined>, pool: &mut Pool, id: u32, octets
     }
 }
 
-/// Appends octets to those under an id, where they come in one order and `over` says that there is
-/// room.
+/// Appends octets to those of an id. `over` says whether they would pass the limit.
+///
+/// Refusals, in this order: Stray where the id has none, OrderDiffers where it began in the other
+/// byte order, GatherFull where `over` is true, NoMemory.
 #[inline(always)]
 pub fn add_to_list(
     table: &mut BTreeMap<u32, Joined>,
@@ -122,7 +125,8 @@ pub fn add_to_list(
     }
 }
 
-/// Takes the octets under an id out, and gives their blocks back; tells how many octets there were.
+/// Takes the octets of an id out, and makes their blocks free again. It returns how many octets
+/// there were.
 pub fn take_list(table: &mut BTreeMap<u32, Joined>, pool: &mut Pool, id: u32) -> usize
     requires held { AreHeld pool.old table.old.entries }
     ensures held { AreHeld pool.new table.new.entries }
@@ -141,7 +145,7 @@ pub fn take_list(table: &mut BTreeMap<u32, Joined>, pool: &mut Pool, id: u32) ->
     }
 }
 
-/// The byte order and the octets under an id.
+/// The byte order and the octets of an id, where they lie.
 pub fn chain_of<'a>(
     table: &'a BTreeMap<u32, Joined>,
     pool: &'a Pool,
@@ -158,14 +162,14 @@ pub fn chain_of<'a>(
     ))
 }
 
-/// Whether there are octets under the id.
+/// Whether a list is stored for the id.
 pub fn is_in(table: &BTreeMap<u32, Joined>, pool: &Pool, id: u32) -> bool
     ensures { result ≡ is_some (map.get (lists_at pool.now.blocks table.now.entries) id) }
 {
     table.contains_key(&id)
 }
 
-/// The number of the lists.
+/// The number of lists.
 pub fn count_of(table: &BTreeMap<u32, Joined>, pool: &Pool) -> usize
     ensures { result ≡ map.len (lists_at pool.now.blocks table.now.entries) }
 {

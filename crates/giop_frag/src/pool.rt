@@ -1,3 +1,5 @@
+//! The blocks of a gatherer, and the numbers of the free ones. A free block is used before another
+//! is made.
 ghost use Rattle.std.specs.Prelude.{◌≡◌, ◌≤◌, ◌<◌, ◌+◌, ◌-◌, ◌*◌, ◌%◌, ◌^◌, ◌++◌, [], OnOk, OnErr, length, take, drop, slice_set, vec_len, vec_capacity};
 ghost use Rattle.std.specs.List.{slice_range};
 ghost use Rattle.giop_frag.specs.Blocks.{AreApart, AreWhole, AreWritten, block, made, octets_at};
@@ -7,12 +9,12 @@ use crate::blocks::Blocks;
 use std::alloc::{AllocError, Global};
 use std::marker::Model;
 
-/// All blocks of a gatherer, by number, and the numbers of those that serve no list. None is ever
-/// let go.
+/// All blocks of a gatherer, by number, and the numbers of those that serve no list. None is freed
+/// while the pool lives.
 #[derive(Drop)]
 pub struct Pool {
     blocks: Blocks,
-    // It has room for the number of each block, so to give blocks back takes no memory.
+    // It has room for the number of each block, so a block becomes free without memory.
     free: Vec<u32>,
 }
 
@@ -66,7 +68,7 @@ impl Pool {
         self.blocks.part(number, from, to)
     }
 
-    /// Makes blocks until so many are free. Where memory is wanting, those that were made stay.
+    /// Makes blocks until `wanted` of them are free. Out of memory, those that were made stay.
     #[inline(always)]
     pub fn provide(&mut self, wanted: usize) -> Result<(), AllocError>
         ensures ok { OnOk result (wanted ≤ length self.new.free) }
@@ -78,7 +80,7 @@ impl Pool {
         Ok(())
     }
 
-    /// Takes so many free blocks: their numbers go behind those in the list, which has room.
+    /// Takes `n` free blocks: their numbers are appended to `into`, which has room for them.
     #[inline(always)]
     pub fn take(&mut self, n: usize, into: &mut Vec<u32>)
         requires free { n ≤ length self.old.free }
@@ -97,7 +99,7 @@ impl Pool {
         self.free.truncate(left);
     }
 
-    /// The blocks of these numbers are free again.
+    /// Makes the blocks of these numbers free again.
     pub fn give_back(&mut self, numbers: &[u32])
         requires { length self.old.free + length numbers.now ≤ length self.old.blocks }
         ensures { self.new ≡ record self.old { free = self.old.free ++ numbers.now } }
@@ -105,7 +107,8 @@ impl Pool {
         self.free.extend_from_slice(numbers).unwrap();
     }
 
-    /// Writes octets from an index on, that counts over all these blocks, one behind the other.
+    /// Writes octets into these blocks from index `at` on, which counts over all of them, one after
+    /// the other.
     #[inline(always)]
     pub fn write(&mut self, numbers: &[u32], at: usize, octets: &[u8])
         requires whole { AreWhole self.old.blocks }
@@ -131,7 +134,8 @@ impl Pool {
         }
     }
 
-    /// The same where they go behind others into one block.
+    /// Writes octets into these blocks from index `at` on, where they follow others in one block
+    /// and fit into it: the fast way for a small piece.
     #[inline(always)]
     pub fn write_behind(&mut self, numbers: &[u32], at: usize, octets: &[u8])
         requires apart { AreApart self.old.blocks numbers.now }
@@ -148,7 +152,7 @@ impl Pool {
         self.write_part(numbers[at / 512] as usize, at % 512, octets);
     }
 
-    // Makes a block, which is free; not one of a number that four octets can't hold. Out of line, so
+    // Makes a block, which is free. Refused where its number would not fit a `u32`. Out of line, so
     // that `provide` is short.
     #[inline(never)]
     fn make(&mut self) -> Result<(), AllocError>
@@ -164,7 +168,7 @@ impl Pool {
         Ok(())
     }
 
-    // Writes octets into one block.
+    // Writes octets into one block from an index on.
     #[inline(always)]
     fn write_part(&mut self, number: usize, from: usize, octets: &[u8])
         requires number { number < length self.old.blocks }

@@ -1,4 +1,4 @@
--- What stands under ids: a finite map.
+-- What is stored for ids: a finite map.
 use Rattle.std.specs.Prelude.{◌≡◌, ℕ, ◌==◌, true, Bool, List, map, sum_by, Option, Some, None, is_some}
 use Rattle.std.specs.List.{list_any}
 use Rattle.std.specs.Ordering.{nat_cmp}

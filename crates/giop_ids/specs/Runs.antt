@@ -1,4 +1,4 @@
--- Acts under ids: what each does, what stands under one id alone, and what a run of many leaves.
+-- Acts by id: what each does, what is stored for one id alone, and what a run of many leaves.
 use Rattle.std.specs.Prelude.{◌≡◌, ℕ, ◌==◌, if◌then◌else◌, Bool, true, false, List, [], ◌∷◌, Option, Some, None, Result, Ok, Err, IfOk, IfErr, ◌⊎◌}
 use Rattle.std.specs.List.{AllByRecursion}
 use Rattle.std.specs.FinMap as finite
@@ -11,35 +11,35 @@ abbrev pub own : {X : Type 0} → ℕ → List (Addressed X) → List X
 own id [] = []
 own id (one ∷ rest) = if one.id == id then one.what ∷ own id rest else own id rest
 
--- what an accepted act does: what stands under its id then, and what it answers
+-- what an accepted act does: what is stored for its id then, and what it answers
 pub record Done (V Answer : Type 0) : Type 0 where
   pub now : V
   pub answer : Answer
 
--- what stands under the id then: a refused act leaves what stood there
+-- what is stored for the id then: a refused act leaves what was stored
 abbrev pub left : {V Answer Why : Type 0} → V → Result (Done V Answer) Why → V
 left v (Ok done) = done.now
 left v (Err why) = v
 
--- what the act is told: its answer, or why it is refused
+-- what the act returns: its answer, or why it is refused
 abbrev pub told : {V Answer Why : Type 0} → Result (Done V Answer) Why → Result Answer Why
 told (Ok done) = Ok done.answer
 told (Err why) = Err why
 
 module _ {V Act Answer Why : Type 0} (turn : V → Act → Result (Done V Answer) Why) where
-  -- what stands under an id that meets these acts and no others
+  -- what is stored for an id that meets these acts and no others
   abbrev pub alone : V → List Act → V
   alone v [] = v
   alone v (act ∷ acts) = alone (left v (turn v act)) acts
 
-  -- and what each of them is told
+  -- and what each of them returns
   abbrev pub told_alone : V → List Act → List (Result Answer Why)
   told_alone v [] = []
   told_alone v (act ∷ acts) = told (turn v act) ∷ told_alone (left v (turn v act)) acts
 
--- how a state is kept by id: what stands under an id, and the state with that changed; what an act
--- does there; when a limit of the whole state refuses an act all the same; and how want of memory
--- is told
+-- how a state is kept by id: what is stored for an id, and the state with that changed; what an act
+-- does there; when a limit of the whole state refuses an act all the same; and how out of memory is
+-- returned
 pub record Rules (S V Act Answer Why : Type 0) : Type 0 where
   pub at : S → ℕ → V
   pub put : S → ℕ → V → S
@@ -70,7 +70,7 @@ abbrev pub refusal_of : {A Why : Type 0} → Result A Why → Option Why
 refusal_of (Ok a) = None
 refusal_of (Err why) = Some why
 
--- it is refused for what was found, or for want of memory where nothing was
+-- it is refused for what was found, or as out of memory where nothing was
 abbrev pub RefusedAs : {Why : Type 0} → (memory why : Why) → Option Why → Type 0
 RefusedAs memory why found = (found ≡ Some why) ⊎ ((why ≡ memory) × (found ≡ None))
 
@@ -79,7 +79,7 @@ module _ {S V Act Answer Why : Type 0} (rules : Rules S V Act Answer Why) where
   abbrev pub turn_of : S → Addressed Act → Result (Done V Answer) Why
   turn_of s act = rules.turn (rules.at s act.id) act.what
 
-  -- what it does, or why it is refused, want of memory aside
+  -- what it does, or why it is refused, out of memory aside
   abbrev pub judged : S → Addressed Act → Result (Done V Answer) Why
   judged s act = within (rules.limit s act) (turn_of s act)
 
@@ -92,7 +92,7 @@ module _ {S V Act Answer Why : Type 0} (rules : Rules S V Act Answer Why) where
   all_after s [] = s
   all_after s (act ∷ acts) = all_after (after s act) acts
 
-  -- what each of them is told, under its id
+  -- what each of them returns, with its id
   abbrev pub all_told : S → List (Addressed Act) → List (Addressed (Result Answer Why))
   all_told s [] = []
   all_told s (act ∷ acts) =
@@ -109,8 +109,8 @@ module _ {S V Act Answer Why : Type 0} (rules : Rules S V Act Answer Why) where
     pub refusal : IfErr result (λ why. RefusedAs rules.memory why (refusal_of (judged s act)))
     pub leaves : t ≡ became s act result
 
-  -- a run of calls does these acts with these results, one for each, and leaves t: it goes on
-  -- behind refusals
+  -- a run of calls does these acts with these results, one for each, and leaves t: it continues
+  -- after refusals
   abbrev pub Runs : S → List (Addressed Act) → List (Result Answer Why) → S → Type 0
   Runs s [] [] t = t ≡ s
   Runs s [] (result ∷ results) t = ⊥
@@ -133,7 +133,7 @@ accepted (act ∷ acts) [] = []
 accepted (act ∷ acts) (Ok answer ∷ results) = act ∷ accepted acts results
 accepted (act ∷ acts) (Err why ∷ results) = accepted acts results
 
--- a change under one id leaves what stands under each other
+-- a change for one id leaves what is stored for each other
 abbrev pub IsApart : {S V Act Answer Why : Type 0} → Rules S V Act Answer Why → Type 0
 IsApart {S} {V} rules = (s : S) (id : ℕ) (v : V) (q : ℕ)
     → rules.at (rules.put s id v) q ≡ (if q == id then v else rules.at s q)
@@ -143,14 +143,14 @@ abbrev pub is_own : {Answer Why : Type 0} → (Why → Bool) → Result Answer W
 is_own of_id (Ok answer) = true
 is_own of_id (Err why) = of_id why
 
--- refusals that are an id's own are told from those of a limit and of memory
+-- refusals that are an id's own are distinguished from those of a limit and of memory
 pub record Distinguishes {S V Act Answer Why : Type 0} (rules : Rules S V Act Answer Why)
     (of_id : Why → Bool) : Type 0 where
   pub limits : (s : S) (act : Addressed Act) (why : Why)
       → rules.limit s act ≡ Some why → of_id why ≡ false
   pub memory : of_id rules.memory ≡ false
 
--- the acts of this id met no limit, and no want of memory
+-- the acts of this id met no limit, and none was out of memory
 abbrev pub MeetsNoLimit : {Act Answer Why : Type 0} → (Why → Bool) → ℕ
     → List (Addressed Act) → List (Result Answer Why) → Type 0
 MeetsNoLimit of_id id acts results =

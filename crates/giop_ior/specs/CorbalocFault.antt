@@ -1,4 +1,4 @@
--- What is wrong with a corbaloc text, and how it is told.
+-- What is wrong with a corbaloc text, and how it is reported.
 use Rattle.std.specs.Prelude.{◌≡◌, ◌⊎◌, ℕ, List, ◌++◌, codes, Result, Ok, Err, IsOk}
 use Rattle.std.specs.Fmt.{decimal}
 use Rattle.giop_ior.specs.declared.addresses.corbaloc_fault.CorbalocFault.{CorbalocFault}
@@ -35,7 +35,7 @@ corbaloc_fault_text e = corbaloc_kind_name e.kind ++ (codes " at " ++ decimal e.
 abbrev pub fault : ℕ → CorbalocKind → CorbalocFault
 fault at kind = record { at = at; kind = kind }
 
--- memory ran out: it says nothing of the text
+-- out of memory: it says nothing of the text
 abbrev pub no_memory : CorbalocFault
 no_memory = fault 0 NoMemory
 
@@ -54,7 +54,7 @@ abbrev pub Answers : {X A : Type 0} → (X → A) → Read X → Read A → Type
 Answers view (Ok x) reading = reading ≡ Ok (view x)
 Answers view (Err e) reading = reading ≡ Err e
 
--- the same of a call that takes memory, where nothing else is known once it is wanting
+-- a call that takes memory answers what reading gives; out of memory, nothing else is known
 abbrev pub AnswersOrWants : {X A : Type 0} → (X → A) → Read X → Read A → Type 0
 AnswersOrWants view (Ok x) reading = reading ≡ Ok (view x)
 AnswersOrWants view (Err e) reading = (reading ≡ Err e) ⊎ (e ≡ no_memory)
@@ -64,7 +64,7 @@ abbrev pub Tells : {X A : Type 0} → Read X → Read A → Type 0
 Tells (Ok _) reading = IsOk reading
 Tells (Err e) reading = reading ≡ Err e
 
--- a call answers this value, unless memory is wanting
+-- a call answers this value, unless out of memory
 abbrev pub IsAnswered : {A : Type 0} → Read A → A → Type 0
 IsAnswered (Ok x) value = x ≡ value
 IsAnswered (Err e) value = e ≡ no_memory

@@ -46,8 +46,8 @@ part_end BadEscape at text = at + 3
 part_end BadChar at text = at + 1
 part_end NoMemory at text = at
 
--- What stands before the place can be gone on with, by the part that is named, to a text of the
--- grammar; and no text that is the same up to the end of what stands there instead is one.
+-- What stands before the place can be continued, by the part that is named, to a text of the
+-- grammar; and no text that agrees up to the end of what stands there instead is one.
 pub record IsFirstFault (text : List ℕ) (e : CorbalocFault) : Type 0 where
   pub part : List ℕ
   pub more : List ℕ

@@ -96,11 +96,11 @@ iiop_of contents = do
   p ← iiop_layout.read (content_of order (drop 1 contents))
   Ok p.0
 
--- want of memory, of a profile as a whole
+-- out of memory, for a profile as a whole
 abbrev pub no_memory : CdrFault
 no_memory = fault 0 NoMemory
 
--- this profile is the answer, unless memory is wanting
+-- this profile is the answer, unless out of memory
 abbrev pub IsAnswered : Result Profile CdrFault → Profile → Type 0
 IsAnswered (Ok p) profile = p ≡ profile
 IsAnswered (Err e) profile = e ≡ no_memory

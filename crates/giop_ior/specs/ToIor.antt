@@ -19,7 +19,7 @@ address_profile key a =
       components = [];
     }
 
--- the same as a tagged profile
+-- an address and the key as a tagged profile
 abbrev pub profile_of : List ℕ → Address → TaggedProfile
 profile_of key a = record { tag = 0; octets = iiop_octets (address_profile key a) }
 

@@ -1,5 +1,6 @@
-//! How a client finds its object (CORBA 3.3 Part 2, 7.6): references (IORs), IIOP profiles, and
-//! corbaloc addresses.
+//! How a client finds its object (CORBA 3.3 Part 2, 7.6): references (IORs) and their texts, IIOP
+//! profiles (9.7.2), and corbaloc texts. Service contexts (7.7) are here too, since they are
+//! spelled as tagged profiles are.
 #![tactic(auto)]
 
 mod addresses;

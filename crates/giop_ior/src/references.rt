@@ -1,4 +1,5 @@
-//! References and their profiles.
+//! Object references (CORBA 3.3 Part 2, 7.6.2) and their texts (7.6.9), IIOP profiles (9.7.2), and
+//! service contexts (7.7).
 pub mod iiop_reading;
 pub mod iiop_writing;
 pub mod ior;

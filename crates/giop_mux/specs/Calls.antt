@@ -24,7 +24,7 @@ calls_code {R} {E} rule entry =
     (λ p. record { rule = p.0; limit = p.1.0; entries = p.1.1 })
     (λ _. refl)
 
--- a rule's outcome, as the table tells it
+-- a rule's outcome, as the table returns it
 abbrev pub by_rule : {A F : Type 0} → Result A F → Result A (Refusal F)
 by_rule (Ok answer) = Ok answer
 by_rule (Err fault) = Err (Rule fault)
@@ -37,6 +37,6 @@ is_one_too_many m limit id entry = is_none (map.get m id) && is_some entry && (m
 abbrev pub room_refusal : {E F : Type 0} → ById E → ℕ → ℕ → Option E → Option (Refusal F)
 room_refusal m limit id entry = if is_one_too_many m limit id entry then Some TooManyCalls else None
 
--- what the table answers to a step of this id, want of memory aside: the rule's fault comes first
+-- what the table answers to a step of this id, out of memory aside: the rule's fault comes first
 abbrev pub judged : {E A F : Type 0} → ById E → ℕ → ℕ → Step E A F → Result A (Refusal F)
 judged m limit id step = within (room_refusal m limit id step.entry) (by_rule step.outcome)

@@ -13,7 +13,7 @@ refusal_number (Rule _) = 1
 refusal_number TooManyCalls = 2
 refusal_number NoMemory = 3
 
--- a refusal as a person reads it, where the rule's faults are told so: its fault, or its name
+-- a refusal as a person reads it, where the rule's faults have these texts: its fault, or its name
 abbrev pub refusal_text : {F : Type 0} → (F → Option (List ℕ)) → Refusal F → Option (List ℕ)
 refusal_text told (Rule fault) = told fault
 refusal_text told TooManyCalls = Some (codes "TooManyCalls")

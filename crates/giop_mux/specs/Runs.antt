@@ -26,7 +26,7 @@ pub data Denial (Fault : Type 0) : Type 0 where
   Refuses : Refusal Fault → Denial Fault
   IsOpen : Denial Fault
 
--- what the caller of `apply` is told, and of `take`
+-- what `apply` returns to its caller, and what `take` returns
 abbrev pub event_reply : {A E F : Type 0} → Result A (Refusal F) → Result (Reply A E) (Denial F)
 event_reply (Ok answer) = Ok (Answers answer)
 event_reply (Err refusal) = Err (Refuses refusal)
@@ -41,7 +41,7 @@ abbrev pub acts_of : {Event : Type 0}
     → List (Addressed Event) → List (Addressed (Happening Event))
 acts_of told = map (λ one. record { id = one.id; what = Hears one.what }) told
 
--- whether a call's own rule refuses, and not the table's limit or want of memory
+-- whether a call's own rule refuses, and not the table, for its limit or when out of memory
 abbrev pub is_of_call : {F : Type 0} → Denial F → Bool
 is_of_call (Refuses (Rule fault)) = true
 is_of_call (Refuses TooManyCalls) = false

@@ -1,4 +1,6 @@
-//! Laws of every rule: what a run over the calls of many ids leaves of each, and tells it.
+//! Laws of a `Mux` by any rule: what a run over the calls of many ids leaves of each, and what it
+//! returns for each. A function's contract is a law; the bodies are empty, and no program calls
+//! them.
 ghost use Rattle.std.specs.Prelude.{◌≡◌, ◌≢◌, ◌≤◌, ℕ, Err, length};
 ghost use Rattle.std.specs.List.{AllByRecursion};
 ghost use Rattle.std.specs.FinMap as finite;
@@ -9,9 +11,9 @@ ghost use Rattle.giop_mux.specs.declared.refusal.Refusal.TheVariants.{TooManyCal
 
 use crate::CallRule;
 
-/// In any run of steps and takes, which goes on behind refusals, the entry under an id, and what
-/// its own steps and takes are told, are those of its own alone; unless one of them met the limit
-/// or want of memory.
+/// In any run of steps and takes, which continues after refusals, the entry of an id and the
+/// results of its own steps and takes are those of its own alone. This holds unless one of them met
+/// the limit or was out of memory.
 pub fn each_call_alone<R: CallRule>(rule: &R)
     ensures value { (limit : ℕ) (m n : _) (acts results : _) (id : ℕ)
         → Runs (call_rules (R.next rule.now) (R.closed rule.now) limit) m acts results n
@@ -26,7 +28,8 @@ pub fn each_call_alone<R: CallRule>(rule: &R)
 {}
 
 /// Two runs whose steps and takes are equal for each id, in any interleaving, leave equal tables
-/// and tell each id the same, where they meet no limit and no want of memory.
+/// and return the same results for each id. This holds where they meet no limit and are never out
+/// of memory.
 pub fn any_interleaving<R: CallRule>(rule: &R)
     ensures value { (limit : ℕ) (m n n' : _) (one other : _) (results results' : _)
         → Runs (call_rules (R.next rule.now) (R.closed rule.now) limit) m one results n
@@ -43,8 +46,8 @@ pub fn any_interleaving<R: CallRule>(rule: &R)
         → (id : ℕ) → own id (addressed one results) ≡ own id (addressed other results') }
 {}
 
-/// Where the ids of a table and of all that befalls it are at most as many as its limit, no order
-/// of these steps and takes meets `TooManyCalls`.
+/// Where a table and a run of steps and takes have, together, at most as many ids as the limit, no
+/// order of these steps and takes is refused as `TooManyCalls`.
 pub fn limits_in_any_order<R: CallRule>(rule: &R)
     ensures { (limit : ℕ) (m n : _) (acts results : _) (ids : _)
         → HasOnly m ids → AddressesOnly acts ids → length ids ≤ limit

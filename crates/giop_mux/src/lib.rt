@@ -1,4 +1,4 @@
-//! A table of one-call machines: under each id stands the entry of one call, and an event under an
+//! A table of calls by request id. It stores the entry of one call for each id, and an event for an
 //! id changes that entry alone, by a rule. So interleaving is harmless: each id's entry is its own
 //! events folded alone.
 #![tactic(auto)]

@@ -1,3 +1,6 @@
+//! The table of calls, `Mux`: it applies events to calls, and takes out the entries of closed ones.
+//! How a slot changes is in `slots.rt`; the contracts here speak of the finite map of entries
+//! alone.
 ghost use Rattle.std.specs.Prelude.{◌≡◌, ◌==◌, ◌≤◌, ◌↔◌, false, map, Some, None, IsErr, IfOk, IfErr, OnOk, OnErr, IsErrOf, IsSome, option_copied};
 ghost use Rattle.std.specs.Option.{option_map};
 ghost use Rattle.std.specs.FinMap as finite;
@@ -20,7 +23,8 @@ use std::marker::Model;
 pub struct Mux<R: CallRule> {
     rule: R,
     limit: u32,
-    // No slot is empty between two calls. A slot that is emptied and filled again takes no memory.
+    // No slot is empty between two calls of these functions. A slot that is emptied and filled
+    // again takes no memory.
     table: BTreeMap<u32, Option<R::Entry>>,
 }
 
@@ -53,7 +57,7 @@ impl<R: CallRule> Mux<R> {
         }
     }
 
-    /// Steps the call of this id by the event, and gives the rule's answer.
+    /// Steps the call of this id by the event, and returns the rule's answer.
     ///
     /// Refusals, in this order: the rule's fault (`Rule`); `TooManyCalls`, exactly where an id
     /// without an entry would get one and `len` is the limit; `NoMemory`, only where an id without
@@ -80,10 +84,11 @@ impl<R: CallRule> Mux<R> {
         slots::step_call(&self.rule, self.limit, &mut self.table, id, event)
     }
 
-    /// Applies these events, each under its id, one after the other, and gives what each is
-    /// answered, or why it is refused, in their order. It goes on behind a refusal.
+    /// Applies these events one after the other, each to the call of its id. It returns the answer
+    /// of each, or why it is refused, in their order, and continues after a refusal.
     ///
-    /// `alloc` gives the memory of the list of outcomes. Where that is wanting, nothing is applied.
+    /// `alloc` provides the memory of the list of outcomes. Out of memory for it, nothing is
+    /// applied.
     pub fn apply_all(
         &mut self,
         alloc: Global,
@@ -103,15 +108,15 @@ impl<R: CallRule> Mux<R> {
         Ok(outcomes)
     }
 
-    /// The entry under this id. It takes no memory.
+    /// The entry that is stored for this id, or `None`. It takes no memory.
     pub fn entry(&self, id: u32) -> Option<&R::Entry>
         ensures { option_copied result ≡ finite.get self.now.entries id }
     {
         slots::entry_in(&self.table, id)
     }
 
-    /// Takes the entry of a closed call out, and gives it; `None` where the id has none. It takes
-    /// no memory. An entry whose call is open stays, and is refused.
+    /// Takes the entry of a closed call out, and returns it; `None` where the id has none. It takes
+    /// no memory. Refused as `StillOpen` where the call is open, and then the entry stays.
     pub fn take(&mut self, id: u32) -> Result<Option<R::Entry>, StillOpen>
         ensures ok { OnOk result
             (self.new ≡ record self.old { entries = finite.remove self.old.entries id }) }
@@ -145,15 +150,15 @@ impl<R: CallRule> Mux<R> {
         self.len() == 0
     }
 
-    /// Whether there are as many entries as may be, so that an id without one is refused another.
-    /// It takes no memory.
+    /// Whether there are as many entries as the limit, so that no other id can get one. It takes no
+    /// memory.
     pub fn is_full(&self) -> bool
         ensures { result ≡ (finite.len self.now.entries == self.now.limit) }
     {
         self.len() == self.limit as usize
     }
 
-    /// The ids that have an entry, ascending. `alloc` gives the memory of the list.
+    /// The ids that have an entry, ascending. `alloc` provides the memory of the list.
     pub fn ids(&self, alloc: Global) -> Result<Vec<u32>, AllocError>
         ensures { IfOk result (λ ids. ids.items ≡ finite.keys self.now.entries) }
     {
@@ -161,7 +166,8 @@ impl<R: CallRule> Mux<R> {
     }
 }
 
-/// How many entries there are, and may be; neither the rule nor the entries need to be shown.
+/// Shows how many entries there are, and the limit; the rule and the entries need no `Debug` of
+/// their own.
 impl<R: CallRule> fmt::Debug for Mux<R> {
     fn fmt<W: fmt::Write>(&self, f: &mut fmt::Formatter<W>) -> fmt::Result {
         f.debug_struct("Mux")

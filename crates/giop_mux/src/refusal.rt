@@ -1,3 +1,5 @@
+//! Why a table refuses an event, or refuses to take an entry out. The numbers and texts are those
+//! of `specs/Faults.antt`.
 ghost use Rattle.std.specs.Prelude.{◌≡◌};
 
 use std::error::Error;
@@ -6,11 +8,11 @@ use std::fmt;
 /// Why an event is refused. A refusal changes nothing.
 #[derive(Debug, PartialEq, Eq, Drop)]
 pub enum Refusal<F> {
-    /// The rule refuses the event at this id's entry.
+    /// The rule refuses the event for this id's entry.
     Rule(F),
-    /// The id has no entry and would get one, and the table holds as many as it may.
+    /// The id has no entry and would get one, and the table has as many as its limit.
     TooManyCalls,
-    /// The id has no entry and would get one, and there is no memory for it.
+    /// Out of memory for the entry that an id without one would get.
     NoMemory,
 }
 
@@ -29,7 +31,7 @@ impl<F> Refusal<F> {
     }
 }
 
-/// The rule's own fault, or the name of the refusal, as `TooManyCalls`.
+/// The text of the rule's own fault, or the name of the refusal, such as `TooManyCalls`.
 impl<F: fmt::Display> fmt::Display for Refusal<F> {
     ghost use Rattle.giop_mux.specs.Faults.{refusal_text};
 
@@ -50,7 +52,7 @@ impl<F: fmt::Debug + fmt::Display + Drop> Error for Refusal<F> {}
 #[derive(Clone, Copy, Debug, PartialEq, Eq)]
 pub struct StillOpen;
 
-/// The name of the refusal.
+/// The name of the refusal, `StillOpen`.
 impl fmt::Display for StillOpen {
     ghost use Rattle.std.specs.Prelude.{Some, codes};
 

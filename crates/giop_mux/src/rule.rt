@@ -1,19 +1,22 @@
+//! The trait of the rule of calls, by which a `Mux` steps each of them. The laws of `laws.rt` hold
+//! for every type that implements it.
 ghost use Rattle.std.specs.Prelude.{◌≡◌};
 
 use crate::Step;
 
 /// The rule by which one call runs: what each event does to the call's entry.
 ///
-/// Its meaning is the two ghost members: a step depends on this entry and this event alone.
+/// Its meaning is the ghost members `next` and `closed`: a step depends on this entry and this
+/// event alone.
 pub trait CallRule {
     ghost use Rattle.std.specs.Prelude.{◌≡◌, Bool, Option, IsErr};
     ghost use Rattle.giop_mux.specs.declared.step.Step.{Step};
 
-    /// What stands in the table under the id of a call.
+    /// What the table stores for the id of a call.
     type Entry: Drop;
-    /// What may befall a call.
+    /// What may happen to a call.
     type Event: Drop;
-    /// What an accepted event answers.
+    /// What an accepted event returns.
     type Answer: Drop;
     /// Why an event is refused.
     type Fault: Drop;
@@ -32,8 +35,9 @@ pub trait CallRule {
     ) -> Step<Self::Entry, Self::Answer, Self::Fault>
         ensures { result ≡ next self.now entry event };
 
-    /// The same, of an entry where it lies: what `step` leaves stands there. A rule of large entries
-    /// writes its own, and moves none. It takes no memory.
+    /// Steps an entry where it lies: it leaves there what `step` would leave. By default that is
+    /// `step`, with the entry moved out and back. A rule of large entries may write its own, which
+    /// moves none. It takes no memory.
     #[inline(always)]
     fn step_in(
         &self,
@@ -52,7 +56,7 @@ pub trait CallRule {
     fn is_closed(&self, entry: &Self::Entry) -> bool
         ensures { result ≡ closed self.now entry.now };
 
-    // After a fault the entry is the one handed in.
+    // After a fault the entry is the one that was passed in.
     ghost fault_keeps: { (rule : Self) (entry : Option Self.Entry) (event : Self.Event)
         → IsErr (next rule entry event).outcome → (next rule entry event).entry ≡ entry };
 }

@@ -1,4 +1,5 @@
-//! The steps over the plain map of slots: what each leaves of the entries.
+//! The steps of a `Mux` over the plain map of its slots: what each leaves of the entries. How slots
+//! show entries is defined in `specs/Slots.antt`.
 ghost use Rattle.std.specs.Prelude.{◌≡◌, ◌≤◌, ◌<◌, ◌+◌, ◌==◌, ◌↔◌, IsTrue, length, false, None, Some, IsOk, IsErr, IsErrOf, IfOk, IfErr, OnOk, OnErr, option_copied, IsSome, IsNone};
 ghost use Rattle.std.specs.Option.{option_map};
 ghost use Rattle.std.specs.FinMap as map;
@@ -14,7 +15,7 @@ use crate::{CallRule, Refusal};
 use std::alloc::{AllocError, Global};
 use std::collections::BTreeMap;
 
-/// Steps the call of an id that has an entry, or has none.
+/// Steps the call of an id by an event, whether the id has an entry or none.
 #[inline(always)]
 pub fn step_call<R: CallRule>(
     rule: &R,
@@ -51,7 +52,7 @@ pub fn step_call<R: CallRule>(
     }
 }
 
-/// The entry under an id.
+/// The entry that is stored for an id.
 pub fn entry_in<E>(table: &BTreeMap<u32, Option<E>>, id: u32) -> Option<&E>
     ensures { option_copied result ≡ map.get (entries_of table.now.entries) id }
 {
@@ -78,7 +79,7 @@ pub fn ids_of<E>(alloc: Global, table: &BTreeMap<u32, Option<E>>) -> Result<Vec<
     listed_keys(alloc, table)
 }
 
-// The keys of a map, and that they ascend.
+// The keys of a map, of which the contract also says that they ascend.
 fn listed_keys<E>(alloc: Global, table: &BTreeMap<u32, Option<E>>) -> Result<Vec<u32>, AllocError>
     ensures value { IfOk result (λ ids. ids.items ≡ keys table.now) }
     ensures ordered { IsOrdered nat_cmp table.now }
@@ -86,7 +87,7 @@ fn listed_keys<E>(alloc: Global, table: &BTreeMap<u32, Option<E>>) -> Result<Vec
     table.keys().copied().collect(alloc)
 }
 
-/// The number of the slots.
+/// The number of slots, none of which is empty.
 pub fn count_of<E>(table: &BTreeMap<u32, Option<E>>) -> usize
     requires { NoneEmpty table.now.entries }
     ensures value { result ≡ map.len (entries_of table.now.entries) }
@@ -95,7 +96,7 @@ pub fn count_of<E>(table: &BTreeMap<u32, Option<E>>) -> usize
     table.len()
 }
 
-/// Takes the entry under an id out.
+/// Takes the entry of an id out, with its slot.
 pub fn take_slot<E: Drop>(table: &mut BTreeMap<u32, Option<E>>, id: u32) -> Option<E>
     requires { NoneEmpty table.old.entries }
     ensures value { result ≡ map.get (entries_of table.old.entries) id }
@@ -106,7 +107,7 @@ pub fn take_slot<E: Drop>(table: &mut BTreeMap<u32, Option<E>>, id: u32) -> Opti
     table.remove(&id)?
 }
 
-// Takes the slot of this id out.
+// Removes the slot of this id, for a step that left it empty.
 fn drop_slot<E: Drop>(table: &mut BTreeMap<u32, Option<E>>, id: u32)
     ensures gone { Updates nat_cmp table.old table.new id None }
     ensures within { btree_map_len table.new ≤ btree_map_len table.old }

@@ -20,16 +20,16 @@ pub record Encapsulates {A : Type 0} (P : Spelling A) (octets : List ℕ) (v : A
   pub whole : octets ≡ order_octet order ∷ (front ++ rest)
   pub spells : P order 1 v front
 
--- the octets are none, or begin with no byte order, told at the offset of the first of them; or the
--- value is refused, told at an offset that counts from the byte order
+-- the octets are none, or begin with no byte order, at the offset of the first of them; or the
+-- value is refused, at an offset that counts from the byte order
 abbrev pub RefusedInside : Refusal → ℕ → List ℕ → CdrFault → Type 0
 RefusedInside R at octets e =
     ((octets ≡ []) × (e ≡ fault at Short))
     ⊎ ((1 < slice_index octets 0) × (e ≡ fault at BadOrder))
     ⊎ ((content : Cursor) × Opens octets content × R content e)
 
--- the value in octets of which the first stands at an offset, and where the reader of outside goes
--- on
+-- the value in octets of which the first stands at an offset, and where the reader outside
+-- continues
 unfoldable pub inside_at : {A : Type 0} → (Cursor → Reading A) → ℕ → List ℕ → Cursor → Reading A
 inside_at read at octets behind = do
   content ← opened_of at octets behind

@@ -34,7 +34,7 @@ pub record IsExactHere {A : Type 0} (M : A → Cursor → Type 0) (R : CdrFault 
   pub refused : (e : CdrFault) → answer ≡ Err e → R e
   pub refuses : (e : CdrFault) → R e → answer ≡ Err e
 
--- the same of what reading answers, wherever it begins
+-- what reading answers is exact, wherever it begins
 abbrev pub IsExact : {A : Type 0} → Stretch A → Refusal → (Cursor → Reading A) → Type 0
 IsExact M R read = (c : Cursor) → IsExactHere (M c) (R c) (read c)
 

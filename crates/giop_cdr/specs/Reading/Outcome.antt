@@ -3,11 +3,11 @@
 -- word      | its value            | memory      | a refusal leaves the reader
 -- Reads     | as reading gives it  | takes none  | where it was
 -- ReadsAs   | seen by a view       | takes none  | where it was
--- Allocates | seen by a view       | may be wanting where nothing is refused | where it was
+-- Allocates | seen by a view       | may be out of it where nothing is refused | where it was
 -- Passes    | none: it is skipped  | takes none  | where it was
 -- Exactly   | as Reads             | takes none  | anywhere: a step within one of the above
 -- Skips     | as Passes            | takes none  | anywhere
--- Follows   | as Allocates         | may be wanting, and then nothing else is known | anywhere
+-- Follows   | as Allocates         | may be out of it, and then nothing else is known | anywhere
 use Rattle.std.specs.Prelude.{◌≡◌, ◌⊎◌, Result, Ok, Err, IsOk}
 use Rattle.giop_cdr.specs.declared.fault.CdrFault.{CdrFault}
 use Rattle.giop_cdr.specs.declared.fault.CdrKind.TheVariants.{NoMemory}
@@ -20,14 +20,15 @@ abbrev pub Reads : {A : Type 0} → Cursor → Result A CdrFault → Cursor → 
 Reads old (Ok x) new reading = reading ≡ Ok (x, new)
 Reads old (Err e) new reading = (reading ≡ Err e) × (new ≡ old)
 
--- the same of a call whose value contracts see by a view
+-- a call that takes no memory and whose value contracts see by a view answers what reading gives,
+-- as Reads says
 abbrev pub ReadsAs : {X A : Type 0} → (X → A) → Cursor → Result X CdrFault → Cursor → Reading A
     → Type 0
 ReadsAs view old (Ok x) new reading = reading ≡ Ok (view x, new)
 ReadsAs view old (Err e) new reading = (reading ≡ Err e) × (new ≡ old)
 
--- the same of a call that takes memory, which may want where nothing is refused; view is what
--- contracts see of the value
+-- a call that takes memory answers what reading gives, as Reads says, or is out of memory where
+-- nothing is refused; view is what contracts see of the value
 abbrev pub Allocates : {X A : Type 0} → (X → A) → Cursor → Result X CdrFault → Cursor → Reading A
     → Type 0
 Allocates view old (Ok x) new reading = reading ≡ Ok (view x, new)
@@ -49,8 +50,8 @@ abbrev pub Exactly : {A : Type 0} → Result A CdrFault → Cursor → Reading A
 Exactly (Ok x) new reading = reading ≡ Ok (x, new)
 Exactly (Err e) new reading = reading ≡ Err e
 
--- what a step of a longer reading says: where memory is wanting nothing else is known, since what
--- follows may still be refused
+-- what a step of a longer reading says: out of memory, nothing else is known, since what follows
+-- may still be refused
 abbrev pub Follows : {X A : Type 0} → (X → A) → Result X CdrFault → Cursor → Reading A → Type 0
 Follows view (Ok x) new reading = reading ≡ Ok (view x, new)
 Follows view (Err e) new reading = (reading ≡ Err e) ⊎ (e.kind ≡ NoMemory)

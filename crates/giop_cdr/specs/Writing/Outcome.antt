@@ -7,13 +7,12 @@ pub record Grows (old new : Output) : Type 0 where
   pub part : List ℕ
   pub octets : new.octets ≡ old.octets ++ part
 
--- a call that writes a value leaves what is written of it, or, where memory is wanting, what was
--- there
+-- a call that writes a value leaves what is written of it, or, out of memory, what was there
 abbrev pub Writes : {X E : Type 0} → Output → Result X E → Output → Output → Type 0
 Writes old (Ok _) new done = (new ≡ done) × Grows old new
 Writes old (Err _) new done = new ≡ old
 
--- a step of a longer writing, which may leave a part of it where memory is wanting
+-- a step of a longer writing, which may leave a part of it when out of memory
 abbrev pub Appends : {X E : Type 0} → Output → Result X E → Output → Output → Type 0
 Appends old (Ok _) new done = (new ≡ done) × Grows old new
 Appends old (Err _) new done = Grows old new

@@ -1,3 +1,5 @@
+//! Booleans, octets, chars and integers, read (CORBA 3.3 Part 2, 9.3.1). Each is aligned to its
+//! size. What a read returns is defined in `specs/Reading/Values.antt`.
 ghost use Rattle.std.specs.Prelude.{◌≡◌, IfErr};
 ghost use Rattle.std.specs.Int.{w8, w16, w32, w64};
 ghost use Rattle.giop_cdr.specs.Reading.Cursor.{place};
@@ -30,7 +32,7 @@ impl<'a, S: Octets> CdrIn<'a, S> {
         Ok(octet == 1)
     }
 
-    /// An octet (9.3.1.4), which has no order.
+    /// An octet (9.3.1.4), which has no byte order.
     ///
     /// Refused as Short at its place where no octet is left.
     #[inline(always)]

@@ -1,3 +1,5 @@
+//! Octets viewed where they lie in a store, without memory: `OctetsAt`, and the reads of `CdrIn`
+//! that return one.
 ghost use Rattle.std.specs.Prelude.{◌≡◌, ◌+◌, ◌≤◌, ◌^◌, length, take, drop, IfOk};
 ghost use Rattle.giop_cdr.specs.Reading.Values.{octets_at, string_at};
 ghost use Rattle.giop_cdr.specs.Reading.Outcome.{Reads};
@@ -32,7 +34,7 @@ impl<'a, S: Octets> Model for OctetsAt<'a, S> {
 }
 
 impl<'a, S: Octets> OctetsAt<'a, S> {
-    // The octets of a store from an index on.
+    // The `count` octets of a store from index `from` on.
     #[inline(always)]
     pub(crate) fn new(source: &'a S, from: usize, count: usize) -> OctetsAt<'a, S>
         requires within { from + count ≤ length (S.octets source.now) }
@@ -46,7 +48,7 @@ impl<'a, S: Octets> OctetsAt<'a, S> {
         }
     }
 
-    /// A copy of the octets. It takes memory for these, once.
+    /// A copy of the octets. It takes memory once, for all of them.
     #[inline(always)]
     pub fn to_list(&self, alloc: Global) -> Result<OctetList, AllocError>
         ensures { IfOk result (λ list. list ≡ self.now) }
@@ -64,7 +66,7 @@ impl<'octets> OctetsAt<'_, SliceOctets<'octets>> {
     }
 }
 
-// The octets of a part of a store are a store of their own.
+// A part of a store is a store too, so what it holds is read by a reader of its own.
 impl<'a, S: Octets> Octets for OctetsAt<'a, S> {
     ghost octets = { λ o. o };
 
@@ -84,7 +86,10 @@ impl<'a, S: Octets> Octets for OctetsAt<'a, S> {
 }
 
 impl<'a, S: Octets> CdrIn<'a, S> {
-    /// A sequence of octets, as `read_octets` reads it, where it lies and so without memory.
+    /// A sequence of octets (9.3.2.5), where it lies and so without memory.
+    ///
+    /// Refused as `read_octets` refuses it, but never as NoMemory. The reader then stays where it
+    /// was.
     #[tactic(auto, using(crate::proofs::Reading::CountSteps::octets_counted, crate::proofs::Reading::CountSteps::octets_uncounted))]
     #[inline(always)]
     pub fn view_octets(&mut self, bound: u32) -> Result<OctetsAt<'a, S>, CdrFault>
@@ -98,8 +103,10 @@ impl<'a, S: Octets> CdrIn<'a, S> {
         Ok(octets)
     }
 
-    /// The octets of a string without its null, as `read_string` reads it, where they lie and so
-    /// without memory.
+    /// The octets of a string (9.3.2.7) without its null, where they lie and so without memory.
+    ///
+    /// Refused as `read_string` refuses it, but never as NoMemory. The reader then stays where it
+    /// was.
     #[tactic(auto, using(crate::proofs::Reading::CountSteps::text_counted, crate::proofs::Reading::CountSteps::text_uncounted))]
     #[inline(always)]
     pub fn view_string(&mut self, bound: u32) -> Result<OctetsAt<'a, S>, CdrFault>
@@ -113,7 +120,7 @@ impl<'a, S: Octets> CdrIn<'a, S> {
         Ok(text)
     }
 
-    /// All octets that are left, where they lie and so without memory.
+    /// All octets that are left, where they lie and so without memory. The reader doesn't move.
     #[tactic(auto, using(crate::proofs::Reading::RunLemmas::take_all))]
     #[inline(always)]
     pub fn view_remainder(&self) -> OctetsAt<'a, S>

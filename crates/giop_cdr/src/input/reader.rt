@@ -1,3 +1,5 @@
+//! The reader `CdrIn`: where it stands, alignment (CORBA 3.3 Part 2, 9.3.1.1), and encapsulations
+//! (9.3.3). The reads of values are in the other files of this folder.
 ghost use Rattle.std.specs.Prelude.{◌≡◌, ◌+◌, ◌<◌, ◌≤◌, ◌^◌, length, take, Ok, Err, IfOk, IfErr};
 ghost use Rattle.giop_cdr.specs.Reading.Cursor.{pad, place, skip};
 ghost use Rattle.giop_cdr.specs.Reading.Values.{field_at, is_text};
@@ -25,7 +27,7 @@ pub struct CdrIn<'a, S: Octets> {
     order: WideOrder,
     // The offset of the next octet, by which values are aligned.
     at: usize,
-    // The place of the next octet in `source`, and of the end of what may be read.
+    // The indices in `source` of the next octet, and of the end of what may be read.
     index: usize,
     end: usize,
 }
@@ -87,8 +89,8 @@ impl<'a, S: Octets> CdrIn<'a, S> {
         self.order.get()
     }
 
-    /// Another reader that stands where this one does: to read ahead, and come back by assigning
-    /// it.
+    /// Another reader that stands where this one does. Read ahead with it, and assign it to this
+    /// one to accept what was read; this one stays where it was until then.
     #[inline(always)]
     pub fn fork(&self) -> CdrIn<'a, S>
         ensures { result ≡ self.now }
@@ -103,7 +105,8 @@ impl<'a, S: Octets> CdrIn<'a, S> {
     }
 
     // The number of octets before the next value of N octets, which is aligned to N, where that
-    // value is there. The value itself stays out of the result: octets in it would go by memory.
+    // value is there. The value itself is no part of the result, since its octets would then pass
+    // through memory.
     #[inline(always)]
     pub(crate) fn pad_of_field<const N: usize>(&self) -> Result<usize, CdrFault>
         requires some { 0 < N }
@@ -150,8 +153,8 @@ impl<'a, S: Octets> CdrIn<'a, S> {
         self.at + (N - self.at % N) % N
     }
 
-    /// Goes on to the next multiple of 8, and stays where it is on one: there the body of a message
-    /// stands in GIOP 1.2 (9.4.2). Where the octets end before it, none are left.
+    /// Moves to the next multiple of 8, where a body begins in GIOP 1.2 (9.4.2.2, 9.4.3.2). On a
+    /// multiple it stays. Where the octets end before it, none are left.
     #[inline(always)]
     pub fn align_to_8(&mut self)
         ensures { self.new ≡ skip (pad 8 self.old.at) self.old }
@@ -183,7 +186,7 @@ impl<'a, S: Octets> CdrIn<'a, S> {
         copy_of(alloc, self.source, self.index, count)
     }
 
-    // The next octets, which are there, where they lie.
+    // The next `count` octets, which are there, without a copy.
     #[inline(always)]
     pub(crate) fn here(&self, count: usize) -> OctetsAt<'a, S>
         requires { count ≤ length self.now.rest }
@@ -202,7 +205,7 @@ impl<'a, S: Octets> CdrIn<'a, S> {
     }
 
     /// An encapsulation (9.3.3): a reader of its content, in its own order and with its own
-    /// alignment. This reader goes on behind the content, in its own order.
+    /// alignment. This reader continues after the content, in its own order.
     ///
     /// Refused at the offset of its length, as a sequence of octets is: as Short or BadCount.
     /// Refused at the offset behind the length: as Short where the length is 0, as BadOrder where
@@ -220,8 +223,8 @@ impl<'a, S: Octets> CdrIn<'a, S> {
         Ok(content)
     }
 
-    // A reader of what the next octets, which are there, encapsulate; the first of them has an
-    // offset.
+    // A reader of the content that the next `count` octets encapsulate, which are there. The first
+    // of them has the offset `at`, which is that of the faults.
     fn content(&self, count: usize, at: usize) -> Result<CdrIn<'a, S>, CdrFault>
         requires { count ≤ length self.now.rest }
         ensures { Exactly result (skip count self.now)
@@ -254,7 +257,7 @@ impl<'a, S: Octets> CdrIn<'a, S> {
 }
 
 impl<'a> CdrIn<'a, SliceOctets<'a>> {
-    // The next octets, which are there, where they lie.
+    // The next `count` octets, which are there, without a copy.
     #[inline(always)]
     pub(crate) fn lent(&self, count: usize) -> &'a [u8]
         requires { count ≤ length self.now.rest }
@@ -264,7 +267,8 @@ impl<'a> CdrIn<'a, SliceOctets<'a>> {
     }
 }
 
-/// Where the reader stands, and how many octets are left; not the octets themselves.
+/// Shows the order, where the reader stands, and how many octets are left; not the octets
+/// themselves.
 impl<'a, S: Octets> fmt::Debug for CdrIn<'a, S> {
     fn fmt<W: fmt::Write>(&self, f: &mut fmt::Formatter<W>) -> fmt::Result {
         f.debug_struct("CdrIn")

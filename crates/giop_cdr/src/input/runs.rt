@@ -1,4 +1,5 @@
-// Octets of a store that lie one after the other, by index. Nothing here knows of offsets.
+//! Octets of a store by index: copied and searched. Nothing here knows of offsets or alignment.
+//! Octets that lie together are taken as one run, since one by one they would be slow.
 ghost use Rattle.std.specs.Prelude.{◌≡◌, ◌+◌, ◌<◌, ◌≤◌, ◌^◌, length, take, drop, IfOk};
 ghost use Rattle.giop_cdr.specs.Reading.Values.{has_null, is_text};
 
@@ -22,7 +23,7 @@ pub fn field_of<S: Octets, const N: usize>(source: &S, from: usize) -> [u8; N]
     scattered_field(source, from)
 }
 
-// The same, where these octets don't lie together.
+// The N octets from an index on, one by one: for `field_of`, where they don't lie together.
 #[cold]
 #[inline(never)]
 fn scattered_field<S: Octets, const N: usize>(source: &S, from: usize) -> [u8; N]
@@ -37,7 +38,7 @@ fn scattered_field<S: Octets, const N: usize>(source: &S, from: usize) -> [u8; N
     octets
 }
 
-/// A copy of the octets from an index on: at once where they lie together.
+/// A copy of the octets from an index on, in one step where they lie together.
 #[inline(always)]
 pub fn copy_of<S: Octets>(
     alloc: Global,
@@ -58,7 +59,7 @@ pub fn copy_of<S: Octets>(
     copy_by_runs(alloc, source, from, count)
 }
 
-// The same run by run.
+// A copy of the octets from an index on, run by run: for `copy_of`, where they don't lie together.
 fn copy_by_runs<S: Octets>(
     alloc: Global,
     source: &S,
@@ -96,7 +97,8 @@ pub fn null_among<S: Octets>(source: &S, from: usize, count: usize) -> bool
     false
 }
 
-/// Whether the octets from an index on are those that a string's length counts.
+/// Whether the octets from an index on are those that a string's length counts (9.3.2.7): with one
+/// null, which is the last, or no octets at all.
 pub fn text_lies_at<S: Octets>(source: &S, from: usize, count: usize) -> bool
     requires within { from + count ≤ length (S.octets source.now) }
     requires small { from + count < 2 ^ 64 }

@@ -1,3 +1,5 @@
+//! Strings (CORBA 3.3 Part 2, 9.3.2.7), sequences of octets and counts (9.3.2.5), read. A count or
+//! a length is judged before memory is asked for what it counts.
 ghost use Rattle.std.specs.Prelude.{◌≡◌, ◌+◌, ◌<◌, ◌≤◌, ◌^◌, length, take, true, false, IfOk, IfErr};
 ghost use Rattle.giop_cdr.specs.Reading.Cursor.{place};
 ghost use Rattle.giop_cdr.specs.Reading.Values.{count_at, octet_count_at, octets_at, text_count_at, string_at, passes, is_text, has_null};
@@ -17,8 +19,8 @@ pub fn passes(bound: u32, length: usize) -> bool
 
 impl<'a, S: Octets> CdrIn<'a, S> {
     /// The count of a sequence (9.3.2.5): an unsigned long, aligned to 4, that is no more than the
-    /// number of octets behind it. What memory it asks for is for the caller to bound: an element
-    /// of one octet on the wire may take many in memory.
+    /// number of octets behind it. The caller bounds the memory of the elements: an element of one
+    /// octet on the wire may take many octets in memory.
     ///
     /// Refused, at the offset of the count: as Short where it isn't there, as BadCount where it is
     /// above the number of octets behind it. The reader then stays where it was.
@@ -42,10 +44,10 @@ impl<'a, S: Octets> CdrIn<'a, S> {
         Ok(count)
     }
 
-    /// The count of a sequence within its bound, where 0 is none.
+    /// The count of a sequence (9.3.2.5) that is at most `bound`, where 0 is no bound.
     ///
     /// Refused at the offset of the count: as `read_count` refuses it, and as BoundPassed where it
-    /// is above the bound. The reader then stays where it was.
+    /// is above `bound`. The reader then stays where it was.
     #[tactic(auto, unfolding(crate::specs::Reading::Values::octet_count_at))]
     #[inline(always)]
     pub fn read_bounded_count(&mut self, bound: u32) -> Result<usize, CdrFault>
@@ -66,7 +68,8 @@ impl<'a, S: Octets> CdrIn<'a, S> {
         Ok(count)
     }
 
-    // The length of a string whose octets follow and are one, within the bound.
+    // The length of a string, its null included, whose octets follow and are those of a string
+    // within the bound.
     #[tactic(auto, unfolding(crate::specs::Reading::Values::text_count_at))]
     #[inline(always)]
     pub(crate) fn text_count(&mut self, bound: u32) -> Result<usize, CdrFault>
@@ -94,13 +97,17 @@ impl<'a, S: Octets> CdrIn<'a, S> {
         Ok(count)
     }
 
-    /// A sequence of octets (9.3.2.5): an unsigned long length, aligned to 4, and as many octets.
-    /// A `bound` of 0 is none.
+    /// A sequence of octets (9.3.2.5): an unsigned long length, aligned to 4, and as many octets. A
+    /// `bound` of 0 is no bound.
     ///
-    /// Refused, all at the offset of the length: as Short where it isn't there, as BadCount where
-    /// it is above the number of octets behind it, as BoundPassed where it is above `bound`, as
-    /// NoMemory where memory is wanting. The first of these that holds is the answer, and the
-    /// reader stays where it was. No memory is asked for a length that is refused.
+    /// Refused at the offset of the length, as the first of these that holds:
+    ///
+    /// - Short: the length isn't there.
+    /// - BadCount: it is above the number of octets behind it.
+    /// - BoundPassed: it is above `bound`.
+    /// - NoMemory: out of memory.
+    ///
+    /// The reader then stays where it was. No memory is asked for a length that is refused.
     #[tactic(auto, using(crate::proofs::Reading::CountSteps::octets_counted, crate::proofs::Reading::CountSteps::octets_there, crate::proofs::Reading::CountSteps::octets_uncounted))]
     pub fn read_octets(&mut self, alloc: Global, bound: u32) -> Result<Vec<u8>, CdrFault>
         ensures value { Allocates (λ v. v.items) self.old result self.new
@@ -121,8 +128,10 @@ impl<'a, S: Octets> CdrIn<'a, S> {
         Ok(octets)
     }
 
-    /// Passes over a sequence of octets: as `read_octets`, without the octets and so without
-    /// memory.
+    /// Passes over a sequence of octets (9.3.2.5), without memory.
+    ///
+    /// Refused as `read_octets` refuses it, but never as NoMemory. The reader then stays where it
+    /// was.
     #[tactic(auto, using(crate::proofs::Reading::CountSteps::octets_passed, crate::proofs::Reading::CountSteps::octets_uncounted))]
     pub fn skip_octets(&mut self, bound: u32) -> Result<(), CdrFault>
         ensures { Passes self.old result self.new (octets_at bound self.old) }
@@ -135,14 +144,18 @@ impl<'a, S: Octets> CdrIn<'a, S> {
     }
 
     /// A string (9.3.2.7): an unsigned long length, aligned to 4, that counts one terminating null,
-    /// the octets, the null. What is given are the octets before the null. A length of 0 is read as
-    /// the empty string. A `bound` of 0 is none, another counts the octets without the null.
+    /// the octets, the null. The octets before the null are returned. A length of 0 is read as the
+    /// empty string. A `bound` of 0 is no bound; another counts the octets without the null.
     ///
-    /// Refused, all at the offset of the length: as Short where it isn't there, as BadCount where
-    /// it is above the number of octets behind it, as BadString where no null is at the end or
-    /// another one is inside, as BoundPassed where the string is longer than `bound`, as NoMemory
-    /// where memory is wanting. The first of these that holds is the answer, and the reader stays
-    /// where it was. No memory is asked for a length that is refused.
+    /// Refused at the offset of the length, as the first of these that holds:
+    ///
+    /// - Short: the length isn't there.
+    /// - BadCount: it is above the number of octets behind it.
+    /// - BadString: no null is at the end, or another one is inside.
+    /// - BoundPassed: the string is longer than `bound`.
+    /// - NoMemory: out of memory.
+    ///
+    /// The reader then stays where it was. No memory is asked for a length that is refused.
     #[tactic(auto, using(crate::proofs::Reading::CountSteps::text_counted, crate::proofs::Reading::CountSteps::text_there, crate::proofs::Reading::CountSteps::text_uncounted))]
     pub fn read_string(&mut self, alloc: Global, bound: u32) -> Result<Vec<u8>, CdrFault>
         ensures value { Allocates (λ v. v.items) self.old result self.new
@@ -164,7 +177,10 @@ impl<'a, S: Octets> CdrIn<'a, S> {
         Ok(text)
     }
 
-    /// Passes over a string: as `read_string`, without the octets and so without memory.
+    /// Passes over a string (9.3.2.7), without memory.
+    ///
+    /// Refused as `read_string` refuses it, but never as NoMemory. The reader then stays where it
+    /// was.
     #[tactic(auto, using(crate::proofs::Reading::CountSteps::text_passed, crate::proofs::Reading::CountSteps::text_uncounted))]
     pub fn skip_string(&mut self, bound: u32) -> Result<(), CdrFault>
         ensures { Passes self.old result self.new (string_at bound self.old) }

@@ -1,11 +1,13 @@
+//! The trait of values that are an unsigned long and octets on the wire. A `TaggedListAt` is a list
+//! of such values where they lie.
 use crate::octet_list::OctetList;
 
 /// A value that is an unsigned long and a sequence of octets on the wire, as a service context, a
-/// tagged profile and a tagged component are (7.6.2, 9.4.2).
+/// tagged profile and a tagged component are (7.6.2, 7.7).
 pub trait Tagged: Drop {
     ghost use Rattle.std.specs.Prelude.{◌≡◌, ℕ, List};
 
-    // What is made of the two.
+    // The value that a number and octets make, as contracts see it.
     ghost made: { ℕ → List ℕ → Self };
 
     /// The value of this number and these octets.

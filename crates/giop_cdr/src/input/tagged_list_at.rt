@@ -1,3 +1,6 @@
+//! Sequences of tagged octets where they lie: service contexts (CORBA 3.3 Part 2, 7.7), profiles
+//! and components (7.6.2). Each value is judged as the list is viewed, so that walking the list
+//! never fails.
 ghost use Rattle.std.specs.Prelude.{◌≡◌, ◌≢◌, ◌==◌, ◌++◌, ◌∷◌, [], length, drop, IfOk, IfSome, IfNone};
 ghost use Rattle.giop_cdr.specs.Reading.Values.{items_at, sequence_at};
 ghost use Rattle.giop_cdr.specs.Reading.Outcome.{Reads, ReadsAs, Skips};
@@ -16,7 +19,7 @@ use std::marker::{Model, PhantomData};
 pub struct TaggedAt<'a, S: Octets> {
     /// The number, which says what the octets are.
     pub tag: u32,
-    /// The octets.
+    /// The octets, where they lie.
     pub octets: OctetsAt<'a, S>,
 }
 
@@ -49,21 +52,22 @@ impl<'a, S: Octets, I: Tagged> TaggedListAt<'a, S, I> {
         self.count
     }
 
-    /// Whether there are none.
+    /// Whether there are no values.
     pub fn is_empty(&self) -> bool
         ensures { result ≡ (length self.now == 0) }
     {
         self.count == 0
     }
 
-    /// The values in their order.
+    /// Walks the values in their order.
     pub fn iter(&self) -> TaggedIter<'a, S, I>
         ensures { result ≡ self.now }
     {
         TaggedIter { left: self.fork() }
     }
 
-    /// The values, each with a copy of its octets. It takes memory for as many as there are.
+    /// The values, each with a copy of its octets. It takes memory for the list, and for the octets
+    /// of each value.
     pub fn to_vec(&self, alloc: Global) -> Result<Vec<I>, AllocError>
         ensures { IfOk result (λ values. values.items ≡ self.now) }
     {
@@ -74,7 +78,7 @@ impl<'a, S: Octets, I: Tagged> TaggedListAt<'a, S, I> {
         Ok(values)
     }
 
-    // The same list again.
+    // Another list of the same values, for a walk that leaves this one whole.
     fn fork(&self) -> TaggedListAt<'a, S, I>
         ensures { result ≡ self.now }
     {
@@ -85,7 +89,7 @@ impl<'a, S: Octets, I: Tagged> TaggedListAt<'a, S, I> {
         }
     }
 
-    // Takes the first value away.
+    // Removes the first value and returns it.
     fn pop_first(&mut self) -> Option<TaggedAt<'a, S>>
         ensures first { IfSome result (λ x. self.old ≡ I.made x.tag x.octets ∷ self.new) }
         ensures none { IfNone result ((self.old ≡ []) × (self.new ≡ [])) }
@@ -101,7 +105,7 @@ impl<'a, S: Octets, I: Tagged> TaggedListAt<'a, S, I> {
     }
 }
 
-// A number and octets at which a reader stands.
+// Reads a number, and views the octets behind it where they lie.
 #[tactic(auto, unfolding(crate::specs::Reading::View::tagged_at))]
 #[inline(always)]
 fn view_tagged<'a, S: Octets, I: Tagged>(
@@ -117,7 +121,7 @@ fn view_tagged<'a, S: Octets, I: Tagged>(
     Ok(TaggedAt { tag, octets })
 }
 
-// Passes over as many as were counted.
+// Passes over `count` numbers with octets, and so finds the first that is refused.
 #[inline(always)]
 fn skip_tagged<'a, S: Octets, I: Tagged>(
     count: usize,

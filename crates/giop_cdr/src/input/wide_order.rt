@@ -1,3 +1,4 @@
+//! The byte order of a `CdrIn`, kept in a whole word so that a reader is copied fast.
 ghost use Rattle.std.specs.Prelude.{◌≡◌};
 
 use crate::order::Order;
@@ -21,7 +22,7 @@ impl Model for WideOrder {
 }
 
 impl WideOrder {
-    /// This order, in a word.
+    /// An order, in a word.
     #[inline(always)]
     pub fn new(order: Order) -> WideOrder
         ensures { result ≡ order }
@@ -32,7 +33,7 @@ impl WideOrder {
         }
     }
 
-    /// The order itself.
+    /// The order that the word says.
     #[inline(always)]
     pub fn get(&self) -> Order
         ensures { result ≡ self.now }
@@ -43,7 +44,7 @@ impl WideOrder {
         }
     }
 
-    /// The same order again.
+    /// A copy of this order.
     #[inline(always)]
     pub fn again(&self) -> WideOrder
         ensures { result ≡ self.now }

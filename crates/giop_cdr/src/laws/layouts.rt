@@ -1,5 +1,5 @@
-// Laws of layouts. Each function's contract is one of them; the bodies are empty, and no program
-// calls these.
+//! Laws of the layouts of `specs/Layout.antt`. Each function's contract is one of them; the bodies
+//! are empty, and no program calls them.
 ghost use Rattle.std.specs.Prelude.{◌≡◌, ℕ, true};
 ghost use Rattle.std.specs.Int.{Width, w32};
 ghost use Rattle.giop_cdr.specs.declared.order.Order.{Order};
@@ -7,9 +7,9 @@ ghost use Rattle.giop_cdr.specs.Encapsulation.OfLayout.{encapsulation};
 ghost use Rattle.giop_cdr.specs.Layout.{IsLawful, number, signed, boolean, octets, text, bounded_octets, bounded_text};
 ghost use Rattle.giop_cdr.specs.RoundTrip.{is_primitive};
 
-/// The layouts of which messages are made are lawful: what is read is what is spelled, and else the
-/// first refused field is told; what is written of a value that fits is read back; and whatever
-/// octets spell fits.
+/// The layouts of which messages are made are lawful. What is read is what is spelled, and where
+/// nothing is spelled the first refused field is returned. What is written of a value that fits is
+/// read back. Whatever octets spell fits.
 pub fn primitives_are_lawful()
     ensures numbers { (w : Width) → is_primitive w ≡ true → IsLawful (number w) }
     ensures signed { (w : Width) → is_primitive w ≡ true → IsLawful (signed w) }

@@ -1,5 +1,6 @@
-// Laws of the definitions that the readers' contracts cite. Each function's contract is one of
-// them; the bodies are empty, and no program calls these.
+//! Laws of the definitions that the readers' contracts cite: alignment, primitives, strings,
+//! sequences of octets and encapsulations (CORBA 3.3 Part 2, 9.3). Each function's contract is one
+//! of them; the bodies are empty, and no program calls them.
 ghost use Rattle.std.specs.Prelude.{◌≡◌, ℕ, ℤ, ◌+◌, ◌%◌, ◌<◌, ◌≤◌, ◌^◌, ◌++◌, ◌∷◌, Bool, List, length, true, false, if◌then◌else◌};
 ghost use Rattle.std.specs.Int.{Width, w8, byte_len};
 ghost use Rattle.std.specs.Prelude.{FitsSigned};
@@ -19,7 +20,7 @@ pub fn padding_is_least()
     ensures least { (n at k : ℕ) → is_alignment n ≡ true → (at + k) % n ≡ 0 → pad n at ≤ k }
 {}
 
-/// Numbers of every width, in both orders: what `read_` answers is what is spelled, and where
+/// Numbers of every width, in both orders: what `read_` returns is what is spelled, and where
 /// nothing is spelled the octets are too few. No spelling of a number begins another.
 pub fn numbers_are_spelled()
     ensures unsigned { (w : Width)
@@ -29,24 +30,24 @@ pub fn numbers_are_spelled()
     ensures alone { (w : Width) → StandsAlone (SpellsNumber w) }
 {}
 
-/// Sequences of octets, under every bound: what `read_octets` answers is what is spelled, and where
-/// nothing is spelled the first refused field is answered. No spelling begins another.
+/// Sequences of octets, under every bound: what `read_octets` returns is what is spelled, and where
+/// nothing is spelled the first refused field is returned. No spelling begins another.
 pub fn octets_are_spelled()
     ensures exact { (bound : ℕ)
         → IsExact (Took (Bounded bound SpellsOctets)) (RefusedOctets bound) (octets_at bound) }
     ensures alone { StandsAlone SpellsOctets }
 {}
 
-/// Strings, under every bound: what `read_string` answers is what is spelled, and where nothing is
-/// spelled the first refused field is answered. No spelling begins another.
+/// Strings, under every bound: what `read_string` returns is what is spelled, and where nothing is
+/// spelled the first refused field is returned. No spelling begins another.
 pub fn strings_are_spelled()
     ensures exact { (bound : ℕ)
         → IsExact (Took (Bounded bound SpellsString)) (RefusedString bound) (string_at bound) }
     ensures alone { StandsAlone SpellsString }
 {}
 
-/// Booleans: what `read_boolean` answers is what is spelled, and where nothing is spelled no octet
-/// is there or another than 0 and 1. What `write_boolean` appends is read back.
+/// Booleans: what `read_boolean` returns is what is spelled, and where nothing is spelled there is
+/// no octet, or it is neither 0 nor 1. What `write_boolean` appends is read back.
 pub fn booleans_are_spelled()
     ensures exact { IsExact (Took SpellsBoolean) RefusedBoolean boolean_at }
     ensures alone { StandsAlone SpellsBoolean }
@@ -54,8 +55,8 @@ pub fn booleans_are_spelled()
         → IsReadBack SpellsBoolean boolean_at v out (number_out w8 (if v then 1 else 0) out) }
 {}
 
-/// What `write_` appends of a value spells it, and `read_` gives the value back and leaves what
-/// stands behind it: in both orders, at every offset.
+/// What `write_` appends of a value spells it, and `read_` returns the value and leaves what stands
+/// behind it: in both orders, at every offset.
 pub fn written_values_are_read_back()
     ensures numbers { (w : Width) (n : ℕ) (out : Output) → is_primitive w ≡ true → n < 2 ^ bits w
         → IsReadBack (SpellsNumber w) (number_at w) n out (number_out w n out) }
@@ -68,10 +69,9 @@ pub fn written_values_are_read_back()
         → IsReadBack SpellsString (string_at 0) text out (string_out text out) }
 {}
 
-/// Encapsulations: whatever was written between `begin_encapsulation` and `end_encapsulation`, as
-/// octets behind those that the beginning left, is then a sequence of octets: the order octet and
-/// what was written. `open_encapsulation` answers exactly what such octets hold, or the first
-/// refused field.
+/// Encapsulations (9.3.3). Octets that were appended between `begin_encapsulation` and
+/// `end_encapsulation` are then a sequence of octets: the order octet, and what was appended.
+/// `open_encapsulation` returns exactly what such octets hold, or the first refused field.
 pub fn encapsulations_are_opened_again()
     ensures written { (order : Order) (out now : Output) (content : List ℕ)
         → now.octets ≡ (opened order out).octets ++ content

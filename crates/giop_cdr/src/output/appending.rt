@@ -1,12 +1,12 @@
-// Octets at the end of a list. Room for all of a call is made before anything changes, so a call
-// that fails leaves the list as it was.
+//! Octets appended to a list. Room for all of a call is made before anything changes, so a call
+//! that is out of memory leaves the list as it was.
 ghost use Rattle.std.specs.Prelude.{◌≡◌, ◌+◌, ◌<◌, ◌≤◌, ◌^◌, ◌++◌, length, take, drop, replicate, OnOk, OnErr};
 ghost use Rattle.std.specs.Vec.{vec_len, vec_capacity};
 ghost use Rattle.giop_cdr.specs.Reading.Cursor.{pad};
 
 use std::alloc::AllocError;
 
-/// Zeros, and room for some octets behind them.
+/// Appends `count` zeros, and makes room for `behind` octets after them.
 pub fn push_zeros(octets: &mut Vec<u8>, count: usize, behind: usize) -> Result<(), AllocError>
     requires few { count ≤ 8 }
     requires short { behind ≤ 8 }
@@ -21,7 +21,8 @@ pub fn push_zeros(octets: &mut Vec<u8>, count: usize, behind: usize) -> Result<(
     octets.extend_from_slice(&[0; 8][..count])
 }
 
-/// Zeros up to a multiple of N from an offset on, and N octets.
+/// Appends zeros up to the next multiple of N, and the N octets of a field. The end of the list has
+/// the offset `at`.
 #[inline(always)]
 pub fn push_field<const N: usize>(
     octets: &mut Vec<u8>,
@@ -44,8 +45,8 @@ pub fn push_field<const N: usize>(
     octets.extend_from_slice(&field)
 }
 
-/// An aligned count, and what it counts in two parts. Inlined, since one of the parts is known to
-/// the callers: none or one octet.
+/// Appends a count, aligned to 4, and what it counts, in two parts. The end of the list has the
+/// offset `at`. Inlined, since the callers know one of the parts: no octet, or one.
 #[inline(always)]
 pub fn push_counted(
     octets: &mut Vec<u8>,
@@ -66,7 +67,7 @@ pub fn push_counted(
     octets.extend_from_slice(tail)
 }
 
-/// Four octets in the place of those at an index.
+/// Writes four octets over those at an index.
 pub fn fill(octets: &mut [u8], at: usize, field: [u8; 4])
     requires { at + 4 ≤ length octets.old }
     ensures { octets.new ≡ take at octets.old ++ (field ++ drop (at + 4) octets.old) }

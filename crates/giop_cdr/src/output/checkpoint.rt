@@ -1,7 +1,9 @@
+//! A place in an output. It has what a `CdrOut` has beside its octets, so a field that is added
+//! there is added here too.
 use crate::order::Order;
 use std::marker::Model;
 
-/// Where an output stood: a longer writing goes back to it when a step of it fails.
+/// Where an output stood. A write of several steps goes back to it when one of them fails.
 #[derive(Drop)]
 pub struct Checkpoint {
     pub(crate) len: usize,

@@ -1,13 +1,15 @@
+//! The start of an encapsulation in an output (CORBA 3.3 Part 2, 9.3.3). It has what a `CdrOut` has
+//! beside its octets, so a field that is added there is added here too.
 use crate::order::Order;
 use std::marker::Model;
 
-/// Where an encapsulation that is being written began, and what held outside it (9.3.3). Each is
-/// given to `end_encapsulation` once, the latest first.
+/// Where an encapsulation that is being written began, and the order and the alignment outside it
+/// (9.3.3). Pass each to `end_encapsulation` once, the latest first.
 #[derive(Drop)]
 pub struct Mark {
     // The index of the order octet.
     pub(crate) len: usize,
-    // What held outside.
+    // The order and the alignment outside.
     pub(crate) order: Order,
     pub(crate) start: usize,
     pub(crate) base: usize,

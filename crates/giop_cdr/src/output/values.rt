@@ -1,3 +1,5 @@
+//! Booleans, octets, chars and integers (CORBA 3.3 Part 2, 9.3.1), sequences of octets and strings
+//! (9.3.2), written. What a write appends is defined in `specs/Writing/Output.antt`.
 ghost use Rattle.std.specs.Prelude.{◌≡◌, ◌<◌, ◌^◌, ◌+◌, length, false, if◌then◌else◌};
 ghost use Rattle.std.specs.Int.{w8, w16, w32, w64};
 ghost use Rattle.giop_cdr.specs.Writing.Output.{number_out, signed_out, octets_out, string_out};
@@ -19,7 +21,7 @@ impl CdrOut {
         self.write_octet(u8::from(value))
     }
 
-    /// An octet (9.3.1.4), which has no order.
+    /// An octet (9.3.1.4), which has no byte order.
     #[inline(always)]
     pub fn write_octet(&mut self, value: u8) -> Result<(), AllocError>
         ensures { Writes self.old result self.new (number_out w8 value self.old) }
@@ -116,7 +118,8 @@ impl CdrOut {
     }
 
     /// A string (9.3.2.7): an unsigned long length, aligned to 4, that counts the null, the octets,
-    /// the null. So the empty string is its length 1 and a null. No null stands in `text`.
+    /// the null. So the empty string is its length 1 and a null. The contract requires that `text`
+    /// has no null, and is short enough for its length.
     #[tactic(auto, unfolding(crate::specs::Writing::Output::string_out, crate::specs::Writing::Output::number_out))]
     #[inline(always)]
     pub fn write_string(&mut self, text: &[u8]) -> Result<(), AllocError>

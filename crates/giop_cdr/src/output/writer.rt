@@ -1,3 +1,5 @@
+//! The writer `CdrOut`: alignment (CORBA 3.3 Part 2, 9.3.1.1), encapsulations (9.3.3), and going
+//! back to a place. The writes of values are in `values.rt`.
 ghost use Rattle.std.specs.Prelude.{◌≡◌, ◌+◌, ◌-◌, ◌<◌, ◌≤◌, ◌^◌, length, [], ◌++◌, OnOk, OnErr, IfOk, IsTrue, ◌↔◌};
 ghost use Rattle.giop_cdr.specs.Writing.Output.{append, aligned, padding_out, here, back_at};
 ghost use Rattle.giop_cdr.specs.Encapsulation.Opened.{opened, place_opened, closed};
@@ -14,7 +16,7 @@ use std::marker::Model;
 /// Writes CDR values one after the other, in one byte order, into octets that it holds.
 ///
 /// Contracts see it as an `Output`: the octets so far, the offset of the next one, and the order.
-/// Padding is zeros. Where memory is wanting, the output is as it was before the call.
+/// Padding is zeros. A call that is out of memory leaves the output as it was.
 #[derive(Drop)]
 pub struct CdrOut {
     octets: Vec<u8>,
@@ -53,7 +55,8 @@ impl CdrOut {
         }
     }
 
-    /// The same, with room for some octets before it grows.
+    /// An empty output, whose first octet will have the offset `start`. It takes memory for `room`
+    /// octets in advance.
     pub fn with_room(
         alloc: Global,
         order: Order,
@@ -92,14 +95,15 @@ impl CdrOut {
         self.octets.as_slice()
     }
 
-    /// The octets. It takes no memory.
+    /// The octets that were written. It takes no memory.
     pub fn into_bytes(self) -> Vec<u8>
         ensures { result.items ≡ self.octets }
     {
         self.octets
     }
 
-    /// Zeros up to the next multiple of `n`, which is 1, 2, 4 or 8: none where the offset is one.
+    /// Appends zeros up to the next multiple of `n`, which is 1, 2, 4 or 8: none where the offset
+    /// is a multiple.
     #[tactic(auto, unfolding(crate::specs::Writing::Output::padding_out))]
     pub fn align(&mut self, n: usize) -> Result<(), AllocError>
         requires some { 0 < n }
@@ -110,14 +114,14 @@ impl CdrOut {
         push_zeros(&mut self.octets, pad, 0)
     }
 
-    /// Octets as they are, behind no padding.
+    /// Appends octets as they are, without padding.
     pub fn append_octets(&mut self, octets: &[u8]) -> Result<(), AllocError>
         ensures { Writes self.old result self.new (append self.old octets.now) }
     {
         self.octets.extend_from_slice(octets)
     }
 
-    /// Where the output stands now.
+    /// Where the output stands now, for `back_to`.
     pub fn checkpoint(&self) -> Checkpoint
         ensures { result ≡ here self.now }
     {
@@ -136,8 +140,7 @@ impl CdrOut {
         point.len <= self.octets.len()
     }
 
-    /// Drops what was written since `point`. It takes no memory. `can_go_back` is the test of its
-    /// condition.
+    /// Drops what was written since `point`. It takes no memory. `can_go_back` tests its condition.
     pub fn back_to(&mut self, point: Checkpoint)
         requires { point.len ≤ length self.old.octets }
         ensures { self.new ≡ back_at point self.old }
@@ -172,8 +175,8 @@ impl CdrOut {
     }
 
     /// Whether an encapsulation that began at `mark` can be ended here: the output is as long as it
-    /// was there, or longer, and by fewer than 2^32 octets, as a length has to be. It can't tell
-    /// that `mark` is of this output and the latest one that isn't ended: that is the caller's.
+    /// was there, or longer, and by fewer than 2^32 octets, as a length has to be. It doesn't check
+    /// that `mark` is of this output, and the latest that isn't ended: the caller has to.
     pub fn can_end(&self, mark: &Mark) -> bool
         ensures { IsTrue result
             ↔ ((mark.now.len ≤ length self.now.octets) × (length self.now.octets - mark.now.len < 2 ^ 32)) }
@@ -182,8 +185,7 @@ impl CdrOut {
     }
 
     /// Ends the encapsulation that began at `mark`: its length is filled in, and the order and the
-    /// alignment of outside hold again. It takes no memory. `can_end` is the test of its
-    /// conditions.
+    /// alignment outside hold again. It takes no memory. `can_end` tests its conditions.
     #[tactic(auto, unfolding(crate::specs::Encapsulation::Opened::closed))]
     pub fn end_encapsulation(&mut self, mark: Mark)
         requires begun { mark.len ≤ length self.old.octets }
@@ -201,7 +203,7 @@ impl CdrOut {
         self.base = mark.base;
     }
 
-    // An aligned value of N octets.
+    // Appends a value of N octets, aligned to N.
     #[inline(always)]
     pub(crate) fn append_field<const N: usize>(&mut self, field: [u8; N]) -> Result<(), AllocError>
         requires some { 0 < N }
@@ -213,7 +215,7 @@ impl CdrOut {
         push_field(&mut self.octets, at, field)
     }
 
-    // An aligned count, and the octets that it counts in two parts.
+    // Appends a count, aligned to 4, and the octets that it counts, in two parts.
     #[inline(always)]
     pub(crate) fn append_counted(
         &mut self,
@@ -231,7 +233,7 @@ impl CdrOut {
     }
 }
 
-/// Where the next octet goes, and the octets so far.
+/// Shows the order, the offset of the next octet, and the octets so far.
 impl fmt::Debug for CdrOut {
     fn fmt<W: fmt::Write>(&self, f: &mut fmt::Formatter<W>) -> fmt::Result {
         f.debug_struct("CdrOut")

@@ -1,3 +1,4 @@
+//! One address of a corbaloc (CORBA 3.3 Part 2, 7.6.10.3) as a value.
 use giop_cdr::OctetList;
 
 /// A host that answers over IIOP, and the version that it speaks (CORBA 3.3 Part 2, 7.6.10.3).

@@ -1,4 +1,6 @@
-// One address of a corbaloc, read where it lies: without memory.
+//! One address of a corbaloc (CORBA 3.3 Part 2, 7.6.10.3), read where it lies: without memory. Each
+//! fault and its place is defined in `specs/CorbalocReading.antt`, under the names of the functions
+//! here.
 ghost use Rattle.std.specs.Prelude.{◌≡◌, ◌+◌, ◌<◌, ◌^◌, length};
 ghost use Rattle.std.specs.List.{list_all};
 ghost use Rattle.giop_ior.specs.AddressAt.{address_view};
@@ -48,7 +50,7 @@ fn are_host_octets(text: &[u8]) -> bool
     text.iter().all(|octet| is_host_octet(*octet))
 }
 
-/// Whether octets are a host's name.
+/// Whether octets are a host's name: one or more, each a letter, a digit, `-`, `_` or `.`.
 pub fn is_host(text: &[u8]) -> bool
     ensures { result ≡ is_host text.now }
 {

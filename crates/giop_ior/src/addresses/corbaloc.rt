@@ -1,3 +1,4 @@
+//! A corbaloc (CORBA 3.3 Part 2, 7.6.10.1) as a value.
 use crate::addresses::address::Address;
 use crate::references::sequence::Sequence;
 use giop_cdr::OctetList;
@@ -8,6 +9,6 @@ use giop_cdr::OctetList;
 pub struct Corbaloc {
     /// The addresses, in their order: one at least in a text.
     pub addresses: Sequence<Address>,
-    /// The object key, in octets. None where the text has none.
+    /// The object key, in octets: empty where the text has none.
     pub key: OctetList,
 }

@@ -1,3 +1,5 @@
+//! Why a text is no corbaloc, and where. The numbers and names of the kinds are those of
+//! `specs/CorbalocFault.antt`, and `docs/PROFILE.md` lists them: change all three.
 ghost use Rattle.std.specs.Prelude.{◌≡◌};
 
 use std::alloc::AllocError;
@@ -22,7 +24,7 @@ pub enum CorbalocKind {
     BadEscape,
     /// An octet of the key that has to be escaped.
     BadChar,
-    /// Memory ran out, for a text that is a corbaloc.
+    /// Out of memory, for a text that is a corbaloc.
     NoMemory,
 }
 
@@ -69,10 +71,15 @@ impl fmt::Display for CorbalocKind {
 /// Why a text is no corbaloc, and where: the first fault from the left.
 #[derive(Clone, Copy, Debug, PartialEq, Eq)]
 pub struct CorbalocFault {
-    /// The offset of what is wrong, in octets from the first of the text: for `BadPrefix` 0, for
-    /// `BadProtocol` the first octet of the address, for `BadVersion`, `BadHost` and `BadPort` the
-    /// first octet of that part, for `BadEscape` the `%`, for `BadChar` the octet itself. The
-    /// offset is the end of the text where the part would begin there. It is 0 for `NoMemory`.
+    /// The offset of what is wrong, in octets from the first of the text:
+    ///
+    /// - `BadPrefix` and `NoMemory`: 0.
+    /// - `BadProtocol`: the first octet of the address.
+    /// - `BadVersion`, `BadHost` and `BadPort`: the first octet of that part.
+    /// - `BadEscape`: the `%`.
+    /// - `BadChar`: the octet itself.
+    ///
+    /// It is the end of the text where the part would begin there.
     pub at: usize,
     /// What is wrong there.
     pub kind: CorbalocKind,
@@ -81,7 +88,7 @@ pub struct CorbalocFault {
 impl CorbalocFault {
     ghost use Rattle.giop_ior.specs.CorbalocFault.{corbaloc_kind_number};
 
-    /// The number of its kind, 1 to 8.
+    /// The number of the fault's kind, 1 to 8.
     pub fn number(self) -> u8
         ensures { result ≡ corbaloc_kind_number self.kind }
     {
@@ -102,7 +109,7 @@ impl From<AllocError> for CorbalocFault {
     }
 }
 
-/// The name of its kind and its place, as `BadPort at 12`.
+/// The name of its kind and its offset, as in `BadPort at 12`.
 impl fmt::Display for CorbalocFault {
     ghost use Rattle.std.specs.Prelude.{Some};
     ghost use Rattle.giop_ior.specs.CorbalocFault.{corbaloc_fault_text};

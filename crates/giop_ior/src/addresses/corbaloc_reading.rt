@@ -1,4 +1,5 @@
-// A corbaloc text, read from the left.
+//! A corbaloc text (CORBA 3.3 Part 2, 7.6.10.1), read from the left in one pass. Where that fails,
+//! a second pass without memory looks for a fault, so that out of memory comes after every fault.
 ghost use Rattle.std.specs.Prelude.{◌≡◌, ◌+◌, ◌<◌, ◌^◌, ◌⊎◌, ◌++◌, [], ◌∷◌, length, Ok, Err, IfOk, IfErr, OnOk, IsOk};
 ghost use Rattle.giop_ior.specs.AddressAt.{address_view};
 ghost use Rattle.giop_ior.specs.Corbaloc.{CorbalocText};
@@ -16,7 +17,7 @@ use crate::references::sequence::Sequence;
 use giop_cdr::OctetList;
 use std::alloc::{AllocError, Global};
 
-// Where the addresses begin.
+// Where the addresses begin: behind `corbaloc:`.
 const START: usize = 9;
 
 fn to_owned(alloc: Global, address: AddressAt) -> Result<Address, AllocError>
@@ -68,7 +69,7 @@ fn read_addresses(
     Ok(Sequence::from(addresses))
 }
 
-// The same without memory: whether each is an address.
+// Whether each part of a list that begins at this place is an address, without memory.
 fn judge_addresses(start: usize, text: &[u8]) -> Result<(), CorbalocFault>
     requires { start + length text.now < 2 ^ 64 }
     ensures { Tells result (addresses_at start text.now) }
@@ -84,7 +85,7 @@ fn judge_addresses(start: usize, text: &[u8]) -> Result<(), CorbalocFault>
     Ok(())
 }
 
-// The corbaloc, in one pass.
+// The corbaloc that a text is, in one pass. When it is out of memory, a later fault isn't found.
 #[tactic(auto, unfolding(crate::specs::CorbalocReading::corbaloc_of))]
 fn read_corbaloc(alloc: Global, text: &[u8]) -> Result<Corbaloc, CorbalocFault>
     ensures { AnswersOrWants (λ c. c) result (corbaloc_of text.now) }
@@ -105,7 +106,7 @@ fn read_corbaloc(alloc: Global, text: &[u8]) -> Result<Corbaloc, CorbalocFault>
     Ok(Corbaloc { addresses, key })
 }
 
-// The same without memory: whether the text is a corbaloc.
+// Whether the text is a corbaloc, without memory.
 #[tactic(auto, unfolding(crate::specs::CorbalocReading::corbaloc_of, crate::specs::CorbalocReading::key_at))]
 fn judge_corbaloc(text: &[u8]) -> Result<(), CorbalocFault>
     ensures { Tells result (corbaloc_of text.now) }
@@ -123,7 +124,7 @@ fn judge_corbaloc(text: &[u8]) -> Result<(), CorbalocFault>
     judge_key(START + list.len() + 1, key)
 }
 
-// As the corbaloc is read, want of memory coming after every fault of the text.
+// The corbaloc that a text is. Out of memory comes after every fault of the text.
 fn corbaloc_of(alloc: Global, text: &[u8]) -> Result<Corbaloc, CorbalocFault>
     ensures value { IfOk result (λ c. corbaloc_of text.now ≡ Ok c) }
     ensures err { IfErr result (λ e. (corbaloc_of text.now ≡ Err e)
@@ -137,16 +138,16 @@ fn corbaloc_of(alloc: Global, text: &[u8]) -> Result<Corbaloc, CorbalocFault>
     Err(fault)
 }
 
-/// The corbaloc that a text is, in octets: `corbaloc:`, addresses with commas between them, and
-/// where there is a key `/` and the key. An address is `:` or `iiop:`, then perhaps a version and
-/// `@`, the host, and perhaps `:` and the port; without them it is version 1.0 and port 2809. An
-/// octet of the key that is no letter, no digit and none of ``;/:?@&=+$,-_.!~*'()`` is `%` and its
-/// two hexadecimal digits; any other may be escaped so too.
+/// The corbaloc that a text is, in octets (CORBA 3.3 Part 2, 7.6.10.1): `corbaloc:`, addresses with
+/// commas between them, and where there is a key `/` and the key. An address is `:` or `iiop:`,
+/// then perhaps a version and `@`, the host, and perhaps `:` and the port. Without these the
+/// version is 1.0, and the port 2809. An octet of the key that is no letter, no digit and none of
+/// ``;/:?@&=+$,-_.!~*'()`` is `%` and its two hexadecimal digits; any other may be escaped so too.
 ///
-/// A text that is none is refused with its first fault from the left, told by `CorbalocFault`.
-/// Where memory is wanting for one that is, it is NoMemory at 0.
+/// Another text is refused with its first fault from the left, at the place that `CorbalocFault`
+/// says. When out of memory, for a text that is a corbaloc, it is NoMemory at 0.
 pub fn corbaloc_from_text(alloc: Global, text: &[u8]) -> Result<Corbaloc, CorbalocFault>
-    // What is answered is what the text says by the grammar, and what it says is answered.
+    // What is returned is what the text says by the grammar, and what it says is returned.
     ensures found { IfOk result (λ c. CorbalocText c text.now) }
     ensures only { (c : _) → CorbalocText c text.now → IsAnswered result c }
 
@@ -155,7 +156,7 @@ pub fn corbaloc_from_text(alloc: Global, text: &[u8]) -> Result<Corbaloc, Corbal
     ensures err { IfErr result (λ e. (corbaloc_of text.now ≡ Err e)
         ⊎ ((e ≡ no_memory) × IsOk (corbaloc_of text.now))) }
 
-    // What it says of the text, by the grammar.
+    // What the refusal says of the text, by the grammar.
     ensures first { IfErr result (λ e. IsFirstFault text.now e ⊎ (e ≡ no_memory)) }
 {
     corbaloc_of(alloc, text)

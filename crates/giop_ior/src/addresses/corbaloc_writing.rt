@@ -1,4 +1,5 @@
-// A corbaloc written as text.
+//! A corbaloc written as text (CORBA 3.3 Part 2, 7.6.10.1), each address in full, and whether a
+//! text can say it. What is written is defined in `specs/CorbalocWriting.antt`.
 ghost use Rattle.std.specs.Prelude.{◌≡◌, ◌++◌, IfOk, OnOk};
 ghost use Rattle.std.specs.Fmt.{decimal};
 ghost use Rattle.std.specs.List.{list_all};
@@ -88,10 +89,10 @@ fn append_key(alloc: Global, text: &mut Vec<u8>, key: &[u8]) -> Result<(), Alloc
     Ok(())
 }
 
-/// The text of a corbaloc, in octets: each address as `iiop:major.minor@host:port`, with commas
-/// between them, and `/` and the key where the key isn't empty. An octet of the key that is no
-/// letter, no digit and none of ``;/:?@&=+$,-_.!~*'()`` is `%` and its two upper-case hexadecimal
-/// digits.
+/// The text of a corbaloc, in octets (CORBA 3.3 Part 2, 7.6.10.1): each address as
+/// `iiop:major.minor@host:port`, with commas between them, and `/` and the key where the key isn't
+/// empty. An octet of the key that is no letter, no digit and none of ``;/:?@&=+$,-_.!~*'()`` is
+/// `%` and its two upper-case hexadecimal digits.
 ///
 /// A corbaloc that `is_writable` is read back from its text; the text of another is no corbaloc.
 #[tactic(auto, unfolding(crate::specs::CorbalocWriting::corbaloc_text))]

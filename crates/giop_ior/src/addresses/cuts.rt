@@ -1,4 +1,5 @@
-// Parts of a text.
+//! Parts of a corbaloc text: what stands before and behind a mark, and the number that digits
+//! write.
 ghost use Rattle.std.specs.Prelude.{◌≡◌, ◌==◌, ◌≤◌, true, length, MatchOption, Some, None};
 ghost use Rattle.std.specs.Char.{is_ascii_digit};
 ghost use Rattle.std.specs.List.{position, list_all};
@@ -11,7 +12,7 @@ fn position_of(octet: u8, text: &[u8]) -> Option<usize>
     text.iter().position(|x| *x == octet)
 }
 
-/// What stands before and behind the first of these octets, where there is one.
+/// What stands before and behind the first `octet` of a text, where it has one.
 pub fn cut(octet: u8, text: &[u8]) -> Option<(&[u8], &[u8])>
     ensures { MatchOption result (cut octet text.now ≡ None)
         (λ parts. cut octet text.now ≡ Some (parts.0.now, parts.1.now)) }

@@ -1,4 +1,6 @@
-// The key of a corbaloc, escaped in its text.
+//! The object key in a corbaloc text (CORBA 3.3 Part 2, 7.6.10.1), read with its escapes. Which
+//! octets are escaped is `ESCAPED`, for reading and writing; the grammar in `specs/Corbaloc.antt`
+//! has them too.
 ghost use Rattle.std.specs.Prelude.{◌≡◌, ◌+◌, ◌<◌, ◌^◌, length, slice_index, Some, None, MatchResult};
 ghost use Rattle.std.specs.Char.{is_digit};
 ghost use Rattle.giop_ior.specs.Corbaloc.{is_key_octet};

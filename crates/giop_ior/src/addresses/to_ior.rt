@@ -1,3 +1,5 @@
+//! The reference of a corbaloc (CORBA 3.3 Part 2, 7.6.10.1): an IIOP profile for each address, as
+//! `specs/ToIor.antt` defines it.
 ghost use Rattle.std.specs.Prelude.{◌≡◌, ◌↔◌, ◌++◌, [], ◌∷◌, false, true, map, IfOk, IsErrOf, IfErr};
 ghost use Rattle.std.specs.List.{list_all};
 ghost use Rattle.giop_cdr.specs.declared.encode_fault.EncodeFault.{EncodeFault};
@@ -21,7 +23,7 @@ impl Corbaloc {
     /// key and no components.
     ///
     /// Refused as Unfit where a major version isn't 1, a null is in a host, or a host or the key is
-    /// too long for its count; else as NoMemory where memory is wanting.
+    /// too long for its count; else as NoMemory when out of memory.
     pub fn to_ior(&self, alloc: Global) -> Result<Ior, EncodeFault>
         ensures value { IfOk result (λ ior. ior ≡ ior_of self.now) }
         ensures err { IsErrOf result EncodeFault.Unfit ↔ (are_profiles self.now ≡ false) }

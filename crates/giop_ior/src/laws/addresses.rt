@@ -1,5 +1,6 @@
-// Laws of the definitions. Each function's contract is one of them; the bodies are empty, and no
-// program calls these.
+//! Laws of corbaloc texts (CORBA 3.3 Part 2, 7.6.10.1): what is read, which fault is the first,
+//! what is written. Each function's contract is one of them; the bodies are empty, and no program
+//! calls them.
 ghost use Rattle.std.specs.Prelude.{◌≡◌, List, ℕ, true, Ok, Err};
 ghost use Rattle.giop_ior.specs.declared.addresses.corbaloc.Corbaloc.{Corbaloc};
 ghost use Rattle.giop_ior.specs.Corbaloc.{CorbalocText};
@@ -8,8 +9,8 @@ ghost use Rattle.giop_ior.specs.CorbalocReading.{corbaloc_of};
 ghost use Rattle.giop_ior.specs.FirstFault.{IsFirstFault};
 ghost use Rattle.giop_ior.specs.CorbalocWriting.{corbaloc_text, is_writable, IsInRange};
 
-/// The grammar of corbaloc texts: the reading from the left answers exactly its values, and a text
-/// has at most one.
+/// The grammar of corbaloc texts: reading from the left returns exactly its values, and a text has
+/// at most one.
 pub fn corbalocs_are_read()
     ensures found { (text : List ℕ) (c : Corbaloc) → corbaloc_of text ≡ Ok c → CorbalocText c text }
     ensures only { (text : List ℕ) (c : Corbaloc) → CorbalocText c text → corbaloc_of text ≡ Ok c }
@@ -17,16 +18,16 @@ pub fn corbalocs_are_read()
         → c ≡ d }
 {}
 
-/// A refusal is the first fault from the left, by the grammar alone: what stands before its place
-/// can be gone on with to a text, by the part that its kind names; and no text that is the same up
-/// to the end of what stands there instead is one.
+/// A refusal is the first fault from the left, by the grammar alone. What stands before its place
+/// can be continued to a corbaloc, by the part that its kind names. No text that agrees up to the
+/// end of what stands there instead is a corbaloc.
 pub fn faults_are_the_first()
     ensures { (text : List ℕ) (e : CorbalocFault) → corbaloc_of text ≡ Err e
         → IsFirstFault text e }
 {}
 
-/// Which values have a text: exactly those that `is_writable` tells; and the text that is written
-/// is one of them, so it is read back.
+/// Only values for which `is_writable` is true have a text. Where the numbers of such a value are
+/// in the ranges of their types, the text that is written says the value, and is read back.
 pub fn written_corbalocs_are_read_back()
     ensures writable { (text : List ℕ) (c : Corbaloc) → CorbalocText c text → is_writable c ≡ true }
     ensures written { (c : Corbaloc) → IsInRange c → is_writable c ≡ true

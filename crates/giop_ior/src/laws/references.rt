@@ -1,5 +1,5 @@
-// Laws of the tables. Each function's contract is one of them; the bodies are empty, and no program
-// calls these.
+//! Laws of the layouts of references (CORBA 3.3 Part 2, 7.6.2) and of IIOP profiles (9.7.2). Each
+//! function's contract is one of them; the bodies are empty, and no program calls them.
 ghost use Rattle.std.specs.Prelude.{◌≡◌, ℕ, List, Ok, true};
 ghost use Rattle.giop_cdr.specs.declared.order.Order.{Order};
 ghost use Rattle.giop_cdr.specs.Writing.Output.{Output};
@@ -13,7 +13,7 @@ ghost use Rattle.giop_ior.specs.Ior.{Reference, ior_layout};
 ghost use Rattle.giop_ior.specs.ToIor.{are_profiles, ReadAsAddresses};
 
 /// A reference: what is read is what is spelled, field by field, and where nothing is spelled the
-/// first refused field is answered. No spelling of a reference begins another. Whatever octets
+/// first refused field is returned. No spelling of a reference begins another. Whatever octets
 /// spell fits: where a reference doesn't fit, no octets spell it.
 pub fn references_are_spelled()
     ensures exact { IsExact (Took ior_layout.spells) ior_layout.refused ior_layout.read }
@@ -23,16 +23,16 @@ pub fn references_are_spelled()
         → (ior_layout.fits ior ≡ true) × ior_layout.holds ior }
 {}
 
-/// What `write_ior` appends spells the reference, and reading gives it back and leaves what stands
-/// behind it: in both orders, at every offset.
+/// What `write_ior` appends spells the reference, and reading returns the reference and leaves what
+/// stands behind it: in both orders, at every offset.
 pub fn written_references_are_read_back()
     ensures { (ior : Reference) (out : Output) → ior_layout.fits ior ≡ true → ior_layout.holds ior
         → IsReadBack ior_layout.spells ior_layout.read ior out (ior_layout.written ior out) }
 {}
 
-/// The octets of an IIOP profile: what is read is what they are, whatever stands behind the fields;
-/// they are of one profile at most; and what `iiop_profile` writes is octets of the profile, and
-/// read back.
+/// The octets of an IIOP profile (9.7.2). What is read is the profile that they are, whatever
+/// stands behind the fields, and they are of one profile at most. What `iiop_profile` writes is
+/// octets of the profile, and is read back.
 pub fn profiles_are_read()
     ensures exact { IsExact (Took iiop_layout.spells) iiop_layout.refused iiop_layout.read }
     ensures found { (octets : List ℕ) (p : Profile) → iiop_of octets ≡ Ok p → IiopOctets p octets }

@@ -1,3 +1,6 @@
+//! An IIOP profile read from the octets of a tagged profile (CORBA 3.3 Part 2, 9.7.2): viewed
+//! first, then copied. The fields are those of `specs/Iiop.antt`, in its order: to add a field,
+//! change both.
 ghost use Rattle.std.specs.Prelude.{◌≡◌, ◌≤◌, ◌^◌, ◌⊎◌, length, Ok, Err, IfOk, IfErr, IsOk};
 ghost use Rattle.giop_cdr.specs.Reading.Outcome.{Exactly};
 ghost use Rattle.giop_cdr.specs.Layout.{sequence};
@@ -19,14 +22,14 @@ type ProfileAt<'a, 's> = IiopProfile<Lies<'a, 's>, Option<ComponentsAt<'a, 's>>>
 /// The profile that the octets of tag 0 are (CORBA 3.3 Part 2, 9.7.2). Octets behind the last field
 /// are passed over.
 ///
-/// Refused as the first field that is refused, in reading order, with its offset from the first
-/// octet, which is the byte order: that one as Short or BadOrder at 0, a major version other than 1
-/// as BadLabel at 1, each other field as its own reader says. Where memory is wanting for octets
-/// that no field refuses, it is NoMemory at 0.
+/// Refused as the first field that is refused, in reading order. Its offset counts from the first
+/// octet, which is the byte order. That one is refused as Short or BadOrder at 0, a major version
+/// other than 1 as BadLabel at 1, each other field as its own reader says. When out of memory, for
+/// octets that no field refuses, it is NoMemory at 0.
 pub fn iiop_view(alloc: Global, profile: &TaggedProfile) -> Result<IiopProfile, CdrFault>
     requires tag { profile.now.tag ≡ 0 }
     requires short { length profile.now.octets ≤ 2 ^ 62 }
-    // What is answered is what the octets are, and what they are is answered.
+    // What is returned is what the octets are, and what they are is returned.
     ensures found { IfOk result (λ p. IiopOctets p profile.now.octets) }
     ensures only { (p : _) → IiopOctets p profile.now.octets → IsAnswered result p }
 
@@ -149,7 +152,7 @@ fn owned_components(
     }
 }
 
-// A copy of the profile on its own.
+// A copy of the profile, which owns its octets and components.
 fn to_owned(alloc: Global, view: &ProfileAt) -> Result<IiopProfile, AllocError>
     ensures { IfOk result (λ own. own ≡ profile_view view.now) }
 {

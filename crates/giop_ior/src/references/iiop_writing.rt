@@ -1,3 +1,5 @@
+//! An IIOP profile written as the octets of a tagged profile (CORBA 3.3 Part 2, 9.7.2), and whether
+//! it can be. The fields are those of `specs/Iiop.antt`, in its order: to add a field, change both.
 ghost use Rattle.std.specs.Prelude.{◌≡◌, ◌↔◌, false, true, ℕ, List, IfOk, IsErrOf};
 ghost use Rattle.giop_cdr.specs.declared.order.Order.{Order};
 ghost use Rattle.giop_cdr.specs.Writing.Outcome.{Appends};
@@ -29,7 +31,7 @@ impl IiopProfile {
 /// without octets behind the last field.
 ///
 /// Refused as Unfit where `is_writable` is false, and then no octets spell the profile; else as
-/// NoMemory where memory is wanting.
+/// NoMemory when out of memory.
 #[tactic(auto, unfolding(crate::specs::Iiop::iiop_octets), using(crate::proofs::IiopLemmas::begun, crate::proofs::IiopLemmas::iiop_unspelled))]
 pub fn iiop_profile(alloc: Global, profile: &IiopProfile) -> Result<TaggedProfile, EncodeFault>
     ensures tag { IfOk result (λ tagged. tagged.tag ≡ 0) }
@@ -93,7 +95,7 @@ fn append_components(
     append_sequence(components, out)
 }
 
-// The fields in their order. Where memory is wanting a part of them is left.
+// Appends the fields in their order. Out of memory, a part of them is left.
 #[tactic(auto, unfolding(crate::specs::Iiop::iiop_layout, crate::specs::Iiop::major_version, giop_cdr::specs::Layout::field, giop_cdr::specs::Layout::such, giop_cdr::specs::Layout::number, giop_cdr::specs::Layout::octets, giop_cdr::specs::Layout::text, giop_cdr::specs::Layout::gives), using(giop_cdr::proofs::Writing::WriterLemmas::grows_then, giop_cdr::proofs::Writing::WriterLemmas::grows_not))]
 fn append_profile(profile: &IiopProfile, out: &mut CdrOut) -> Result<(), AllocError>
     requires { iiop_layout.fits profile.now ≡ true }

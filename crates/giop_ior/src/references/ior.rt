@@ -1,9 +1,11 @@
+//! An object reference (CORBA 3.3 Part 2, 7.6.2) as a value, and its view. To add a field, change
+//! `specs/Ior.antt` too, and then both reading and writing.
 use crate::references::sequence::Sequence;
 use crate::references::tagged_profile::TaggedProfile;
 use giop_cdr::{OctetList, OctetsAt, TaggedListAt};
 
-/// An interoperable object reference (CORBA 3.3 Part 2, 7.6.2): with its octets and profiles on
-/// their own, or, as an `IorAt`, where they lie. Contracts see both as one value.
+/// An interoperable object reference (CORBA 3.3 Part 2, 7.6.2): it owns its octets and profiles or,
+/// as an `IorAt`, has them where they lie. Contracts see both as one value.
 ///
 /// The nil reference has an empty type id and no profiles.
 #[derive(Debug, Drop, PartialEq, Eq)]

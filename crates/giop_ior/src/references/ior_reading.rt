@@ -1,3 +1,5 @@
+//! A reference read where a `CdrIn` stands (CORBA 3.3 Part 2, 7.6.2): viewed first, then copied.
+//! The fields are those of `specs/Ior.antt`, in its order.
 ghost use Rattle.std.specs.Prelude.{◌≡◌, IfOk};
 ghost use Rattle.giop_cdr.specs.Reading.Outcome.{Reads, Allocates};
 ghost use Rattle.giop_ior.specs.Ior.{ior_layout};
@@ -23,8 +25,10 @@ pub fn view_ior<'a, S: Octets>(input: &mut CdrIn<'a, S>) -> Result<IorAt<'a, S>,
     Ok(Ior { type_id, profiles })
 }
 
-/// The same reference on its own. Where memory is wanting for one that is there, it is NoMemory at
-/// the reader's place. After a refusal the reader stays where it was.
+/// A reference at which the reader stands (7.6.2), which owns its octets and profiles.
+///
+/// Refused as `view_ior` refuses it. When out of memory, for a reference that is there, it is
+/// NoMemory at the reader's place. After a refusal the reader stays where it was.
 pub fn read_ior<S: Octets>(alloc: Global, input: &mut CdrIn<S>) -> Result<Ior, CdrFault>
     ensures { Allocates (λ ior. ior) input.old result input.new (ior_layout.read input.old) }
 {
@@ -41,7 +45,7 @@ pub fn read_ior<S: Octets>(alloc: Global, input: &mut CdrIn<S>) -> Result<Ior, C
 }
 
 impl<'a, S: Octets> IorAt<'a, S> {
-    /// A copy of the reference on its own. It takes memory for its octets and profiles.
+    /// A copy of the reference, which owns its octets and profiles. It takes memory for these.
     pub fn to_owned(&self, alloc: Global) -> Result<Ior, AllocError>
         ensures { IfOk result (λ ior. ior ≡ self.now) }
     {

@@ -1,4 +1,5 @@
-// A reference as text.
+//! The text of a reference (CORBA 3.3 Part 2, 7.6.9), read and written. giop_types makes octets of
+//! its digits, by its `specs/IorText.antt`; here the octets are a reference.
 ghost use Rattle.std.specs.Prelude.{◌≡◌, ◌↔◌, false, true, ℕ, List, IfOk, IsErrOf};
 ghost use Rattle.giop_cdr.specs.declared.order.Order.{Order};
 ghost use Rattle.giop_cdr.specs.Layout.{AreOctets};
@@ -17,13 +18,13 @@ use std::alloc::Global;
 /// hexadecimal digits of either case the octets of an encapsulation of the reference. Octets behind
 /// the reference are passed over.
 ///
-/// A text that is none is refused as BadPrefix where it begins otherwise; else as BadHex where what
+/// Another text is refused as BadPrefix where it begins otherwise; else as BadHex where what
 /// follows is no even number of digits; else as Cdr with the first field that is refused, in
-/// reading order, at its offset from the first octet, which is the byte order: that one as Short or
-/// BadOrder at 0, the others as `view_ior` says. Where memory is wanting it is NoMemory, in place
-/// of any.
+/// reading order. The offset of that field counts from the first octet, which is the byte order.
+/// That one is refused as Short or BadOrder at 0, the others as `view_ior` says. When out of memory
+/// it is NoMemory, in place of any of these.
 pub fn ior_from_text(alloc: Global, text: &[u8]) -> Result<Ior, IorTextFault>
-    // What is answered is what the text says by the grammar, and what it says is answered.
+    // What is returned is what the text says by the grammar, and what it says is returned.
     ensures found { IfOk result (λ ior. IorText ior_layout.spells ior text.now) }
     ensures only { (ior : Reference) → IorText ior_layout.spells ior text.now
         → IsAnswered result ior }
@@ -63,7 +64,7 @@ fn encapsulated(alloc: Global, octets: &[u8]) -> Result<Ior, IorTextFault>
 /// octets of an encapsulation of the reference, big-endian, with nothing behind it.
 ///
 /// Refused as Unfit where `is_writable` is false, and then no octets spell the reference; else as
-/// NoMemory where memory is wanting.
+/// NoMemory when out of memory.
 #[tactic(auto, using(crate::proofs::IorTextLemmas::begins, crate::proofs::IorLemmas::ior_unspelled))]
 pub fn ior_to_text(alloc: Global, ior: &Ior) -> Result<Vec<u8>, EncodeFault>
     ensures value { IfOk result (λ text. text.items ≡ text_written ior_layout.written ior.now) }

@@ -1,3 +1,6 @@
+//! A reference written (CORBA 3.3 Part 2, 7.6.2), and whether it can be. The fields are those of
+//! `specs/Ior.antt`, in its order. Sequences of tagged values are written here for profiles,
+//! components and service contexts alike.
 ghost use Rattle.std.specs.Prelude.{◌≡◌, ◌↔◌, false, true, ℕ, List, IsErrOf};
 ghost use Rattle.std.specs.List.{list_all};
 ghost use Rattle.giop_cdr.specs.declared.order.Order.{Order};
@@ -25,7 +28,7 @@ impl Ior {
 /// Writes a reference (CORBA 3.3 Part 2, 7.6.2): the type id and the profiles, in their order.
 ///
 /// Refused as Unfit where `is_writable` is false, and then no octets spell the reference; else as
-/// NoMemory where memory is wanting. The output is then as it was.
+/// NoMemory when out of memory. The output is then as it was.
 #[tactic(auto, using(crate::proofs::IorLemmas::ior_unspelled))]
 pub fn write_ior(out: &mut CdrOut, ior: &Ior) -> Result<(), EncodeFault>
     ensures value { Writes out.old result out.new (ior_layout.written ior.now out.old) }
@@ -116,7 +119,7 @@ pub fn append_tagged<I: TaggedParts>(items: &[I], out: &mut CdrOut) -> Result<()
     Ok(())
 }
 
-// The fields in their order. Where memory is wanting a part of them is left.
+// Appends the fields in their order. Out of memory, a part of them is left.
 #[tactic(auto, unfolding(crate::specs::Ior::ior_layout, crate::specs::Ior::tagged_profile, giop_cdr::specs::Layout::field, giop_cdr::specs::Layout::text, giop_cdr::specs::Layout::gives), using(giop_cdr::proofs::Writing::WriterLemmas::grows_then, giop_cdr::proofs::Writing::WriterLemmas::grows_not))]
 pub fn append_ior(ior: &Ior, out: &mut CdrOut) -> Result<(), AllocError>
     requires { ior_layout.fits ior.now ≡ true }

@@ -1,9 +1,11 @@
+//! An IIOP profile (CORBA 3.3 Part 2, 9.7.2) as a value. To add a field, change `specs/Iiop.antt`
+//! too, and then both reading and writing.
 use crate::references::sequence::Sequence;
 use crate::references::tagged_profile::TaggedComponent;
 use giop_cdr::OctetList;
 
-/// The profile of tag 0: an object that is reached over IIOP (CORBA 3.3 Part 2, 9.7.2). With its
-/// octets and components on their own, or where they lie; contracts see both as one value.
+/// The profile of tag 0: an object that is reached over IIOP (CORBA 3.3 Part 2, 9.7.2). It owns its
+/// octets and components, or has them where they lie; contracts see both as one value.
 #[derive(Debug, Drop)]
 pub struct IiopProfile<O = OctetList, C = Sequence<TaggedComponent>> {
     /// The major version of IIOP: 1.

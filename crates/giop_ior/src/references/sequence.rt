@@ -1,3 +1,5 @@
+//! A list that contracts see as a plain one: for the profiles of a reference, the components of a
+//! profile and the addresses of a corbaloc.
 ghost use Rattle.std.specs.Prelude.{◌≡◌, ◌==◌, length};
 
 use std::alloc::Global;
@@ -20,7 +22,7 @@ impl<T: Drop> Model for Sequence<T> {
 impl<T: Drop> Sequence<T> {
     ghost use Rattle.std.specs.Prelude.{[]};
 
-    /// No values. It takes no memory.
+    /// An empty sequence. It takes no memory.
     pub fn new(alloc: Global) -> Sequence<T>
         ensures { result ≡ [] }
     {
@@ -43,7 +45,7 @@ impl<T: Drop> Sequence<T> {
         self.values.len()
     }
 
-    /// Whether there are none.
+    /// Whether there are no values.
     pub fn is_empty(&self) -> bool
         ensures { result ≡ (length self.now == 0) }
     {
@@ -67,7 +69,7 @@ impl<T: Drop> From<Vec<T>> for Sequence<T> {
     }
 }
 
-/// Two sequences are equal where they are as long and their values are equal one by one.
+/// Two sequences are equal where they have the same length, and their values are equal one by one.
 impl<T: PartialEq + Drop> PartialEq for Sequence<T> {
     ghost use Rattle.std.specs.Cmp.Lexicographic.{pointwise, lists_per};
 

@@ -1,3 +1,5 @@
+//! Service contexts (CORBA 3.3 Part 2, 7.7) as values, and a list of them written. A `CdrIn` reads
+//! one by `view_tagged_list`. The layout of both is `specs/ServiceContext.antt`.
 ghost use Rattle.std.specs.Prelude.{◌≡◌, true};
 ghost use Rattle.giop_cdr.specs.Writing.Outcome.{Appends};
 ghost use Rattle.giop_ior.specs.ServiceContext.{service_contexts};
@@ -11,7 +13,7 @@ use std::alloc::AllocError;
 /// octets that are carried unread.
 #[derive(Debug, Drop, PartialEq, Eq)]
 pub struct ServiceContext {
-    /// Which service it is of.
+    /// The id of the service that it belongs to.
     pub id: u32,
     /// Its octets, as they came.
     pub octets: OctetList,
@@ -48,8 +50,8 @@ pub fn are_writable_contexts(contexts: &[ServiceContext]) -> bool
     are_writable(contexts)
 }
 
-/// Writes service contexts that are writable: their count, and each. Where memory is wanting a part
-/// of them is left.
+/// Writes service contexts that are writable: their count, and each. Out of memory, a part of them
+/// is left.
 #[tactic(auto, unfolding(crate::specs::ServiceContext::service_contexts, crate::specs::ServiceContext::service_context))]
 pub fn append_contexts(contexts: &[ServiceContext], out: &mut CdrOut) -> Result<(), AllocError>
     requires { service_contexts.fits contexts.now ≡ true }

@@ -1,3 +1,5 @@
+//! Tagged profiles and tagged components (CORBA 3.3 Part 2, 7.6.2) as values: a tag, and octets
+//! whose meaning it says.
 ghost use Rattle.std.specs.Prelude.{◌≡◌};
 
 use giop_cdr::{OctetList, Tagged};
@@ -11,7 +13,7 @@ pub struct TaggedProfile {
     pub octets: OctetList,
 }
 
-/// What a profile says more of its object (7.6.2): octets that are carried unread.
+/// What a profile says of its object beside its own fields (7.6.2): octets that are carried unread.
 #[derive(Debug, Drop, PartialEq, Eq)]
 pub struct TaggedComponent {
     /// What the octets are.
@@ -20,14 +22,14 @@ pub struct TaggedComponent {
     pub octets: OctetList,
 }
 
-/// What `Tagged` makes, taken apart again.
+/// The number and the octets of a `Tagged` value, by which it is written.
 pub trait TaggedParts: Tagged {
     ghost use Rattle.std.specs.Prelude.{ℕ, List};
 
-    // The number.
+    // The number, as contracts see it.
     ghost tag_of: { Self → ℕ };
 
-    // The octets.
+    // The octets, as contracts see them.
     ghost contents_of: { Self → List ℕ };
 
     /// The number, which says what the octets are.
