@@ -1,3 +1,5 @@
+//! What is stored for the id of a call at a server. What each event makes of an entry, and which
+//! are closed, is specs/ServerTable.antt: change both.
 ghost use Rattle.std.specs.Prelude.{◌≡◌};
 ghost use Rattle.giop_calls.specs.ServerTable as table;
 ghost use Rattle.giop_calls.specs.Outcomes.{copied};
@@ -10,7 +12,7 @@ use crate::server::question::Question;
 use crate::server::undecoded::UndecodedCall;
 use giop_msg::{Reply, Request, Target};
 
-/// What stands under the id of a call at a server.
+/// What is stored for the id of a call at a server.
 #[derive(Debug, Drop)]
 pub enum ServerEntry {
     /// A first piece of it came, its last didn't.
