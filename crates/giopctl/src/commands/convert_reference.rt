@@ -1,4 +1,5 @@
-//! `convert ior` and `convert corbaloc`.
+//! `convert ior` and `convert corbaloc` (CORBA 3.3 Part 2, 7.6.9 and 7.6.10.1). What they print is
+//! `ConvertsIor` and `ConvertsCorbaloc` in specs/Convert.antt: change both.
 ghost use Rattle.std.specs.Prelude.{◌≡◌, ◌≢◌, true, IfErr, IfOk, OnOk, option_map};
 ghost use Rattle.std.specs.Io.KnownBytes.{Appends};
 ghost use Rattle.giop_ior.specs.Ior.{ior_layout};
@@ -38,7 +39,8 @@ pub fn convert_ior<W: Write>(
     }
 }
 
-/// How a refused text of a reference is told: a fault of its octets as that.
+/// The line of a refused text of a reference. A fault of its octets is reported as a fault of
+/// octets. Memory where the text was refused for being out of memory.
 pub fn ior_refusal(fault: IorTextFault) -> Result<RefusalLine, Failure>
     ensures value { IfOk result (λ line. line ≡ ior_refusal fault) }
     ensures refused { OnOk result (fault ≢ NoMemory) }

@@ -1,4 +1,5 @@
-//! `convert encode` and `convert decode`.
+//! `convert encode` and `convert decode` (CORBA 3.3 Part 2, 9.3). What they print is
+//! `ConvertsEncode` and `ConvertsDecode` in specs/Convert.antt: change both.
 ghost use Rattle.std.specs.Prelude.{◌≡◌, ◌≢◌, ◌⊎◌, [], true, Ok, Some, IfOk, OnOk, IfErr};
 ghost use Rattle.std.specs.String.{string_bytes};
 ghost use Rattle.serde_json.specs.Data.{Data};
@@ -51,7 +52,7 @@ pub fn convert_encode<W: Write>(
     }
 }
 
-/// How a description or a value in JSON is refused, unless memory is wanting.
+/// The line of a refused description or value in JSON. NoMemory has no line: it is a failure.
 pub fn form_refusal(fault: FormFault) -> Result<RefusalLine, Failure>
     ensures value { IfOk result (λ line. line ≡ RefusalLine.Form fault) }
     ensures refused { OnOk result (fault ≢ NoMemory) }

@@ -1,4 +1,5 @@
-//! `convert encode` and `convert decode`, by the text of a description.
+//! `convert encode` and `convert decode`, by the text of a description. Its meaning is
+//! `ConvertsValue` in specs/Convert.antt: change both.
 ghost use Rattle.std.specs.Prelude.{IfOk};
 ghost use Rattle.giopctl.specs.Convert.{ConvertsValue};
 
@@ -11,7 +12,7 @@ use giop_types::desc_from_json;
 use std::alloc::Global;
 use std::io::Write;
 
-/// Between JSON and octets, which way a value is converted.
+/// Which way a value is converted, between JSON and octets.
 #[derive(Clone, Copy, Debug, PartialEq, Eq)]
 pub enum Way {
     /// From JSON to octets.

@@ -1,3 +1,5 @@
+//! The words that `call` and `serve` take. Those that are refused are cases of the built program
+//! (tests/cases/usage).
 use crate::cli::{Task, task_of};
 use giop_cdr::Order;
 use std::alloc::{AllocError, Global};
