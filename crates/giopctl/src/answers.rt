@@ -57,13 +57,15 @@ impl Answers {
 }
 
 /// The answers that a JSON text gives: an object with a member for each operation of the interface
-/// that isn't oneway, and no other, which is `{"ok":[VALUE,..]}` with the operation's outs, or
+/// that isn't oneway, and no other. A member is `{"ok":[VALUE,..]}` with the operation's outs, or
 /// `{"user":ID,"members":[VALUE,..]}` with an exception of the interface and its members.
 ///
-/// Refused as BadJson where the text is none; else as BadShape where it, or a part of it, has
-/// another form, or an exception isn't in the interface; else as Unfit where a value doesn't fit,
-/// or there are more or fewer values than outs or members. In place of any, it may be refused as
-/// NoMemory where it is out of memory.
+/// Refused as the first of these that holds; in place of any it may be NoMemory, where it is out of
+/// memory:
+///
+/// - BadJson, where the text is no JSON.
+/// - BadShape, where it, or a part of it, has another form, or an exception isn't in the interface.
+/// - Unfit, where a value doesn't fit, or there are more or fewer values than outs or members.
 pub fn answers_from_json(
     alloc: Global,
     interface: &Interface,

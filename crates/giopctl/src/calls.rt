@@ -27,10 +27,13 @@ pub struct CallLine {
 
 /// The calls that a JSON text lists, each `{"id":ID,"operation":NAME,"ins":[VALUE,..]}`.
 ///
-/// Refused as BadJson where the text is none; else as BadShape where it, or a part of it, has
-/// another form, or an operation isn't in the interface; else as Unfit where an id is no unsigned
-/// long, a value doesn't fit, or there are more or fewer values than ins. In place of any, it may
-/// be refused as NoMemory where it is out of memory.
+/// Refused as the first of these that holds; in place of any it may be NoMemory, where it is out of
+/// memory:
+///
+/// - BadJson, where the text is no JSON.
+/// - BadShape, where it, or a part of it, has another form, or an operation isn't in the interface.
+/// - Unfit, where an id is no unsigned long, a value doesn't fit, or there are more or fewer values
+///   than ins.
 pub fn calls_from_json(
     alloc: Global,
     interface: &Interface,

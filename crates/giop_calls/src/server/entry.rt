@@ -66,9 +66,9 @@ pub enum ServerEntry {
 }
 
 impl ServerEntry {
-    /// Whether the call is over, so that its id may be used again, and its entry taken out: a
-    /// Delivered, LocateAnswered or undecodable one of which no reply is expected, and one that is
-    /// Answered or Cancelled with no piece left to be sent. It takes no memory.
+    /// Whether the call is over, so that its id may be used again, and its entry taken out. It is
+    /// over where it is Delivered or LocateAnswered; Undecoded, and no reply is expected; Answered
+    /// or Cancelled, and no piece is left to be sent. It takes no memory.
     pub fn is_closed(&self) -> bool
         ensures { result ≡ table.is_closed self.now }
     {

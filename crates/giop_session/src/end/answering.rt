@@ -36,11 +36,15 @@ impl<'a> ServerEnd<'a> {
     /// by a system exception alone.
     ///
     /// A failed end returns its fault. Else the first of these that holds is returned, and
-    /// `NoMemory` may stand in place of any: `NotOpen`, where no Request of this id waits for a
-    /// Reply, or `WrongKind`, where a LocateRequest does; `Unfit`, where the Reply has another
-    /// version than its Request, no octets spell it as a reply to this Request, they are more than
-    /// the limit `gathered`, or a message of them is larger than the limit `message`. A refusal
-    /// changes nothing.
+    /// `NoMemory` may stand in place of any:
+    ///
+    /// - `NotOpen`, where no Request of this id waits for a Reply, or `WrongKind`, where a
+    ///   LocateRequest does.
+    /// - `Unfit`, where the Reply has another version than its Request, no octets spell it as a
+    ///   reply to this Request, they are more than the limit `gathered`, or a message of them is
+    ///   larger than the limit `message`.
+    ///
+    /// A refusal changes nothing.
     #[tactic(auto, using(crate::proofs::LocalLemmas::refused_puts, crate::proofs::LocalLemmas::answer_puts, crate::proofs::LocalLemmas::unasked_puts))]
     pub fn answer(&mut self, reply: Reply, form: Form) -> Result<(), SessionFault>
         requires { IsForm form }
@@ -72,10 +76,14 @@ impl<'a> ServerEnd<'a> {
     /// Answers a LocateRequest in its version: that the object is here, or that it isn't known
     /// (9.4.6). A LocateRequest that couldn't be decoded has no object that could be here.
     ///
-    /// A failed end returns its fault. Else the first of these that holds is returned: `NotOpen`,
-    /// where no LocateRequest of this id waits for a LocateReply, or `WrongKind`, where a Request
-    /// does; `Unfit`, where the object of one that couldn't be decoded is said to be here;
-    /// `NoMemory`. A refusal changes nothing.
+    /// A failed end returns its fault. Else the first of these that holds is returned:
+    ///
+    /// - `NotOpen`, where no LocateRequest of this id waits for a LocateReply, or `WrongKind`,
+    ///   where a Request does.
+    /// - `Unfit`, where the object of one that couldn't be decoded is said to be here.
+    /// - `NoMemory`, where it is out of memory.
+    ///
+    /// A refusal changes nothing.
     #[tactic(auto, using(crate::proofs::QuietLemmas::answer_locate_quiet))]
     pub fn answer_locate(&mut self, id: u32, here: bool, order: Order) -> Result<(), SessionFault>
         ensures failed { (why : _) → self.old.fault ≡ Some why

@@ -38,10 +38,15 @@ impl<'a> ClientEnd<'a> {
     /// `send` puts out each of the others.
     ///
     /// A failed end returns its fault. Else the first of these that holds is returned, and
-    /// `NoMemory` may stand in place of any: `IdInUse`, where the id's call isn't over;
-    /// `UnknownOperation`, where the interface hasn't it; `Unfit`, where no octets spell the
-    /// Request, they are more than the limit `gathered`, or a message of them is larger than the
-    /// limit `message`; `TooManyCalls`. A refusal changes nothing.
+    /// `NoMemory` may stand in place of any:
+    ///
+    /// - `IdInUse`, where the id's call isn't over.
+    /// - `UnknownOperation`, where the interface hasn't the operation.
+    /// - `Unfit`, where no octets spell the Request, they are more than the limit `gathered`, or a
+    ///   message of them is larger than the limit `message`.
+    /// - `TooManyCalls`.
+    ///
+    /// A refusal changes nothing.
     #[tactic(auto, using(crate::proofs::QuietLemmas::call_quiet, crate::proofs::LocalLemmas::refused_puts))]
     pub fn call(&mut self, request: Request, form: Form) -> Result<(), SessionFault>
         requires { IsForm form }
@@ -82,10 +87,14 @@ impl<'a> ClientEnd<'a> {
     /// piece is put out now, and `send` puts out each of the others.
     ///
     /// A failed end returns its fault. Else the first of these that holds is returned, and
-    /// `NoMemory` may stand in place of any: `IdInUse`, where the id's call isn't over; `Unfit`,
-    /// where no octets spell the LocateRequest, they are more than the limit `gathered`, or a
-    /// message of them is larger than the limit `message`; `TooManyCalls`. A refusal changes
-    /// nothing.
+    /// `NoMemory` may stand in place of any:
+    ///
+    /// - `IdInUse`, where the id's call isn't over.
+    /// - `Unfit`, where no octets spell the LocateRequest, they are more than the limit `gathered`,
+    ///   or a message of them is larger than the limit `message`.
+    /// - `TooManyCalls`.
+    ///
+    /// A refusal changes nothing.
     #[tactic(auto, using(crate::proofs::QuietLemmas::call_quiet, crate::proofs::LocalLemmas::refused_puts))]
     pub fn locate(&mut self, request: LocateRequest, form: Form) -> Result<(), SessionFault>
         requires { IsForm form }
