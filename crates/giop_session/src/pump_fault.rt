@@ -18,7 +18,7 @@ pub enum PumpFault {
     /// The end refuses what was read, for this reason.
     #[error("{0}")]
     Session(SessionFault),
-    /// The turns are spent, and the input is not at its end.
+    /// The turns are spent, and each of them has read at least one octet.
     #[error("the turns are spent")]
     TurnsSpent,
 }

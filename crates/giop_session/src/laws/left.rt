@@ -23,9 +23,9 @@ ghost use Rattle.giop_session.specs.ServerAnswers.{IsAnswer, IsLocateAnswer};
 ghost use Rattle.giop_session.specs.ServerHears.{server_befalls, server_breaks};
 
 /// A server's end hears messages and acts itself, and none of this is refused. It plans a Reply in
-/// as many messages as its event says, a LocateReply in one, and a further piece as the next one;
-/// so plan `ServerEnd::answer`, `answer_locate` and `send`. Then as many messages of each call are
-/// still to be sent as its entry says to be left, and `send` has one wherever it is accepted.
+/// as many messages as its event says, a LocateReply in one, and a further piece as the next one:
+/// `ServerEnd::answer`, `answer_locate` and `send` do. Then as many messages of each call are still
+/// to be sent as its entry says to be left. So `send` has one wherever it is accepted.
 pub fn what_is_left_is_unsent_at_server()
     ensures answered { (interface : Interface) (question : _) (answer : _) (form : _) (planned : _)
         → IsAnswer interface (Some question) answer form planned
@@ -43,9 +43,9 @@ pub fn what_is_left_is_unsent_at_server()
 
 /// A client's end hears messages and acts itself, and none of this is refused. It plans a call in
 /// as many messages as its event says, a CancelRequest in one, in place of those that were left,
-/// and a further piece as the next one; so plan `ClientEnd::call`, `locate`, `cancel` and `send`.
-/// Then as many messages of each call are still to be sent as its entry says to be left, and `send`
-/// has one wherever it is accepted.
+/// and a further piece as the next one: `ClientEnd::call`, `locate`, `cancel` and `send` do. Then
+/// as many messages of each call are still to be sent as its entry says to be left. So `send` has
+/// one wherever it is accepted.
 pub fn what_is_left_is_unsent_at_client()
     ensures called { (interface : Interface) (asked : _) (form : _) (planned : _)
         → IsCall interface asked form planned → ClientPlans planned.event planned.plan }

@@ -26,7 +26,8 @@ ghost use Rattle.giop_session.specs.ServerHears.{server_befalls, server_breaks};
 /// Then no order of its events meets a limit: whichever of them came, the next one is never refused
 /// as TooManyCalls or GatherFull.
 ///
-/// So it is of at most `calls` events whose messages have at most `gathered` octets in all.
+/// This holds of any events, at most `calls` of them, whose messages have at most `gathered` octets
+/// in all.
 pub fn limits_in_any_order_at_server()
     ensures order { (interface : Interface) (limits : Limits) (all came : List (Event ServerEvent))
         (e : Event ServerEvent) (h : Held ServerRule ServerEntry) (why : SessionFault)
@@ -46,7 +47,8 @@ pub fn limits_in_any_order_at_server()
 /// `gathered`. Then no order of its events meets a limit: whichever of them came, the next one is
 /// never refused as TooManyCalls or GatherFull.
 ///
-/// So it is of at most `calls` events whose messages have at most `gathered` octets in all.
+/// This holds of any events, at most `calls` of them, whose messages have at most `gathered` octets
+/// in all.
 pub fn limits_in_any_order_at_client()
     ensures order { (interface : Interface) (limits : Limits) (all came : List (Event ClientEvent))
         (e : Event ClientEvent) (h : Held ClientRule ClientEntry) (why : SessionFault)

@@ -26,7 +26,7 @@ use std::io::{ErrorKind, Read, Write};
 /// `Refused`.
 ///
 /// Where writing fails, it is `InputOutput`. Where it is out of memory, it is `Memory`. After
-/// either, a part of the text is written.
+/// either, a part of the text may be written.
 pub fn check_octets<W: Write>(
     alloc: Global,
     interface: &Interface,

@@ -20,9 +20,9 @@ use giop_ior::{
 use std::alloc::{AllocError, Global};
 use std::io::Write;
 
-/// Writes what the text of a reference says (CORBA 3.3 Part 2, 7.6.9), of which these are a file's
-/// octets: its type id, a line for each profile, and the text again; `Done`. Where the text is
-/// none, the line of its fault; `Refused`.
+/// Writes what the text of a reference says (CORBA 3.3 Part 2, 7.6.9), which a file's octets are:
+/// its type id, a line for each profile, and the text again; `Done`. Where they are no such text,
+/// the line of its fault is written; `Refused`.
 pub fn convert_ior<W: Write>(
     alloc: Global,
     octets: &[u8],
@@ -109,9 +109,9 @@ fn write_profile<W: Write>(
     Ok(())
 }
 
-/// Writes a corbaloc (7.6.10.1) again, of which these are a file's octets, and the text of its
-/// reference; `Done`. Where the text is none, the line of its fault, and where the reference is too
-/// long for its counts `fault 1 Unfit`; `Refused`.
+/// Writes a corbaloc (7.6.10.1), which a file's octets are, in full, and the text of its reference;
+/// `Done`. Where they are no corbaloc, the line of its fault is written, and where the reference is
+/// too long for its counts `fault 1 Unfit`; `Refused`.
 pub fn convert_corbaloc<W: Write>(
     alloc: Global,
     octets: &[u8],

@@ -29,8 +29,8 @@ use std::alloc::{AllocError, Global};
 use std::io::Write;
 
 /// Writes the octets of a value from offset 0 on, in lower-case hexadecimal, where a file's octets
-/// are the value in JSON; `Done`. Where they are no value of the description, the line of the
-/// fault; `Refused`.
+/// are the value in JSON; `Done`. Where they are no value of the description, the line of the fault
+/// is written; `Refused`.
 pub fn convert_encode<W: Write>(
     alloc: Global,
     octets: &[u8],
@@ -96,9 +96,9 @@ fn octets_of_value(
     }
 }
 
-/// Writes in JSON the value of which a file's octets are the octets, in hexadecimal, from offset 0
-/// on; `Done`. Where they are no hexadecimal text, or no value of the description, or where octets
-/// are left behind it, the line of the fault; `Refused`.
+/// Writes a value in JSON, whose octets from offset 0 on a file has in hexadecimal; `Done`. Where
+/// the file is no hexadecimal text, or its octets are no value of the description, or octets are
+/// left behind it, the line of the fault is written; `Refused`.
 pub fn convert_decode<W: Write>(
     alloc: Global,
     octets: &[u8],

@@ -21,9 +21,9 @@ pub enum Way {
     Decode,
 }
 
-/// Converts a value, of which a file's octets are given, by its description in JSON: as
-/// `convert_encode` or `convert_decode` says. Where the description is none, its fault comes first,
-/// whatever the file holds; `Refused`.
+/// Converts a file's octets by a description in JSON, as `convert_encode` or `convert_decode` says.
+/// Where the text is no description, the line of its fault is written, whatever the file holds;
+/// `Refused`.
 pub fn convert_value<W: Write>(
     alloc: Global,
     octets: &[u8],

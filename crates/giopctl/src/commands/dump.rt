@@ -30,7 +30,7 @@ pub enum BehindFault {
 /// fault that ends it. It is `Done` where the file is messages and nothing else, else `Refused`.
 ///
 /// Where writing fails, it is `InputOutput`. Where it is out of memory, it is `Memory`. After
-/// either, a part of the text is written.
+/// either, a part of the text may be written.
 pub fn dump_octets<W: Write>(alloc: Global, octets: &[u8], writer: &mut W) -> Status
     ensures { Dumps MESSAGE_LIMIT octets.now (W.contents writer.old)
         (W.contents writer.new) result }

@@ -38,7 +38,7 @@ use std::io::{Read, Write};
 ///
 /// It is `Done` where there is no fault, or the peer closed the connection; else `Refused`. Where
 /// reading or writing fails, or 65,536 turns are taken, it is `InputOutput`. Where it is out of
-/// memory, it is `Memory`. After either, a part of the text is written, or none.
+/// memory, it is `Memory`. After either, a part of the text may be written.
 pub fn serve_session<R: Read, W: Write, O: Write>(
     alloc: Global,
     number: u32,
