@@ -22,16 +22,16 @@ pub record Held : Type 0 where
   pub table : ById Entry
   pub gathered : Lists
 
--- what stands under one id, and an end with that changed
+-- what is stored for one id, and an end with that changed
 pub record Call : Type 0 where
   pub entry : Option Entry
   pub pieces : Option Pieces
 
--- what stands under an id
+-- what is stored for an id
 abbrev pub at : Held → ℕ → Call
 at h id = record { entry = finite.get h.table id; pieces = finite.get h.gathered id }
 
--- an end in which something else stands under an id
+-- an end in which something else is stored for an id
 abbrev pub put_call : Held → ℕ → Call → Held
 put_call h id call = record h {
   table = put h.table id call.entry;
@@ -90,7 +90,7 @@ further (Some (Whole n)) pieces order turned = Err Stray
 further (Some Cancelled) pieces order turned = becomes (Some Cancelled) pieces
 further None pieces order turned = Err Stray
 
--- what befalls one id, whatever stands under others
+-- what befalls one id, whatever is stored for others
 abbrev pub turn : Call → Act → Turned
 turn call (First order octets) =
     first call.entry (Some (record { order = order; octets = octets }))
@@ -150,7 +150,7 @@ is_of_message TooManyCalls = false
 is_of_message GatherFull = false
 is_of_message NoMemory = false
 
--- what the caller is told, and of a take
+-- what is returned to the caller, and for a take
 abbrev pub reply : Result (Unit {0}) EndFault → Result Reply EndFault
 reply (Ok done) = Ok IsDone
 reply (Err fault) = Err fault

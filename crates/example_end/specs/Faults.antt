@@ -1,4 +1,4 @@
--- How the end tells a gatherer's fault.
+-- How the end reports a gatherer's fault.
 use Rattle.giop_frag.specs.declared.fault.GatherFault.{GatherFault}
 use Rattle.giop_frag.specs.declared.fault.GatherFault.TheVariants as gather
 use Rattle.example_end.specs.declared.fault.EndFault.{EndFault}

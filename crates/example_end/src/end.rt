@@ -1,3 +1,5 @@
+//! The end: a `Mux` of entries and a `Gather` of pieces that change together or not at all. What
+//! each call does is `end_rules` in specs/End.antt: change both.
 ghost use Rattle.std.specs.Prelude.{◌≡◌, ◌≤◌, ◌^◌};
 ghost use Rattle.std.specs.FinMap as finite;
 ghost use Rattle.giop_ids.specs.Runs.{Does};
@@ -59,17 +61,18 @@ impl End {
         }
     }
 
-    /// The entry under this id. It takes no memory.
+    /// The entry that is stored for the id, if one is. It takes no memory.
     pub fn entry(&self, id: u32) -> Option<Entry>
         ensures { result ≡ finite.get self.now.table id }
     {
         self.mux.entry(id).copied()
     }
 
-    /// The first piece of a message, with more to come, under an id without one that comes.
+    /// The first piece of a message comes, with more to come, for an id without a message that
+    /// comes.
     ///
     /// Refusals, in this order: `InUse`, `TooManyCalls`, `GatherFull`, `NoMemory`. A refusal
-    /// changes nothing: what the gatherer began is undone where there is no memory for the entry.
+    /// changes nothing: what the gatherer began is undone where it is out of memory for the entry.
     pub fn first(&mut self, id: u32, order: Order, octets: &[u8]) -> Result<(), EndFault>
         ensures { Does end_rules self.old (record { id = id; what = First order octets.now })
             (reply result) self.new }
@@ -83,7 +86,7 @@ impl End {
         Err(EndFault::NoMemory)
     }
 
-    /// A further piece, with more to come. It is ignored where the message was cancelled.
+    /// A further piece comes, with more to come. It is ignored where the message was cancelled.
     ///
     /// Refusals, in this order: `Stray`, `OrderDiffers`, `GatherFull`, `NoMemory`.
     pub fn more(&mut self, id: u32, order: Order, octets: &[u8]) -> Result<(), EndFault>
@@ -99,7 +102,7 @@ impl End {
         Ok(())
     }
 
-    /// The last piece: the message is whole, and its octets are counted where they lie. It is
+    /// The last piece comes: the message is whole, and its octets are counted where they lie. It is
     /// ignored where the message was cancelled. The refusals are those of `more`.
     pub fn last(&mut self, id: u32, order: Order, octets: &[u8]) -> Result<(), EndFault>
         ensures { Does end_rules self.old (record { id = id; what = Last order octets.now })
@@ -129,8 +132,8 @@ impl End {
         }
     }
 
-    /// Takes the entry out of a message that came or was cancelled; `None` where the id has none.
-    /// A message that comes is `StillOpen`. It takes no memory.
+    /// Takes out the entry of a message that came or was cancelled, and returns it; `None` where
+    /// the id has none. A message that still comes is refused as `StillOpen`. It takes no memory.
     pub fn take(&mut self, id: u32) -> Result<Option<Entry>, EndFault>
         ensures { Does end_rules self.old (record { id = id; what = IsTaken })
             (take_reply result) self.new }
@@ -141,14 +144,14 @@ impl End {
         Ok(taken)
     }
 
-    // Whether a message comes under the id.
+    // Whether a message comes for the id.
     fn comes(&self, id: u32) -> bool
         ensures { result ≡ is_arriving (finite.get self.now.table id) }
     {
         matches!(self.mux.entry(id), Some(Entry::Arriving))
     }
 
-    // Whether a message may begin under the id, as far as the table goes.
+    // Whether a message may begin for the id, as far as the table says.
     fn may_begin(&self, id: u32) -> Result<(), EndFault>
         ensures { result ≡ may_begin self.now id }
     {

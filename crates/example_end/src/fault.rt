@@ -1,11 +1,12 @@
+//! Why an act on the end is refused. A gatherer's fault becomes the end's fault of the same name.
 use giop_frag::GatherFault;
 
 /// Why an act is refused. A refusal changes nothing.
 #[derive(Clone, Copy, Debug, PartialEq, Eq)]
 pub enum EndFault {
-    /// A message comes already under the id.
+    /// A message comes already for the id.
     InUse,
-    /// No message comes under the id.
+    /// No message comes for the id.
     Stray,
     /// The piece has another byte order than those before it.
     OrderDiffers,
@@ -15,7 +16,7 @@ pub enum EndFault {
     TooManyCalls,
     /// All gathered octets together would be more than the limit.
     GatherFull,
-    /// There is no memory.
+    /// It is out of memory.
     NoMemory,
 }
 

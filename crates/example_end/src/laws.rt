@@ -1,12 +1,13 @@
-//! Laws of any run of acts, which goes on behind refusals.
+//! The law of any run of acts, which continues after refusals. The function's contract is the law;
+//! its body is empty, and no program calls it.
 ghost use Rattle.std.specs.Prelude.{◌≡◌, ℕ, List, Result};
 ghost use Rattle.giop_ids.specs.declared.addressed.Addressed.{Addressed};
 ghost use Rattle.giop_ids.specs.Runs.{own, alone, told_alone, Runs, addressed, MeetsNoLimit};
 ghost use Rattle.example_end.specs.declared.fault.EndFault.{EndFault};
 ghost use Rattle.example_end.specs.End.{Held, Act, Reply, at, turn, end_rules, is_of_message};
 
-/// Whatever befalls other ids in a run, a message has the entry, the pieces and the answers of its
-/// own acts alone; unless one of them met a limit or want of memory.
+/// Whatever happens to other ids in a run, a message has the entry, the pieces and the answers of
+/// its own acts alone, unless one of these met a limit or was out of memory.
 pub fn each_message_alone()
     ensures value { (h k : Held) (acts : List (Addressed Act))
         (results : List (Result Reply EndFault)) (id : ℕ)

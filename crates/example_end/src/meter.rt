@@ -1,3 +1,5 @@
+//! The toy rule of the end. In a real session its place is taken by the rules of giop_calls. Its
+//! meaning is `step_of` in specs/Meter.antt: change both.
 ghost use Rattle.std.specs.Prelude.{◌≡◌};
 ghost use Rattle.example_end.specs.Meter.{step_of};
 
@@ -7,7 +9,7 @@ use giop_mux::{CallRule, Step};
 #[derive(Clone, Copy, Debug, PartialEq, Eq)]
 pub struct Meter;
 
-/// What stands under the id of a message.
+/// What is stored for the id of a message.
 #[derive(Clone, Copy, Debug, PartialEq, Eq)]
 pub enum Entry {
     /// Its first piece came, its last didn't.
@@ -18,7 +20,7 @@ pub enum Entry {
     Cancelled,
 }
 
-/// What may befall a message.
+/// What may happen to a message.
 #[derive(Clone, Copy, Debug, PartialEq, Eq)]
 pub enum Event {
     /// Its first piece comes, and more are to come.
@@ -32,9 +34,9 @@ pub enum Event {
 /// Why an event is refused.
 #[derive(Clone, Copy, Debug, PartialEq, Eq)]
 pub enum MeterFault {
-    /// A message comes already under the id.
+    /// A message comes already for the id.
     InUse,
-    /// No message comes under the id.
+    /// No message comes for the id.
     Stray,
 }
 

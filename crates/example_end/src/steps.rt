@@ -1,4 +1,4 @@
-//! Steps of the table whose outcome is known before.
+//! Steps of the table that the rule accepts: what each leaves is known before it is taken.
 ghost use Rattle.std.specs.Prelude.{◌≡◌, false, Some, IsSome};
 ghost use Rattle.std.specs.Bool.{OnTrue, OnFalse};
 ghost use Rattle.std.specs.FinMap as finite;
@@ -14,7 +14,8 @@ use giop_cdr::Octets;
 use giop_frag::Gather;
 use giop_mux::Mux;
 
-/// Begins a message where none comes and there is room; it fails for want of memory alone.
+/// Begins a message where none comes and there is room, and returns whether it did. It fails only
+/// where it is out of memory; then nothing changes.
 pub fn open(mux: &mut Mux<Meter>, id: u32) -> bool
     requires apart { is_arriving (finite.get mux.old.entries id) ≡ false }
     ensures ok { OnTrue result (mux.new ≡ record mux.old {
@@ -36,7 +37,7 @@ pub fn settle(mux: &mut Mux<Meter>, id: u32, event: Event)
     let _ = mux.apply(id, event);
 }
 
-/// How many octets are gathered under the id.
+/// How many octets are gathered for the id.
 pub fn count_of(gather: &Gather, id: u32) -> usize
     ensures { result ≡ octets_in (finite.get gather.now.lists id) }
 {

@@ -1,3 +1,4 @@
+//! What a user of the end sees: three messages in turn, and any one allocation refused.
 use crate::{End, EndFault, Entry};
 use giop_cdr::Order;
 use std::test::Fail;

@@ -62,7 +62,7 @@ fn checksum(sum: u64, chain: &Chain<'_>) -> u64
 }
 
 /// Runs the loop with pieces of `size` octets over so many ids, as often as `rounds` says by one
-/// gatherer, and gives its checksum.
+/// gatherer, and returns its checksum.
 #[inline(never)]
 pub fn run(alloc: Global, size: usize, ids: u32, rounds: u32) -> u64
     requires some { 0 < size }

@@ -104,13 +104,14 @@ fn checksum(corbaloc: &Corbaloc) -> u64 {
     sum
 }
 
-// Reads the text.
+// Reads the text of a corbaloc.
 fn read(alloc: Global, text: &[u8]) -> Option<u64> {
     let corbaloc = corbaloc_from_text(alloc, text).ok()?;
     Some(checksum(&corbaloc))
 }
 
-/// Runs a loop, and gives its checksum; or none where there is no such loop, or memory is wanting.
+/// Runs a loop, and returns its checksum; `None` where there is no such loop, or it is out of
+/// memory.
 pub fn run(alloc: Global, name: &str) -> Option<u64> {
     let is_reference = name.starts_with("text");
     let text = match name {

@@ -15,7 +15,7 @@ const WAVES: u32 = 6_250;
 
 const TOGETHER: u32 = 16;
 
-// The octets of so many Requests, and of so many Replies.
+// The octets of TOGETHER Requests, and of TOGETHER Replies.
 const REQUESTS: usize = 896;
 
 const REPLIES: usize = 448;
@@ -41,7 +41,7 @@ fn longs(alloc: Global, values: &[i32]) -> Result<ValueList, AllocError> {
     Ok(list)
 }
 
-// The call of an id: what it adds is its id to 2.
+// The Request of an id: it adds its id to 2.
 fn asked(alloc: Global, id: u32) -> Result<Request, AllocError>
     requires { id < 16 }
 {
@@ -126,8 +126,8 @@ fn take_all(end: &mut ClientEnd<'_>, sum: u64) -> Option<u64> {
     Some(sum)
 }
 
-/// Runs the calls, and gives a checksum of what they came to; or none where a connection can't be
-/// made or breaks, or memory is wanting.
+/// Runs the calls, and returns a checksum of what they came to; `None` where a connection can't be
+/// made or breaks, or it is out of memory.
 pub fn run(rt: &HostRuntime) -> Option<u64> {
     let interface = Interface::from_json(rt.alloc(), J).ok()?;
     let listener = TcpListener::bind(rt, (Ipv4Addr::LOCALHOST, 0)).ok()?;

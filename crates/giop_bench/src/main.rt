@@ -1,5 +1,6 @@
 //! Loops that are timed from outside, beside plain Rust twins in `bench/`. The first argument names
-//! the loop, the second how often a loop over CDR runs; it does its work and prints a checksum.
+//! the loop, the second how often a loop over CDR runs, or over how many ids fragments come. It
+//! does its work and prints a checksum, which the twin has to print too.
 #![tactic(auto)]
 
 ghost use Rattle.std.specs.Prelude.{◌<◌};

@@ -1,5 +1,5 @@
-//! 100,000 Requests read and written, ten times: of `add`, of two longs, and of `put`, of a struct of five
-//! members. And 64 MB cut into messages of 4,096 octets, and joined again by `Gather`.
+//! 100,000 Requests read and written, ten times: of `add`, of two longs, and of `put`, of a struct
+//! of five members. And 64 MB cut into messages of 4,096 octets, and joined again by `Gather`.
 //! `bench/msg/twin.rs` does the same in plain Rust.
 ghost use Rattle.std.specs.Prelude.{◌≤◌, ◌^◌, length};
 
@@ -171,7 +171,8 @@ fn join_all(alloc: Global) -> Option<u64> {
     Some(sum)
 }
 
-/// Runs a loop, and gives its checksum; or none where there is no such loop, or memory is wanting.
+/// Runs a loop, and returns its checksum; `None` where there is no such loop, or it is out of
+/// memory.
 pub fn run(alloc: Global, name: &str) -> Option<u64> {
     let interface = Interface::from_json(alloc, J).ok()?;
     match name {

@@ -9,11 +9,11 @@ const EVENTS: u32 = 1_000_000;
 
 const IDS: u32 = 1_000;
 
-/// The rule of sums.
+/// The rule of sums, which are added to, closed and removed.
 #[derive(Clone, Copy)]
 struct Sums;
 
-/// The sum under an id.
+/// The sum that is stored for an id.
 #[derive(Clone, Copy)]
 enum Entry {
     Open(u64),
@@ -108,7 +108,7 @@ fn held(entry: Option<&Entry>) -> u64 {
     }
 }
 
-/// Runs the loop, and gives its checksum.
+/// Runs the loop, and returns its checksum.
 #[inline(never)]
 pub fn run(alloc: Global) -> u64 {
     let mut mux = Mux::new(alloc, Sums, IDS);

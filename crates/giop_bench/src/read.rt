@@ -87,8 +87,8 @@ fn values<S: Octets>(alloc: Global, source: &S, work: Work) -> Result<u64, CdrFa
     }
 }
 
-/// Reads the message of `write` so many times, and gives a checksum of the values; or none where
-/// memory is wanting.
+/// Reads the message of `write` so many times, and returns a checksum of the values; `None` where
+/// it is out of memory.
 pub fn run(alloc: Global, work: Work, times: u32) -> Option<u64> {
     let message = write::message(alloc, work).ok()?;
     if message.len() > 1 << 62 {

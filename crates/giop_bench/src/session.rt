@@ -206,7 +206,7 @@ fn pieces(alloc: Global, interface: &Interface) -> Option<Vec<Vec<u8>>> {
     Some(pieces)
 }
 
-// Feeds a message under each id.
+// Feeds a message once with each id.
 fn feed_all(end: &mut ServerEnd<'_>, message: &mut [u8]) -> Option<()> {
     if message.len() < 16 {
         return None;
@@ -218,7 +218,7 @@ fn feed_all(end: &mut ServerEnd<'_>, message: &mut [u8]) -> Option<()> {
     Some(())
 }
 
-// Feeds the pieces, each under each id before the next, and serves what is whole then.
+// Feeds the pieces, each with every id before the next piece, and serves what is whole then.
 fn round(alloc: Global, end: &mut ServerEnd<'_>, pieces: &mut [Vec<u8>], sum: u64) -> Option<u64> {
     for piece in pieces.iter_mut() {
         feed_all(end, piece)?;
@@ -241,7 +241,8 @@ fn put_all(alloc: Global, interface: &Interface) -> Option<u64> {
     Some(mixed(sum, end.rest() as u64))
 }
 
-/// Runs a loop, and gives its checksum; or none where there is no such loop, or memory is wanting.
+/// Runs a loop, and returns its checksum; `None` where there is no such loop, or it is out of
+/// memory.
 pub fn run(alloc: Global, name: &str) -> Option<u64> {
     let interface = Interface::from_json(alloc, J).ok()?;
     match name {

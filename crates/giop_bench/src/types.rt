@@ -132,7 +132,8 @@ fn json(alloc: Global, desc: &CheckedDesc, message: &[u8], again: bool) -> Optio
     Some(sum)
 }
 
-/// Runs a loop, and gives its checksum; or none where there is no such loop, or memory is wanting.
+/// Runs a loop, and returns its checksum; `None` where there is no such loop, or it is out of
+/// memory.
 pub fn run(alloc: Global, name: &str) -> Option<u64> {
     let (item, message) = match name {
         "structs-read" | "structs-write" => (a_struct(alloc).ok()?, structs(alloc, VALUES).ok()?),

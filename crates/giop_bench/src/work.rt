@@ -1,4 +1,5 @@
-//! Which loop over CDR is timed.
+//! Which loop over CDR is timed, by its name. A new one takes a variant of `Values`, and a loop in
+//! read.rt, in write.rt and in bench/cdr/twin.rs.
 use giop_cdr::Order;
 
 /// What a loop reads or writes.

@@ -9,7 +9,7 @@ pub const STRINGS: u32 = 100_000;
 
 const OCTETS: [u8; 4096] = [7; 4096];
 
-/// How many sequences of 4,096 octets stand in a message: 1 MB.
+/// How many sequences of 4,096 octets a message has: 1 MB.
 pub const PIECES: u32 = 256;
 
 pub const GROUPS: u32 = 100_000;
@@ -81,7 +81,7 @@ pub fn message(alloc: Global, work: Work) -> Result<Vec<u8>, AllocError> {
     Ok(out.into_bytes())
 }
 
-/// Writes the message so many times, and gives a checksum of the lengths and the last octets.
+/// Writes the message so many times, and returns a checksum of the lengths and the last octets.
 pub fn run(alloc: Global, work: Work, times: u32) -> Result<u64, AllocError> {
     let mut sum = 0;
     for _ in 0..times {

@@ -20,12 +20,12 @@ Act = Happening ClientEvent
 abbrev pub client_turn : Option ClientEntry → Act → Turned ClientEntry (Unit {0}) CallFault
 client_turn = turn client_step is_closed
 
--- what the first piece of a Reply or a LocateReply tells
+-- what the first piece of a Reply or a LocateReply says
 pub record Beginning : Type 0 where
   pub kind : CallKind
   pub version : Version
 
--- what all of one tells
+-- what all of one says
 pub record Message : Type 0 where
   pub begun : Beginning
   pub reply : HeardReply
@@ -46,7 +46,7 @@ is_own (Hears event.Cancel) = true
 is_own IsTaken = true
 is_own _ = false
 
--- how a client is told: behind a cancel the last Fragment still ends the late reply
+-- in which events a client hears it: behind a cancel the last Fragment still ends the late reply
 abbrev pub client_words : Wording (Option ClientEntry) Act Beginning Message
 client_words = record {
   whole = λ m. Hears (event.Whole m.begun.kind m.begun.version m.reply);

@@ -1,4 +1,4 @@
--- What stands under an id at a client, told without steps: by what befell its latest call.
+-- What is stored for an id at a client, said without steps: by what befell its latest call.
 use Rattle.std.specs.Prelude.{ℕ, ◌+◌, ◌-◌, ◌==◌, Bool, true, false, if◌then◌else◌, List, [], ◌∷◌, Option, Some, None}
 use Rattle.giop_mux.specs.Runs.{Happening, Hears, IsTaken}
 use Rattle.giop_calls.specs.declared.client.call.Call.{Call}
@@ -108,6 +108,6 @@ shown_by (Some call) past = if was_taken past then None else Some (shown call pa
 abbrev pub shown_of : Past → Option ClientEntry
 shown_of past = shown_by (call_of past) past
 
--- what stands after these acts, told in the order in which they happened
+-- what is stored after these acts, given in the order in which they happened
 abbrev pub standing : List (Happening ClientEvent) → Option ClientEntry
 standing acts = shown_of (latest begins_call (latest_first [] acts))

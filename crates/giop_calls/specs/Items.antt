@@ -1,10 +1,10 @@
--- What was said of one call, told in items, and the acts of either end that spell them.
+-- What was said of one call, as a list of items, and the acts of either end that spell them.
 use Rattle.std.specs.Prelude.{◌≡◌, ◌⊎◌, Bool, true, false, if◌then◌else◌, List, [], ◌∷◌, ◌++◌, Result, IsOk}
 use Rattle.std.specs.List.{AllByRecursion}
 use Rattle.giop_ids.specs.Runs.{Done, alone, told_alone, left, told}
 
--- how an end is told its messages, whole or piece by piece: Act is what may befall a call there, V
--- what stands under its id, Beginning what a first piece tells, and Message all of one
+-- how an end hears its messages, whole or piece by piece: Act is what may befall a call there, V
+-- what is stored for its id, Beginning what a first piece says, and Message all of one
 pub record Wording (V Act Beginning Message : Type 0) : Type 1 where
   pub whole : Message → Act
   pub first : Beginning → Act
@@ -50,7 +50,7 @@ module _ {V Act Answer Why Beginning Message : Type 0}
   Carries v (item ∷ items) acts = (one rest : List Act) × (acts ≡ one ++ rest)
       × Spells v item one × Carries (alone turn v one) items rest
 
-  -- what the end's own acts among these are told
+  -- what the end's own acts among these are answered
   abbrev pub answers : V → List Act → List (Result Answer Why)
   answers v [] = []
   answers v (act ∷ acts) = if words.is_own act
@@ -61,7 +61,7 @@ module _ {V Act Answer Why Beginning Message : Type 0}
   abbrev pub Says : V → List (Item Act Beginning Message) → List Act → Type 0
   Says v items acts = Carries v items acts × AllByRecursion IsOk (told_alone turn v acts)
 
-  -- two lists of acts leave the same, and the end's own acts are told the same
+  -- two lists of acts leave the same, and the end's own acts get the same answers
   abbrev pub AreAlike : V → List Act → List Act → Type 0
   AreAlike v one other =
       (alone turn v one ≡ alone turn v other) × (answers v one ≡ answers v other)

@@ -192,7 +192,7 @@ pub data Act : Type 0 where
   ToClient : Act
 
 module _ (codec : Codec) where
-  -- what a server is told by a message
+  -- what a message is to a server
   abbrev pub server_event : List Piece → Message → ServerEvent
   server_event pieces (Opens kind version true piece) =
       at_server.Whole (codec.read_call (piece ∷ []))
@@ -218,7 +218,7 @@ module _ (codec : Codec) where
   reading (Some (Gathering call)) pieces = codec.read_reply call pieces
   reading _ pieces = reply.Unread
 
-  -- what a client is told by a message, but for a CancelRequest, which no server sends
+  -- what a message is to a client, but for a CancelRequest, which no server sends
   abbrev pub client_event : Standing ClientEntry → Message → Option ClientEvent
   client_event c (Opens kind version true piece) =
       Some (at_client.Whole kind version (reading c.entry (piece ∷ [])))

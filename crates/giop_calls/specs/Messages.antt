@@ -23,7 +23,7 @@ is_same_order Little Little = true
 is_same_order Big Little = false
 is_same_order Little Big = false
 
--- the reply tells an exception of the broker (9.4.3)
+-- the reply is a system exception (9.4.3)
 abbrev pub is_system_exception : ReplyBody → Bool
 is_system_exception (SystemException id minor completion) = true
 is_system_exception _ = false

@@ -3,7 +3,7 @@ use Rattle.std.specs.Borrow.{Bor}
 use Rattle.giop_calls.specs.declared.outcome.Outcome.{Outcome}
 use Rattle.giop_calls.specs.declared.outcome.Outcome.TheVariants.{Pending, Cancelled, OneWay, Replied, Located, Undecoded}
 
--- an outcome whose reply is told by reference, with the reply itself
+-- an outcome whose reply is a reference, with the reply itself
 abbrev pub copied : {R : Type 0} → Outcome (Bor R) → Outcome R
 copied Pending = Pending
 copied Cancelled = Cancelled

@@ -35,7 +35,8 @@ is_own (Hears event.Send) = true
 is_own IsTaken = true
 is_own _ = false
 
--- how a server is told: a first piece by its kind; behind a cancel any Fragment as one of many
+-- in which events a server hears it: a first piece by its kind; behind a cancel any Fragment as one
+-- of many
 abbrev pub server_words : Wording (Option ServerEntry) Act CallKind HeardCall
 server_words = record {
   whole = λ call. Hears (event.Whole call);

@@ -1,4 +1,4 @@
--- What stands under an id at a server, told without steps: by what befell its latest call.
+-- What is stored for an id at a server, said without steps: by what befell its latest call.
 use Rattle.std.specs.Prelude.{ℕ, ◌+◌, ◌-◌, ◌||◌, Bool, true, false, not, if◌then◌else◌, List, [], ◌∷◌, Option, Some, None, is_some}
 use Rattle.giop_mux.specs.Runs.{Happening, Hears, IsTaken}
 use Rattle.giop_msg.specs.declared.messages.reply.Reply.{Reply}
@@ -109,6 +109,6 @@ abbrev pub shown_of : Past → Option ServerEntry
 shown_of [] = None
 shown_of (act ∷ past) = if was_taken (act ∷ past) then None else Some (shown (act ∷ past))
 
--- what stands after these acts, told in the order in which they happened
+-- what is stored after these acts, given in the order in which they happened
 abbrev pub standing : List (Happening ServerEvent) → Option ServerEntry
 standing acts = shown_of (latest begins_call (latest_first [] acts))

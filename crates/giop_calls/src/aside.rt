@@ -1,3 +1,4 @@
+//! A value in an allocation of its own. Entries and events hold their messages so, and stay small.
 ghost use Rattle.std.specs.Prelude.{◌≡◌, IfOk};
 
 use std::alloc::{AllocError, Global};
@@ -20,7 +21,8 @@ impl<T> Model for Aside<T> {
 }
 
 impl<T: Drop> Aside<T> {
-    /// Lays a value aside. `alloc` gives the memory for it; where that is wanting, it is dropped.
+    /// Lays a value aside. `alloc` gives the memory for it. Where it is out of memory, the value is
+    /// dropped, and AllocError is returned.
     pub fn new(alloc: Global, value: T) -> Result<Aside<T>, AllocError>
         ensures { IfOk result (λ aside. aside ≡ value) }
     {
@@ -29,7 +31,7 @@ impl<T: Drop> Aside<T> {
         })
     }
 
-    /// The value. It takes no memory.
+    /// The value itself, taken out of its allocation. It takes no memory.
     pub fn into_inner(self) -> T
         ensures { result ≡ self }
     {

@@ -1,3 +1,4 @@
+//! Why an event of a call is refused. The numbers and names are specs/Faults.antt too: change both.
 ghost use Rattle.std.specs.Prelude.{◌≡◌};
 
 use std::error::Error;
@@ -6,13 +7,13 @@ use std::fmt;
 /// Why an event is refused. A refused event leaves the entry of its id as it was.
 #[derive(Clone, Copy, Debug, PartialEq, Eq)]
 pub enum CallFault {
-    /// A call begins under an id whose former call isn't over.
+    /// A call begins with an id whose former call isn't over.
     IdInUse,
-    /// A Fragment comes under an id for which nothing is gathered.
+    /// A Fragment comes with an id for which nothing is gathered.
     Stray,
     /// A Fragment has another byte order than the message that it continues.
     OrderDiffers,
-    /// A Reply or a LocateReply comes under an id that waits for none.
+    /// A Reply or a LocateReply comes with an id that waits for none.
     UnknownReply,
     /// A Request is answered as a LocateRequest, or the other way round; or a reply is of another
     /// version than its request.

@@ -22,7 +22,7 @@ use Rattle.giop_session.specs.declared.table_fault.TableFault.TheVariants.{Rule,
 use Rattle.giop_session.specs.Sending.{sending_step}
 
 -- the calls of an end: their rule, how many entries and how many gathered octets there may be, what
--- stands under the ids, and what is gathered
+-- is stored for the ids, and what is gathered
 pub record Held (R E : Type 0) : Type 0 where
   pub rule : R
   pub calls : ℕ
@@ -35,11 +35,11 @@ pub record Call (E : Type 0) : Type 0 where
   pub slot : Option (Slot E)
   pub pieces : Option Pieces
 
--- what stands under an id
+-- what is stored for an id
 abbrev pub at : {R E : Type 0} → Held R E → ℕ → Call E
 at h id = record { slot = finite.get h.table id; pieces = finite.get h.gathered id }
 
--- the calls where something else stands under an id
+-- the calls where something else is stored for an id
 abbrev pub put_call : {R E : Type 0} → Held R E → ℕ → Call E → Held R E
 put_call h id call = record h {
   table = put h.table id call.slot;
@@ -70,13 +70,13 @@ brought (First order octets) pieces = Some (record { order = order; octets = oct
 brought (More octets) pieces = grown pieces octets
 brought Nothing pieces = pieces
 
--- a table's refusal, as an end tells it
+-- a table's refusal, as an end returns it
 abbrev pub fault_of : {F : Type 0} → Refusal F → TableFault F
 fault_of (refusal.Rule fault) = Rule fault
 fault_of refusal.TooManyCalls = TooManyCalls
 fault_of refusal.NoMemory = NoMemory
 
--- a gatherer's refusal of a piece in order, of a message that comes, as an end tells it
+-- a gatherer's refusal of a piece in order, of a message that comes, as an end returns it
 abbrev pub gather_fault : {F : Type 0} → GatherFault → TableFault F
 gather_fault gathering.NoMemory = NoMemory
 gather_fault gathering.GatherFull = GatherFull
@@ -137,7 +137,7 @@ room_fault gathering h id slot (More octets) =
     if gathers gathering (finite.get h.table id) then octets_fault h (length octets) else None
 room_fault gathering h id slot Nothing = None
 
--- why there is no room for what stands under the id then
+-- why there is no room for what is then stored for the id
 abbrev pub calls_fault : {R E F : Type 0} → Held R E → ℕ → Option (Slot E) → Option (TableFault F)
 calls_fault h id slot =
     if is_one_too_many h.table h.calls id slot then Some TooManyCalls else None
@@ -147,7 +147,7 @@ module _ {E V A F : Type 0} (next : Option E → V → Step E A F) (closed gathe
   abbrev pub step_of : Option (Slot E) → Planned V → Step (Slot E) (Sends A) F
   step_of slot planned = sending_step next slot planned
 
-  -- what befalls one call, whatever stands under other ids
+  -- what befalls one call, whatever is stored for other ids
   abbrev pub turn : Call E → Act V → Turned E A F
   turn call (Hears planned brings) =
       turned gathering (brought brings call.pieces) (step_of call.slot planned).entry
@@ -181,7 +181,7 @@ abbrev pub answered : {A F : Type 0}
 answered sends (Ok done) = Ok sends
 answered sends (Err fault) = Err fault
 
--- whether a call's own rule refuses, and not a limit or want of memory
+-- whether a call's own rule refuses, and not a limit or an end that is out of memory
 abbrev pub is_of_call : {F : Type 0} → TableFault F → Bool
 is_of_call (Rule fault) = true
 is_of_call StillOpen = true
@@ -189,7 +189,7 @@ is_of_call TooManyCalls = false
 is_of_call GatherFull = false
 is_of_call NoMemory = false
 
--- what the caller is told of an event, and of a take
+-- what is returned to the caller for an event, and for a take
 abbrev pub event_reply : {E A F : Type 0}
     → Result (Sends A) (TableFault F) → Result (Reply E A) (TableFault F)
 event_reply (Ok sends) = Ok (Answers sends)

@@ -62,7 +62,7 @@ abbrev pub done_by : {V : Type 0} → Local V → Happening V
 done_by (IsTold planned) = IsTold planned.event
 done_by TakesOut = TakesOut
 
--- how an end is told of its calls, where T is what is known of one
+-- how what an end meets says what becomes of its calls, where T is what is known of one
 pub record Telling (T Message V : Type 0) : Type 1 where
   -- the message type that asks, or answers, so
   pub type_of : CallKind → Kind

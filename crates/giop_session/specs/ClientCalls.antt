@@ -90,7 +90,7 @@ open_in (Waiting call) = Some (version_of call)
 open_in (Gathering call) = Some (version_of call)
 open_in _ = None
 
--- of the call that stands under an id
+-- of the call that is stored for an id
 abbrev pub open_version : Option ClientEntry → Option Version
 open_version None = None
 open_version (Some entry) = open_in entry

@@ -1,5 +1,5 @@
--- What a server says of one call at a client, and what stands there then (CORBA 3.3 Part 2, 9.4.3
--- and 9.4.6).
+-- What a server says of one call at a client, and what is stored there then (CORBA 3.3 Part 2,
+-- 9.4.3 and 9.4.6).
 use Rattle.std.specs.Prelude.{◌≡◌, ℕ, false, if◌then◌else◌, List, Option, Some, None}
 use Rattle.giop_cdr.specs.declared.order.Order.{Order}
 use Rattle.giop_types.specs.declared.json.interface.Interface.{Interface}
@@ -29,7 +29,7 @@ use Rattle.giop_session.specs.ClientHears.{heard_reply}
 abbrev pub ClientItem : Type 0
 ClientItem = Item HeardReply ClientEvent
 
--- what is known of the calls of an id: the entry that stands, and the latest call
+-- what is known of the calls of an id: the entry that is stored, and the latest call
 pub record Known : Type 0 where
   pub entry : Option ClientEntry
   pub latest : Option Asked
@@ -95,7 +95,7 @@ abbrev pub latest_behind : Option Asked → ClientItem → Option Asked
 latest_behind latest (Did (Hears (event.Call call pieces))) = Some call
 latest_behind latest _ = latest
 
--- a client is told of its calls so; a server cancels none
+-- what a client meets says this of its calls; a server cancels none
 abbrev pub client_telling : Interface → Telling Known HeardReply ClientEvent
 client_telling interface = record {
   type_of = replies;

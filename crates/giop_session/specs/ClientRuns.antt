@@ -24,7 +24,7 @@ use Rattle.giop_session.specs.Heard.{in_call}
 use Rattle.giop_session.specs.Inputs.{Holds, Input, nothing_unread}
 use Rattle.giop_session.specs.Sending.{entry_of}
 
--- what stands under an id
+-- what is stored for an id
 abbrev pub client_entry : Held ClientRule ClientEntry → ℕ → Option ClientEntry
 client_entry h id = entry_of (finite.get h.table id)
 

@@ -1,4 +1,4 @@
--- Codes of what stands in the table of an end, by which a map of it can be seen by contracts.
+-- Codes of what is stored in the table of an end, by which a map of it can be seen by contracts.
 use Rattle.std.specs.Prelude.{◌≡◌, ℕ, ◌==◌, Bool, if◌then◌else◌, List, refl}
 use Rattle.std.specs.Coded.{Coded, code_by, coded×, coded_ℕ, coded_bool, coded_list}
 use Rattle.giop_msg.specs.declared.kind.Kind.{Kind}

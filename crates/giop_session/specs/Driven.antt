@@ -1,5 +1,5 @@
--- A list of inputs that an end is given, one after another, and what it answers to each: a run goes
--- on behind a refusal.
+-- A list of inputs that an end is given, one after another, and what it answers to each: a run
+-- continues behind a refusal.
 use Rattle.std.specs.Prelude.{◌≡◌, ◌≢◌, ℕ, ◌==◌, ◌++◌, Bool, false, if◌then◌else◌, List, [], ◌∷◌, Option, Some, None, Result, Ok, Err}
 use Rattle.std.specs.Option.{option_map}
 use Rattle.std.specs.FinMap as finite
@@ -45,7 +45,7 @@ pub record EndState (H : Type 0) : Type 0 where
   pub outgoing : List ℕ
   pub fault : Option SessionFault
 
--- the same from its parts
+-- an end's state from its parts
 abbrev pub end_state : {H : Type 0} → Unread → H → List ℕ → Option SessionFault → EndState H
 end_state unread calls outgoing fault =
     record { unread = unread; calls = calls; outgoing = outgoing; fault = fault }
@@ -89,7 +89,7 @@ Says answer.Done Is = Is (Ok tt)
 Says (answer.Refused why) Is = Is (Err why)
 Says (answer.Taken entry) Is = ⊥
 
--- a CloseConnection is put out, and the end goes no further; only want of memory refuses it
+-- a CloseConnection is put out, and the end is closed; only being out of memory refuses it
 abbrev pub IsClosed : {H : Type 0} → EndState H → Result (Unit {0}) SessionFault → EndState H
     → Type 0
 IsClosed s (Ok done) t = t ≡ record s {
@@ -113,7 +113,7 @@ IsAct {V} (PutsOut id refusal Plans) act =
 IsAct (TakesOut id) act = act ≡ DoesTo id IsTakenOut
 IsAct Closes act = ⊥
 
--- what is answered to an act that is taken, by the entry that stands under its id
+-- what is answered to an act that is taken, by the entry that is stored for its id
 abbrev pub answer_to : {E X : Type 0} → Option E → Happening X → Answered E
 answer_to entry (IsTold event) = answer.Done
 answer_to entry IsTakenOut = answer.Taken entry
@@ -154,7 +154,7 @@ module _ {T Message V E : Type 0} (telling : Telling T Message V) (entry_in : T 
 module _ {R E V A F : Type 0} (next : R → Option E → V → Step E A F) (closed : R → E → Bool)
     (gathering : E → Bool) (of_rule : ℕ → F → SessionFault) (breaks : Msg → Option SessionFault)
     (befalls : Msg → Call E → Act V) where
-  -- what stands under an id is taken out and given, unless its call is open
+  -- what is stored for an id is taken out and returned, unless its call is open
   abbrev pub IsTakenFrom : ℕ → EndState (Held R E) → Answered E → EndState (Held R E) → Type 0
   IsTakenFrom id s (answer.Taken entry) t =
       (entry ≡ entry_of (finite.get s.calls.table id))
@@ -166,7 +166,7 @@ module _ {R E V A F : Type 0} (next : R → Option E → V → Step E A F) (clos
       ≡ Some false) × (t ≡ s)
   IsTakenFrom id s answer.Done t = ⊥
 
-  -- what an input does to an end that goes on, and what is answered
+  -- what an input does to an end that continues, and what is answered
   abbrev pub IsDoneBy : Deed V F → EndState (Held R E) → Answered E → EndState (Held R E) → Type 0
   IsDoneBy (Feeds octets) s answered t = Says answered (λ result.
       Fed (hears_by next closed gathering of_rule breaks befalls) (with_octets s.unread octets)

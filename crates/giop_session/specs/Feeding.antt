@@ -14,8 +14,8 @@ module _ {S : Type 0} (Hears : Msg → S → Result (Unit {0}) SessionFault → 
   Through h [] k = k ≡ h
   Through h (m ∷ messages) k = (mid : S) × Hears m h (Ok tt) mid × Through mid messages k
 
-  -- why an end reads no further: neither a message nor a fault stands in front of what is unread; or
-  -- a fault does; or a message that is refused, and is taken away; or memory is wanting
+  -- why an end reads no further: neither a message nor a fault stands in front of what is unread;
+  -- or a fault does; or a message that is refused, and is taken away; or it is out of memory
   abbrev pub Stops : Unread → S → Result (Unit {0}) SessionFault → Unread → Type 0
   Stops unread k (Ok done) left = Waits unread × (left ≡ unread)
   Stops unread k (Err why) left =

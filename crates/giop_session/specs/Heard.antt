@@ -20,7 +20,7 @@ pub data Heard (V : Type 0) : Type 0 where
   Breaks : SessionFault → Heard V
   Befalls : ℕ → Act V → Heard V
 
--- what an end tells of what befell a call
+-- what an end returns for what befell a call
 abbrev pub told_of : {A F : Type 0} → (F → SessionFault)
     → Result (Sends A) (TableFault F) → Result (Unit {0}) SessionFault
 told_of of_rule (Ok sends) = Ok tt
@@ -37,7 +37,7 @@ module _ {R E V A F : Type 0} (rules : Rules (Held R E) (Call E) (Act V) (Reply 
       × Does rules h (record { id = id; what = act }) (event_reply answered) k
       × (result ≡ told_of (of_rule id) answered)
 
-  -- or memory was wanting to find out what it does
+  -- or it was out of memory to find out what it does
   abbrev pub IsHeard : Heard V → Held R E → Result (Unit {0}) SessionFault → Held R E → Type 0
   IsHeard heard h result k =
       ((result ≡ Err NoMemory) × (k ≡ h)) ⊎ IsHeardAs heard h result k
@@ -78,8 +78,8 @@ abbrev pub heard_by : {V : Type 0} → Option SessionFault → Option (Result �
 heard_by (Some why) name act = Breaks why
 heard_by None name act = named name act
 
--- a side of a connection tells which messages end the session, and what befalls a call by one; what
--- that does is told by this call alone
+-- a side of a connection says which messages end the session, and what befalls a call by one; what
+-- that does depends on this call alone
 abbrev pub heard_of : {R E V : Type 0} → (Msg → Option SessionFault) → (Msg → Call E → Act V)
     → Held R E → Msg → Heard V
 heard_of breaks befalls h m =

@@ -1,5 +1,5 @@
 -- An end between a reader and a writer: what a turn does, and a pump, which takes turns; as far as
--- reader and writer tell their octets.
+-- the octets of reader and writer are known.
 use Rattle.std.specs.Prelude.{◌≡◌, ◌≢◌, ℕ, ◌<◌, ◌≤◌, List, [], ◌∷◌, ◌++◌, length, All, Option, Some, None, Result, Ok, Err}
 use Rattle.std.specs.List.{concat}
 use Rattle.std.specs.Io.KnownBytes.{Appends, Consumes, IsAtEnd, Keeps}
@@ -37,7 +37,7 @@ pub record Between (S : Type 0) : Type 0 where
   pub outgoing : List ℕ
   pub state : State S
 
--- the same from its parts
+-- an end between a reader and a writer, from its parts
 abbrev pub between : {S : Type 0} → Option (List ℕ) → Option (List ℕ) → List ℕ → Unread → S
     → Option SessionFault → Between S
 between input output outgoing unread calls fault = record {

@@ -41,7 +41,7 @@ module _ {R E V A F : Type 0} (rules : Rules (Held R E) (Call E) (Act V) (Reply 
   IsDone id None Plans h out result k out' =
       (planned : Planned V) × Plans planned × Befell id planned h out result k out'
 
-  -- or memory is wanting, and nothing changes
+  -- or it is out of memory, and nothing changes
   abbrev pub Puts : ℕ → Option F → (Planned V → Type 0) → Held R E → List ℕ
       → Result (Unit {0}) SessionFault → Held R E → List ℕ → Type 0
   Puts id refusal Plans h out result k out' =

@@ -1,4 +1,4 @@
--- How an end tells why a call of its own program is refused.
+-- How an end reports why a call of its own program is refused.
 use Rattle.std.specs.Prelude.{◌≡◌, ◌⊎◌, ℕ, Bool, true, false, Option, Some, None, Result, Ok, Err}
 use Rattle.giop_cdr.specs.declared.encode_fault.EncodeFault.{EncodeFault}
 use Rattle.giop_cdr.specs.declared.encode_fault.EncodeFault.TheVariants as encode
@@ -13,12 +13,12 @@ abbrev pub unfit_unless : Bool → Option CallFault
 unfit_unless true = None
 unfit_unless false = Some Unfit
 
--- it tells the fault that was found, if one was
+-- it reports the fault that was found, if one was
 abbrev pub Tells : ℕ → Option CallFault → SessionFault → Type 0
 Tells id None told = ⊥
 Tells id (Some fault) told = told ≡ in_call id fault
 
--- or that memory is wanting
+-- or that it is out of memory
 abbrev pub IsRefusal : ℕ → Option CallFault → SessionFault → Type 0
 IsRefusal id found told = (told ≡ NoMemory) ⊎ Tells id found told
 

@@ -12,7 +12,7 @@ use Rattle.giop_session.specs.declared.form.Form.{Form}
 use Rattle.giop_session.specs.declared.plan.Planned.{Planned}
 use Rattle.giop_session.specs.declared.plan.Plan.TheVariants.{Put}
 
--- an event is planned to send these joined octets, as messages of a kind; it tells how many
+-- an event is planned to send these joined octets, as messages of a kind; it says how many
 abbrev pub IsSent : {V : Type 0} → Version → Kind → Form → List ℕ → (ℕ → V) → Planned V → Type 0
 IsSent version kind form octets event planned =
     (messages : List Msg) × IsCut version kind form.order octets form.piece messages

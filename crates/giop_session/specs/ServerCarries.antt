@@ -1,5 +1,5 @@
--- What a client says of one call at a server, and what stands there then (CORBA 3.3 Part 2, 9.4.2,
--- 9.4.4 and 9.4.5).
+-- What a client says of one call at a server, and what is stored there then (CORBA 3.3 Part 2,
+-- 9.4.2, 9.4.4 and 9.4.5).
 use Rattle.std.specs.Prelude.{◌≡◌, ℕ, Bool, List, Option, Some, None}
 use Rattle.giop_cdr.specs.declared.order.Order.{Order}
 use Rattle.giop_types.specs.declared.json.interface.Interface.{Interface}
@@ -52,7 +52,7 @@ server_behind interface entry Cancel = (server_step entry event.Cancel).entry
 server_behind interface entry (Did (Hears event)) = (server_step entry event).entry
 server_behind interface entry (Did IsTaken) = None
 
--- a server is told of its calls so
+-- what a server meets says this of its calls
 abbrev pub server_telling : Interface → Telling (Option ServerEntry) HeardCall ServerEvent
 server_telling interface = record {
   type_of = asks;

@@ -24,7 +24,7 @@ use Rattle.giop_session.specs.ServerAnswers.{IsAnswer, IsLocateAnswer, answer_fa
 use Rattle.giop_session.specs.ServerCarries.{ServerItem, server_telling}
 use Rattle.giop_session.specs.ServerHears.{server_befalls, server_breaks}
 
--- what stands under an id
+-- what is stored for an id
 abbrev pub server_entry : Held ServerRule ServerEntry → ℕ → Option ServerEntry
 server_entry h id = entry_of (finite.get h.table id)
 

@@ -29,7 +29,7 @@ pub record WorldState : Type 0 where
   pub client : EndState (Held ClientRule ClientEntry)
   pub server : EndState (Held ServerRule ServerEntry)
 
--- the same of a world that runs
+-- the ends of a world that runs, as such a state
 abbrev pub ends_of : World → WorldState
 ends_of w = record {
   client = end_state w.client.framer w.client.calls w.client.outgoing w.client.fault;
@@ -51,7 +51,7 @@ new_world client_limits server_limits = record {
   server = new_end (record {}) server_limits;
 }
 
--- what is told of an event: that an end did what it was given, or why it refused it
+-- what is returned for an event: that an end did what it was given, or why it refused it
 abbrev pub Told : Type 0
 Told = Result (Unit {0}) SessionFault
 
@@ -66,7 +66,7 @@ fed_to_client [] = []
 fed_to_client (client.Feed octets ∷ inputs) = octets ++ fed_to_client inputs
 fed_to_client (_ ∷ inputs) = fed_to_client inputs
 
--- the same of a server's end
+-- the octets that a server's end is fed by what it is given
 abbrev pub fed_to_server : List ServerInput → List ℕ
 fed_to_server [] = []
 fed_to_server (server.Feed octets ∷ inputs) = octets ++ fed_to_server inputs
@@ -79,7 +79,7 @@ module _ (interface : Interface) (client_limits server_limits : Limits) where
       × ClientIsGiven interface client_limits w.client given answered v.client
       × (told ≡ told_of_answer answered) × (v.server ≡ w.server)
 
-  -- the same of the server's end
+  -- the server's end is given something, and the client's stays as it is
   abbrev pub AtServer : WorldState → ServerInput → Told → WorldState → Type 0
   AtServer w given told v = (answered : Answered ServerEntry)
       × ServerIsGiven interface server_limits w.server given answered v.server
@@ -93,7 +93,7 @@ module _ (interface : Interface) (client_limits server_limits : Limits) where
       × (told ≡ told_of_answer answered)
       × (v.client ≡ record w.client { outgoing = drop n w.client.outgoing })
 
-  -- the same of those on their way to the client's
+  -- up to so many octets, the first on their way to the client's end, arrive there
   abbrev pub ArriveAtClient : WorldState → ℕ → Told → WorldState → Type 0
   ArriveAtClient w n told v = (answered : Answered ClientEntry)
       × ClientIsGiven interface client_limits w.client (client.Feed (take n w.server.outgoing))

@@ -1,3 +1,6 @@
+//! The table of an end's calls: for each request id its entry, its messages that are still to be
+//! sent, and the pieces gathered for it (CORBA 3.3 Part 2, 9.4.9). What an act does to one call,
+//! and what the whole refuses, is `rules_of` in specs/CallTable.antt: change both.
 ghost use Rattle.std.specs.Prelude.{◌≡◌, ◌==◌, ◌&&◌, ◌≤◌, ◌^◌, ◌+◌, ◌/◌, not, is_some, true, false, if◌then◌else◌, Ok, None, length, is_none, IfNone, IfErr, IfOk, IfSome, IsOk, OnErr, IsSome, option_copied};
 ghost use Rattle.std.specs.FinMap as finite;
 ghost use Rattle.std.specs.Option.{option_map};
@@ -67,22 +70,22 @@ impl<R: Side> CallTable<R> {
         }
     }
 
-    /// What stands under the id. It takes no memory.
+    /// What is stored for the id, if anything is. It takes no memory.
     pub fn slot(&self, id: u32) -> Option<&Slot<R::Entry>>
         ensures { option_copied result ≡ finite.get self.now.table id }
     {
         self.mux.entry(id)
     }
 
-    /// The ids under which something stands, ascending. `alloc` gives the memory of the list.
+    /// The ids for which something is stored, ascending. `alloc` gives the memory of the list.
     pub fn ids(&self, alloc: Global) -> Result<Vec<u32>, AllocError>
         ensures { IfOk result (λ ids. ids.items ≡ finite.keys self.now.table) }
     {
         self.mux.ids(alloc)
     }
 
-    /// The byte order and the octets of the pieces gathered under the id, where they lie. It takes
-    /// no memory.
+    /// The byte order and the octets of the pieces gathered for the id, where they lie. It takes no
+    /// memory.
     pub fn pieces(&self, id: u32) -> Option<(Order, Chain<'_>)>
         ensures value { result
             ≡ option_map (λ p. (p.order, p.octets)) (finite.get self.now.gathered id) }
@@ -101,18 +104,18 @@ impl<R: Side> CallTable<R> {
         more <= self.gather.limit() - self.gather.total()
     }
 
-    /// How many blocks of 512 octets were taken for pieces; none is given back while the table
-    /// lives. They are at most the limit of gathered octets over 512, and one for each entry that
+    /// How many blocks of 512 octets were taken for pieces. None is freed while the table lives.
+    /// They are at most the limit of gathered octets over 512, and one more for each entry that
     /// there may be. It takes no memory.
     ///
-    /// The clause bounds the number and no more; that it is the gatherer's own, tests show.
+    /// The clause bounds the number and no more. That it is the gatherer's own, tests show.
     pub fn blocks(&self) -> usize
         ensures within { result ≤ self.now.room / 512 + self.now.calls }
     {
         self.gather.blocks()
     }
 
-    /// An event that brings no octets to be gathered befalls a call.
+    /// An event that brings no octets to be gathered happens to the call of an id.
     ///
     /// Refusals, in this order: the rule's fault; `TooManyCalls`; `NoMemory`, only where an id
     /// without an entry would get one. A refusal changes nothing.
@@ -137,10 +140,10 @@ impl<R: Side> CallTable<R> {
         Ok(sends)
     }
 
-    /// The first piece of a message, with more to come, whose octets are gathered from now on.
+    /// The first piece of a message comes, with more to come: its octets are gathered from now on.
     ///
     /// Refusals, in this order: `TooManyCalls`, `GatherFull`, `NoMemory`. A refusal changes
-    /// nothing: what the gatherer began is undone where there is no memory for the entry.
+    /// nothing: what the gatherer began is undone where it is out of memory for the entry.
     pub fn begin(
         &mut self,
         id: u32,
@@ -170,8 +173,8 @@ impl<R: Side> CallTable<R> {
         Err(TableFault::NoMemory)
     }
 
-    /// A further piece of a message whose pieces are gathered, with more to come: its octets are
-    /// joined to them. It is heard as any event that changes nothing else at its call.
+    /// A further piece of a message whose pieces are gathered comes, with more to come: its octets
+    /// are joined to them. It counts as any event that changes nothing else at its call.
     ///
     /// Refusals, in this order: `GatherFull`, `NoMemory`. A refusal changes nothing.
     pub fn go_on(
@@ -195,10 +198,10 @@ impl<R: Side> CallTable<R> {
         Ok(())
     }
 
-    /// The last piece of a message whose pieces are gathered, where the event tells what they all
-    /// are together. The octets count as gathered at this moment, and no piece is kept.
+    /// The last piece of a message whose pieces are gathered comes, and the event says what all of
+    /// them are together. The octets count as gathered at this moment, and no piece is kept.
     ///
-    /// Refusals, in this order: `GatherFull`. A refusal changes nothing. It takes no memory.
+    /// The only refusal is `GatherFull`. A refusal changes nothing. It takes no memory.
     pub fn complete(
         &mut self,
         id: u32,
@@ -222,8 +225,9 @@ impl<R: Side> CallTable<R> {
         Ok(sends)
     }
 
-    /// Takes what stands under the id out, where its call is over, and gives it; `None` where
-    /// nothing stands there. A call that is not over is `StillOpen`. It takes no memory.
+    /// Takes out what is stored for the id, where its call is over, and returns it; `None` where
+    /// nothing is stored. A call that is not over is refused as `StillOpen`, and stays. It takes no
+    /// memory.
     pub fn take(&mut self, id: u32) -> Result<Option<Slot<R::Entry>>, TableFault<R::Fault>>
         ensures does { Does (rules_of (R.next self.old.rule) (R.closed self.old.rule) R.gathering)
             self.old (record { id = id; what = IsTaken }) (take_reply result) self.new }
@@ -248,7 +252,7 @@ impl<R: Side> CallTable<R> {
     }
 }
 
-// Whether pieces are gathered under the id.
+// Whether pieces are gathered for the id.
 fn gathers_in<R: Side>(mux: &Mux<Sending<R>>, id: u32) -> bool
     ensures { result ≡ gathers R.gathering (finite.get mux.now.entries id) }
 {
@@ -258,8 +262,8 @@ fn gathers_in<R: Side>(mux: &Mux<Sending<R>>, id: u32) -> bool
     }
 }
 
-// Whether there are no pieces under the id that are to be dropped. Most messages come whole, so the
-// pieces are asked for first.
+// Whether no pieces of the id are to be dropped. Most messages come whole, so the gatherer is asked
+// first.
 fn is_kept<R: Side>(mux: &Mux<Sending<R>>, gather: &Gather, id: u32) -> bool
     ensures { let pieces = finite.get gather.now.lists id in
         (if result then pieces else None)
@@ -268,8 +272,8 @@ fn is_kept<R: Side>(mux: &Mux<Sending<R>>, gather: &Gather, id: u32) -> bool
     !gather.contains(id) || gathers_in(mux, id)
 }
 
-// Applies an event that the rule accepts and for which there is room, so that it fails for want of
-// memory alone.
+// Applies an event that the rule accepts and for which there is room. So it fails only where it is
+// out of memory; then nothing changes.
 fn enter<R: Side>(
     mux: &mut Mux<Sending<R>>,
     id: u32,

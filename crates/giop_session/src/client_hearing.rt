@@ -1,4 +1,5 @@
-//! What a message of the server does at a client, a function for each kind.
+//! What a message of the server does at a client (CORBA 3.3 Part 2, 9.4), a function for each kind.
+//! Its meaning is `client_breaks` and `client_befalls` in specs/ClientHears.antt: change both.
 ghost use Rattle.std.specs.Prelude.{◌≡◌, ◌≤◌, ◌^◌, ◌+◌, ◌++◌, length, option_copied, is_some, true, Some, IfSome};
 ghost use Rattle.std.specs.FinMap as finite;
 ghost use Rattle.giop_frag.specs.Gathered.{octets_in, order_fault};
@@ -107,7 +108,7 @@ fn is_awaited(calls: &Calls, id: u32, kind: CallKind, version: Version) -> bool
     }
 }
 
-// The first piece of the reply to a call that waits for it.
+// The first piece of the reply to a call that waits for it comes.
 fn begin(calls: &mut Calls, id: u32, kind: CallKind, message: &Msg) -> Result<(), SessionFault>
     requires { is_some (awaited kind message.now.version (finite.get calls.old.table id)) ≡ true }
     ensures { AtClient (Befalls id (Hears (kept (event.First kind message.now.version))
@@ -123,7 +124,7 @@ fn begin(calls: &mut Calls, id: u32, kind: CallKind, message: &Msg) -> Result<()
     )
 }
 
-// All of it.
+// The reply to a call that waits for it comes in one piece.
 fn arrive(
     alloc: Global,
     interface: &Interface,
@@ -151,7 +152,8 @@ fn arrive(
     told(id, calls.hear(id, kept(whole)))
 }
 
-// What the message is that answers the call which waits for it. `None` where memory is wanting.
+// The message decoded, as the reply to the call that waits for it. `None` where it is out of
+// memory.
 fn reply_to(
     alloc: Global,
     interface: &Interface,
@@ -208,7 +210,7 @@ fn go_on(
     }
 }
 
-// Whether pieces of this byte order continue what is gathered under the id.
+// Whether pieces of this byte order continue what is gathered for the id.
 fn is_continued(calls: &Calls, id: u32, order: Order) -> bool
     ensures { result ≡ is_some (continued order (gathered_call (finite.get calls.now.table id))
         (finite.get calls.now.gathered id)) }
@@ -219,7 +221,7 @@ fn is_continued(calls: &Calls, id: u32, order: Order) -> bool
     order == held && slot.entry.is_gathering()
 }
 
-// A Fragment that continues what is gathered, with more to come.
+// A Fragment comes that continues what is gathered, with more to come.
 fn add(calls: &mut Calls, id: u32, message: &Msg) -> Result<(), SessionFault>
     requires { is_some (continued message.now.order (gathered_call (finite.get calls.old.table id))
         (finite.get calls.old.gathered id)) ≡ true }
@@ -232,7 +234,7 @@ fn add(calls: &mut Calls, id: u32, message: &Msg) -> Result<(), SessionFault>
     }
 }
 
-// The last Fragment of what is gathered.
+// The last Fragment of what is gathered comes.
 fn complete(
     alloc: Global,
     interface: &Interface,
@@ -273,8 +275,8 @@ fn gathered_in(entry: &ClientEntry) -> Option<&Call>
     }
 }
 
-// What the gathered pieces and the last one come to, where they lie. `None` where memory is
-// wanting.
+// What the gathered pieces and the last one decode to, read where they lie. `None` where it is out
+// of memory.
 fn joined_reply(
     alloc: Global,
     interface: &Interface,

@@ -1,4 +1,6 @@
-//! What a message of a client comes to, once its last piece is there.
+//! What a message of a client comes to, once its last piece is there: a Request or a LocateRequest
+//! (CORBA 3.3 Part 2, 9.4.2 and 9.4.5), or why it can't be decoded. Its meaning is `heard_call` in
+//! specs/Decoding.antt: change both.
 ghost use Rattle.std.specs.Prelude.{◌≡◌, ◌≤◌, ◌^◌, length, IfSome, true, false};
 ghost use Rattle.giop_msg.specs.Joined.{whole_of_joined};
 ghost use Rattle.giop_msg.specs.Locate.{locate_request};
@@ -12,7 +14,7 @@ use giop_types::Interface;
 use std::alloc::Global;
 
 /// What the joined octets of a message of a client come to: a Request or a LocateRequest, or one
-/// that can't be decoded. `None` where memory is wanting.
+/// that can't be decoded. `None` where it is out of memory.
 pub fn heard_call<S: Octets>(
     alloc: Global,
     interface: &Interface,
@@ -80,7 +82,7 @@ fn undecoded(version: Version, expects: Option<CallKind>, fault: RequestFault) -
     })
 }
 
-// Whether memory was wanting.
+// Whether the fault is that it was out of memory.
 fn is_want(fault: RequestFault) -> bool
     ensures yes { result ≡ true → IsWant fault }
     ensures no { result ≡ false → IsWant fault → ⊥ }
@@ -92,7 +94,7 @@ fn is_want(fault: RequestFault) -> bool
     }
 }
 
-// Which reply is expected to a Request of which no more than the head may be readable.
+// Which reply a Request expects, by its head; where that can't be read, a Reply.
 fn expected<S: Octets>(version: Version, order: Order, joined: &S) -> Option<CallKind>
     requires { length (S.octets joined.now) ≤ 2 ^ 62 }
     ensures { result ≡ expected version order (S.octets joined.now) }

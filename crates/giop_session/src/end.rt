@@ -1,3 +1,7 @@
+//! One end of a connection (CORBA 3.3 Part 2, 9.4): it is made, fed with octets of the peer, looked
+//! at and closed. What its own program answers is end/answering.rt, what it calls is
+//! end/calling.rt, and end/writing.rt writes what is outgoing. What feeding does is `Fed` in
+//! specs/Feeding.antt.
 ghost use Rattle.std.specs.Prelude.{◌≡◌, ◌≤◌, ◌^◌, ◌+◌, ◌/◌, ◌++◌, [], drop, false, None, Some, Err, Ok, length, option_copied, IfErr, IfOk, OnErr, OnOk};
 ghost use Rattle.std.specs.FinMap as finite;
 ghost use Rattle.std.specs.Option.{option_map};
@@ -32,10 +36,10 @@ use giop_types::Interface;
 use std::alloc::{AllocError, Global};
 pub use writing::write_out;
 
-/// One end of a connection: octets of the peer go in, and a table of calls stands.
+/// One end of a connection: octets of the peer go in, and it keeps the table of the calls.
 ///
-/// Contracts see the interface, the octets that are unread, the calls, the octets that are outgoing,
-/// the limits, and the fault that stands, if one does.
+/// Contracts see the interface, the octets that are unread, the calls, the octets that are
+/// outgoing, the limits, and the fault of an end that failed or is closed.
 #[derive(Drop)]
 pub struct End<'a, R: Hearing> {
     interface: &'a Interface,
@@ -84,7 +88,7 @@ impl<'a> End<'a, ClientRule> {
 }
 
 impl<'a, R: Hearing> End<'a, R> {
-    // An end by this rule, which heard nothing.
+    // An end by this rule, which has heard nothing.
     fn begun(alloc: Global, rule: R, interface: &'a Interface, limits: Limits) -> End<'a, R>
         requires { limits.gathered ≤ 2 ^ 62 }
         ensures interface { result.interface.now ≡ interface.now }
@@ -105,13 +109,13 @@ impl<'a, R: Hearing> End<'a, R> {
         }
     }
 
-    /// Takes octets of the peer in, of any number: each message that is whole is heard, in their
-    /// order, and does what it does to the call that it names.
+    /// Takes in octets of the peer, any number of them. Each message that is whole is heard, in
+    /// their order, and acts on the call that it names.
     ///
     /// A fault makes the end failed: its calls are those after the last message before the fault,
-    /// nothing is read any more, and the end answers this fault from then on. For one message the
-    /// first of these holds: `Wire`; `WrongDirection`; `Closed` and `PeerError`; `NoId`; `Call`;
-    /// `TooManyCalls`; `GatherFull`. `NoMemory` may stand in place of any.
+    /// nothing is read any more, and the end returns this fault from then on. For one message it is
+    /// the first of these that holds: `Wire`; `WrongDirection`; `Closed` and `PeerError`; `NoId`;
+    /// `Call`; `TooManyCalls`; `GatherFull`. `NoMemory` may stand in place of any.
     pub fn feed(&mut self, octets: &[u8]) -> Result<(), SessionFault>
         ensures failed { (why : _) → self.old.fault ≡ Some why
             → (result ≡ Err why) × (self.new ≡ self.old) }
@@ -143,14 +147,14 @@ impl<'a, R: Hearing> End<'a, R> {
         Ok(())
     }
 
-    /// What stands under the id. It takes no memory.
+    /// The entry that is stored for the id, if one is. It takes no memory.
     pub fn entry(&self, id: u32) -> Option<&R::Entry>
         ensures { option_copied result ≡ entry_of (finite.get self.now.calls.table id) }
     {
         self.calls.slot(id).map(|slot| &slot.entry)
     }
 
-    /// The ids under which something stands, ascending. `alloc` gives the memory of the list.
+    /// The ids for which something is stored, ascending. `alloc` gives the memory of the list.
     pub fn ids(&self, alloc: Global) -> Result<Vec<u32>, AllocError>
         ensures { IfOk result (λ ids. ids.items ≡ finite.keys self.now.calls.table) }
     {
@@ -175,10 +179,10 @@ impl<'a, R: Hearing> End<'a, R> {
     }
 
     /// Closes the connection: a CloseConnection is put out (9.4.7), big-endian and in 1.2, and the
-    /// end answers `Closed` from then on.
+    /// end returns `Closed` from then on.
     ///
-    /// A failed end answers its fault; else `NoMemory` where memory is wanting. A refusal changes
-    /// nothing.
+    /// A failed end returns its fault. Else `NoMemory` is returned where it is out of memory. A
+    /// refusal changes nothing.
     pub fn close(&mut self) -> Result<(), SessionFault>
         ensures failed { (why : _) → self.old.fault ≡ Some why → result ≡ Err why }
         ensures ok { OnOk result ((self.old.fault ≡ None) × (self.new ≡ record self.old {
@@ -205,7 +209,7 @@ impl<'a, R: Hearing> End<'a, R> {
         Ok(())
     }
 
-    /// How many octets are unread: those of a message that isn't whole, and of a failed end those
+    /// How many octets are unread: those of a message that isn't whole, and at a failed end those
     /// behind the message that failed it. It takes no memory.
     pub fn rest(&self) -> usize
         ensures { result ≡ length self.now.framer.octets }
@@ -213,11 +217,11 @@ impl<'a, R: Hearing> End<'a, R> {
         self.framer.rest()
     }
 
-    /// How many blocks of 512 octets the end has taken for pieces; none is given back until it is
-    /// dropped. They are at most the limit of gathered octets over 512, and one for each entry that
-    /// there may be. It takes no memory.
+    /// How many blocks of 512 octets the end has taken for pieces. None is freed until the end is
+    /// dropped. They are at most the limit of gathered octets over 512, and one more for each entry
+    /// that there may be. It takes no memory.
     ///
-    /// The clause bounds the number and no more; that it is the gatherer's own, tests show.
+    /// The clause bounds the number and no more. That it is the gatherer's own, tests show.
     pub fn blocks(&self) -> usize
         ensures within { result ≤ self.now.calls.room / 512 + self.now.calls.calls }
     {
@@ -231,9 +235,9 @@ impl<'a, R: Hearing> End<'a, R> {
         self.fault
     }
 
-    /// The MessageError to be sent to a peer whose octets are no message, or have no request id, or
-    /// are of the wrong direction, or befall a call as none may (9.4.8); none after any other fault.
-    /// It takes no memory.
+    /// The MessageError (9.4.8) to be sent to a peer whose octets are no message, have no request
+    /// id, are a message of the wrong direction, or are refused by the rule of the call that they
+    /// name. `None` after any other fault, and without one. It takes no memory.
     pub fn error_message(&self) -> Option<[u8; 12]>
         ensures { result ≡ error_message_of self.now.fault }
     {
@@ -246,11 +250,11 @@ impl<'a, R: Hearing> End<'a, R> {
         }
     }
 
-    /// Takes what stands under the id out, where its call is over, and gives it; `None` where
-    /// nothing stands there. It takes no memory.
+    /// Takes out what is stored for the id, where its call is over, and returns the entry; `None`
+    /// where nothing is stored. It takes no memory.
     ///
-    /// A failed end answers its fault, and a call that isn't over is `StillOpen`. A refusal changes
-    /// nothing.
+    /// A failed end returns its fault. A call that isn't over is refused as `StillOpen`. A refusal
+    /// changes nothing.
     pub fn take(&mut self, id: u32) -> Result<Option<R::Entry>, SessionFault>
         ensures failed { (why : _) → self.old.fault ≡ Some why → result ≡ Err why }
         ensures value { IfOk result (λ taken. (taken ≡ entry_of (finite.get self.old.calls.table id))
@@ -278,7 +282,7 @@ impl<'a, R: Hearing> End<'a, R> {
     }
 }
 
-// Hears what is whole behind the octets that are unread and these.
+// Hears each message that is whole in the unread octets and these behind them.
 fn hear_all<R: Hearing>(
     alloc: Global,
     interface: &Interface,
@@ -297,7 +301,7 @@ fn hear_all<R: Hearing>(
     Ok(())
 }
 
-// Hears a message, whose memory serves the next one.
+// Hears a message. Its memory then serves the next one.
 #[inline(always)]
 fn hear<R: Hearing>(
     alloc: Global,

@@ -1,3 +1,5 @@
+//! The form in which an end sends a message: its byte order, and the size of its pieces (CORBA 3.3
+//! Part 2, 9.4.9). Which forms are valid is `IsForm` in specs/Form.antt: change both.
 ghost use Rattle.std.specs.Prelude.{◌≡◌, ◌↔◌, IsTrue};
 ghost use Rattle.giop_session.specs.Form.{IsForm};
 

@@ -1,4 +1,6 @@
-//! What hearing a message has in common at both sides.
+//! What hearing a message (CORBA 3.3 Part 2, 9.4) has in common at a client and at a server: the id
+//! that it names, the octets of a Fragment, and what the end returns. Its meaning is
+//! specs/Heard.antt: change both.
 ghost use Rattle.std.specs.Prelude.{◌≡◌, ◌≤◌, ◌^◌, length};
 ghost use Rattle.giop_msg.specs.RequestId.{request_id_of};
 ghost use Rattle.giop_session.specs.Heard.{behind_id, id_named, in_call, kept, told_of};
@@ -10,7 +12,8 @@ use crate::table_fault::TableFault;
 use giop_calls::CallFault;
 use giop_msg::Msg;
 
-/// The id of the call that a message names, whose kind has one.
+/// The request id that a message names. Refused as NoId where it can't be read, and as
+/// WrongDirection for a kind that has none.
 #[inline(always)]
 pub fn named(message: &Msg) -> Result<u32, SessionFault>
     requires { length message.now.payload ≤ 2 ^ 62 }
@@ -33,7 +36,7 @@ pub fn behind_id(message: &Msg) -> &[u8]
     }
 }
 
-/// An event that sends nothing.
+/// An event that puts no message out: the messages of its call stay as they are.
 #[inline(always)]
 pub fn kept<V>(event: V) -> Planned<V>
     ensures { result ≡ kept event }
@@ -44,7 +47,7 @@ pub fn kept<V>(event: V) -> Planned<V>
     }
 }
 
-/// What an end tells of what befell a call.
+/// What an end returns for an event of the call of an id, by what the table of calls answered.
 #[inline(never)]
 pub fn told(id: u32, answered: Result<Sends<()>, TableFault<CallFault>>) -> Result<(), SessionFault>
     ensures { result ≡ told_of (in_call id) answered }

@@ -1,3 +1,5 @@
+//! The trait of a side that hears messages: `client_hearing.rt` and `server_hearing.rt` implement
+//! it, and `End::feed` uses it for either side.
 ghost use Rattle.std.specs.Prelude.{◌≤◌, ◌^◌, length};
 ghost use Rattle.giop_session.specs.Heard.{hears_by};
 
@@ -9,8 +11,8 @@ use giop_mux::CallRule;
 use giop_types::Interface;
 use std::alloc::Global;
 
-/// A side of a connection that hears the messages of the other: each ends the session, or befalls
-/// the call of one id.
+/// A side of a connection that hears the messages of the other side. Each message ends the session,
+/// or is an event of the call of one id.
 pub trait Hearing: Side {
     ghost use Rattle.std.specs.Prelude.{ℕ, Option};
     ghost use Rattle.giop_types.specs.declared.json.interface.Interface.{Interface};

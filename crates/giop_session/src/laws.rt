@@ -1,6 +1,8 @@
-//! Laws of the calls of an end, whatever its rule: what a run of acts leaves of each call. And the
-//! headline, at each end: two runs that hold the same calls end in the same entries; `run_server`
-//! and `run_client` make such a run.
+//! Laws of the calls of an end, whatever its rule: what a run of acts leaves of each call. The
+//! modules below it have the headline (docs/HEADLINE.md): two runs of an end that hold the same
+//! calls end in the same entries, and `run_server`, `run_client` and `run_world` make runs.
+//!
+//! A function with an empty body is a law: its contract is what counts, and no program calls it.
 ghost use Rattle.std.specs.Prelude.{◌≡◌, ℕ, List, Ok};
 ghost use Rattle.giop_ids.specs.Runs.{own, alone, told_alone, Runs, addressed, MeetsNoLimit};
 ghost use Rattle.giop_types.specs.declared.json.interface.Interface.{Interface};
@@ -29,9 +31,9 @@ pub use limits::{limits_in_any_order_at_client, limits_in_any_order_at_server};
 pub use running::{run_client, run_server};
 pub use world::{World, run_world};
 
-/// Whatever befalls other ids in a run of acts, which goes on behind refusals, a call has the
-/// entry, the unsent messages, the pieces and the answers of its own acts alone; unless one of them
-/// met a limit or want of memory.
+/// A run of acts continues after refusals. Whatever happens to other ids in it, a call has the
+/// entry, the unsent messages, the pieces and the answers of its own acts alone, unless one of
+/// these met a limit or was out of memory.
 pub fn each_call_alone<R: Side>(rule: &R)
     ensures value { (h k : Held R R.Entry) (acts results : _) (id : ℕ)
         → Runs (rules_of (R.next rule.now) (R.closed rule.now) R.gathering) h acts results k
@@ -47,7 +49,7 @@ pub fn each_call_alone<R: Side>(rule: &R)
 {}
 
 /// Two runs whose acts are equal for each id, in any interleaving, leave each call the same, where
-/// they meet no limit and no want of memory.
+/// they meet no limit and are never out of memory.
 pub fn any_interleaving<R: Side>(rule: &R)
     ensures { (h k k' : Held R R.Entry) (one other : _) (results results' : _)
         → Runs (rules_of (R.next rule.now) (R.closed rule.now) R.gathering) h one results k
@@ -57,9 +59,9 @@ pub fn any_interleaving<R: Side>(rule: &R)
         → ((id : ℕ) → own id one ≡ own id other) → (id : ℕ) → at k id ≡ at k' id }
 {}
 
-/// A call is what its own messages make of it: after messages of which none is refused, whatever
-/// stands under an id is what those that name the id leave of what stood there, one after another,
-/// however messages that name other ids lie between them.
+/// A call is what its own messages make of it. After messages of which none is refused, what is
+/// stored for an id is what the messages that name it leave, one after another, of what was stored
+/// before. Messages that name other ids may lie between them anywhere.
 pub fn own_messages_alone<R: Hearing>(rule: &R)
     ensures { (interface : Interface) (h k : Held R R.Entry) (messages : List Msg) (id : ℕ)
         → Through (hears_by R.next R.closed R.gathering R.in_call R.breaks (R.befalls interface))
@@ -68,8 +70,8 @@ pub fn own_messages_alone<R: Hearing>(rule: &R)
         (R.befalls interface) (at h id) (own_messages id messages) }
 {}
 
-/// Two ends that heard, for each id, the same messages in the same order hold the same calls, in
-/// whatever interleaving these came.
+/// Two ends that heard the same messages of each id, in the same order, hold the same calls,
+/// however the messages of different ids were interleaved.
 pub fn any_interleaving_of_messages<R: Hearing>(rule: &R)
     ensures { (interface : Interface) (h k k' : Held R R.Entry) (one other : List Msg)
         → Through (hears_by R.next R.closed R.gathering R.in_call R.breaks (R.befalls interface))
@@ -80,8 +82,8 @@ pub fn any_interleaving_of_messages<R: Hearing>(rule: &R)
         → (id : ℕ) → at k id ≡ at k' id }
 {}
 
-/// Octets may be fed in any pieces: what an end makes of octets and then of more is what it makes of
-/// both at once.
+/// Octets may be fed in any pieces: what an end makes of octets and then of more is what it makes
+/// of both at once.
 pub fn any_reads<R: Hearing>(rule: &R)
     ensures { (interface : Interface) (unread left last : Unread) (h mid k : Held R R.Entry)
         (more : List ℕ) (result : _)

@@ -1,12 +1,14 @@
-//! Both ends of a GIOP connection: what a session is made of.
+//! Both ends of a GIOP connection (CORBA 3.3 Part 2, 9.4): what a session is made of.
 //!
 //! An `End` hears what it is fed with: a `Framer` cuts it into messages, and each does to its call
 //! in the `CallTable` what the rule of that side says. The two sides differ in what they hear
 //! (`Hearing`), and in what their own programs do: a `ClientEnd` calls, locates and cancels, a
-//! `ServerEnd` answers. A rule of calls (`giop_mux::CallRule`) is wrapped so that a call's entry and
-//! its messages that are still to be sent stand in one slot of the table, and one event changes both
-//! or neither (`Sending`); the message that an accepted event sends is put out behind what is
-//! `Outgoing`. What all of it comes to is said by `laws`.
+//! `ServerEnd` answers.
+//!
+//! A rule of calls (`giop_mux::CallRule`) is wrapped so that a call's entry and its messages that
+//! are still to be sent share one slot of the table. One event changes both or neither (`Sending`).
+//! The message that an accepted event sends is put out behind what is `Outgoing`. What all of it
+//! comes to is said by `laws`.
 #![tactic(auto)]
 
 mod call_table;

@@ -1,11 +1,12 @@
+//! The limits of an end. The defaults stand in docs/PROFILE.md ("Limits") too: change both.
 ghost use Rattle.std.specs.Prelude.{◌≡◌};
 
 /// What an end holds at most. A limit is met where the next event would pass it.
 #[derive(Clone, Copy, Debug, PartialEq, Eq)]
 pub struct Limits {
-    /// How many entries the table has, those of calls that are over included.
+    /// How many entries the table has, those of calls that are over and not taken out included.
     pub calls: u32,
-    /// The size of a message without its header.
+    /// The size of a message in octets, without its header.
     pub message: u32,
     /// The octets of all messages together of which a piece is still to come, the last piece of one
     /// included as it comes.

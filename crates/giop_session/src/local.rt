@@ -1,4 +1,6 @@
-//! What the calls of an end's own program have in common at both sides.
+//! What the calls of an end's own program have in common at a client and at a server: joined octets
+//! are cut into messages, and what the table of calls answered becomes what the end returns. Why a
+//! call is refused is specs/Refused.antt.
 ghost use Rattle.std.specs.Prelude.{◌≡◌, ◌⊎◌, ◌<◌, ◌^◌, true, length, IfErr, IfNone, IfOk, IfSome, IsOk, Err};
 ghost use Rattle.giop_msg.specs.Cut.{IsCut, is_continued};
 ghost use Rattle.giop_calls.specs.declared.fault.CallFault.TheVariants.{Unfit};
@@ -20,7 +22,8 @@ use giop_cdr::EncodeFault;
 use giop_msg::{Kind, Version};
 use std::alloc::Global;
 
-/// What an end tells of an event of its own; `None` where there was no memory for its message.
+/// What an end returns for an event of its own program, by what the table of calls answered; that
+/// is `None` where it was out of memory for the event's message.
 #[inline(always)]
 pub fn done(
     id: u32,
@@ -37,8 +40,8 @@ pub fn done(
 }
 
 /// The messages of a kind that encoded joined octets are sent in, within the limits of an end, for
-/// the call of an id. Refused as Unfit where there are no such octets, or where the end doesn't send
-/// them; as NoMemory where memory is wanting.
+/// the call of an id. Refused as Unfit where there are no such octets, or where the end doesn't
+/// send them; as NoMemory where it is out of memory.
 #[inline(always)]
 pub fn sent(
     alloc: Global,

@@ -1,3 +1,4 @@
+//! The messages that one event sends: the first is put out at once, the others are sent later.
 ghost use Rattle.std.specs.Prelude.{◌≡◌, ◌<◌, ◌^◌, [], ◌∷◌, Some, length};
 ghost use Rattle.giop_session.specs.Unsent.{AreSized, first_of};
 
@@ -7,12 +8,13 @@ use std::alloc::Global;
 use std::marker::Model;
 
 /// The messages of one event, one at least: the first is put out at once, the others stay unsent.
-/// Contracts see them as one list. Each has a size that its header can tell.
+/// Contracts see them as one list. The size of each is an unsigned long, as its header has it
+/// (CORBA 3.3 Part 2, 9.4.1).
 #[derive(Drop)]
 pub struct Messages {
     first: Msg,
     rest: Unsent,
-    // How many all of them are.
+    // The number of all of them, the first included.
     count: usize,
 }
 
@@ -72,7 +74,7 @@ impl Messages {
         (self.first, self.rest)
     }
 
-    /// The number of messages.
+    /// The number of messages, the first included.
     #[inline(always)]
     pub fn len(&self) -> usize
         ensures { result ≡ length self.now }

@@ -1,3 +1,4 @@
+//! The octets that an end has put out, until its program has written them.
 ghost use Rattle.std.specs.Prelude.{◌≡◌, ◌≤◌, ◌<◌, ◌^◌, ◌++◌, [], drop, length, take, OnErr, OnOk};
 ghost use Rattle.giop_msg.specs.Msg.{message_octets};
 
@@ -45,13 +46,13 @@ impl Outgoing {
         ensures { self.new ≡ drop n self.old }
     {
         self.octets.advance(n);
-        // So that the next octets have all of its memory before them.
+        // The next octets then begin at the front of its memory.
         if self.octets.is_empty() {
             self.octets.clear();
         }
     }
 
-    /// Puts a message out. Where memory is wanting nothing changes.
+    /// Puts a message out, behind what is outgoing. Where it is out of memory, nothing changes.
     #[inline(always)]
     pub fn put(&mut self, message: &Msg) -> Result<(), AllocError>
         requires { length message.now.payload < 2 ^ 32 }

@@ -1,3 +1,5 @@
+//! What an event does to the messages of its call that are not put out yet. Its meaning is
+//! `unsent_after` and `message_of` in specs/Sending.antt: change both.
 ghost use Rattle.std.specs.Prelude.{◌≡◌};
 ghost use Rattle.std.specs.FinMap as finite;
 ghost use Rattle.std.specs.Option.{option_copied};
@@ -21,8 +23,8 @@ pub enum Plan {
 }
 
 impl Plan {
-    /// The message that an event planned so puts out of the call of an id, if it puts one out. It
-    /// takes no memory.
+    /// The message that an event with this plan puts out for the call of an id, if it puts one out.
+    /// It takes no memory.
     #[inline(always)]
     pub fn message<'a, R: Side>(&'a self, calls: &'a CallTable<R>, id: u32) -> Option<&'a Msg>
         ensures value { option_copied result
@@ -37,7 +39,7 @@ impl Plan {
     }
 }
 
-/// An event of a call, and what it does to the messages of the call where it is accepted.
+/// An event of a call, and what it does to the unsent messages of the call where it is accepted.
 #[derive(Drop)]
 pub struct Planned<V> {
     pub event: V,

@@ -1,10 +1,12 @@
+//! Why `turn` and `pump` stop. The numbers are `pump_fault_number` in specs/Pumping.antt: change
+//! both.
 ghost use Rattle.std.specs.Prelude.{◌≡◌};
 
 use crate::session_fault::SessionFault;
 use std::io;
 use thiserror::Error;
 
-/// Why an end between a reader and a writer goes no further.
+/// Why an end between a reader and a writer stops.
 #[derive(Debug, Drop, Error)]
 pub enum PumpFault {
     /// Reading failed.
@@ -13,10 +15,10 @@ pub enum PumpFault {
     /// Writing failed, or the writer took no octets.
     #[error("writing: {0}")]
     Write(io::Error),
-    /// The end refuses what was read.
+    /// The end refuses what was read, for this reason.
     #[error("{0}")]
     Session(SessionFault),
-    /// The turns are spent, and the input is not at its end.
+    /// The turns are spent, and each of them has read at least one octet.
     #[error("the turns are spent")]
     TurnsSpent,
 }

@@ -1,5 +1,5 @@
 //! An end between a reader and a writer: it writes what is outgoing and hears what is read, turn
-//! after turn.
+//! after turn. Its meaning is `Turned` and `Pumped` in specs/Pumping.antt: change both.
 ghost use Rattle.std.specs.Prelude.{◌≡◌};
 ghost use Rattle.giop_session.specs.Heard.{hears_by};
 ghost use Rattle.giop_session.specs.Pumping.{Pumped, Turned, Writes, between};
@@ -9,17 +9,21 @@ use crate::hearing::Hearing;
 use crate::pump_fault::PumpFault;
 use std::io::{Read, Write};
 
-// One read gives so many octets at most.
+// One read returns so many octets at most.
 const ONE_READ: usize = 4_096;
 
 /// Writes what is outgoing, then reads once, at most 4,096 octets, and feeds the end with these.
-/// The answer is how many were read, 0 at the end of the input; a read of none is fed too, so that
-/// a failed end always answers its fault.
+/// It returns how many were read, 0 at the end of the input. A read of none is fed too, so that a
+/// failed end always returns its fault.
 ///
-/// Faults: `Write` where a write fails or takes no octets, then nothing is read, and what was not
-/// written is outgoing still; `Read` where the read fails, then the end is as it was but for what
-/// was written; `Session` with the fault of the end that refuses what was read. An interrupted read
-/// or write is a fault like any other.
+/// Faults:
+///
+/// - `Write` where a write fails or takes no octets. Then nothing is read, and what was not written
+///   is outgoing still.
+/// - `Read` where the read fails. Then the end is as it was but for what was written.
+/// - `Session` with the fault of the end that refuses what was read.
+///
+/// An interrupted read or write is a fault like any other.
 pub fn turn<R: Hearing, I: Read, W: Write>(
     end: &mut End<'_, R>,
     reader: &mut I,
@@ -48,7 +52,7 @@ pub fn turn<R: Hearing, I: Read, W: Write>(
 
 /// Takes turns until one reads no octets, at the end of the input; at most `turns` of them.
 ///
-/// Faults: that of a turn; or `TurnsSpent`, where each of the turns has read some octets.
+/// Faults: that of a turn; or `TurnsSpent`, where each of the turns has read at least one octet.
 pub fn pump<R: Hearing, I: Read, W: Write>(
     end: &mut End<'_, R>,
     reader: &mut I,

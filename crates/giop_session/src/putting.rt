@@ -1,4 +1,5 @@
-//! What an end puts out: the message of an event, once the event is accepted.
+//! What an end puts out: the message of an event, once the event is accepted. Its meaning is
+//! specs/Putting.antt.
 ghost use Rattle.std.specs.Prelude.{◌≡◌, ◌++◌, false, IfNone, IfSome, OnErr, OnOk};
 ghost use Rattle.std.specs.FinMap as finite;
 ghost use Rattle.giop_ids.specs.Runs.{Does};
@@ -14,11 +15,12 @@ use crate::side::Side;
 use crate::table_fault::TableFault;
 use std::alloc::AllocError;
 
-/// An event befalls a call that brings no octets, and the message that it sends is put out behind
-/// what is outgoing.
+/// An event that brings no octets happens to the call of an id, and the message that it sends is
+/// put out behind what is outgoing.
 ///
-/// Refusals, in this order: the rule's fault; `TooManyCalls`; `NoMemory`, which may stand in place
-/// of these where a message is to be put out. A refusal changes nothing.
+/// Refusals, in this order: the rule's fault; `TooManyCalls`; `NoMemory`. In place of any of these
+/// it is `None` where it is out of memory for the message that is to be put out. A refusal changes
+/// nothing, and nor does `None`.
 #[inline(always)]
 pub fn put<R: Side>(
     calls: &mut CallTable<R>,
@@ -47,8 +49,8 @@ pub fn put<R: Side>(
     Some(answered)
 }
 
-// Puts out the message that an event planned so sends, if it sends one. Where memory is wanting
-// nothing changes.
+// Puts out the message that an event with this plan sends, if it sends one. Where it is out of
+// memory, nothing changes.
 #[inline(always)]
 fn put_message<R: Side>(
     calls: &CallTable<R>,

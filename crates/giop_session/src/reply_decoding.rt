@@ -1,4 +1,6 @@
-//! What a message of a server comes to, once its last piece is there.
+//! What a message of a server comes to, once its last piece is there: a Reply or a LocateReply
+//! (CORBA 3.3 Part 2, 9.4.3 and 9.4.6), or why it can't be decoded. Its meaning is `heard_reply` in
+//! specs/ClientHears.antt: change both.
 ghost use Rattle.std.specs.Prelude.{◌≡◌, ◌≤◌, ◌^◌, length, IfSome, Some};
 ghost use Rattle.giop_msg.specs.Joined.{joined_from};
 ghost use Rattle.giop_msg.specs.Messages.LocateReply.{locate_reply};
@@ -12,7 +14,8 @@ use giop_types::Interface;
 use std::alloc::Global;
 
 /// What the joined octets of a message come to that answers a call: a Reply to its Request or a
-/// LocateReply to its LocateRequest, or one that can't be decoded. `None` where memory is wanting.
+/// LocateReply to its LocateRequest, or one that can't be decoded. `None` where it is out of
+/// memory.
 pub fn heard_reply<S: Octets>(
     alloc: Global,
     interface: &Interface,

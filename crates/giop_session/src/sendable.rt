@@ -1,4 +1,6 @@
-//! The messages that an end sends.
+//! The messages that an end sends joined octets in: one, or one and its Fragments (CORBA 3.3 Part
+//! 2, 9.4.9), within the limits of the end. Which octets are sent is `is_sendable` in
+//! specs/Form.antt: change both.
 ghost use Rattle.std.specs.Prelude.{◌≡◌, ◌<◌, ◌≤◌, ◌^◌, [], ◌∷◌, false, true, length, IfNone, IfOk, IfSome};
 ghost use Rattle.giop_msg.specs.Cut.{IsCut, is_continued, message_of};
 ghost use Rattle.giop_session.specs.Form.{is_fragmented, is_sendable, largest, IsForm};
@@ -11,8 +13,9 @@ use giop_msg::{Kind, Msg, Version, cut};
 use std::alloc::{AllocError, Global};
 
 /// The messages of a kind that joined octets are sent in, within the limits of an end. `None` where
-/// the end doesn't send them: they are more than it gathers itself, or one of the messages is larger
-/// than it takes itself.
+/// the end doesn't send them: they are fewer than 4 or not fewer than 2^32, they are more than it
+/// gathers itself, or one of the messages is larger than it takes itself. AllocError where it is
+/// out of memory.
 #[tactic(auto, using(crate::proofs::CutLemmas::cut_sized, crate::proofs::CutLemmas::cut_few))]
 #[inline(always)]
 pub fn messages(
@@ -82,7 +85,7 @@ fn is_sendable(limits: Limits, version: Version, joined: &[u8], piece: u32) -> b
         && largest(version, n, piece) <= limits.message as usize
 }
 
-// The message_size of the largest message that so many joined octets are sent in.
+// The message_size of the largest message that so many joined octets are sent in, in octets.
 fn largest(version: Version, n: usize, piece: u32) -> usize
     requires large { 24 ≤ piece }
     requires short { n < 2 ^ 32 }

@@ -1,3 +1,6 @@
+//! The rule of a call's slot: the rule of its entry, and beside it what each event does to the
+//! messages of the call that are still to be sent. Its meaning is `sending_step` in
+//! specs/Sending.antt: change both.
 ghost use Rattle.std.specs.Prelude.{◌≡◌, Option, Some};
 ghost use Rattle.giop_session.specs.Sending.{entry_of, message_of, sending_step, settled_by, slot_of, unsent_after, unsent_of};
 ghost use Rattle.giop_session.specs.declared.slot.Slot.{Slot};
@@ -10,7 +13,7 @@ use giop_msg::Msg;
 use giop_mux::{CallRule, Step};
 use std::alloc::Global;
 
-/// A rule of calls over entries that stand in one slot with the messages that are still to be sent.
+/// A rule of calls over slots: an entry, and beside it the messages that are still to be sent.
 ///
 /// One event changes the entry and the messages together; a refused one changes neither.
 #[derive(Drop)]
@@ -21,7 +24,8 @@ pub struct Sending<R: CallRule> {
     pub alloc: Global,
 }
 
-/// What an accepted event answers: what the rule answers, and the message that is to be put out.
+/// What an accepted event answers: what the rule answers, and the message that is to be put out, if
+/// there is one.
 #[derive(Drop)]
 pub struct Sends<A> {
     pub answer: A,
@@ -85,7 +89,7 @@ impl<R: Side> CallRule for Sending<R> {
     }
 }
 
-// The same where there is a slot, which changes where it lies.
+// The step of a call that has a slot: the slot changes where it lies.
 #[inline(always)]
 fn step_at<R: Side>(
     rule: &R,

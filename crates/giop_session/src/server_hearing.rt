@@ -1,4 +1,5 @@
-//! What a message of the client does at a server, a function for each kind.
+//! What a message of the client does at a server (CORBA 3.3 Part 2, 9.4), a function for each kind.
+//! Its meaning is `server_breaks` and `server_befalls` in specs/ServerHears.antt: change both.
 ghost use Rattle.std.specs.Prelude.{◌≡◌, ℕ, ◌≤◌, ◌^◌, ◌+◌, ◌++◌, length, Ok, Err, None, Some, true, false, IfOk, IfErr, IfSome, IfNone};
 ghost use Rattle.std.specs.FinMap as finite;
 ghost use Rattle.giop_frag.specs.Gathered.{octets_in, order_fault};
@@ -79,7 +80,8 @@ fn come(
     }
 }
 
-// Its first piece.
+// The first piece of a Request or a LocateRequest comes. It is refused before its octets are
+// gathered where the id isn't free.
 fn begin(calls: &mut Calls, id: u32, kind: CallKind, message: &Msg) -> Result<(), SessionFault>
     ensures { AtServer (Befalls id (Hears (kept (event.First kind))
         (First message.now.order message.now.payload))) calls.old result calls.new }
@@ -94,7 +96,7 @@ fn begin(calls: &mut Calls, id: u32, kind: CallKind, message: &Msg) -> Result<()
     )
 }
 
-// All of it.
+// A Request or a LocateRequest comes in one piece.
 #[inline(always)]
 fn arrive(
     alloc: Global,
@@ -155,8 +157,7 @@ fn go_on(
     }
 }
 
-// The kind of the message that is gathered under the id, where pieces of this byte order continue
-// it.
+// The kind of the message that is gathered for the id, where pieces of this byte order continue it.
 fn continued(calls: &Calls, id: u32, order: Order) -> Option<CallKind>
     ensures some { IfSome result (λ kind.
         (gathered_kind (finite.get calls.now.table id) ≡ Some kind)
@@ -178,7 +179,7 @@ fn gathered_kind(entry: &ServerEntry) -> Option<CallKind>
     }
 }
 
-// A Fragment that continues what is gathered, with more to come.
+// A Fragment comes that continues what is gathered, with more to come.
 fn add(calls: &mut Calls, id: u32, kind: CallKind, message: &Msg) -> Result<(), SessionFault>
     requires gathered { gathered_kind (finite.get calls.old.table id) ≡ Some kind }
     requires in_order { order_fault (finite.get calls.old.gathered id) message.now.order ≡ None }
@@ -191,7 +192,7 @@ fn add(calls: &mut Calls, id: u32, kind: CallKind, message: &Msg) -> Result<(), 
     }
 }
 
-// The last Fragment of what is gathered.
+// The last Fragment of what is gathered comes.
 fn complete(
     alloc: Global,
     interface: &Interface,
@@ -220,8 +221,8 @@ fn complete(
     told(id, calls.complete(id, last, octets))
 }
 
-// What the gathered pieces and the last one come to, where they lie. `None` where memory is
-// wanting.
+// What the gathered pieces and the last one decode to, read where they lie. `None` where it is out
+// of memory.
 fn joined_call(
     alloc: Global,
     interface: &Interface,
@@ -242,7 +243,7 @@ fn joined_call(
     heard_call(alloc, interface, kind, version, order, &joined)
 }
 
-// Whether a call may begin under the id.
+// Whether a call may take the id.
 fn is_free(calls: &Calls, id: u32) -> bool
     ensures { result ≡ is_free (entry_of (finite.get calls.now.table id)) }
 {

@@ -1,3 +1,5 @@
+//! Why an end fails, or refuses a call of its own program. The numbers are `session_fault_number`
+//! in specs/SessionFaults.antt, and docs/PROFILE.md lists them: change all three.
 ghost use Rattle.std.specs.Prelude.{◌≡◌};
 
 use giop_calls::CallFault;
@@ -5,14 +7,14 @@ use giop_cdr::CdrFault;
 use giop_msg::{WireFault, WireKind};
 use thiserror::Error;
 
-/// Why an end of a connection goes no further, or refuses a call of its own program. A refusal
-/// changes nothing.
+/// Why an end of a connection fails, or refuses a call of its own program. A refusal changes
+/// nothing.
 #[derive(Clone, Copy, Debug, PartialEq, Eq, Error)]
 pub enum SessionFault {
     /// The octets are no message of GIOP.
     #[error("no message: {0}")]
     Wire(WireFault),
-    /// The table of the calls refuses what befalls the call of this id.
+    /// What happens to the call of this id, or what is to be done to it, is refused for this fault.
     #[error("call {id}: {fault}")]
     Call { id: u32, fault: CallFault },
     /// The message is one that only the other end sends.
@@ -30,13 +32,14 @@ pub enum SessionFault {
     /// The connection was closed, by the peer or by this end.
     #[error("the connection is closed")]
     Closed,
-    /// Memory ran out.
+    /// It is out of memory.
     #[error("no memory")]
     NoMemory,
     /// The entry can't be taken out, since its call isn't over.
     #[error("the call is open")]
     StillOpen,
-    /// The octets of a message before 1.2 have no request id: this field is refused.
+    /// The octets of a message before 1.2 have no request id: a field of it, up to the id, has this
+    /// fault.
     #[error("no request id: {0}")]
     NoId(CdrFault),
 }
@@ -63,7 +66,7 @@ impl SessionFault {
     }
 }
 
-/// A framer's refusal: want of memory is the end's own.
+/// A framer's refusal. Where the framer is out of memory, the end is too (`NoMemory`).
 impl From<WireFault> for SessionFault {
     ghost use Rattle.giop_session.specs.SessionFaults.{of_wire};
 

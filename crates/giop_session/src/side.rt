@@ -1,3 +1,5 @@
+//! The trait of a side of a connection: what the table of an end's calls asks of a rule. sides.rt
+//! implements it for the rules of a client and of a server.
 use giop_mux::CallRule;
 
 /// A rule of the calls of one side of a connection, a client's or a server's, of which some entries
@@ -11,8 +13,8 @@ pub trait Side: CallRule {
     fn is_gathering(entry: &Self::Entry) -> bool
         ensures { result ≡ gathering entry.now };
 
-    /// What an event does to a call with this entry, which changes where it lies: each event leaves
-    /// one. It takes no memory.
+    /// What an event does to a call with this entry, which changes where it lies. Each event leaves
+    /// an entry. It takes no memory.
     fn step_at(
         &self,
         entry: &mut Self::Entry,

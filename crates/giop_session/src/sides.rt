@@ -1,4 +1,5 @@
-//! The two sides of a connection, as rules of calls of which some entries gather pieces.
+//! The two sides of a connection, client and server, as rules of calls of which some entries gather
+//! pieces. That none of a call that is over gathers is proved in specs/Sides.antt.
 use crate::side::Side;
 use giop_calls::{
     CallFault, ClientEntry, ClientEvent, ClientRule, ServerEntry, ServerEvent, ServerRule,

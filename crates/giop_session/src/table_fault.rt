@@ -1,3 +1,4 @@
+//! Why the table of an end's calls refuses an act. `told` in heard.rt makes a `SessionFault` of it.
 ghost use Rattle.std.specs.Prelude.{◌≡◌};
 
 use giop_frag::GatherFault;
@@ -14,7 +15,7 @@ pub enum TableFault<F> {
     GatherFull,
     /// The entry can't be taken out, since its call is still open.
     StillOpen,
-    /// There is no memory.
+    /// It is out of memory.
     NoMemory,
 }
 
@@ -32,7 +33,8 @@ impl<F> From<Refusal<F>> for TableFault<F> {
     }
 }
 
-/// A gatherer's refusal of a piece, which is in order and of a message that comes.
+/// A gatherer's refusal of a piece in the byte order of its message, whose pieces are gathered or
+/// begin with it: GatherFull, or NoMemory.
 impl<F> From<GatherFault> for TableFault<F> {
     ghost use Rattle.giop_session.specs.CallTable.{gather_fault};
 

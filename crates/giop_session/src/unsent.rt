@@ -1,3 +1,4 @@
+//! The messages of one call that are still to be sent, as a queue.
 ghost use Rattle.std.specs.Prelude.{◌≡◌, ◌==◌, [], length, drop};
 ghost use Rattle.std.specs.Option.{option_copied};
 ghost use Rattle.giop_session.specs.Unsent.{AreSized, IsSized, first_of};
@@ -8,7 +9,8 @@ use std::collections::VecDeque;
 use std::marker::Model;
 
 /// The messages of one call that are not put out yet, the next one first: a queue that contracts
-/// see as a plain list. Each has a size that its header can tell.
+/// see as a plain list. The size of each is an unsigned long, as its header has it (CORBA 3.3 Part
+/// 2, 9.4.1).
 #[derive(Drop)]
 pub struct Unsent {
     messages: VecDeque<Msg>,
@@ -73,7 +75,7 @@ impl Unsent {
         self.messages.len()
     }
 
-    /// Whether there are none.
+    /// Whether no message is left to be put out.
     pub fn is_empty(&self) -> bool
         ensures { result ≡ (length self.now == 0) }
     {

@@ -1,3 +1,5 @@
+//! The joined octets of a fragmented message (CORBA 3.3 Part 2, 9.4.9) when its last piece comes:
+//! the gathered ones and those of this piece, each read where it lies.
 ghost use Rattle.std.specs.Prelude.{◌≡◌, ◌+◌, ◌<◌, ◌^◌, ◌++◌, length};
 
 use giop_cdr::Octets;

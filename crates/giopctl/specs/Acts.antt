@@ -21,13 +21,13 @@ pub record Outbox (S : Type 0) : Type 0 where
   pub calls : S
   pub outgoing : List ℕ
 
--- the same from its parts
+-- what an act changes, from its parts
 abbrev pub outbox : {S : Type 0} → S → List ℕ → Outbox S
 outbox calls outgoing = record { calls = calls; outgoing = outgoing }
 
 module _ {R E V A F : Type 0} (rules : Rules (Held R E) (Call E) (Act V) (Reply E A) (TableFault F))
     (of_rule : ℕ → F → SessionFault) where
-  -- an act under an id, at an end at which this fault stands, if one does: a failed end answers its
+  -- an act for an id, at an end that has this fault, if it has one: a failed end returns its
   -- fault; else the act is refused for this, or planned so
   pub record Acts (fault : Option SessionFault) (id : ℕ) (refusal : Option F)
       (Plans : Planned V → Type 0) (s : Outbox (Held R E)) (result : Result (Unit {0}) SessionFault)
@@ -36,7 +36,7 @@ module _ {R E V A F : Type 0} (rules : Rules (Held R E) (Call E) (Act V) (Reply 
     pub puts : fault ≡ None
         → Puts rules of_rule id refusal Plans s.calls s.outgoing result t.calls t.outgoing
 
-  -- the same, where a refusal is told, and want of memory is none
+  -- such an act, where a refusal is reported, and being out of memory is none
   abbrev pub ActsOrTells : Option SessionFault → ℕ → Option F → (Planned V → Type 0)
       → Outbox (Held R E) → Option SessionFault → Outbox (Held R E) → Type 0
   ActsOrTells fault id refusal Plans s refused t =

@@ -34,7 +34,7 @@ raised id members None = None
 raised id members (Some parameters) =
     option_map (option_map (User id)) (values_in parameters.list.items members)
 
--- the same by the id as a JSON value, beside which the members stand
+-- such an exception, by the id as a JSON value and the object that has the members
 abbrev pub raised_in : Interface → Data → Data → Option (Option AnswerGiven)
 raised_in interface id d = option_and_then (λ octets. option_and_then
     (λ members. raised octets members (exception_of interface octets))
@@ -46,7 +46,7 @@ given_by interface operation d =
     by_key (get (codes "ok") d) (λ outs. in_object 1 (λ x. result_in operation outs) d)
     (by_key (get (codes "user") d) (λ id. in_object 2 (raised_in interface id) d) None)
 
--- the same of what stands under the operation's name
+-- what an operation is answered, by the member of its name
 abbrev pub given_under : Interface → List ℕ → Data → Operation → Option (Option AnswerGiven)
 given_under interface name d operation =
     option_and_then (given_by interface operation) (get (text_of name) d)

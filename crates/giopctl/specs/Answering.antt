@@ -1,4 +1,4 @@
--- What `serve` answers to what stands under an id.
+-- What `serve` answers to what is stored for an id.
 use Rattle.std.specs.Prelude.{◌≡◌, ℕ, pos, ◌==◌, Bool, true, false, List, [], Option, Some, None, nat_eq, if◌then◌else◌, codes}
 use Rattle.std.specs.Cmp.Lexicographic.{pointwise}
 use Rattle.serde_json.specs.Data.{Data}
@@ -52,7 +52,7 @@ due_to_undecoded (Some kind.Request) version fault = Reply version (fault_answer
 due_to_undecoded (Some kind.Locate) version fault = Locate false
 due_to_undecoded None version fault = Nothing
 
--- what is due to what stands under an id, of an end that serves the object of a key
+-- what is due to what is stored for an id, of an end that serves the object of a key
 abbrev pub due_to : List ℕ → ServerEntry → Due
 due_to key (Asked request) =
     Reply request.head.version (answer_to key request.head.flags request.head.target)
@@ -93,7 +93,7 @@ body_of interface answers entry BadOperation =
 body_of interface answers entry Marshal = not_done (codes "IDL:omg.org/CORBA/MARSHAL:1.0")
 body_of interface answers entry Addressing = NeedsAddressing (pos 0)
 
--- the Reply to what stands under an id
+-- the Reply to what is stored for an id
 abbrev pub reply_of : Interface → Data → ℕ → ServerEntry → Version → Answer → AnyReply
 reply_of interface answers id entry version answer = record {
   version = version;

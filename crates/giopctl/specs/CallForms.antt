@@ -1,6 +1,6 @@
 -- Parts of the JSON of calls and answers (docs/FORMATS.md, "Calls and answers"), and the calls. A
 -- part may be of another form, or of the right one and then fit or not: it is `None`, `Some None`,
--- or what fits. Another form is told before a part that doesn't fit.
+-- or what fits. Another form is reported before a part that doesn't fit.
 use Rattle.std.specs.Prelude.{ℕ, codes, List, [], ◌∷◌, Option, Some, None, option_map}
 use Rattle.std.specs.Prelude.{option_and_then, Result, Ok, Err}
 use Rattle.serde_json.specs.Data as json
@@ -89,7 +89,7 @@ call_of name id ins (Some o) =
     form_of (λ n values. record { id = n; operation = name; oneway = o.oneway; ins = values })
     (number_in id) (values_in o.ins.list.items ins)
 
--- the same by the name as a JSON value
+-- a call of an operation, by the name as a JSON value
 abbrev pub call_named : Interface → Data → Data → Data → Option (Option CallLine)
 call_named interface id name ins = option_and_then
     (λ octets. call_of octets id ins (operation_of interface octets)) (octets_in name)

@@ -47,7 +47,7 @@ request_of call key version = record {
 abbrev pub ClientCalls : Type 0
 ClientCalls = Held ClientRule ClientEntry
 
--- what stands under an id
+-- what is stored for an id
 abbrev pub entry_at : ClientCalls → ℕ → Option ClientEntry
 entry_at calls id = entry_of (finite.get calls.table id)
 
@@ -118,7 +118,7 @@ abbrev pub Converses : Interface → Between ClientCalls → Between ClientCalls
 Converses interface s =
     ConversesIf interface (are_over (finite.keys s.state.calls.table) s.state.calls) s
 
--- the same unless a call was refused: then nothing is written, and nothing read
+-- the client converses unless a call was refused: then nothing is written, and nothing read
 abbrev pub Talks : Interface → Option SessionFault → Between ClientCalls → Between ClientCalls
     → Type 0
 Talks interface None s t = Converses interface s t

@@ -51,7 +51,7 @@ pub record Hears {S : Type 0} (hears : Msg → S → Result (Unit {0}) SessionFa
   pub fed : Fed hears (with_octets unread octets) calls (answer_of fault) behind after
   pub whole : fault ≡ None → behind ≡ left
 
--- the same of the octets that a reader gives, where they are known
+-- an end hears the octets that a reader gives, where they are known
 abbrev pub HeardKnown : {S : Type 0} → (Msg → S → Result (Unit {0}) SessionFault → S → Type 0)
     → Option (List ℕ) → Unread → S → Option SessionFault → Unread → S → Type 0
 HeardKnown hears None unread calls fault left after = ⊤
@@ -102,14 +102,14 @@ Checks interface limits octets old new InputOutput = ⊤
 Checks interface limits octets old new Memory = ⊤
 Checks interface limits octets old new status = IsChecked interface limits octets old new status
 
--- the same of the octets that a reader gives, where they are known and nothing failed
+-- what a check does of the octets that a reader gives, where they are known and nothing failed
 abbrev pub ChecksKnown : Interface → Limits → Option (List ℕ) → Option (List ℕ) → Option (List ℕ)
     → Status → Type 0
 ChecksKnown interface limits None old new status = ⊤
 ChecksKnown interface limits (Some octets) old new status =
     IsChecked interface limits octets old new status
 
--- the same by the interface that a JSON text is; where it is none, its fault is told, and no other
+-- such a check by the interface that a JSON text is; where it is none, its fault is reported alone
 abbrev pub ChecksText : List ℕ → Limits → Option (List ℕ) → Option (List ℕ) → Option (List ℕ)
     → Status → Type 0
 ChecksText text limits octets old new status =

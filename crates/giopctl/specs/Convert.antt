@@ -80,7 +80,7 @@ abbrev pub reference_lines : Reference → List ℕ
 reference_lines ior =
     ended (type_line ior.type_id) ++ (profile_lines ior.profiles ++ ended (reference_text ior))
 
--- how a refused text of a reference is told: a fault of its octets as that
+-- how a refused text of a reference is reported: a fault of its octets as that
 abbrev pub ior_refusal : IorTextFault → RefusalLine
 ior_refusal (Cdr e) = refusal.Octets e
 ior_refusal e = refusal.IorText e
@@ -176,7 +176,7 @@ ConvertsBy Encode = ConvertsEncode
 ConvertsBy Decode = ConvertsDecode
 
 -- `convert encode` or `convert decode`, by the description that a text is; where it is none, its
--- fault is told, and no other
+-- fault is reported, and no other
 abbrev pub ConvertsValue : Way → Order → List ℕ → List ℕ → Option (List ℕ) → Option (List ℕ)
     → Status → Type 0
 ConvertsValue way order description octets old new status =

@@ -34,7 +34,7 @@ abbrev pub request_text : ℕ → Result (Head × ℕ) CdrFault → List ℕ
 request_text end (Ok head) = ended (request_line head.0 (end - head.1))
 request_text end (Err e) = ended (head_fault_line e)
 
--- the same of a Reply's
+-- the line of a Reply's head and of the body that ends at an offset, or of the head's fault
 abbrev pub reply_text : ℕ → Result (AnyReplyHead × ℕ) CdrFault → List ℕ
 reply_text end (Ok head) = ended (reply_line head.0 (end - head.1))
 reply_text end (Err e) = ended (head_fault_line e)
@@ -106,7 +106,7 @@ Dumps limit octets old new Usage = ⊥
 Dumps limit octets old new InputOutput = ⊤
 Dumps limit octets old new Memory = ⊤
 
--- the same of the octets that a reader gives, where they are known
+-- what a dump does of the octets that a reader gives, where they are known
 abbrev pub DumpsKnown : ℕ → Option (List ℕ) → Option (List ℕ) → Option (List ℕ) → Status → Type 0
 DumpsKnown limit None old new status = ⊤
 DumpsKnown limit (Some octets) old new status = Dumps limit octets old new status

@@ -38,8 +38,8 @@ abbrev pub AnswersSent : Option SessionFault → Outbox ServerCalls → Option S
 AnswersSent fault =
     SendsAll (λ rule. server_step) (λ rule. is_closed) is_gathering in_call event.Send fault left_of
 
--- what is served: the object of a key, with answers to the operations of an interface, in a form, by
--- an end with these limits
+-- what is served: the object of a key, with answers to the operations of an interface, in a form,
+-- by an end with these limits
 pub record Served : Type 0 where
   pub interface : Interface
   pub answers : Data
@@ -58,7 +58,7 @@ served_of serving = record {
 
 -- an end with these limits, at which this fault stands, if one does
 module _ (served : Served) (limits : Limits) (fault : Option SessionFault) where
-  -- a Reply to what stands under an id is sent, unless it is refused
+  -- a Reply to what is stored for an id is sent, unless it is refused
   abbrev pub Replies : ServerEntry → AnyReply → Outbox ServerCalls → Option SessionFault
       → Outbox ServerCalls → Type 0
   Replies entry reply =
@@ -66,7 +66,7 @@ module _ (served : Served) (limits : Limits) (fault : Option SessionFault) where
       (answer_fault served.interface limits (question_in entry) reply served.form)
       (IsAnswer served.interface (question_in entry) reply served.form)
 
-  -- what is due to what stands under an id is
+  -- what is due to what is stored for an id is sent
   abbrev pub SendsDue : ℕ → ServerEntry → Due → Outbox ServerCalls → Option SessionFault
       → Outbox ServerCalls → Type 0
   SendsDue id entry Nothing s refused t = (refused ≡ None) × (t ≡ s)
@@ -76,7 +76,7 @@ module _ (served : Served) (limits : Limits) (fault : Option SessionFault) where
   SendsDue id entry (Reply version answer) s refused t =
       Replies entry (reply_of served.interface served.answers id entry version answer) s refused t
 
-  -- what stands under an id is answered, where something does
+  -- what is stored for an id is answered, where something is
   abbrev pub Answers : ℕ → Option ServerEntry → Outbox ServerCalls → Option SessionFault
       → Outbox ServerCalls → Type 0
   Answers id None s refused t = (refused ≡ None) × (t ≡ s)
@@ -86,7 +86,8 @@ module _ (served : Served) (limits : Limits) (fault : Option SessionFault) where
       → Type 0
   AnswersOne id s = Answers id (entry_of (finite.get s.calls.table id)) s
 
-  -- what stands under each id is, ascending, and then the pieces that are left are put out
+  -- what is stored for each id is answered, ascending, and then the pieces that are left are put
+  -- out
   abbrev pub AnswersAll : Outbox ServerCalls → Option SessionFault → Outbox ServerCalls → Type 0
   AnswersAll s =
       AndThen (Upto AnswersOne (finite.keys s.calls.table)) (AnswersSent fault) s
@@ -100,7 +101,7 @@ abbrev pub with_box : Between ServerCalls → Outbox ServerCalls → Between Ser
 with_box s box = between s.input s.output box.outgoing s.state.unread box.calls s.state.fault
 
 module _ (served : Served) (limits : Limits) where
-  -- a turn goes on, and what waits for an answer is answered behind it
+  -- the session continues behind a turn, and what waits for an answer is answered
   pub record TurnAnswers (s : Between ServerCalls) (refused : Option SessionFault)
       (t : Between ServerCalls) : Type 0 where
     pub mid : Between ServerCalls
@@ -109,7 +110,7 @@ module _ (served : Served) (limits : Limits) where
     pub answers : AnswersAll served limits mid.state.fault (box_of mid) refused box
     pub others : t ≡ with_box mid box
 
-  -- so it goes, turn by turn, up to one that doesn't go on, or behind which an answer is refused
+  -- so it goes, turn by turn, up to one that ends the session, or behind which an answer is refused
   abbrev pub ServeEnds : Between ServerCalls → Option SessionFault → Between ServerCalls → Type 0
   ServeEnds s None t = GoesOn (server_hears served.interface) s (Ok false) t
   ServeEnds s (Some why) t = TurnAnswers s (Some why) t

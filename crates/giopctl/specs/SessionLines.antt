@@ -1,4 +1,4 @@
--- The lines that tell of a session how it ended, without their newlines.
+-- The lines that say how a session ended, without their newlines.
 use Rattle.std.specs.Prelude.{ℕ, List, ◌++◌, Option, Some, None, codes}
 use Rattle.std.specs.Fmt.{decimal}
 use Rattle.giop_cdr.specs.declared.fault.CdrFault.{CdrFault}
@@ -15,7 +15,7 @@ cdr_fault_text e =
     decimal (cdr_kind_number e.kind) ++ (codes " " ++ (cdr_kind_name e.kind ++
     (codes " at " ++ decimal e.at)))
 
--- why an end goes no further: fault NUMBER NAME, behind which the fault of a header, of a call or
+-- why an end failed: fault NUMBER NAME, behind which the fault of a header, of a call or
 -- of a request id stands with its own number and name
 abbrev pub session_fault_line : SessionFault → List ℕ
 session_fault_line (Wire e) =

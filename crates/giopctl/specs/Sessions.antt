@@ -1,4 +1,4 @@
--- What `call` and `serve` tell of a session, and the status that it ends with.
+-- What `call` and `serve` print of a session, and the status that it ends with.
 use Rattle.std.specs.Prelude.{◌≡◌, ℕ, ◌==◌, Bool, true, false, List, [], ◌++◌, Option, Some, None, ⊤, if◌then◌else◌, codes}
 use Rattle.std.specs.Fmt.{decimal}
 use Rattle.std.specs.FinMap as finite
@@ -26,7 +26,7 @@ use Rattle.giopctl.specs.Serving.{Served, ServerCalls, new_server}
 use Rattle.giopctl.specs.SessionLines.{session_fault_line}
 use Rattle.giopctl.specs.Table.{client_entry_line, server_entry_line, table_text}
 
--- ---- what is told
+-- ---- what is printed
 
 -- the line of the fault that ended a session, where one did
 abbrev pub fault_text : Option SessionFault → List ℕ
@@ -50,7 +50,7 @@ went_well (done request reply) = status_of reply.body == 0
 went_well (OnewaySent request) = true
 went_well _ = false
 
--- whether what stands under an id went well
+-- whether what is stored for an id went well
 abbrev pub is_well : Option ClientEntry → Bool
 is_well (Some entry) = went_well entry
 is_well None = true
@@ -64,7 +64,7 @@ abbrev pub call_status : Option SessionFault → ById (Slot ClientEntry) → Sta
 call_status None table = if all_well table then Done else Refused
 call_status (Some why) table = Refused
 
--- the fault that is told: that of the call which was refused at this end, else the end's own
+-- the fault that is reported: that of the call which was refused at this end, else the end's own
 abbrev pub told : Option SessionFault → Option SessionFault → Option SessionFault
 told (Some why) fault = Some why
 told None fault = fault
@@ -78,8 +78,8 @@ pub record Wire : Type 0 where
 abbrev pub wire : Option (List ℕ) → Option (List ℕ) → Wire
 wire input output = record { input = input; output = output }
 
--- these calls were made at a new client's end, which then talked over the wire; and what is told of
--- them is the table that its calls are left with, its fault, and this status
+-- these calls were made at a new client's end, which then talked over the wire; and what is printed
+-- of them is the table that its calls are left with, its fault, and this status
 pub record IsCalled (asked : Asked) (before after : Wire) (old new : Option (List ℕ))
     (status : Status) : Type 0 where
   pub refused : Option SessionFault
@@ -96,7 +96,7 @@ pub record IsCalled (asked : Asked) (before after : Wire) (old new : Option (Lis
       (session_text (client_entry_line asked.interface) left.table (told refused fault))
   pub is : status ≡ call_status refused left.table
 
--- the same by the status that the calls end with
+-- what `call` did, by the status that the calls end with
 abbrev pub Calls : Asked → Wire → Wire → Option (List ℕ) → Option (List ℕ) → Status → Type 0
 Calls asked before after old new InputOutput = ⊤
 Calls asked before after old new Memory = ⊤
@@ -110,7 +110,7 @@ serve_status (Some why) = fault_status why
 serve_status None = Done
 
 -- a connection of this number was served by a new server's end, which talked over the wire; and
--- what is told of it is its number, the table that its calls are left with, its fault, and this
+-- what is printed of it is its number, the table that its calls are left with, its fault, and this
 -- status
 pub record IsServed (number : ℕ) (served : Served) (before after : Wire)
     (old new : Option (List ℕ)) (status : Status) : Type 0 where
@@ -126,7 +126,7 @@ pub record IsServed (number : ℕ) (served : Served) (before after : Wire)
       ++ session_text (server_entry_line served.interface) left.table (told refused fault))
   pub is : status ≡ serve_status (told refused fault)
 
--- the same by the status that the connection ends with
+-- what `serve` did, by the status that the connection ends with
 abbrev pub Serves : ℕ → Served → Wire → Wire → Option (List ℕ) → Option (List ℕ) → Status → Type 0
 Serves number served before after old new InputOutput = ⊤
 Serves number served before after old new Memory = ⊤

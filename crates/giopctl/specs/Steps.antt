@@ -6,7 +6,7 @@ abbrev pub Each : {A S : Type 0} → (A → S → S → Type 0) → List A → S
 Each Step [] s t = t ≡ s
 Each {A} {S} Step (item ∷ items) s t = (mid : S) × Step item s mid × Each Step items mid t
 
--- a step for an item leads from one state to another, and tells a fault where it stops
+-- a step for an item leads from one state to another, and returns a fault where it stops
 module _ {A S F : Type 0} (Step : A → S → Option F → S → Type 0) where
   -- one of these is the first that stops, with this fault
   pub record StopsAt (items : List A) (s : S) (why : F) (t : S) : Type 0 where
@@ -18,14 +18,14 @@ module _ {A S F : Type 0} (Step : A → S → Option F → S → Type 0) where
     pub each : Each (λ item s t. Step item s None t) before s mid
     pub stops : Step item mid (Some why) t
 
-  -- a step is taken for each, or up to the first that stops, whose fault is told
+  -- a step is taken for each, or up to the first that stops, whose fault is returned
   abbrev pub Upto : List A → S → Option F → S → Type 0
   Upto items s None t = Each (λ item s t. Step item s None t) items s t
   Upto items s (Some why) t = StopsAt items s why t
 
--- the same of steps that are counted
+-- such steps, taken so many times, each by its number
 module _ {S F : Type 0} (Step : ℕ → S → Option F → S → Type 0) where
-  -- so many steps are taken, or fewer and one that stops, whose fault is told
+  -- so many steps are taken, or fewer and one that stops, whose fault is returned
   abbrev pub Times : ℕ → S → Option F → S → Type 0
   Times n s None t =
       (steps : List ℕ) × (length steps ≡ n) × Each (λ step s t. Step step s None t) steps s t

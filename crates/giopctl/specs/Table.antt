@@ -1,4 +1,4 @@
--- The table of the calls of an end, and what `check` tells of an end.
+-- The table of the calls of an end, and what `check` prints of an end.
 use Rattle.std.specs.Prelude.{ℕ, List, [], Option, Some, None}
 use Rattle.std.specs.List.{flat_map}
 use Rattle.std.specs.FinMap as finite
@@ -12,7 +12,7 @@ use Rattle.giopctl.specs.Bodies.{brought_text, ins_text}
 use Rattle.giopctl.specs.Dump.{ended}
 use Rattle.giopctl.specs.TableLines.{client_line, server_line}
 
--- the line of what stands under an id at a server of an interface, and at a client
+-- the line of what is stored for an id at a server of an interface, and at a client
 abbrev pub server_entry_line : Interface → ℕ → ServerEntry → List ℕ
 server_entry_line interface id entry = server_line id entry (ins_text interface entry)
 
@@ -24,10 +24,10 @@ abbrev pub entry_text : {E : Type 0} → (E → List ℕ) → Option E → List 
 entry_text line (Some entry) = ended (line entry)
 entry_text line None = []
 
--- the line of what stands under an id
+-- the line of what is stored for an id
 abbrev pub text_at : {E : Type 0} → (ℕ → E → List ℕ) → ById (Slot E) → ℕ → List ℕ
 text_at line table id = entry_text (line id) (entry_of (finite.get table id))
 
--- a line for each id under which something stands, ascending
+-- a line for each id for which something is stored, ascending
 abbrev pub table_text : {E : Type 0} → (ℕ → E → List ℕ) → ById (Slot E) → List ℕ
 table_text line table = flat_map (text_at line table) (finite.keys table)

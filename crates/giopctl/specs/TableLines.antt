@@ -31,7 +31,7 @@ abbrev pub here_text : Bool → List ℕ
 here_text true = codes "1"
 here_text false = codes "0"
 
--- what stands under an id at a server, with the text of the ins of a Request
+-- what is stored for an id at a server, with the text of the ins of a Request
 abbrev pub server_line : ℕ → ServerEntry → List ℕ → List ℕ
 server_line id (server.Gathering kind) ins = decimal id ++ codes " Gathering"
 server_line id (server.Asked request) ins =
@@ -65,7 +65,7 @@ reply_text (Forward ior) brought = codes "3 " ++ brought
 reply_text (ForwardPerm ior) brought = codes "4 " ++ brought
 reply_text (NeedsAddressing disposition) brought = codes "5 " ++ signed_decimal disposition
 
--- what stands under an id at a client, with the text of what its Reply brought
+-- what is stored for an id at a client, with the text of what its Reply brought
 abbrev pub client_line : ℕ → ClientEntry → List ℕ → List ℕ
 client_line id (client.Sending call left) brought = decimal id ++ codes " Sending"
 client_line id (client.Waiting call) brought = decimal id ++ codes " Waiting"

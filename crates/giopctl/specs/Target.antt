@@ -72,7 +72,7 @@ target_of text =
     if is_reference text then by_reference (ior_text_of ior_layout.read text)
     else by_corbaloc (corbaloc_of text)
 
--- what is told of a text, as a value or a refusal
+-- what a text says, as a value or a refusal
 abbrev pub said : Targeted → Result Endpoint RefusalLine
 said (targeted.At endpoint) = Ok endpoint
 said (targeted.Refused line) = Err line

@@ -1,5 +1,5 @@
 -- What the sessions of `call` and `serve` do between a reader and a writer, turn after turn, as far
--- as these tell their octets (CORBA 3.3 Part 2, 9.4).
+-- as their octets are known (CORBA 3.3 Part 2, 9.4).
 use Rattle.std.specs.Prelude.{◌≡◌, ◌≢◌, ◌⊎◌, ℕ, ◌<◌, Bool, true, false, List, [], length, Option, Some, None, Result, Ok, Err}
 use Rattle.std.specs.IoError.{error_kind}
 use Rattle.std.specs.declared.io.Error.{Error}
@@ -19,7 +19,7 @@ use Rattle.giopctl.specs.Steps.{Each}
 abbrev pub most_turns : ℕ
 most_turns = 65536
 
--- an error of a connection is told so: a want of memory as that
+-- an error of a connection is reported so: being out of memory as that
 pub record IsConnectionFailure (error : Error) (failure : Failure) : Type 0 where
   pub memory : error_kind error ≡ OutOfMemory → failure ≡ Memory
   pub other : error_kind error ≢ OutOfMemory → failure ≡ Connection error
@@ -46,7 +46,8 @@ pub record WritesOut {S : Type 0} (s t : Between S) : Type 0 where
   pub others : t ≡ record s { output = t.output; outgoing = [] }
 
 module _ {S : Type 0} (Hears : Msg → S → Result (Unit {0}) SessionFault → S → Type 0) where
-  -- a turn meets a fault that isn't want of memory, and the peer is told of it where that is due
+  -- a turn meets a fault, not being out of memory, and the peer is sent a MessageError where one is
+  -- due
   pub record Breaks (s t : Between S) : Type 0 where
     pub why : SessionFault
     pub some : why ≢ NoMemory
@@ -55,7 +56,7 @@ module _ {S : Type 0} (Hears : Msg → S → Result (Unit {0}) SessionFault → 
     pub tells : Appends mid.output t.output (peer_octets mid.state.fault)
     pub others : t ≡ with_output mid t.output
 
-  -- the same, but the peer can't be told
+  -- a turn meets such a fault, but the MessageError that is due can't be sent
   pub record CannotTell (s t : Between S) : Type 0 where
     pub why : SessionFault
     pub some : why ≢ NoMemory
@@ -70,9 +71,9 @@ module _ {S : Type 0} (Hears : Msg → S → Result (Unit {0}) SessionFault → 
       Turned Hears s (Err (turn.Read error)) t
       ⊎ (Turned Hears s (Err (turn.Write error)) t ⊎ CannotTell s t)
 
-  -- a turn, and whether the session goes on: a turn that read octets, and heard them, goes on; the
-  -- end of the input ends it, and so does a fault. It fails for want of memory, or for an error of
-  -- the connection
+  -- a turn, and whether the session continues: it does behind a turn that read octets, and heard
+  -- them; the end of the input ends it, and so does a fault. It fails where it is out of memory, or
+  -- by an error of the connection
   abbrev pub GoesOn : Between S → Result Bool Failure → Between S → Type 0
   GoesOn s (Ok true) t = (n : ℕ) × (0 < n) × Turned Hears s (Ok n) t
   GoesOn s (Ok false) t = Turned Hears s (Ok 0) t ⊎ Breaks s t
@@ -80,13 +81,13 @@ module _ {S : Type 0} (Hears : Msg → S → Result (Unit {0}) SessionFault → 
       ((failure ≡ Memory) × Turned Hears s (Err (turn.Session NoMemory)) t)
       ⊎ ((error : Error) × IsConnectionFailure error failure × FailsBy error s t)
 
-  -- the turns of a client, which go on until its calls are over: so many, of which each goes on and
-  -- leaves calls that are not over
+  -- the turns of a client, which continue until its calls are over: so many, behind each of which
+  -- the session continues and some calls are not over
   module _ (are_over : S → Bool) where
     abbrev pub WaitsOn : ℕ → Between S → Between S → Type 0
     WaitsOn number s t = GoesOn s (Ok true) t × (are_over t.state.calls ≡ false)
 
-    -- how they end behind so many: by a turn that does not go on, or behind which all calls are
+    -- how they end behind so many: by a turn that ends the session, or behind which all calls are
     -- over; by a turn that fails; or when all turns are taken
     abbrev pub WaitEnds : ℕ → Between S → Result (Unit {0}) Failure → Between S → Type 0
     WaitEnds turns s (Ok done) t =

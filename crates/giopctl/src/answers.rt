@@ -1,4 +1,5 @@
-//! The answers that a file gives, in JSON.
+//! The answers that a file gives `serve`, in JSON (docs/FORMATS.md, "Calls and answers"). Their
+//! form is `answers_in` in specs/AnswerForms.antt: change both.
 ghost use Rattle.std.specs.Prelude.{◌≡◌, ◌⊎◌, IfOk, IfErr, string_bytes};
 ghost use Rattle.serde_json.specs.View.{view};
 ghost use Rattle.giop_types.specs.declared.json.form_fault.FormFault.TheVariants.{NoMemory};
@@ -56,13 +57,15 @@ impl Answers {
 }
 
 /// The answers that a JSON text gives: an object with a member for each operation of the interface
-/// that isn't oneway, and no other, which is `{"ok":[VALUE,..]}` with the operation's outs, or
+/// that isn't oneway, and no other. A member is `{"ok":[VALUE,..]}` with the operation's outs, or
 /// `{"user":ID,"members":[VALUE,..]}` with an exception of the interface and its members.
 ///
-/// Refused as BadJson where the text is none; else as BadShape where it, or a part of it, has
-/// another form, or an exception isn't in the interface; else as Unfit where a value doesn't fit, or
-/// there are more or fewer values than outs or members; and as NoMemory where memory is wanting, in
-/// place of any.
+/// Refused as the first of these that holds; in place of any it may be NoMemory, where it is out of
+/// memory:
+///
+/// - BadJson, where the text is no JSON.
+/// - BadShape, where it, or a part of it, has another form, or an exception isn't in the interface.
+/// - Unfit, where a value doesn't fit, or there are more or fewer values than outs or members.
 pub fn answers_from_json(
     alloc: Global,
     interface: &Interface,
@@ -128,7 +131,7 @@ fn is_fit(
     Ok(given.is_some())
 }
 
-// What an operation is answered under its name.
+// What an operation is answered, by the member of its name.
 fn given_under(
     alloc: Global,
     interface: &Interface,
@@ -168,7 +171,7 @@ fn given_of(
     }
 }
 
-// A result, by its outs.
+// A result, by the list of its outs.
 fn result_of(
     alloc: Global,
     operation: &Operation,
@@ -182,7 +185,7 @@ fn result_of(
     }
 }
 
-// An exception of the interface, beside whose id its members stand.
+// An exception of the interface, by its id and the object that has its members.
 fn exception_of(
     alloc: Global,
     interface: &Interface,

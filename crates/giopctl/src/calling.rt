@@ -1,4 +1,5 @@
-//! `call` over files, a connection and the standard output.
+//! `call` over files, a connection and the standard output. What it sends, reads and prints is
+//! commands/call.rt, over any reader and writer; here are the files and the socket.
 
 use crate::calls::{CallLine, calls_from_json};
 use crate::cli::CallWords;
@@ -14,7 +15,7 @@ use std::net::TcpStream;
 use std::{io, str};
 
 /// Reads the file of the interface and that of the calls, connects to where the target says, and
-/// calls. What is refused is told before anything is connected: the target, the interface, the
+/// calls. What is refused is reported before anything is connected: the target, the interface, the
 /// calls, in this order.
 pub fn call(rt: &HostRuntime, words: CallWords) -> Status {
     match called(rt, words) {
@@ -55,7 +56,7 @@ fn endpoint_of(rt: &HostRuntime, target: &str) -> Result<Endpoint, Status> {
     }
 }
 
-// The name of a peer in what is told of it: `HOST:PORT`.
+// The name of a peer, as standard error has it: `HOST:PORT`.
 fn peer_of(rt: &HostRuntime, endpoint: &Endpoint) -> Result<String, Failure> {
     let host = EscapedText(endpoint.host.as_slice());
     Ok(format!(in rt.alloc(); "{host}:{}", endpoint.port)?)

@@ -1,4 +1,5 @@
-//! The calls that a file asks for, in JSON.
+//! The calls that a file asks for, in JSON (docs/FORMATS.md, "Calls and answers"). Their form is
+//! `calls_in` in specs/CallForms.antt: change both.
 ghost use Rattle.std.specs.Prelude.{◌≡◌, ◌⊎◌, option_map, IfOk, IfErr};
 ghost use Rattle.serde_json.specs.View.{view, items_view};
 ghost use Rattle.giop_types.specs.declared.json.form_fault.FormFault.TheVariants.{NoMemory};
@@ -26,10 +27,13 @@ pub struct CallLine {
 
 /// The calls that a JSON text lists, each `{"id":ID,"operation":NAME,"ins":[VALUE,..]}`.
 ///
-/// Refused as BadJson where the text is none; else as BadShape where it, or a part of it, has
-/// another form, or an operation isn't in the interface; else as Unfit where an id is no unsigned
-/// long, a value doesn't fit, or there are more or fewer values than ins; and as NoMemory where
-/// memory is wanting, in place of any.
+/// Refused as the first of these that holds; in place of any it may be NoMemory, where it is out of
+/// memory:
+///
+/// - BadJson, where the text is no JSON.
+/// - BadShape, where it, or a part of it, has another form, or an operation isn't in the interface.
+/// - Unfit, where an id is no unsigned long, a value doesn't fit, or there are more or fewer values
+///   than ins.
 pub fn calls_from_json(
     alloc: Global,
     interface: &Interface,
@@ -62,7 +66,8 @@ fn call_list(
     }
 }
 
-// The same, one after the other.
+// The calls of a list, one after the other; `None` where their forms are right, and one of them
+// doesn't fit.
 fn calls_by(
     alloc: Global,
     interface: &Interface,
@@ -92,7 +97,7 @@ fn call_of(alloc: Global, interface: &Interface, json: &Json) -> Result<Option<C
     }
 }
 
-// A call, by its members.
+// A call, by the members of its object.
 fn call_named(
     alloc: Global,
     interface: &Interface,

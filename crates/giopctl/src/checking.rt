@@ -1,4 +1,5 @@
-//! `check` over files and the standard output.
+//! `check` over files and the standard output. What it prints is commands/check.rt, over any reader
+//! and writer.
 ghost use Rattle.giopctl.specs.Check.{AreLimits};
 
 use crate::cli::CheckWords;

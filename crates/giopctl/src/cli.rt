@@ -1,4 +1,6 @@
-//! The command line.
+//! The command line: the commands, their arguments and their help. The words of `call` and `serve`
+//! are session_words.rt, those of limits limit_words.rt. A change here is one in docs/giopctl.md
+//! and tests/program too.
 ghost use Rattle.giopctl.specs.Check.{AreLimits};
 
 use crate::commands::Way;
@@ -205,7 +207,7 @@ pub fn task_of<'a>(alloc: Global, words: &'a [String]) -> Result<Option<Task<'a>
     }
 }
 
-// That a word is none that its argument takes.
+// The error of a word that its argument doesn't take.
 fn misused(alloc: Global, wrong: &str) -> Result<Error, AllocError> {
     let mut command = giopctl(alloc)?;
     command.error(ErrorKind::ValueValidation, wrong)
@@ -348,7 +350,7 @@ fn kind<'a>(
         .arg(file)
 }
 
-// The same of a value, which takes its description and may take a byte order.
+// A kind of `convert` for a value: it takes the value's description too, and may take a byte order.
 fn of_value<'a>(
     alloc: Global,
     name: &'a str,

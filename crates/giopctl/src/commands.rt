@@ -1,4 +1,5 @@
-//! What the program's commands do, over any writer: each answers the exit status.
+//! What the program's commands do, over any writer: each returns the exit status, and a contract
+//! says what it prints.
 
 mod answering;
 mod bodies;

@@ -1,4 +1,5 @@
-//! `convert` over files and the standard output.
+//! `convert` over files and the standard output. What it prints is commands/convert_reference.rt
+//! and commands/described.rt, over any writer.
 
 use crate::cli::ConvertKind;
 use crate::commands::{Way, convert_corbaloc, convert_ior, convert_value};

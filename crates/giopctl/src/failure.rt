@@ -1,3 +1,5 @@
+//! What stops a command before its end. The status of each is `failure_status` in
+//! specs/Status.antt, and docs/giopctl.md lists the statuses: change all three.
 ghost use Rattle.std.specs.Prelude.{◌≡◌, ◌≢◌};
 ghost use Rattle.std.specs.IoError.{error_kind};
 
@@ -6,10 +8,10 @@ use std::alloc::AllocError;
 use std::io::ErrorKind;
 use std::{fmt, io};
 
-/// Why a command could not go on to its end.
+/// Why a command could not finish.
 #[derive(Debug, Drop)]
 pub enum Failure {
-    /// Memory ran out.
+    /// It is out of memory.
     Memory,
     /// Reading failed.
     Input(io::Error),
@@ -17,14 +19,14 @@ pub enum Failure {
     Output(io::Error),
     /// The connection failed: it was refused, or reading from it or writing to it failed.
     Connection(io::Error),
-    /// A session took all its turns, and went on.
+    /// A session took all its turns, and wasn't over.
     TurnsSpent,
 }
 
 impl Failure {
     ghost use Rattle.giopctl.specs.Status.{failure_status};
 
-    /// What an error of reading is.
+    /// The failure of an error of reading: Memory where it is out of memory, else Input.
     pub fn input(error: io::Error) -> Failure
         ensures memory { error_kind error ≡ ErrorKind.OutOfMemory → result ≡ Failure.Memory }
         ensures value { error_kind error ≢ ErrorKind.OutOfMemory → result ≡ Failure.Input error }
@@ -35,7 +37,7 @@ impl Failure {
         }
     }
 
-    /// What an error of a connection is.
+    /// The failure of an error of a connection: Memory where it is out of memory, else Connection.
     pub fn connection(error: io::Error) -> Failure
         ensures memory { error_kind error ≡ ErrorKind.OutOfMemory → result ≡ Failure.Memory }
         ensures value { error_kind error ≢ ErrorKind.OutOfMemory
@@ -69,7 +71,7 @@ impl From<AllocError> for Failure {
     }
 }
 
-/// What an error of writing is.
+/// The failure of an error of writing: Memory where it is out of memory, else Output.
 impl From<io::Error> for Failure {
     fn from(error: io::Error) -> Failure
         ensures memory { error_kind error ≡ ErrorKind.OutOfMemory → result ≡ Failure.Memory }

@@ -1,11 +1,11 @@
-//! Files, and the standard input.
+//! The files that a command reads; `-` is the standard input.
 
 use crate::commands::BehindFault;
 use crate::failure::Failure;
 use std::io::Read;
 use std::{fs, io};
 
-/// The output is written in pieces of so many octets.
+/// The size of the buffer that output is written through, in octets.
 pub const OUTPUT_BUFFER: usize = 65_536;
 
 /// The octets of a file, or of the standard input where it is `-`.
@@ -21,7 +21,7 @@ pub fn read(rt: &HostRuntime, file: &str) -> Result<Vec<u8>, Failure> {
 }
 
 /// A file to be read piece by piece. A regular one is read to its end even behind a fault; a pipe
-/// or a device may have none.
+/// or a device may have no end.
 pub fn opened(rt: &HostRuntime, file: &str) -> Result<(fs::File, BehindFault), Failure> {
     match open(rt, file) {
         Ok(opened) => Ok(opened),

@@ -1,4 +1,5 @@
-//! Parts of the JSON of calls and answers.
+//! Parts of the JSON of calls and answers (docs/FORMATS.md, "Calls and answers"). Their forms are
+//! specs/CallForms.antt: change both.
 ghost use Rattle.std.specs.Prelude.{◌≡◌, ◌++◌, ◌∷◌, [], option_map, IfOk};
 ghost use Rattle.serde_json.specs.View.{view, items_view};
 ghost use Rattle.giop_types.specs.Descriptions.CheckedShape.{checked_shape};
@@ -11,7 +12,7 @@ use giop_types::{CheckedDesc, Desc, FormFault, Parameter, Value, ValueList, valu
 use serde_json::Value as Json;
 use std::alloc::{AllocError, Global};
 
-/// Whether this is an object of so many members.
+/// Whether a JSON value is an object of so many members.
 pub fn is_object_of(count: usize, json: &Json) -> bool
     ensures { result ≡ is_object_of count (view json.now) }
 {
@@ -34,7 +35,7 @@ pub fn octets_of(alloc: Global, json: &Json) -> Result<OctetList, FormFault>
     }
 }
 
-/// The number of an unsigned long; `None` where it is a whole number that is none.
+/// The number of an unsigned long; `None` where it is a whole number that is no unsigned long.
 pub fn ulong_of(alloc: Global, json: &Json) -> Result<Option<u32>, FormFault>
     ensures { Shows (λ number. number) result (number_in (view json.now)) }
 {
@@ -63,7 +64,8 @@ pub fn values_of(
     }
 }
 
-// The same, one after the other.
+// The values of a list, one after the other; `None` where their forms are right and one of them
+// doesn't fit, or where they are more or fewer than the parameters.
 fn values_by(
     alloc: Global,
     parameters: &[Parameter],
@@ -85,7 +87,7 @@ fn values_by(
     }
 }
 
-/// Items and one more behind them, where all of them fit.
+/// Items and one more behind them; `None` where one of them doesn't fit.
 pub fn with_item<T: Drop>(
     items: Option<Vec<T>>,
     item: Option<T>,

@@ -1,4 +1,5 @@
-//! The words that say what is held at most.
+//! The options of what is held at most: --message-limit, --calls-limit and --gathered-limit. Their
+//! defaults are those of giop_session's `Limits`: change both.
 ghost use Rattle.std.specs.Prelude.{◌≤◌, ◌^◌, IfOk};
 ghost use Rattle.giopctl.specs.Check.{AreLimits};
 
@@ -91,7 +92,7 @@ fn short(matches: &ArgMatches, name: &str, wrong: &'static str) -> Result<u32, &
     }
 }
 
-// The number of an option, where it is told in decimal digits and nothing else.
+// The number of an option, where its word is decimal digits and nothing else.
 fn number(matches: &ArgMatches, name: &str) -> Option<u64> {
     let text = matches.get_str(name)?;
     if text.as_bytes().iter().all(|octet| octet.is_ascii_digit()) {

@@ -1,4 +1,6 @@
-//! The lines that the commands write, without their newlines.
+//! The lines that the commands write, without their newlines. Each is pinned to a text in
+//! specs/Lines.antt, TableLines.antt, SessionLines.antt or ConvertLines.antt, and docs/giopctl.md
+//! shows it: change all three.
 
 mod cdr_fault;
 mod client_entry;

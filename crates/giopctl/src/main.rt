@@ -1,5 +1,5 @@
-//! The program giopctl: it shows what files of GIOP messages hold, checks sessions, writes references
-//! and values in another form, and calls and serves objects.
+//! The program giopctl: it shows what files of GIOP messages hold, checks sessions, writes
+//! references and values in another form, and calls and serves objects.
 #![tactic(auto)]
 
 mod answers;

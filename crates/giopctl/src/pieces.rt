@@ -1,4 +1,4 @@
-//! Reading piece by piece.
+//! Files and the standard input are read piece by piece.
 ghost use Rattle.std.specs.Prelude.{◌≡◌, ◌<◌, IfOk, OnOk, length};
 ghost use Rattle.std.specs.Io.{ReadsAtMost};
 ghost use Rattle.std.specs.Io.KnownBytes.{Consumes, IsAtEnd, ReadConsumes};
@@ -36,7 +36,7 @@ impl PieceBuffer {
         })
     }
 
-    /// The octets that come next, as many as one read gives; none only at the end.
+    /// The octets that come next, as many as one read returns; none only at the end.
     pub fn fill<R: Read>(&mut self, reader: &mut R) -> Result<&[u8], Failure>
         ensures ok { IfOk result (λ piece.
             Consumes (R.remaining reader.old) (R.remaining reader.new) piece.now) }
@@ -64,7 +64,7 @@ fn read_some<R: Read>(reader: &mut R, piece: &mut [u8]) -> Result<usize, Failure
     Err(Failure::Input(io::Error::from(ErrorKind::Interrupted)))
 }
 
-/// Reads to the end, and lets go what is read.
+/// Reads to the end, and drops what is read.
 pub fn drain<R: Read>(buffer: &mut PieceBuffer, reader: &mut R) -> Result<(), Failure>
     ensures { OnOk result (IsAtEnd (R.remaining reader.new)) }
 {

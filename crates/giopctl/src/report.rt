@@ -1,4 +1,4 @@
-//! What is said on standard error, and the status that goes with it.
+//! What is printed on standard error, and the status that goes with it.
 ghost use Rattle.std.specs.Prelude.{◌≡◌, ◌≢◌, ◌⊎◌};
 ghost use Rattle.std.specs.IoError.{error_kind};
 ghost use Rattle.clap.specs.Words.{kind_of};
@@ -13,7 +13,7 @@ use std::alloc::Global;
 use std::io;
 use std::io::ErrorKind;
 
-/// The words of the command line can't be read: one is no UTF-8, or memory ran out.
+/// The words of the command line can't be read: one is no UTF-8, or it is out of memory.
 pub fn arguments(rt: &impl Eprint, error: &io::Error) -> Status
     ensures memory { error_kind error.now ≡ ErrorKind.OutOfMemory → result ≡ Status.Memory }
     ensures value { error_kind error.now ≢ ErrorKind.OutOfMemory → result ≡ Status.Usage }
@@ -41,7 +41,7 @@ pub fn usage(rt: &(impl Print + Eprint), error: &clap::Error) -> Status
     }
 }
 
-/// What a command on this file answered.
+/// The status of what a command on this file returned. A failure is printed.
 pub fn answer(rt: &impl Eprint, file: &str, answered: Result<Status, Failure>) -> Status
     ensures { result ≡ answered_status answered }
 {
@@ -61,8 +61,8 @@ pub fn answer(rt: &impl Eprint, file: &str, answered: Result<Status, Failure>) -
     failure.status()
 }
 
-/// What is wrong with the text of an interface, and where, as far as that is known; nothing where
-/// it is one.
+/// Prints what is wrong with the text of an interface, and where, as far as that is known; nothing
+/// where it is an interface.
 pub fn interface(rt: &impl Eprint, alloc: Global, file: &str, text: &[u8]) {
     let _ = match Interface::from_json(alloc, text) {
         Err(FormFault::BadJson) => bad_json(rt, alloc, file, text),
@@ -76,7 +76,7 @@ pub fn interface(rt: &impl Eprint, alloc: Global, file: &str, text: &[u8]) {
     };
 }
 
-/// What is wrong with the text of calls or answers, and where, as far as that is known.
+/// Prints what is wrong with the text of calls or answers, and where, as far as that is known.
 pub fn form(rt: &impl Eprint, alloc: Global, file: &str, text: &[u8], fault: FormFault) {
     let _ = match fault {
         FormFault::BadJson => bad_json(rt, alloc, file, text),
@@ -92,7 +92,7 @@ pub fn form(rt: &impl Eprint, alloc: Global, file: &str, text: &[u8], fault: For
     };
 }
 
-// Where a text ceases to be JSON.
+// Prints where a text ceases to be JSON.
 fn bad_json(rt: &impl Eprint, alloc: Global, file: &str, text: &[u8]) -> io::Result<()> {
     match Json::from_slice(alloc, text) {
         Err(error) => eprintln!(rt; "giopctl: {file}: {error}"),
@@ -100,7 +100,7 @@ fn bad_json(rt: &impl Eprint, alloc: Global, file: &str, text: &[u8]) -> io::Res
     }
 }
 
-// The standard output can't be written. Nothing is said where nobody reads it any more.
+// The standard output can't be written. Nothing is printed where nobody reads it any more.
 fn output_failed(rt: &impl Eprint, error: &io::Error) {
     if error.kind() != ErrorKind::BrokenPipe {
         let _ = eprintln!(rt; "giopctl: standard output: {error}");

@@ -1,4 +1,5 @@
-//! `serve` over files, connections and the standard output.
+//! `serve` over files, connections and the standard output. What it reads, sends and prints is
+//! commands/serve.rt, over any reader and writer; here are the files and the sockets.
 
 use crate::answers::answers_from_json;
 use crate::cli::ServeWords;
@@ -12,12 +13,12 @@ use std::io;
 use std::io::{BufWriter, Write};
 use std::net::{Ipv4Addr, TcpListener, TcpStream};
 
-// The address that is listened at, in what is told of it.
+// The address that is listened at, as standard error has it.
 const HERE: &str = "127.0.0.1";
 
 /// Reads the file of the interface and that of the answers, listens at a port of 127.0.0.1, and
 /// serves so many connections one after the other. The status is the greatest of theirs. What is
-/// refused is told before the port is bound: the interface, then the answers.
+/// refused is reported before the port is bound: the interface, then the answers.
 pub fn serve(rt: &HostRuntime, words: ServeWords) -> Status {
     match served(rt, words) {
         Ok(status) => status,
@@ -62,7 +63,7 @@ fn listening(rt: &HostRuntime, port: u16) -> Result<TcpListener, Status> {
     }
 }
 
-// Serves so many connections, and goes on whatever one of them ends with.
+// Serves so many connections, and continues whatever one of them ends with.
 fn serve_each(
     rt: &HostRuntime,
     listener: &TcpListener,

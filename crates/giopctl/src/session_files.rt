@@ -10,7 +10,7 @@ use giop_types::{FormFault, Interface};
 use std::io;
 use std::io::{BufWriter, Write};
 
-/// The octets of a file, or the status where it can't be read, which is told.
+/// The octets of a file, or the status where it can't be read, which is reported.
 pub fn read(rt: &HostRuntime, file: &str) -> Result<Vec<u8>, Status> {
     match files::read(rt, file) {
         Ok(octets) => Ok(octets),
@@ -18,7 +18,7 @@ pub fn read(rt: &HostRuntime, file: &str) -> Result<Vec<u8>, Status> {
     }
 }
 
-/// The interface that a file's text is, or the status where it is refused, which is told.
+/// The interface that a file's text is, or the status where it is refused, which is reported.
 pub fn interface_of(rt: &HostRuntime, file: &str, text: &[u8]) -> Result<Interface, Status> {
     match Interface::from_json(rt.alloc(), text) {
         Ok(interface) => Ok(interface),
@@ -29,7 +29,7 @@ pub fn interface_of(rt: &HostRuntime, file: &str, text: &[u8]) -> Result<Interfa
     }
 }
 
-/// Tells that the text of a file, which isn't the interface's, is refused.
+/// Reports that the text of a file of calls or answers is refused.
 pub fn refused_form(rt: &HostRuntime, file: &str, text: &[u8], fault: FormFault) -> Status {
     report::form(rt, rt.alloc(), file, text, fault);
     refused_line(rt, file, form_refusal(fault))

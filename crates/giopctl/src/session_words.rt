@@ -1,4 +1,5 @@
-//! The words of `call` and `serve`.
+//! The words of `call` and `serve`: their arguments and their help. A change here is one in
+//! docs/giopctl.md and tests/program too.
 ghost use Rattle.std.specs.Prelude.{IfOk};
 ghost use Rattle.giop_session.specs.Form.{IsForm};
 ghost use Rattle.giopctl.specs.Check.{AreLimits};
@@ -166,7 +167,7 @@ fn number<'a>(alloc: Global, name: &'a str, help: &'a str) -> Arg<'a> {
     Arg::new(alloc, name).long(name).value_name("N").help(help)
 }
 
-// A command with how messages are sent, and the limits.
+// A command with the options of how messages are sent, and of the limits.
 fn sent<'a>(alloc: Global, command: Command<'a>) -> Result<Command<'a>, AllocError> {
     let piece = number(
         alloc,
@@ -265,7 +266,7 @@ fn connections_of(matches: &ArgMatches) -> Option<u32> {
     }
 }
 
-// The number of an argument, where it is told in decimal digits and nothing else.
+// The number of an argument, where its word is decimal digits and nothing else.
 fn decimal(matches: &ArgMatches, name: &str) -> Option<u32> {
     let text = matches.get_str(name)?;
     if text.as_bytes().iter().all(|octet| octet.is_ascii_digit()) {

@@ -1,3 +1,5 @@
+//! The exit statuses of the program. Their numbers are `status_number` in specs/Status.antt, and
+//! docs/giopctl.md and the help list them: change all of these.
 ghost use Rattle.std.specs.Prelude.{◌≡◌};
 
 /// How a run of the program ends: its exit status.
@@ -9,9 +11,10 @@ pub enum Status {
     Refused,
     /// The words on the command line are none that the program knows.
     Usage,
-    /// Reading the input or writing the output failed.
+    /// Reading the input or writing the output failed, or a connection did, or a session took all
+    /// its turns.
     InputOutput,
-    /// Memory ran out.
+    /// It is out of memory.
     Memory,
 }
 

@@ -1,11 +1,12 @@
-//! A message of two pieces, gathered and read where it lies.
+//! A message of two pieces, gathered and read where it lies. giop_frag's CALLING.md shows it:
+//! change both.
 ghost use Rattle.std.specs.Prelude.{◌≡◌, OnOk};
 
 use giop_cdr::{CdrIn, Order};
 use giop_frag::{Gather, GatherFault};
 
-/// The unsigned long at the front of a message of two pieces, if octets are there for one; the
-/// pieces are dropped then. The refusals are those of `Gather::begin` and `Gather::add`.
+/// The unsigned long at the front of a message of two pieces, if octets are there for one. The
+/// pieces are dropped behind it. The refusals are those of `Gather::begin` and `Gather::add`.
 pub fn front_of_two(
     gather: &mut Gather,
     id: u32,

@@ -1,3 +1,5 @@
+//! A struct read, written and shown to be read exactly. giop_cdr's CALLING.md shows it: change
+//! both.
 ghost use Rattle.std.specs.Prelude.{◌≡◌};
 ghost use Rattle.giop_cdr.specs.Reading.Outcome.{Reads};
 ghost use Rattle.giop_cdr.specs.Writing.Outcome.{Writes};
@@ -29,7 +31,7 @@ pub fn read_point<S: Octets>(input: &mut CdrIn<S>) -> Result<Point, CdrFault>
     Ok(Point { x, y })
 }
 
-/// Writes a point behind what was written. Where memory is wanting the output is as it was.
+/// Writes a point behind what was written. Where it is out of memory, the output is as it was.
 #[tactic(auto, unfolding(crate::specs::Point::point, giop_cdr::specs::Layout::field, giop_cdr::specs::Layout::signed, giop_cdr::specs::Layout::gives), using(giop_cdr::proofs::Writing::WriterLemmas::grows_then, giop_cdr::proofs::Writing::WriterLemmas::grows_not))]
 pub fn write_point(value: &Point, out: &mut CdrOut) -> Result<(), AllocError>
     ensures { Writes out.old result out.new (point.written value.now out.old) }
@@ -45,7 +47,7 @@ pub fn write_point(value: &Point, out: &mut CdrOut) -> Result<(), AllocError>
     written
 }
 
-/// What `read_point` answers is what octets spell, and no spelling of a point begins another.
+/// What `read_point` returns is what octets spell, and no spelling of a point begins another.
 pub fn points_are_spelled()
     ensures exact { IsExact (Took point.spells) point.refused point.read }
     ensures alone { StandsAlone point.spells }

@@ -1,4 +1,5 @@
-//! Where an object is reached, from the text of its reference.
+//! Where an object is reached, from the text of its reference. giop_ior's CALLING.md shows it:
+//! change both.
 use giop_cdr::OctetList;
 use giop_ior::{iiop_view, ior_from_text};
 use giop_types::IorTextFault;

@@ -1,3 +1,4 @@
+//! A call at a client: a Request or a LocateRequest (CORBA 3.3 Part 2, 9.4.2 and 9.4.5).
 ghost use Rattle.std.specs.Prelude.{◌≡◌};
 ghost use Rattle.giop_calls.specs.ClientTable.{answers};
 
@@ -16,8 +17,8 @@ pub enum Call {
 }
 
 impl Call {
-    /// Whether a message of this kind and version answers the call: a Reply a Request, a LocateReply
-    /// a LocateRequest, in its version. It takes no memory.
+    /// Whether a message of this kind and version answers the call: a Reply a Request, a
+    /// LocateReply a LocateRequest, in its version. It takes no memory.
     pub fn is_answered_by(&self, kind: CallKind, version: Version) -> bool
         ensures { result ≡ answers kind version self.now }
     {

@@ -1,3 +1,5 @@
+//! What is stored for the id of a call at a client. What each event makes of an entry, and which
+//! are closed, is specs/ClientTable.antt: change both.
 ghost use Rattle.std.specs.Prelude.{◌≡◌};
 ghost use Rattle.giop_calls.specs.ClientTable as table;
 ghost use Rattle.giop_calls.specs.Outcomes.{copied};
@@ -10,7 +12,7 @@ use crate::outcome::Outcome;
 use giop_cdr::CdrFault;
 use giop_msg::{LocateReply, Reply, Request};
 
-/// What stands under the id of a call at a client.
+/// What is stored for the id of a call at a client.
 #[derive(Debug, Drop)]
 pub enum ClientEntry {
     /// Its first piece went out, its last didn't.

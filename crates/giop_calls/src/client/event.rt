@@ -1,11 +1,13 @@
+//! What may happen to a call at a client. A new event takes a line in specs/ClientTable.antt, a
+//! function in client/steps.rt and an arm in client/rule.rt.
 use crate::client::call::Call;
 use crate::client::heard::HeardReply;
 use crate::kind::CallKind;
 use giop_msg::Version;
 
-/// What may befall a call at a client: an act of the client itself, or a message of its server.
+/// What may happen to a call at a client: an act of the client itself, or a message of its server.
 ///
-/// A whole reply is told by what it is, decoded, so that the rule knows no interface.
+/// A whole reply comes decoded, so that the rule needs no interface.
 #[derive(Debug, Drop)]
 pub enum ClientEvent {
     /// The client calls.

@@ -1,3 +1,4 @@
+//! What the joined octets of a Reply or a LocateReply come to (CORBA 3.3 Part 2, 9.4.3 and 9.4.6).
 use crate::aside::Aside;
 use giop_cdr::CdrFault;
 use giop_msg::{LocateReply, Reply};
@@ -11,6 +12,6 @@ pub enum HeardReply {
     Locate(LocateReply),
     /// One of them that can't be decoded, for this fault.
     Undecoded(CdrFault),
-    /// It wasn't decoded, since no call under its id waits for it.
+    /// It wasn't decoded, since no call of its id waits for it.
     Unread,
 }

@@ -1,3 +1,6 @@
+//! The rule of a client's calls (CORBA 3.3 Part 2, 9.4 and 9.6): it finds the function of
+//! client/steps.rt for an event. The table is specs/ClientTable.antt, and docs/PROFILE.md prints
+//! it.
 ghost use Rattle.std.specs.Prelude.{◌≡◌, Some};
 ghost use Rattle.giop_calls.specs.ClientTable.{client_step};
 
@@ -59,8 +62,8 @@ impl CallRule for ClientRule {
 }
 
 impl ClientRule {
-    /// What an event does to a call with this entry, which changes where it lies; `step` tells what.
-    /// Each event leaves an entry. It takes no memory.
+    /// What an event does to a call with this entry, which changes where it lies. It does what
+    /// `step` does. Each event leaves an entry. It takes no memory.
     #[inline(always)]
     pub fn step_at(&self, entry: &mut ClientEntry, event: ClientEvent) -> Result<(), CallFault>
         ensures { client_step (Some entry.old) event
@@ -73,7 +76,7 @@ impl ClientRule {
     }
 }
 
-// The same, with the entry moved out of its place and back.
+// What an event does to a call with this entry, which is moved out of its place and back.
 fn step_moved(entry: &mut ClientEntry, event: ClientEvent) -> Result<(), CallFault>
     ensures { client_step (Some entry.old) event
         ≡ record { entry = Some entry.new; outcome = result } }

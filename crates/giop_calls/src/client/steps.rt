@@ -1,4 +1,5 @@
-//! What each event does to a call, a function for each. None takes memory.
+//! What each event does to a call at a client (CORBA 3.3 Part 2, 9.4 and 9.6), a function for each.
+//! None takes memory. The table is specs/ClientTable.antt, a definition for each: change both.
 ghost use Rattle.std.specs.Prelude.{◌≡◌, IfNone, IfSome, Some};
 ghost use Rattle.giop_calls.specs.ClientTable as table;
 ghost use Rattle.giop_calls.specs.declared.client.call.Call.TheVariants as question;
@@ -42,7 +43,7 @@ fn refused(entry: Option<ClientEntry>, fault: CallFault) -> ClientStep
     }
 }
 
-// Whether a call may begin under the id of this entry.
+// Whether a call may take the id of this entry: there is none, or its call is over.
 #[inline(always)]
 fn is_free(entry: &Option<ClientEntry>) -> bool
     ensures { result ≡ table.is_free entry.now }
@@ -101,7 +102,8 @@ pub fn begin(entry: Option<ClientEntry>, call: Call, pieces: u32) -> ClientStep
     }
 }
 
-/// The same under an id with this entry, which changes where it lies.
+/// The client calls in so many pieces, of which the first goes out, and takes an id that has this
+/// entry, which changes where it lies. Refused as IdInUse where the entry's call isn't over.
 #[inline(always)]
 pub fn begin_at(entry: &mut ClientEntry, call: Call, pieces: u32) -> Result<(), CallFault>
     ensures { table.begins (Some entry.old) call pieces

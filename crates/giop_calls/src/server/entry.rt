@@ -1,3 +1,5 @@
+//! What is stored for the id of a call at a server. What each event makes of an entry, and which
+//! are closed, is specs/ServerTable.antt: change both.
 ghost use Rattle.std.specs.Prelude.{◌≡◌};
 ghost use Rattle.giop_calls.specs.ServerTable as table;
 ghost use Rattle.giop_calls.specs.Outcomes.{copied};
@@ -10,7 +12,7 @@ use crate::server::question::Question;
 use crate::server::undecoded::UndecodedCall;
 use giop_msg::{Reply, Request, Target};
 
-/// What stands under the id of a call at a server.
+/// What is stored for the id of a call at a server.
 #[derive(Debug, Drop)]
 pub enum ServerEntry {
     /// A first piece of it came, its last didn't.
@@ -64,9 +66,9 @@ pub enum ServerEntry {
 }
 
 impl ServerEntry {
-    /// Whether the call is over, so that its id may be used again, and its entry taken out: a
-    /// Delivered, LocateAnswered or undecodable one of which no reply is expected, and one that is
-    /// Answered or Cancelled with no piece left to be sent. It takes no memory.
+    /// Whether the call is over, so that its id may be used again, and its entry taken out. It is
+    /// over where it is Delivered or LocateAnswered; Undecoded, and no reply is expected; Answered
+    /// or Cancelled, and no piece is left to be sent. It takes no memory.
     pub fn is_closed(&self) -> bool
         ensures { result ≡ table.is_closed self.now }
     {

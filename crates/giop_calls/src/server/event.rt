@@ -1,11 +1,13 @@
+//! What may happen to a call at a server. A new event takes a line in specs/ServerTable.antt, a
+//! function in server/steps.rt and an arm in server/rule.rt.
 use crate::aside::Aside;
 use crate::kind::CallKind;
 use crate::server::heard::HeardCall;
 use giop_msg::Reply;
 
-/// What may befall a call at a server: a message of its client, or an act of the server itself.
+/// What may happen to a call at a server: a message of its client, or an act of the server itself.
 ///
-/// A whole message is told by what it is, decoded, so that the rule knows no interface.
+/// A whole message comes decoded, so that the rule needs no interface.
 #[derive(Debug, Drop)]
 pub enum ServerEvent {
     /// The first piece of a Request or a LocateRequest comes, and more are to come.

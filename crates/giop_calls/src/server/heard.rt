@@ -1,3 +1,5 @@
+//! What the joined octets of a Request or a LocateRequest come to (CORBA 3.3 Part 2, 9.4.2 and
+//! 9.4.5).
 use crate::aside::Aside;
 use crate::locate_call::LocateCall;
 use crate::server::undecoded::UndecodedCall;

@@ -1,3 +1,4 @@
+//! What a stored Reply answers, also where its Request couldn't be decoded.
 use crate::aside::Aside;
 use giop_msg::{Request, RequestFault};
 

@@ -1,3 +1,6 @@
+//! The rule of a server's calls (CORBA 3.3 Part 2, 9.4 and 9.6): it finds the function of
+//! server/steps.rt for an event. The table is specs/ServerTable.antt, and docs/PROFILE.md prints
+//! it.
 ghost use Rattle.std.specs.Prelude.{◌≡◌, Some};
 ghost use Rattle.giop_calls.specs.ServerTable.{server_step};
 
@@ -56,8 +59,8 @@ impl CallRule for ServerRule {
 }
 
 impl ServerRule {
-    /// What an event does to a call with this entry, which changes where it lies; `step` tells what.
-    /// Each event leaves an entry. It takes no memory.
+    /// What an event does to a call with this entry, which changes where it lies. It does what
+    /// `step` does. Each event leaves an entry. It takes no memory.
     #[inline(always)]
     pub fn step_at(&self, entry: &mut ServerEntry, event: ServerEvent) -> Result<(), CallFault>
         ensures { server_step (Some entry.old) event
@@ -70,7 +73,7 @@ impl ServerRule {
     }
 }
 
-// The same, with the entry moved out of its place and back.
+// What an event does to a call with this entry, which is moved out of its place and back.
 fn step_moved(entry: &mut ServerEntry, event: ServerEvent) -> Result<(), CallFault>
     ensures { server_step (Some entry.old) event
         ≡ record { entry = Some entry.new; outcome = result } }

@@ -1,4 +1,5 @@
-//! What each event does to a call, a function for each. None takes memory.
+//! What each event does to a call at a server (CORBA 3.3 Part 2, 9.4 and 9.6), a function for each.
+//! None takes memory. The table is specs/ServerTable.antt, a definition for each: change both.
 ghost use Rattle.std.specs.Prelude.{◌≡◌, ◌==◌, Some};
 ghost use Rattle.giop_calls.specs.ServerTable as table;
 ghost use Rattle.giop_calls.specs.declared.server.entry.ServerEntry.TheVariants.{Asked, Gathering};
@@ -42,7 +43,7 @@ fn refused(entry: Option<ServerEntry>, fault: CallFault) -> ServerStep
     }
 }
 
-// Whether a call may begin under the id of this entry.
+// Whether a call may take the id of this entry: there is none, or its call is over.
 #[inline(always)]
 fn is_free(entry: &Option<ServerEntry>) -> bool
     ensures { result ≡ table.is_free entry.now }
@@ -80,7 +81,8 @@ pub fn begin(entry: Option<ServerEntry>, next: ServerEntry) -> ServerStep
     }
 }
 
-/// The same to a call with this entry, which changes where it lies.
+/// A Request or a LocateRequest comes with an id that has this entry, which becomes the next one
+/// where it lies. Refused as IdInUse where the entry's call isn't over.
 #[inline(always)]
 pub fn begin_at(entry: &mut ServerEntry, next: ServerEntry) -> Result<(), CallFault>
     ensures { table.begins (Some entry.old) next
@@ -157,7 +159,7 @@ pub fn cancel(entry: Option<ServerEntry>) -> ServerStep
     }
 }
 
-// What stands behind a cancel.
+// The entry that a CancelRequest leaves.
 #[inline(always)]
 fn cancelled(entry: Option<ServerEntry>) -> Option<ServerEntry>
     ensures { result ≡ (table.cancel entry).entry }
@@ -179,10 +181,11 @@ fn cancelled(entry: Option<ServerEntry>) -> Option<ServerEntry>
     }
 }
 
-/// The server answers a Request in so many pieces, of which the first goes out. Refused as
-/// WrongKind for a LocateRequest, as NotOpen where no reply is expected, and as Unfit in another
-/// version than the request's, or where the request couldn't be decoded and the reply is no
-/// exception of the broker.
+/// The server answers a Request in so many pieces, of which the first goes out.
+///
+/// Refused as WrongKind for a LocateRequest, and as NotOpen where no reply is expected. Refused as
+/// Unfit in another version than the request's, or where the request couldn't be decoded and the
+/// reply is no system exception.
 pub fn answer(entry: Option<ServerEntry>, reply: Aside<Reply>, pieces: u32) -> ServerStep
     ensures { result ≡ table.answer entry reply pieces }
 {
@@ -243,9 +246,10 @@ fn answer_undecoded(call: UndecodedCall, reply: Aside<Reply>, pieces: u32) -> Se
     }
 }
 
-/// The server answers a LocateRequest. Refused as WrongKind for a Request that expects a reply, as
-/// NotOpen where nothing is open, and as Unfit where the target couldn't be decoded and yet is told
-/// to be here.
+/// The server answers a LocateRequest.
+///
+/// Refused as WrongKind for a Request that expects a reply, as NotOpen where nothing is open, and
+/// as Unfit where the LocateRequest couldn't be decoded and its object is yet said to be here.
 pub fn answer_locate(entry: Option<ServerEntry>, here: bool) -> ServerStep
     ensures { result ≡ table.answer_locate entry here }
 {

@@ -1,3 +1,4 @@
+//! A call at a server that can't be decoded, and may still be answered.
 use crate::kind::CallKind;
 use giop_msg::{RequestFault, Version};
 
@@ -6,8 +7,8 @@ use giop_msg::{RequestFault, Version};
 pub struct UndecodedCall {
     /// The version in which it is laid out, and in which it is to be answered.
     pub version: Version,
-    /// Which reply is expected: none of a Request whose head was decoded and has flags 0, else that
-    /// of its kind.
+    /// Which reply is expected: none for a Request whose head was decoded and has flags 0, else
+    /// that of its kind.
     pub expects: Option<CallKind>,
     /// What is wrong with it.
     pub fault: RequestFault,

@@ -1,4 +1,5 @@
-//! What a server's own program answers.
+//! What a server's own program answers: a Reply or a LocateReply (CORBA 3.3 Part 2, 9.4.3 and
+//! 9.4.6). Its meaning is `IsAnswer` and `IsLocateAnswer` in specs/ServerAnswers.antt: change both.
 ghost use Rattle.std.specs.Prelude.{◌≡◌, ◌<◌, ◌^◌, [], ◌∷◌, true, Some, None, Err, length, IfErr, IfOk, IfSome, IfNone, option_copied};
 ghost use Rattle.std.specs.FinMap as finite;
 ghost use Rattle.std.specs.Option.{option_map};
@@ -34,11 +35,16 @@ impl<'a> ServerEnd<'a> {
     /// now, and `send` puts out each of the others. A Request that couldn't be decoded is answered
     /// by a system exception alone.
     ///
-    /// A failed end answers its fault. Else the first of these holds, where `NoMemory` may stand in
-    /// place of any: `NotOpen`, where no Request of this id waits for a Reply, or `WrongKind`, where
-    /// a LocateRequest does; `Unfit`, where the Reply has another version than its Request, no
-    /// octets spell it as a reply to this Request, they are more than the limit `gathered`, or a
-    /// message of them is larger than the limit `message`. A refusal changes nothing.
+    /// A failed end returns its fault. Else the first of these that holds is returned, and
+    /// `NoMemory` may stand in place of any:
+    ///
+    /// - `NotOpen`, where no Request of this id waits for a Reply, or `WrongKind`, where a
+    ///   LocateRequest does.
+    /// - `Unfit`, where the Reply has another version than its Request, no octets spell it as a
+    ///   reply to this Request, they are more than the limit `gathered`, or a message of them is
+    ///   larger than the limit `message`.
+    ///
+    /// A refusal changes nothing.
     #[tactic(auto, using(crate::proofs::LocalLemmas::refused_puts, crate::proofs::LocalLemmas::answer_puts, crate::proofs::LocalLemmas::unasked_puts))]
     pub fn answer(&mut self, reply: Reply, form: Form) -> Result<(), SessionFault>
         requires { IsForm form }
@@ -68,12 +74,16 @@ impl<'a> ServerEnd<'a> {
     }
 
     /// Answers a LocateRequest in its version: that the object is here, or that it isn't known
-    /// (9.4.6). One that couldn't be decoded has no object that could be here.
+    /// (9.4.6). A LocateRequest that couldn't be decoded has no object that could be here.
     ///
-    /// A failed end answers its fault. Else the first of these holds: `NotOpen`, where no
-    /// LocateRequest of this id waits for a LocateReply, or `WrongKind`, where a Request does;
-    /// `Unfit`, where the object of one that couldn't be decoded is said to be here; `NoMemory`. A
-    /// refusal changes nothing.
+    /// A failed end returns its fault. Else the first of these that holds is returned:
+    ///
+    /// - `NotOpen`, where no LocateRequest of this id waits for a LocateReply, or `WrongKind`,
+    ///   where a Request does.
+    /// - `Unfit`, where the object of one that couldn't be decoded is said to be here.
+    /// - `NoMemory`, where it is out of memory.
+    ///
+    /// A refusal changes nothing.
     #[tactic(auto, using(crate::proofs::QuietLemmas::answer_locate_quiet))]
     pub fn answer_locate(&mut self, id: u32, here: bool, order: Order) -> Result<(), SessionFault>
         ensures failed { (why : _) → self.old.fault ≡ Some why
@@ -109,8 +119,9 @@ impl<'a> ServerEnd<'a> {
 
     /// Puts out the next piece of a Reply.
     ///
-    /// A failed end answers its fault, and an id of which no piece is left is `NothingToSend`; else
-    /// `NoMemory` where memory is wanting. A refusal changes nothing.
+    /// A failed end returns its fault. An id of which no piece is left is refused as
+    /// `NothingToSend`. Else `NoMemory` is returned where it is out of memory. A refusal changes
+    /// nothing.
     #[tactic(auto, using(crate::proofs::QuietLemmas::server_send_quiet))]
     pub fn send(&mut self, id: u32) -> Result<(), SessionFault>
         ensures failed { (why : _) → self.old.fault ≡ Some why
@@ -134,7 +145,8 @@ impl<'a> ServerEnd<'a> {
         done(id, put(&mut self.calls, &mut self.outgoing, id, planned))
     }
 
-    /// What the call of an id came to; `None` where nothing stands there. It takes no memory.
+    /// What the call of an id came to; `None` where nothing is stored for the id. It takes no
+    /// memory.
     pub fn outcome(&self, id: u32) -> Option<Outcome<&Reply>>
         ensures { option_map copied result ≡ option_map table.outcome
             (entry_of (finite.get self.now.calls.table id)) }
@@ -145,7 +157,8 @@ impl<'a> ServerEnd<'a> {
         }
     }
 
-    // A Reply befalls its call, in so many pieces, and does this to the messages of the call.
+    // The call is answered by a Reply in so many pieces; the plan says what becomes of its
+    // messages.
     #[tactic(auto, using(crate::proofs::QuietLemmas::answer_quiet, crate::proofs::LocalLemmas::wanted_puts))]
     #[inline(always)]
     fn put_reply(&mut self, reply: Reply, pieces: u32, plan: Plan) -> Result<(), SessionFault>
@@ -169,7 +182,8 @@ impl<'a> ServerEnd<'a> {
         done(id, put(&mut self.calls, &mut self.outgoing, id, planned))
     }
 
-    // The Request that waits for a Reply, where one does; none inside where it couldn't be decoded.
+    // The Request of an id that waits for a Reply, where one does: `Some(None)` is one that
+    // couldn't be decoded.
     #[inline(always)]
     fn question(&self, id: u32) -> Option<Option<&Request>>
         ensures { option_map option_copied result
@@ -204,14 +218,14 @@ impl<'a> ServerEnd<'a> {
         sent(alloc, limits, version, Kind::Reply, form, reply.id, encoded)
     }
 
-    // The version of the LocateRequest that waits for this LocateReply, where one does.
+    // The version of the LocateRequest of an id that waits for this LocateReply, where one does.
     fn locate_version(&self, id: u32, here: bool) -> Option<Version>
         ensures { result ≡ locate_of here (entry_of (finite.get self.now.calls.table id)) }
     {
         locate_in(here, &self.calls.slot(id)?.entry)
     }
 
-    // The LocateReply to a LocateRequest. `None` where memory is wanting.
+    // The LocateReply to a LocateRequest. `None` where it is out of memory.
     #[tactic(auto, using(crate::proofs::LocatedLemmas::located_short))]
     fn located(&self, version: Version, order: Order, id: u32, here: bool) -> Option<Messages>
         ensures { IfSome result (λ messages. messages ≡ located version order id here ∷ []) }
@@ -232,7 +246,8 @@ impl<'a> ServerEnd<'a> {
     }
 }
 
-// The Request that waits for a Reply, where one does.
+// The Request of an entry that waits for a Reply, where one does: `Some(None)` is one that couldn't
+// be decoded.
 fn question_in(entry: &ServerEntry) -> Option<Option<&Request>>
     ensures { option_map option_copied result ≡ question_in entry.now }
 {
@@ -243,8 +258,8 @@ fn question_in(entry: &ServerEntry) -> Option<Option<&Request>>
     }
 }
 
-// The version of the LocateRequest that waits for this LocateReply, where one does: no object of one
-// that couldn't be decoded is here.
+// The version of the LocateRequest of an entry that waits for this LocateReply, where one does. To
+// one that couldn't be decoded, the object is never here.
 fn locate_in(here: bool, entry: &ServerEntry) -> Option<Version>
     ensures { result ≡ locate_in here entry.now }
 {

@@ -1,4 +1,6 @@
-//! What a client's own program calls, asks for and cancels.
+//! What a client's own program does: it calls, asks where an object is, and cancels (CORBA 3.3 Part
+//! 2, 9.4.2, 9.4.5 and 9.4.4). Its meaning is `IsCall`, `IsLocate` and `IsCancel` in
+//! specs/ClientCalls.antt: change both.
 ghost use Rattle.std.specs.Prelude.{◌≡◌, ◌⊎◌, ◌<◌, ◌^◌, [], ◌∷◌, Some, None, Err, length, IfErr, IfOk, IfSome, option_copied};
 ghost use Rattle.std.specs.FinMap as finite;
 ghost use Rattle.std.specs.Option.{option_map};
@@ -35,10 +37,16 @@ impl<'a> ClientEnd<'a> {
     /// Calls: the Request is sent in a form (9.4.2), of which the first piece is put out now, and
     /// `send` puts out each of the others.
     ///
-    /// A failed end answers its fault. Else the first of these holds, where `NoMemory` may stand in
-    /// place of any: `IdInUse`; `UnknownOperation`, which the interface hasn't; `Unfit`, where no
-    /// octets spell the Request, they are more than the limit `gathered`, or a message of them is
-    /// larger than the limit `message`; `TooManyCalls`. A refusal changes nothing.
+    /// A failed end returns its fault. Else the first of these that holds is returned, and
+    /// `NoMemory` may stand in place of any:
+    ///
+    /// - `IdInUse`, where the id's call isn't over.
+    /// - `UnknownOperation`, where the interface hasn't the operation.
+    /// - `Unfit`, where no octets spell the Request, they are more than the limit `gathered`, or a
+    ///   message of them is larger than the limit `message`.
+    /// - `TooManyCalls`.
+    ///
+    /// A refusal changes nothing.
     #[tactic(auto, using(crate::proofs::QuietLemmas::call_quiet, crate::proofs::LocalLemmas::refused_puts))]
     pub fn call(&mut self, request: Request, form: Form) -> Result<(), SessionFault>
         requires { IsForm form }
@@ -75,11 +83,18 @@ impl<'a> ClientEnd<'a> {
         done(id, put(&mut self.calls, &mut self.outgoing, id, planned))
     }
 
-    /// Asks where an object is: the LocateRequest is sent in a form (9.4.5), of which the first piece
-    /// is put out now, and `send` puts out each of the others.
+    /// Asks where an object is: the LocateRequest is sent in a form (9.4.5), of which the first
+    /// piece is put out now, and `send` puts out each of the others.
     ///
-    /// A failed end answers its fault. Else the first of these holds, where `NoMemory` may stand in
-    /// place of any: `IdInUse`; `Unfit`, as of `call`; `TooManyCalls`. A refusal changes nothing.
+    /// A failed end returns its fault. Else the first of these that holds is returned, and
+    /// `NoMemory` may stand in place of any:
+    ///
+    /// - `IdInUse`, where the id's call isn't over.
+    /// - `Unfit`, where no octets spell the LocateRequest, they are more than the limit `gathered`,
+    ///   or a message of them is larger than the limit `message`.
+    /// - `TooManyCalls`.
+    ///
+    /// A refusal changes nothing.
     #[tactic(auto, using(crate::proofs::QuietLemmas::call_quiet, crate::proofs::LocalLemmas::refused_puts))]
     pub fn locate(&mut self, request: LocateRequest, form: Form) -> Result<(), SessionFault>
         requires { IsForm form }
@@ -119,8 +134,8 @@ impl<'a> ClientEnd<'a> {
     /// Cancels a call whose reply isn't whole: a CancelRequest is put out (9.4.4), in the call's
     /// version, and no further piece of the call is sent.
     ///
-    /// A failed end answers its fault, and an id without such a call is `NotOpen`; else `NoMemory`
-    /// where memory is wanting. A refusal changes nothing.
+    /// A failed end returns its fault. An id without such a call is refused as `NotOpen`. Else
+    /// `NoMemory` is returned where it is out of memory. A refusal changes nothing.
     #[tactic(auto, using(crate::proofs::QuietLemmas::cancel_quiet, crate::proofs::LocalLemmas::refused_puts))]
     pub fn cancel(&mut self, id: u32, order: Order) -> Result<(), SessionFault>
         ensures failed { (why : _) → self.old.fault ≡ Some why
@@ -156,8 +171,9 @@ impl<'a> ClientEnd<'a> {
 
     /// Puts out the next piece of a call.
     ///
-    /// A failed end answers its fault, and an id of which no piece is left is `NothingToSend`; else
-    /// `NoMemory` where memory is wanting. A refusal changes nothing.
+    /// A failed end returns its fault. An id of which no piece is left is refused as
+    /// `NothingToSend`. Else `NoMemory` is returned where it is out of memory. A refusal changes
+    /// nothing.
     #[tactic(auto, using(crate::proofs::QuietLemmas::client_send_quiet))]
     pub fn send(&mut self, id: u32) -> Result<(), SessionFault>
         ensures failed { (why : _) → self.old.fault ≡ Some why
@@ -181,7 +197,8 @@ impl<'a> ClientEnd<'a> {
         done(id, put(&mut self.calls, &mut self.outgoing, id, planned))
     }
 
-    /// What the call of an id came to; `None` where nothing stands there. It takes no memory.
+    /// What the call of an id came to; `None` where nothing is stored for the id. It takes no
+    /// memory.
     pub fn outcome(&self, id: u32) -> Option<Outcome<&Reply>>
         ensures { option_map copied result ≡ option_map table.outcome
             (entry_of (finite.get self.now.calls.table id)) }
@@ -260,14 +277,14 @@ impl<'a> ClientEnd<'a> {
         )
     }
 
-    // The version of the call of an id that may be cancelled.
+    // The version of an id's call, where that may be cancelled.
     fn open_version(&self, id: u32) -> Option<Version>
         ensures { result ≡ open_version (entry_of (finite.get self.now.calls.table id)) }
     {
         open_in(&self.calls.slot(id)?.entry)
     }
 
-    // Why no call of the operation begins under the id.
+    // Why no call of the operation may take the id, where something forbids it.
     fn begin_fault(&self, request: &Request) -> Option<CallFault>
         ensures { result ≡ begin_fault self.now.interface.now
             (entry_of (finite.get self.now.calls.table request.now.head.id)) request.now }
@@ -285,7 +302,7 @@ impl<'a> ClientEnd<'a> {
         }
     }
 
-    // Whether a call may begin under the id.
+    // Whether a call may take the id.
     fn is_free(&self, id: u32) -> bool
         ensures { result ≡ table.is_free (entry_of (finite.get self.now.calls.table id)) }
     {
@@ -296,7 +313,7 @@ impl<'a> ClientEnd<'a> {
     }
 }
 
-// The CancelRequest of an id. `None` where memory is wanting.
+// The CancelRequest of an id. `None` where it is out of memory.
 fn cancel_request(alloc: Global, version: Version, order: Order, id: u32) -> Option<Messages>
     ensures { IfSome result (λ messages. messages ≡ cancel_request version order id ∷ []) }
 {
@@ -304,7 +321,7 @@ fn cancel_request(alloc: Global, version: Version, order: Order, id: u32) -> Opt
     Some(one_message(alloc, version, Kind::CancelRequest, order, payload))
 }
 
-// The version of a call that may be cancelled.
+// The version of an entry's call, where that may be cancelled: all of its reply hasn't come.
 fn open_in(entry: &ClientEntry) -> Option<Version>
     ensures { result ≡ open_in entry.now }
 {

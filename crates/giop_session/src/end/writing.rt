@@ -1,4 +1,5 @@
-//! What an end has put out is written.
+//! The outgoing octets of an end go to a writer, as many at a time as it takes. What the writer
+//! gets is `Writes` in specs/Pumping.antt.
 ghost use Rattle.std.specs.Prelude.{◌≡◌, ◌↔◌, [], IsOk};
 ghost use Rattle.giop_session.specs.Pumping.{Writes};
 
@@ -11,8 +12,9 @@ use std::io::{ErrorKind, Write};
 /// Writes what is outgoing, as many octets at a time as the writer takes; where nothing is outgoing
 /// it makes no write. It takes no memory.
 ///
-/// Where a write fails, or takes no octets (`WriteZero`), that is the answer, an interrupted write
-/// among them; the octets that were written are outgoing no longer, and the rest still is.
+/// Where a write fails, or takes no octets (`WriteZero`), that error is returned; an interrupted
+/// write is such an error too. The octets that were written are outgoing no longer, and the rest
+/// still is.
 pub fn write_out<R: Hearing, W: Write>(end: &mut End<'_, R>, writer: &mut W) -> io::Result<()>
     ensures writes { Writes (W.contents writer.old) (W.contents writer.new) end.old.outgoing
         end.new.outgoing }

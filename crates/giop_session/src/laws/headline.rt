@@ -1,5 +1,5 @@
-// The headline: what a run of an end leaves is told by what was said of each call. Each function's
-// contract is a law; the bodies are empty, and no program calls these.
+//! The headline (docs/HEADLINE.md): what a run of an end leaves of each call is what was said of
+//! that call. Each function's contract is a law; the bodies are empty, and no program calls these.
 ghost use Rattle.std.specs.Prelude.{◌≡◌, ℕ, false, List, map, None, Some};
 ghost use Rattle.std.specs.FinMap as finite;
 ghost use Rattle.giop_cdr.specs.declared.order.Order.{Order};
@@ -29,8 +29,9 @@ ghost use Rattle.giop_session.specs.ServerCarries.{ServerItem, server_telling};
 
 use crate::Hearing;
 
-/// Of messages that an end hears and what it does itself, of which none is refused, each call
-/// follows its own, one after another, and is refused none; whatever lies between them.
+/// Where an end hears messages and acts itself, and none of this is refused, each call follows its
+/// own messages and acts, one after another, and none of them is refused. What lies between them
+/// makes no difference.
 pub fn each_call_of_a_run<R: Hearing>(rule: &R)
     ensures { (interface : Interface) (h k : Held R R.Entry) (events : List (Event R.Event))
         → Meets R.next R.closed R.gathering R.in_call R.breaks (R.befalls interface) h events k
@@ -38,9 +39,10 @@ pub fn each_call_of_a_run<R: Hearing>(rule: &R)
         (R.befalls interface) (at h id) (own_events id events) (at k id) }
 {}
 
-/// Of inputs to a server's end, octets in reads of any size and its own acts, of which none is
-/// refused: where they hold these items for each id, of messages in however many Fragments and in
-/// whatever byte order, interleaved in any way, the entry of each id is what its items alone leave.
+/// A server's end takes inputs, octets in reads of any size and its own acts, and refuses none of
+/// them. Where they hold these items for each id, the entry of each id is what its items alone
+/// leave. It makes no difference in how many Fragments and in which byte order a message comes, or
+/// how the messages are interleaved.
 ///
 /// So two runs that hold, for each id, the same calls in the same order end in the same entries,
 /// whatever their limits.
@@ -59,8 +61,14 @@ pub fn same_calls_same_entries_at_server()
         → (id : ℕ) → entry_of (finite.get k.table id) ≡ entry_of (finite.get k'.table id) }
 {}
 
-/// The same of a client's end, where a Reply counts by the value that it spells to the latest call
-/// of its id.
+/// A client's end takes inputs, octets in reads of any size and its own acts, and refuses none of
+/// them. Where they hold these items for each id, the entry of each id is what its items alone
+/// leave. A Reply counts by the value that it spells to the latest call of its id. It makes no
+/// difference in how many Fragments and in which byte order a message comes, or how the messages
+/// are interleaved.
+///
+/// So two runs that hold, for each id, the same items in the same order end in the same entries,
+/// whatever their limits.
 pub fn same_calls_same_entries_at_client()
     ensures value { (interface : Interface) (limits : Limits) (inputs : _) (left : _) (k : _)
         (calls : ℕ → List ClientItem)
@@ -76,9 +84,9 @@ pub fn same_calls_same_entries_at_client()
         → (id : ℕ) → entry_of (finite.get k.table id) ≡ entry_of (finite.get k'.table id) }
 {}
 
-/// Whatever message is cut into pieces of any size, in either byte order, is one item: its pieces
-/// are a series whose joined octets are those that were cut. So a message of any of the four
-/// kinds that is written and cut is carried as the value that it is.
+/// A message that is cut into pieces of any size, in either byte order, is one item: its pieces are
+/// a series whose joined octets are those that were cut. So a Request, LocateRequest, Reply or
+/// LocateReply that is written and cut is carried as the value that it is.
 pub fn what_is_cut_is_carried()
     ensures series { (version : Version) (kind : Kind) (order : Order) (octets : List ℕ)
         (piece : ℕ) (messages : List Msg)

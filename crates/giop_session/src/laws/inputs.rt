@@ -1,4 +1,7 @@
-//! What an end is given, and what it answers; and what happens in a world of two ends.
+//! The inputs that `run_server` and `run_client` give an end, what it answers to each, and the
+//! events of a world of two ends (`run_world`). What an input does is `ServerIsGiven` in
+//! specs/ServerRuns.antt, `ClientIsGiven` in specs/ClientRuns.antt and `Happens` in
+//! specs/World.antt.
 ghost use Rattle.std.specs.Prelude.{◌≡◌, ◌↔◌, IfSome, IsSome};
 ghost use Rattle.giop_session.specs.Form.{IsForm};
 
@@ -49,9 +52,9 @@ pub enum ServerInput {
         /// The byte order of the LocateReply.
         order: Order,
     },
-    /// The next piece of the Reply under this id is put out.
+    /// The next piece of this id's Reply is put out.
     Send(u32),
-    /// The entry under this id is taken out.
+    /// The entry of this id is taken out, where its call is over.
     Take(u32),
     /// The connection is closed.
     Close,
@@ -69,7 +72,7 @@ pub enum ClientInput {
         /// How it is sent.
         form: CheckedForm,
     },
-    /// It is asked where an object is.
+    /// A LocateRequest asks where an object is.
     Locate {
         /// The LocateRequest, with its id.
         request: LocateRequest,
@@ -83,9 +86,9 @@ pub enum ClientInput {
         /// The byte order of the CancelRequest.
         order: Order,
     },
-    /// The next piece of the call under this id is put out.
+    /// The next piece of this id's call is put out.
     Send(u32),
-    /// The entry under this id is taken out.
+    /// The entry of this id is taken out, where its call is over.
     Take(u32),
     /// The connection is closed.
     Close,
@@ -96,9 +99,9 @@ pub enum ClientInput {
 pub enum Answered<E> {
     /// It was done.
     Done,
-    /// It was taken out: the entry, where one stood there.
+    /// The entry was taken out, and is this; `None` where there was none.
     Taken(Option<E>),
-    /// It was refused, for this.
+    /// It was refused, for this reason.
     Refused(SessionFault),
 }
 
@@ -126,7 +129,7 @@ pub enum WorldEvent {
         /// The byte order of the CancelRequest.
         order: Order,
     },
-    /// The client puts out the next piece of the call under this id.
+    /// The client puts out the next piece of this id's call.
     SendClient(u32),
     /// The server answers a Request.
     Answer {
@@ -144,7 +147,7 @@ pub enum WorldEvent {
         /// The byte order of the LocateReply.
         order: Order,
     },
-    /// The server puts out the next piece of the Reply under this id.
+    /// The server puts out the next piece of this id's Reply.
     SendServer(u32),
     /// Up to so many octets arrive at the server's end: the first that are on their way.
     ToServer(usize),

@@ -1,5 +1,5 @@
-// As many messages are still to be sent as an entry says. Each function's contract is a law; the
-// bodies are empty, and no program calls these.
+//! As many messages are still to be sent as an entry says (CORBA 3.3 Part 2, 9.4.9). Each
+//! function's contract is a law; the bodies are empty, and no program calls these.
 ghost use Rattle.std.specs.Prelude.{◌≡◌, ℕ, List, Some};
 ghost use Rattle.std.specs.FinMap as finite;
 ghost use Rattle.giop_types.specs.declared.json.interface.Interface.{Interface};
@@ -22,10 +22,10 @@ ghost use Rattle.giop_session.specs.LeftToSend.{ArePlanned, ClientPlans, IsLeft,
 ghost use Rattle.giop_session.specs.ServerAnswers.{IsAnswer, IsLocateAnswer};
 ghost use Rattle.giop_session.specs.ServerHears.{server_befalls, server_breaks};
 
-/// Of messages that a server's end hears and what it does itself, of which none is refused, where a
-/// Reply is planned in as many messages as its event says, a LocateReply in one, and a further piece
-/// as the next: of each call as many messages are still to be sent as its entry says to be left. So
-/// `send` has one wherever it is accepted. `ServerEnd::answer`, `answer_locate` and `send` plan so.
+/// A server's end hears messages and acts itself, and none of this is refused. It plans a Reply in
+/// as many messages as its event says, a LocateReply in one, and a further piece as the next one:
+/// `ServerEnd::answer`, `answer_locate` and `send` do. Then as many messages of each call are still
+/// to be sent as its entry says to be left. So `send` has one wherever it is accepted.
 pub fn what_is_left_is_unsent_at_server()
     ensures answered { (interface : Interface) (question : _) (answer : _) (form : _) (planned : _)
         → IsAnswer interface (Some question) answer form planned
@@ -41,9 +41,11 @@ pub fn what_is_left_is_unsent_at_server()
         → IsLeft server.left_of (finite.get k.table id) }
 {}
 
-/// The same of a client's end, where a call is planned in as many messages as its event says, a
-/// CancelRequest in one, in place of those that were left, and a further piece as the next.
-/// `ClientEnd::call`, `locate`, `cancel` and `send` plan so.
+/// A client's end hears messages and acts itself, and none of this is refused. It plans a call in
+/// as many messages as its event says, a CancelRequest in one, in place of those that were left,
+/// and a further piece as the next one: `ClientEnd::call`, `locate`, `cancel` and `send` do. Then
+/// as many messages of each call are still to be sent as its entry says to be left. So `send` has
+/// one wherever it is accepted.
 pub fn what_is_left_is_unsent_at_client()
     ensures called { (interface : Interface) (asked : _) (form : _) (planned : _)
         → IsCall interface asked form planned → ClientPlans planned.event planned.plan }

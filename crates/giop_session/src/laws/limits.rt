@@ -1,5 +1,5 @@
-// Limits in any order: events that are within the limits of an end meet none. Each function's
-// contract is a law; the bodies are empty, and no program calls these.
+//! Limits in any order: events that are within the limits of an end meet none. Each function's
+//! contract is a law; the bodies are empty, and no program calls these.
 ghost use Rattle.std.specs.Prelude.{◌≢◌, ◌≤◌, List, length, sum_by};
 ghost use Rattle.giop_types.specs.declared.json.interface.Interface.{Interface};
 ghost use Rattle.giop_calls.specs.ClientTable as client;
@@ -21,12 +21,13 @@ ghost use Rattle.giop_session.specs.Heard.{in_call};
 ghost use Rattle.giop_session.specs.Limits.{AreWithinAtClient, AreWithinAtServer, IsNext, payload_of, Refuses};
 ghost use Rattle.giop_session.specs.ServerHears.{server_befalls, server_breaks};
 
-/// Where the distinct ids of a server's Requests and LocateRequests are at most as many as its
-/// limit `calls`, and the octets of all pieces of fragmented messages at most its limit `gathered`,
-/// no order of its events meets a limit: whichever of them came, and whichever is next, that is
-/// never refused as TooManyCalls or GatherFull.
+/// Let a server's Requests and LocateRequests have at most as many distinct ids as its limit
+/// `calls`, and all pieces of fragmented messages at most as many octets as its limit `gathered`.
+/// Then no order of its events meets a limit: whichever of them came, the next one is never refused
+/// as TooManyCalls or GatherFull.
 ///
-/// So it is of at most `calls` events, whose messages have at most `gathered` octets in all.
+/// This holds of any events, at most `calls` of them, whose messages have at most `gathered` octets
+/// in all.
 pub fn limits_in_any_order_at_server()
     ensures order { (interface : Interface) (limits : Limits) (all came : List (Event ServerEvent))
         (e : Event ServerEvent) (h : Held ServerRule ServerEntry) (why : SessionFault)
@@ -41,7 +42,13 @@ pub fn limits_in_any_order_at_server()
         → AreWithinAtServer limits all }
 {}
 
-/// The same of a client's end, where the ids are those that it calls or locates under itself.
+/// Let the calls and locates of a client's own program have at most as many distinct ids as its
+/// limit `calls`, and all pieces of fragmented messages at most as many octets as its limit
+/// `gathered`. Then no order of its events meets a limit: whichever of them came, the next one is
+/// never refused as TooManyCalls or GatherFull.
+///
+/// This holds of any events, at most `calls` of them, whose messages have at most `gathered` octets
+/// in all.
 pub fn limits_in_any_order_at_client()
     ensures order { (interface : Interface) (limits : Limits) (all came : List (Event ClientEvent))
         (e : Event ClientEvent) (h : Held ClientRule ClientEntry) (why : SessionFault)

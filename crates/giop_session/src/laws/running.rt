@@ -1,4 +1,6 @@
-//! An end is made and given a list of inputs: the headline, of functions that run.
+//! An end is made and given a list of inputs: `run_server` and `run_client`, whose contracts are
+//! the headline (docs/HEADLINE.md) of functions that run. What an input does to an end is
+//! specs/ServerRuns.antt and specs/ClientRuns.antt.
 ghost use Rattle.std.specs.Prelude.{◌≡◌, ◌≢◌, ◌≤◌, ◌^◌, ◌↔◌, None, Err, IfOk, IsErr};
 ghost use Rattle.std.specs.FinMap as finite;
 ghost use Rattle.giop_session.specs.declared.laws.inputs.Answered.TheVariants.{Refused};
@@ -22,20 +24,21 @@ use giop_types::Interface;
 use std::alloc::{AllocError, Global};
 
 /// Makes a server's end and gives it these inputs, one after another: the answers are one for each,
-/// in their order. A run goes on behind a refusal, also one that fails the end, which then refuses
-/// all that is left.
+/// in their order. A run continues after a refusal, also after one that fails the end, which then
+/// refuses all that is left.
 ///
-/// Where the end refuses nothing, and isn't closed, each id's entry is what was said of that one
-/// call, in whatever messages, Fragments, byte orders and reads it came, and whatever lay between.
+/// Where the end refuses nothing, and isn't closed, each id's entry and answers are those of what
+/// was said of that one call. It makes no difference in which messages, Fragments, byte orders and
+/// reads this came, and what lay between.
 ///
-/// Where the distinct ids of the Requests and LocateRequests that are fed are at most as many as the
-/// limit `calls`, and the octets of all pieces of fragmented messages at most the limit `gathered`,
-/// no input is refused as TooManyCalls or GatherFull, in whatever order all of it comes.
+/// Let the Requests and LocateRequests that are fed have at most as many distinct ids as the limit
+/// `calls`, and all pieces of fragmented messages at most as many octets as the limit `gathered`.
+/// Then no input is refused as TooManyCalls or GatherFull, in whatever order all of it comes.
 ///
 /// What is outgoing at the end of a run is whole messages, each of a kind that a server sends.
 ///
-/// `alloc` gives the memory of the end and of the answers; where any is wanting nothing is given
-/// back.
+/// `alloc` gives the memory of the end and of the answers. Where it is out of memory, AllocError is
+/// returned in place of both.
 pub fn run_server<'a>(
     alloc: Global,
     interface: &'a Interface,
@@ -68,7 +71,22 @@ pub fn run_server<'a>(
     Ok((server, answers))
 }
 
-/// The same of a client's end, where the ids are those under which it calls and locates.
+/// Makes a client's end and gives it these inputs, one after another: the answers are one for each,
+/// in their order. A run continues after a refusal, also after one that fails the end, which then
+/// refuses all that is left.
+///
+/// Where the end refuses nothing, and isn't closed, each id's entry and answers are those of what
+/// was said of that one call. It makes no difference in which messages, Fragments, byte orders and
+/// reads this came, and what lay between.
+///
+/// Let the calls and locates among the inputs have at most as many distinct ids as the limit
+/// `calls`, and all pieces of fragmented messages at most as many octets as the limit `gathered`.
+/// Then no input is refused as TooManyCalls or GatherFull, in whatever order all of it comes.
+///
+/// What is outgoing at the end of a run is whole messages, each of a kind that a client sends.
+///
+/// `alloc` gives the memory of the end and of the answers. Where it is out of memory, AllocError is
+/// returned in place of both.
 pub fn run_client<'a>(
     alloc: Global,
     interface: &'a Interface,
@@ -101,7 +119,7 @@ pub fn run_client<'a>(
     Ok((client, answers))
 }
 
-// What is given inputs and answers them.
+// What takes inputs and answers each: an end, or a world of two ends.
 pub(super) trait Driven {
     ghost use Rattle.std.specs.Prelude.{IfOk};
 
@@ -111,7 +129,7 @@ pub(super) trait Driven {
 
     ghost is_given: { Self → Self.Input → Self.Answer → Self → Type 0 };
 
-    // Takes an input, and answers it. AllocError where memory is wanting.
+    // Takes an input, and answers it. AllocError where it is out of memory.
     fn take_input(&mut self, input: Self::Input) -> Result<Self::Answer, AllocError>
         ensures { IfOk result (λ answered. is_given self.old input answered self.new) };
 }
@@ -197,7 +215,7 @@ pub(super) fn take_all<D: Driven>(
     Ok(answers)
 }
 
-// Octets are fed.
+// Octets are fed to an end, which answers this.
 pub(super) fn feed_to<R: Hearing>(
     end: &mut End<'_, R>,
     octets: &[u8],
@@ -216,7 +234,7 @@ pub(super) fn feed_to<R: Hearing>(
     answered(end.feed(octets))
 }
 
-// An entry is taken out.
+// An entry is taken out of an end, where its call is over, and is the answer.
 fn take_from<R: Hearing>(end: &mut End<'_, R>, id: u32) -> Result<Answered<R::Entry>, AllocError>
     ensures given { IfOk result (λ answered. IsGiven R.next R.closed R.gathering R.in_call R.breaks
         (R.befalls end.old.interface.now) (TakesOut id)
@@ -236,7 +254,7 @@ fn take_from<R: Hearing>(end: &mut End<'_, R>, id: u32) -> Result<Answered<R::En
     }
 }
 
-// An end is closed.
+// An end is closed, and answers this.
 fn close_end<R: Hearing>(end: &mut End<'_, R>) -> Result<Answered<R::Entry>, AllocError>
     ensures given { IfOk result (λ answered. IsGiven R.next R.closed R.gathering R.in_call R.breaks
         (R.befalls end.old.interface.now) Closes
@@ -252,7 +270,7 @@ fn close_end<R: Hearing>(end: &mut End<'_, R>) -> Result<Answered<R::Entry>, All
     answered(end.close())
 }
 
-// What is answered to an input, by what the call for it answered. AllocError where that had no
+// What is answered to an input, by what the call for it returned. AllocError where that was out of
 // memory.
 fn answered<E>(told: Result<(), SessionFault>) -> Result<Answered<E>, AllocError>
     ensures value { IfOk result (λ answered. (answered ≡ answer_of told)

@@ -1,4 +1,6 @@
-//! A client's end and a server's end that hear one another, and what happens between them.
+//! A client's end and a server's end that hear one another, and what happens between them
+//! (`run_world`). Its meaning is `WorldRuns`, `GoesBy` and `AreJoined` in specs/World.antt: change
+//! both.
 ghost use Rattle.std.specs.Prelude.{◌≡◌, ◌≤◌, ◌^◌, IfOk, length, take, drop};
 ghost use Rattle.giop_types.specs.declared.json.interface.Interface.{Interface};
 ghost use Rattle.giop_session.specs.World.{AreJoined, ArriveAtClient, ArriveAtServer, AtClient, AtServer};
@@ -23,16 +25,16 @@ pub struct World<'a> {
     pub server: ServerEnd<'a>,
 }
 
-/// Makes both ends, and lets these events happen, one after another: for each it is told whether
-/// the end did it, or why it refused. A world goes on behind a refusal, also one that fails an end,
-/// which then refuses all that is left; what arrives at it is lost.
+/// Makes both ends, and lets these events happen, one after another. What is returned for each is
+/// whether the end did it, or why it refused. A world continues after a refusal, also after one
+/// that fails an end, which then refuses all that is left; what arrives at it is lost.
 ///
 /// Each end of a world is what `run_client` or `run_server` makes of some inputs, so all that these
-/// say of an end holds of it; and what the one put out is what the other was fed, octet for octet,
-/// and behind it what is still on its way: whole messages, of kinds that its side sends.
+/// say of an end holds of it. What the one put out is what the other was fed, octet for octet, and
+/// behind it what is still on its way: whole messages, of kinds that its side sends.
 ///
-/// `alloc` gives the memory of the ends and of what is told; where any is wanting nothing is given
-/// back.
+/// `alloc` gives the memory of the ends and of what is returned for the events. Where it is out of
+/// memory, AllocError is returned in place of both.
 pub fn run_world<'a>(
     alloc: Global,
     interface: &'a Interface,
@@ -94,7 +96,7 @@ impl<'a> Driven for World<'a> {
     }
 }
 
-// The client's end is given something.
+// The client's program does something at its end.
 fn at_client(
     world: &mut World<'_>,
     given: ClientInput,
@@ -108,7 +110,7 @@ fn at_client(
     Ok(told_of(world.client.take_input(given)?))
 }
 
-// The server's end is given something.
+// The server's program does something at its end.
 fn at_server(
     world: &mut World<'_>,
     given: ServerInput,
@@ -122,7 +124,7 @@ fn at_server(
     Ok(told_of(world.server.take_input(given)?))
 }
 
-// Octets arrive at the server's end.
+// Up to so many octets that the client put out arrive at the server's end.
 fn to_server(world: &mut World<'_>, n: usize) -> Result<Result<(), SessionFault>, AllocError>
     ensures { IfOk result (λ told. (interface : Interface) (client_limits server_limits : _)
         → GoesBy interface client_limits server_limits world.old
@@ -137,7 +139,7 @@ fn to_server(world: &mut World<'_>, n: usize) -> Result<Result<(), SessionFault>
     Ok(told_of(answered))
 }
 
-// Octets arrive at the client's end.
+// Up to so many octets that the server put out arrive at the client's end.
 fn to_client(world: &mut World<'_>, n: usize) -> Result<Result<(), SessionFault>, AllocError>
     ensures { IfOk result (λ told. (interface : Interface) (client_limits server_limits : _)
         → GoesBy interface client_limits server_limits world.old

@@ -1,4 +1,5 @@
-//! What `serve` answers to what stands under an id.
+//! What `serve` answers to what is stored for an id. Its meaning is `due_to` and `reply_of` in
+//! specs/Answering.antt: change both.
 ghost use Rattle.std.specs.Prelude.{◌≡◌, IfOk};
 ghost use Rattle.serde_json.specs.View.{view};
 ghost use Rattle.giopctl.specs.Answering.{answer_to, due_to, due_to_undecoded, fault_answer, given_body, given_to, is_object, not_done, reply_of, result_for};
@@ -29,7 +30,7 @@ pub enum Answer {
     Addressing,
 }
 
-/// What is due to what stands under an id.
+/// What is due to what is stored for an id.
 #[derive(Clone, Copy, Debug, PartialEq, Eq)]
 pub enum Due {
     /// Nothing is.
@@ -48,7 +49,7 @@ pub enum Due {
     },
 }
 
-/// What is due to what stands under an id, where the object of a key is served.
+/// What is due to what is stored for an id, where the object of a key is served.
 pub fn due_to(key: &[u8], entry: &ServerEntry) -> Due
     ensures { result ≡ due_to key.now entry.now }
 {
@@ -118,7 +119,7 @@ fn fault_answer(fault: RequestFault) -> Answer
     }
 }
 
-/// The Reply to what stands under an id, of an interface and its answers.
+/// The Reply to what is stored for an id, by an interface and its answers.
 pub fn reply_to(
     alloc: Global,
     interface: &Interface,
@@ -172,7 +173,7 @@ fn result_for(alloc: Global, quiet: bool, body: ReplyBody) -> ReplyBody
     }
 }
 
-// What is given for the operation of a Request; a result without values where nothing is.
+// What is given for the operation of a Request; a result without values where nothing is given.
 fn given(
     alloc: Global,
     interface: &Interface,

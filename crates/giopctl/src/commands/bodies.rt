@@ -1,4 +1,5 @@
-//! What the bodies of messages hold, as the text of a table's lines.
+//! What the bodies of messages hold, as the text of a table's lines. The texts are
+//! specs/Bodies.antt: change both.
 ghost use Rattle.std.specs.Prelude.{◌≡◌, ◌≤◌, map, IfOk};
 ghost use Rattle.std.specs.String.{string_bytes};
 ghost use Rattle.serde_json.specs.View.{view};
@@ -53,7 +54,7 @@ fn values_json(
     Ok(Json::Array(list))
 }
 
-// A value by its description; null where it is none of it.
+// A value by its description; null where it is no value of that.
 fn value_json(alloc: Global, desc: &CheckedDesc, value: &Value) -> Result<Json, AllocError>
     ensures { IfOk result (λ json. view json
         ≡ value_data (checked_shape desc.now) (value_view value.now)) }

@@ -1,4 +1,5 @@
-//! `call`: a client's end between a reader and a writer.
+//! `call`: a client's end between a reader and a writer. Its meaning is specs/Calling.antt, and
+//! specs/Sessions.antt for what is printed: change both.
 ghost use Rattle.std.specs.Prelude.{◌≡◌, [], ◌∷◌, IfOk, None, OnOk, option_copied};
 ghost use Rattle.std.specs.FinMap as finite;
 ghost use Rattle.std.specs.Io.KnownBytes.{Appends};
@@ -29,18 +30,18 @@ use std::alloc::{AllocError, Global};
 use std::io::{Read, Write};
 
 /// Calls operations of the object of a key, in a version and a form, by a new client's end with the
-/// default limits: the first pieces of all calls are put out, then one piece of each in turn, and
-/// what is put out is written and replies are read until all calls are over or the input ends.
-/// Nothing is read where no call has a reply. Then the table is written to `out`, a line for each
-/// call, and the fault that ended the session, where one did.
+/// default limits. The first pieces of all calls are put out, then one piece of each in turn. What
+/// is put out is written, and replies are read until all calls are over or the input ends. Nothing
+/// is read where no call has a reply. Then the table is written to `out`, a line for each call, and
+/// the fault that ended the session, where one did.
 ///
-/// A call that is refused at this end, as one under an id that is in use, ends the session: nothing
-/// is written to the peer, and the fault is that of the call. A peer that breaks the protocol is told
-/// so by a MessageError.
+/// A call that is refused at this end, such as one whose id is in use, ends the session: nothing is
+/// written to the peer, and the fault is that of the call. A peer that breaks the protocol is sent
+/// a MessageError.
 ///
 /// It is `Done` where no call was refused and each got its result, or was sent and has none; else
-/// `Refused`. Where reading or writing fails, or 65,536 turns are taken, it is `InputOutput`, and
-/// where memory is wanting `Memory`; then a part of the text is written, or none.
+/// `Refused`. Where reading or writing fails, or 65,536 turns are taken, it is `InputOutput`. Where
+/// it is out of memory, it is `Memory`. After either, a part of the text may be written.
 pub fn call_session<R: Read, W: Write, O: Write>(
     alloc: Global,
     interface: &Interface,
@@ -78,7 +79,8 @@ pub fn call_session<R: Read, W: Write, O: Write>(
     }
 }
 
-/// The same by an end with limits of its own, with what failed where something did.
+/// Does what `call_session` does, with the limits of `calling`. Where something fails, what failed
+/// is returned in place of a status.
 pub fn call_over<R: Read, W: Write, O: Write>(
     alloc: Global,
     calling: Calling<'_>,
@@ -99,7 +101,7 @@ pub fn call_over<R: Read, W: Write, O: Write>(
     tell(alloc, calling.interface, &end, refused, out)
 }
 
-// Writes what is told of the calls.
+// Writes the table of the calls and the fault of the session, and returns the status.
 fn tell<O: Write>(
     alloc: Global,
     interface: &Interface,
@@ -117,8 +119,8 @@ fn tell<O: Write>(
     call_status(alloc, refused, end)
 }
 
-// Puts out the first piece of each call, then the others in turn. The answer is the fault of a
-// refused call, at which it stops.
+// Puts out the first piece of each call, then the others in turn. Returns the fault of a refused
+// call, at which it stops.
 fn call_all(
     alloc: Global,
     end: &mut ClientEnd<'_>,
@@ -149,7 +151,7 @@ fn call_all(
     send_all(alloc, end)
 }
 
-// Puts out the first piece of each call.
+// Puts out the first piece of each call. Returns the fault of a refused one, at which it stops.
 fn call_each(
     alloc: Global,
     end: &mut ClientEnd<'_>,
@@ -182,7 +184,7 @@ fn call_each(
     Ok(None)
 }
 
-// Puts out the first piece of a call.
+// Puts out the first piece of a call. Returns its fault where it is refused.
 fn call_one(
     alloc: Global,
     end: &mut ClientEnd<'_>,
@@ -259,7 +261,7 @@ fn talk<R: Read, W: Write>(
     }
 }
 
-// Takes turns until all calls are over, the input ends or a fault stands; none where all calls are
+// Takes turns until all calls are over, the input ends or the end fails; none where all calls are
 // over at first.
 fn converse<R: Read, W: Write>(
     alloc: Global,
@@ -286,7 +288,7 @@ fn converse<R: Read, W: Write>(
     wait(end, ids.as_slice(), reader, writer)
 }
 
-// Takes turns until the calls of all these ids are over, the input ends or a fault stands.
+// Takes turns until the calls of all these ids are over, the input ends or the end fails.
 fn wait<R: Read, W: Write>(
     end: &mut ClientEnd<'_>,
     ids: &[u32],
@@ -331,7 +333,7 @@ fn is_over_at(end: &ClientEnd<'_>, id: u32) -> bool
     is_over(end.entry(id))
 }
 
-// Whether what stands under an id, if anything does, is over.
+// Whether the call of an entry is over; it is where there is no entry.
 fn is_over(entry: Option<&ClientEntry>) -> bool
     ensures { result ≡ is_over (option_copied entry.entry) }
 {
@@ -389,7 +391,8 @@ fn is_well_at(end: &ClientEnd<'_>, id: u32) -> bool
     is_well(end.entry(id))
 }
 
-// Whether what stands under an id, if anything does, went well.
+// Whether the call of an entry went well: it got a result, or is sent and expects no reply. It did
+// where there is no entry.
 fn is_well(entry: Option<&ClientEntry>) -> bool
     ensures { result ≡ is_well (option_copied entry.entry) }
 {

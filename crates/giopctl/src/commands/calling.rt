@@ -1,4 +1,4 @@
-//! What `call` is told beside its calls.
+//! What `call` takes beside its calls.
 ghost use Rattle.giop_session.specs.Form.{IsForm};
 ghost use Rattle.giopctl.specs.Check.{AreLimits};
 

@@ -1,4 +1,4 @@
-//! `check`: a server's end that hears a file.
+//! `check`: a server's end that hears a file. Its meaning is specs/Check.antt: change both.
 ghost use Rattle.std.specs.Prelude.{◌≡◌, ◌≢◌, [], IfOk, OnOk, Some, None, length};
 ghost use Rattle.std.specs.Io.KnownBytes.{Appends, IsAtEnd};
 ghost use Rattle.giop_session.specs.declared.session_fault.SessionFault.TheVariants.{NoMemory};
@@ -25,8 +25,8 @@ use std::io::{ErrorKind, Read, Write};
 /// octets are left, and where the one fault is that the client closed the connection; else
 /// `Refused`.
 ///
-/// Where writing fails the answer is `InputOutput`, and where memory is wanting `Memory`; then a
-/// part of the text is written.
+/// Where writing fails, it is `InputOutput`. Where it is out of memory, it is `Memory`. After
+/// either, a part of the text may be written.
 pub fn check_octets<W: Write>(
     alloc: Global,
     interface: &Interface,
@@ -50,8 +50,9 @@ pub fn check_octets<W: Write>(
     }
 }
 
-/// The same for the octets that a reader gives, by an end with these limits; with what failed where
-/// something did. No more octets are held than a message, a piece, and the calls. Nothing is written before all is heard.
+/// Does what `check_octets` does, for the octets that a reader gives and an end with these limits.
+/// Where something fails, what failed is returned in place of a status. No more octets are held
+/// than a message, a piece, and the calls. Nothing is written before all is heard.
 pub fn check_stream<R: Read, W: Write>(
     alloc: Global,
     interface: &Interface,
@@ -118,7 +119,8 @@ fn write_last<S: Hearing, W: Write>(end: &End<'_, S>, writer: &mut W) -> Result<
     }
 }
 
-// That the client closed the connection is no fault of the session.
+// The last line of a session that a fault ended. That the client closed the connection is no
+// refusal.
 fn write_fault<W: Write>(fault: SessionFault, writer: &mut W) -> Result<Status, Failure>
     ensures text { OnOk result (Appends (W.contents writer.old) (W.contents writer.new)
         (ended (session_fault_line fault))) }

@@ -1,4 +1,5 @@
-//! `check` by the text of an interface.
+//! `check` by the text of an interface. Its meaning is `ChecksText` in specs/Check.antt: change
+//! both.
 ghost use Rattle.std.specs.Prelude.{◌≡◌, IfOk, OnOk};
 ghost use Rattle.std.specs.Io.KnownBytes.{IsAtEnd};
 ghost use Rattle.giopctl.specs.Check.{AreLimits, ChecksText};
@@ -15,9 +16,10 @@ use giop_types::Interface;
 use std::alloc::Global;
 use std::io::{Read, Write};
 
-/// Checks the octets that a reader gives by an interface in JSON: as `check_stream` says. Where the
-/// text is no interface, its fault is told, whatever the reader gives; `Refused`. A reading that
-/// fails comes before that: to the end where the input is read behind a fault, else at once.
+/// Checks the octets that a reader gives by an interface in JSON, as `check_stream` says. Where the
+/// text is no interface, the line of its fault is written, whatever the reader gives; `Refused`. A
+/// read that fails is reported before that: any read to the end, where the input is read behind a
+/// fault; else the first read.
 pub fn check_text<R: Read, W: Write>(
     alloc: Global,
     interface: &[u8],

@@ -1,4 +1,4 @@
-//! The lines of a client's table.
+//! The lines of a client's table. Their text is specs/Table.antt and specs/TableLines.antt.
 ghost use Rattle.std.specs.Prelude.{◌≡◌, map, IfOk};
 ghost use Rattle.std.specs.String.{string_bytes};
 ghost use Rattle.giop_types.specs.Values.Views.{value_view};
@@ -36,7 +36,7 @@ impl Tabled for ClientRule {
     }
 }
 
-// What the Reply brought that stands there, as text; else nothing.
+// What the Reply of an entry brought, as text; empty where the entry has none.
 fn brought_text(
     alloc: Global,
     interface: &Interface,

@@ -1,4 +1,4 @@
-//! What the kinds of `convert` have in common.
+//! What the kinds of `convert` have in common: the text of a file, a line, and a refusal.
 ghost use Rattle.std.specs.Prelude.{◌≡◌, ◌++◌, ◌∷◌, [], IfOk, OnOk};
 ghost use Rattle.std.specs.Io.KnownBytes.{Appends};
 ghost use Rattle.giopctl.specs.Convert.{unended, Tells};

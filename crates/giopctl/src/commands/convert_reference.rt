@@ -1,4 +1,5 @@
-//! `convert ior` and `convert corbaloc`.
+//! `convert ior` and `convert corbaloc` (CORBA 3.3 Part 2, 7.6.9 and 7.6.10.1). What they print is
+//! `ConvertsIor` and `ConvertsCorbaloc` in specs/Convert.antt: change both.
 ghost use Rattle.std.specs.Prelude.{◌≡◌, ◌≢◌, true, IfErr, IfOk, OnOk, option_map};
 ghost use Rattle.std.specs.Io.KnownBytes.{Appends};
 ghost use Rattle.giop_ior.specs.Ior.{ior_layout};
@@ -19,9 +20,9 @@ use giop_ior::{
 use std::alloc::{AllocError, Global};
 use std::io::Write;
 
-/// Writes what the text of a reference says (CORBA 3.3 Part 2, 7.6.9), of which these are a file's
-/// octets: its type id, a line for each profile, and the text again; `Done`. Where the text is
-/// none, the line of its fault; `Refused`.
+/// Writes what the text of a reference says (CORBA 3.3 Part 2, 7.6.9), which a file's octets are:
+/// its type id, a line for each profile, and the text again; `Done`. Where they are no such text,
+/// the line of its fault is written; `Refused`.
 pub fn convert_ior<W: Write>(
     alloc: Global,
     octets: &[u8],
@@ -38,7 +39,8 @@ pub fn convert_ior<W: Write>(
     }
 }
 
-/// How a refused text of a reference is told: a fault of its octets as that.
+/// The line of a refused text of a reference. A fault of its octets is reported as a fault of
+/// octets. Memory where the text was refused for being out of memory.
 pub fn ior_refusal(fault: IorTextFault) -> Result<RefusalLine, Failure>
     ensures value { IfOk result (λ line. line ≡ ior_refusal fault) }
     ensures refused { OnOk result (fault ≢ NoMemory) }
@@ -107,9 +109,9 @@ fn write_profile<W: Write>(
     Ok(())
 }
 
-/// Writes a corbaloc (7.6.10.1) again, of which these are a file's octets, and the text of its
-/// reference; `Done`. Where the text is none, the line of its fault, and where the reference is too
-/// long for its counts `fault 1 Unfit`; `Refused`.
+/// Writes a corbaloc (7.6.10.1), which a file's octets are, in full, and the text of its reference;
+/// `Done`. Where they are no corbaloc, the line of its fault is written, and where the reference is
+/// too long for its counts `fault 1 Unfit`; `Refused`.
 pub fn convert_corbaloc<W: Write>(
     alloc: Global,
     octets: &[u8],

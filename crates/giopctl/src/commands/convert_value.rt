@@ -1,4 +1,5 @@
-//! `convert encode` and `convert decode`.
+//! `convert encode` and `convert decode` (CORBA 3.3 Part 2, 9.3). What they print is
+//! `ConvertsEncode` and `ConvertsDecode` in specs/Convert.antt: change both.
 ghost use Rattle.std.specs.Prelude.{◌≡◌, ◌≢◌, ◌⊎◌, [], true, Ok, Some, IfOk, OnOk, IfErr};
 ghost use Rattle.std.specs.String.{string_bytes};
 ghost use Rattle.serde_json.specs.Data.{Data};
@@ -28,8 +29,8 @@ use std::alloc::{AllocError, Global};
 use std::io::Write;
 
 /// Writes the octets of a value from offset 0 on, in lower-case hexadecimal, where a file's octets
-/// are the value in JSON; `Done`. Where they are no value of the description, the line of the
-/// fault; `Refused`.
+/// are the value in JSON; `Done`. Where they are no value of the description, the line of the fault
+/// is written; `Refused`.
 pub fn convert_encode<W: Write>(
     alloc: Global,
     octets: &[u8],
@@ -51,7 +52,7 @@ pub fn convert_encode<W: Write>(
     }
 }
 
-/// How a description or a value in JSON is refused, unless memory is wanting.
+/// The line of a refused description or value in JSON. NoMemory has no line: it is a failure.
 pub fn form_refusal(fault: FormFault) -> Result<RefusalLine, Failure>
     ensures value { IfOk result (λ line. line ≡ RefusalLine.Form fault) }
     ensures refused { OnOk result (fault ≢ NoMemory) }
@@ -95,9 +96,9 @@ fn octets_of_value(
     }
 }
 
-/// Writes in JSON the value of which a file's octets are the octets, in hexadecimal, from offset 0
-/// on; `Done`. Where they are no hexadecimal text, or no value of the description, or where octets
-/// are left behind it, the line of the fault; `Refused`.
+/// Writes a value in JSON, whose octets from offset 0 on a file has in hexadecimal; `Done`. Where
+/// the file is no hexadecimal text, or its octets are no value of the description, or octets are
+/// left behind it, the line of the fault is written; `Refused`.
 pub fn convert_decode<W: Write>(
     alloc: Global,
     octets: &[u8],

@@ -1,4 +1,5 @@
-//! `convert encode` and `convert decode`, by the text of a description.
+//! `convert encode` and `convert decode`, by the text of a description. Its meaning is
+//! `ConvertsValue` in specs/Convert.antt: change both.
 ghost use Rattle.std.specs.Prelude.{IfOk};
 ghost use Rattle.giopctl.specs.Convert.{ConvertsValue};
 
@@ -11,7 +12,7 @@ use giop_types::desc_from_json;
 use std::alloc::Global;
 use std::io::Write;
 
-/// Between JSON and octets, which way a value is converted.
+/// Which way a value is converted, between JSON and octets.
 #[derive(Clone, Copy, Debug, PartialEq, Eq)]
 pub enum Way {
     /// From JSON to octets.
@@ -20,9 +21,9 @@ pub enum Way {
     Decode,
 }
 
-/// Converts a value, of which a file's octets are given, by its description in JSON: as
-/// `convert_encode` or `convert_decode` says. Where the description is none, its fault comes first,
-/// whatever the file holds; `Refused`.
+/// Converts a file's octets by a description in JSON, as `convert_encode` or `convert_decode` says.
+/// Where the text is no description, the line of its fault is written, whatever the file holds;
+/// `Refused`.
 pub fn convert_value<W: Write>(
     alloc: Global,
     octets: &[u8],

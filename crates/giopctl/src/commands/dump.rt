@@ -1,3 +1,5 @@
+//! `dump`: each message of a file, and how the file ends. Its meaning is `Dumps` and `DumpsKnown`
+//! in specs/Dump.antt: change both.
 ghost use Rattle.std.specs.Prelude.{◌≡◌, ◌++◌, IfErr, IfOk, OnOk};
 ghost use Rattle.std.specs.Io.KnownBytes.{IsAtEnd};
 ghost use Rattle.giopctl.specs.Dump.{Dumps, DumpsKnown};
@@ -17,18 +19,18 @@ pub const MESSAGE_LIMIT: u32 = 1_048_576;
 /// What becomes of the input behind a fault in a header, of which nothing is shown.
 #[derive(Clone, Copy, Debug, PartialEq, Eq)]
 pub enum BehindFault {
-    /// It is read to its end before the fault is told, so that a reading that fails comes first:
+    /// It is read to its end before the fault is reported, so that a read that fails comes first:
     /// for files.
     Read,
-    /// It is left unread, and the fault told at once: for what may never end.
+    /// It is left unread, and the fault is reported at once: for what may never end.
     Leave,
 }
 
 /// Writes the messages that the octets of a file are, and then how many octets are left, or the
 /// fault that ends it. It is `Done` where the file is messages and nothing else, else `Refused`.
 ///
-/// Where writing fails the answer is `InputOutput`, and where memory is wanting `Memory`; then a
-/// part of the text is written.
+/// Where writing fails, it is `InputOutput`. Where it is out of memory, it is `Memory`. After
+/// either, a part of the text may be written.
 pub fn dump_octets<W: Write>(alloc: Global, octets: &[u8], writer: &mut W) -> Status
     ensures { Dumps MESSAGE_LIMIT octets.now (W.contents writer.old)
         (W.contents writer.new) result }
@@ -40,8 +42,9 @@ pub fn dump_octets<W: Write>(alloc: Global, octets: &[u8], writer: &mut W) -> St
     }
 }
 
-/// The same for the octets that a reader gives, and messages of up to this size, the header not
-/// counted; with what failed where something did. No more octets are held than a message and a piece.
+/// Does what `dump_octets` does, for the octets that a reader gives and messages of up to this
+/// size, the header not counted. Where something fails, what failed is returned in place of a
+/// status. No more octets are held than a message and a piece.
 ///
 /// The writer is flushed before each read, so that a message is shown as soon as it is whole. What
 /// is written last, the rest or the fault, is left to the caller to flush.

@@ -1,4 +1,6 @@
-//! The second line that `dump` writes of a message: what its head says, or why it isn't read.
+//! The second line that `dump` writes of a message: what its head says (CORBA 3.3 Part 2, 9.4.2,
+//! 9.4.3, 9.4.5 and 9.4.6), or why it isn't read. Its text is `second_text` in specs/Dump.antt:
+//! change both.
 ghost use Rattle.std.specs.Prelude.{◌≡◌, ◌+◌, ◌-◌, ◌^◌, ◌<◌, length, OnOk};
 ghost use Rattle.std.specs.Io.KnownBytes.{Appends};
 ghost use Rattle.giop_msg.specs.Joined.{body_place, head_of_joined, right_behind, whole_of_joined};
@@ -54,7 +56,7 @@ fn write_request<W: Write>(message: &Msg, writer: &mut W) -> Result<(), Failure>
     }
 }
 
-// A head, its body's place, and the number of octets from offset 12 on.
+// The line of a head, by its body's place and the number of octets from offset 12 on.
 fn write_request_head<W: Write>(
     head: &RequestHeadAt<SliceOctets>,
     place: usize,

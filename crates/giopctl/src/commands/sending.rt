@@ -1,4 +1,5 @@
-//! Pieces of calls and of answers, one of each id in turn.
+//! Pieces of calls and of answers (CORBA 3.3 Part 2, 9.4.9) are put out, one of each id in turn.
+//! The order is `SendsAll` in specs/Acts.antt: change both.
 ghost use Rattle.std.specs.Prelude.{◌≡◌, map, max, IfOk};
 ghost use Rattle.giopctl.specs.Acts.{SendsAll, SendsNext, SendsRound, left_at, most, outbox};
 
@@ -68,8 +69,8 @@ impl Sender for ServerRule {
     }
 }
 
-/// Puts out one piece of each id that has pieces left, in ascending order of the ids, and so on until
-/// none is left. The answer is the fault of a refused one, at which it stops.
+/// Puts out one piece of each id that has pieces left, in ascending order of the ids, and so on
+/// until none is left. Returns the fault of a refused one, at which it stops.
 pub fn send_all<R: Sender>(
     alloc: Global,
     end: &mut End<'_, R>,
@@ -122,7 +123,7 @@ fn left_of<R: Sender>(end: &End<'_, R>, id: u32) -> u32
     }
 }
 
-// One piece of each id that has some left.
+// Puts out one piece of each id that has some left.
 fn send_each<R: Sender>(end: &mut End<'_, R>, ids: &[u32]) -> Result<Option<SessionFault>, Failure>
     ensures sends { IfOk result (λ refused. SendsRound R.next R.closed R.gathering R.in_call
         R.sends end.old.fault R.left_in ids.now 0 (outbox end.old.calls end.old.outgoing) refused
@@ -140,7 +141,7 @@ fn send_each<R: Sender>(end: &mut End<'_, R>, ids: &[u32]) -> Result<Option<Sess
     Ok(None)
 }
 
-// The next piece of an id, where it has some left.
+// Puts out the next piece of an id, where it has some left.
 fn send_next<R: Sender>(end: &mut End<'_, R>, id: u32) -> Result<Option<SessionFault>, Failure>
     ensures sends { IfOk result (λ refused. SendsNext R.next R.closed R.gathering R.in_call R.sends
         end.old.fault R.left_in id (outbox end.old.calls end.old.outgoing) refused

@@ -1,4 +1,5 @@
-//! `serve`: a server's end between a reader and a writer.
+//! `serve`: a server's end between a reader and a writer. Its meaning is specs/Serving.antt, and
+//! specs/Sessions.antt for what is printed: change both.
 ghost use Rattle.std.specs.Prelude.{◌≡◌, ◌++◌, IfOk, OnOk};
 ghost use Rattle.std.specs.Io.KnownBytes.{Appends};
 ghost use Rattle.serde_json.specs.View.{view};
@@ -24,19 +25,20 @@ use giop_types::Interface;
 use std::alloc::Global;
 use std::io::{Read, Write};
 
-/// Serves a connection of this number by a new server's end with the default limits. After each read
-/// what waits for an answer is answered in a form, in ascending order of the ids: by what is given
-/// for its operation where its target is this key, else by the exception that says what is wrong
-/// with it; a LocateRequest by whether its target is this key. Then the pieces that are left are put
-/// out, one of each id in turn. At the end of the input, or at a fault, the line of the connection is
-/// written to `out`, the table, and the fault, where there is one.
+/// Serves a connection of this number by a new server's end with the default limits. After each
+/// read, what waits for an answer is answered in a form, in ascending order of the ids. A Request
+/// whose target is this key is answered by what is given for its operation, else by the exception
+/// that says what is wrong with it. A LocateRequest is answered by whether its target is this key.
+/// Then the pieces that are left are put out, one of each id in turn. At the end of the input, or
+/// at a fault, the line of the connection is written to `out`, the table, and the fault, where
+/// there is one.
 ///
-/// A peer that breaks the protocol is told so by a MessageError. An answer that can't be sent, as one
-/// that passes a limit, ends the session with its fault.
+/// A peer that breaks the protocol is sent a MessageError. An answer that can't be sent, such as
+/// one that passes a limit, ends the session with its fault.
 ///
 /// It is `Done` where there is no fault, or the peer closed the connection; else `Refused`. Where
-/// reading or writing fails, or 65,536 turns are taken, it is `InputOutput`, and where memory is
-/// wanting `Memory`; then a part of the text is written, or none.
+/// reading or writing fails, or 65,536 turns are taken, it is `InputOutput`. Where it is out of
+/// memory, it is `Memory`. After either, a part of the text may be written.
 pub fn serve_session<R: Read, W: Write, O: Write>(
     alloc: Global,
     number: u32,
@@ -73,7 +75,8 @@ pub fn serve_session<R: Read, W: Write, O: Write>(
     }
 }
 
-/// The same by an end with limits of its own, with what failed where something did.
+/// Does what `serve_session` does, with the limits of `serving`. Where something fails, what failed
+/// is returned in place of a status.
 pub fn serve_over<R: Read, W: Write, O: Write>(
     alloc: Global,
     number: u32,
@@ -94,7 +97,7 @@ pub fn serve_over<R: Read, W: Write, O: Write>(
     tell(alloc, number, interface, &end, fault, out)
 }
 
-// Writes what is told of a connection.
+// Writes the line of a connection, its table and its fault, and returns the status.
 fn tell<O: Write>(
     alloc: Global,
     number: u32,
@@ -130,8 +133,8 @@ fn serve_status(fault: Option<SessionFault>) -> Status
     }
 }
 
-// Takes turns, and answers after each, until the input ends or a fault stands. The answer is the
-// fault of what could not be sent, at which it stops.
+// Takes turns, and answers after each, until the input ends or the end fails. Returns the fault of
+// what could not be sent, at which it stops.
 fn converse<R: Read, W: Write>(
     alloc: Global,
     end: &mut ServerEnd<'_>,
@@ -164,7 +167,8 @@ fn converse<R: Read, W: Write>(
     Err(Failure::TurnsSpent)
 }
 
-// Answers all that waits for an answer, and puts out every piece.
+// Answers all that waits for an answer, and puts out every piece. Returns the fault of what could
+// not be sent, at which it stops.
 fn answer_all(
     alloc: Global,
     end: &mut ServerEnd<'_>,
@@ -186,7 +190,8 @@ fn answer_all(
     send_all(alloc, end)
 }
 
-// Answers what stands under each id.
+// Answers what is stored for each of these ids. Returns the fault of an answer that could not be
+// sent, at which it stops.
 fn answer_each(
     alloc: Global,
     end: &mut ServerEnd<'_>,
@@ -210,7 +215,8 @@ fn answer_each(
     Ok(None)
 }
 
-// Answers what stands under an id, where something is due to it.
+// Answers what is stored for an id, where something is due to it. Returns the fault of an answer
+// that could not be sent.
 fn answer(
     alloc: Global,
     end: &mut ServerEnd<'_>,

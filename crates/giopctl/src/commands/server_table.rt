@@ -1,4 +1,4 @@
-//! The lines of a server's table.
+//! The lines of a server's table. Their text is specs/Table.antt and specs/TableLines.antt.
 ghost use Rattle.std.specs.Prelude.{◌≡◌, IfOk};
 ghost use Rattle.std.specs.String.{string_bytes};
 ghost use Rattle.giopctl.specs.Bodies.{ins_text, request_ins};
@@ -32,7 +32,7 @@ impl Tabled for ServerRule {
     }
 }
 
-// The ins of a Request that stands there decoded, as a JSON list; else nothing.
+// The ins of the decoded Request of an entry, as a JSON list; empty where the entry has none.
 fn ins_text(alloc: Global, interface: &Interface, entry: &ServerEntry) -> Result<String, AllocError>
     ensures { IfOk result (λ text. string_bytes text ≡ ins_text interface.now entry.now) }
 {

@@ -1,3 +1,4 @@
+//! What `serve` takes beside a connection.
 ghost use Rattle.giop_session.specs.Form.{IsForm};
 ghost use Rattle.giopctl.specs.Check.{AreLimits};
 
@@ -5,12 +6,12 @@ use crate::answers::Answers;
 use giop_session::{Form, Limits};
 use giop_types::Interface;
 
-/// What is served.
+/// The object that is served, how, and within which limits.
 #[derive(Clone, Copy)]
 pub struct Serving<'a> {
     /// The operations of the object.
     pub interface: &'a Interface,
-    /// What they are answered.
+    /// What the operations are answered.
     pub answers: &'a Answers,
     /// The key of the object.
     pub key: &'a [u8],

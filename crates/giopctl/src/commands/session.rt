@@ -1,4 +1,6 @@
-//! What the sessions of `call` and `serve` have in common.
+//! What the sessions of `call` and `serve` have in common: a turn, the MessageError to a peer
+//! (CORBA 3.3 Part 2, 9.4.8), and what is printed at the end. Its meaning is specs/Turns.antt and
+//! specs/Sessions.antt: change both.
 ghost use Rattle.std.specs.Prelude.{◌≡◌, ◌≢◌, ◌⊎◌, [], false, Some, None, Ok, Err, IfOk, IfErr, OnOk};
 ghost use Rattle.std.specs.Io.KnownBytes.{Appends};
 ghost use Rattle.giop_session.specs.declared.session_fault.SessionFault.TheVariants.{NoMemory};
@@ -21,8 +23,8 @@ use std::io::{Read, Write};
 /// A session has so many turns at most.
 pub const TURNS: usize = 65_536;
 
-/// Takes a turn, and tells whether the session goes on: the input hasn't ended, and no fault of the
-/// peer stands. The peer is told of a fault that is its own by a MessageError.
+/// Takes a turn, and returns whether the session continues: the input hasn't ended, and the end
+/// hasn't failed. A peer that the fault is due to is sent a MessageError.
 pub fn goes_on<R: Hearing, I: Read, W: Write>(
     end: &mut End<'_, R>,
     reader: &mut I,
@@ -67,7 +69,7 @@ pub fn write_all_out<R: Hearing, W: Write>(
     }
 }
 
-// Breaks the session off at a fault that a turn met. The answer is that it doesn't go on.
+// Ends the session at a fault that a turn met, and returns that it doesn't continue.
 fn break_off<R: Hearing, W: Write>(
     end: &End<'_, R>,
     why: SessionFault,
@@ -87,7 +89,7 @@ fn break_off<R: Hearing, W: Write>(
     Ok(false)
 }
 
-// The MessageError to a peer, where the fault that stands is one to be told of.
+// Sends the MessageError to the peer, where the end's fault is one that the peer is sent one for.
 fn tell_peer<R: Hearing, W: Write>(end: &End<'_, R>, writer: &mut W) -> Result<(), Failure>
     ensures tells { OnOk result (Appends (W.contents writer.old) (W.contents writer.new)
         (peer_octets end.now.fault)) }
@@ -103,7 +105,7 @@ fn tell_peer<R: Hearing, W: Write>(end: &End<'_, R>, writer: &mut W) -> Result<(
     }
 }
 
-// The fault of a refused act of this end's own, unless memory is wanting.
+// The fault of a refused act of this end's own. Memory where it was out of memory.
 fn refusal(fault: SessionFault) -> Result<SessionFault, Failure>
     ensures ok { OnOk result ((result ≡ Ok fault) × (fault ≢ NoMemory)) }
     ensures err { IfErr result (λ failure. (failure ≡ Memory) × (fault ≡ NoMemory)) }
@@ -114,8 +116,8 @@ fn refusal(fault: SessionFault) -> Result<SessionFault, Failure>
     }
 }
 
-/// What is told of an act of this end's own: the fault that it is refused for, if it is, unless
-/// memory is wanting.
+/// What an act of this end's own came to: the fault that it was refused for, if it was. Memory
+/// where it was out of memory.
 pub fn told_of(acted: Result<(), SessionFault>) -> Result<Option<SessionFault>, Failure>
     ensures ok { IfOk result (λ why. (acted ≡ answer_of why) × (why ≢ Some NoMemory)) }
     ensures err { IfErr result (λ failure. (failure ≡ Memory) × (acted ≡ Err NoMemory)) }
@@ -126,8 +128,8 @@ pub fn told_of(acted: Result<(), SessionFault>) -> Result<Option<SessionFault>, 
     }
 }
 
-/// The fault that is told of a session: that of what was refused at this end, else the one that
-/// stands at the end.
+/// The fault that is reported of a session: that of what was refused at this end, else the end's
+/// own.
 pub fn told(refused: Option<SessionFault>, fault: Option<SessionFault>) -> Option<SessionFault>
     ensures { result ≡ told refused fault }
 {

@@ -1,4 +1,5 @@
-//! The table of the calls of an end, a line for each.
+//! The table of the calls of an end, a line for each. Its text is `table_text` in specs/Table.antt:
+//! change both.
 ghost use Rattle.std.specs.Prelude.{◌≡◌, OnOk};
 ghost use Rattle.std.specs.Io.KnownBytes.{Appends};
 ghost use Rattle.giopctl.specs.Table.{table_text};
@@ -19,7 +20,7 @@ pub trait Tabled: Hearing {
 
     ghost line: { Interface → ℕ → Self.Entry → List ℕ };
 
-    /// Writes the line of what stands under an id, with its values by an interface.
+    /// Writes the line of what is stored for an id, with its values by an interface.
     fn write_entry<W: Write>(
         alloc: Global,
         interface: &Interface,
@@ -31,7 +32,7 @@ pub trait Tabled: Hearing {
             (ended (line interface.now id entry.now))) };
 }
 
-/// Writes the table of an end: a line for each id under which something stands, ascending.
+/// Writes the table of an end: a line for each id for which something is stored, ascending.
 pub fn write_table<R: Tabled, W: Write>(
     alloc: Global,
     interface: &Interface,

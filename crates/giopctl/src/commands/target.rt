@@ -1,4 +1,5 @@
-//! The object that is called, by the text of its reference or by a corbaloc.
+//! The object that is called, by the text of its reference (CORBA 3.3 Part 2, 7.6.9) or by a
+//! corbaloc (7.6.10.1). Its meaning is specs/Target.antt: change both.
 ghost use Rattle.std.specs.Prelude.{◌≡◌, IfOk, IfErr};
 ghost use Rattle.giop_ior.specs.CorbalocReading.{corbaloc_of};
 ghost use Rattle.giop_ior.specs.Ior.{ior_layout};
@@ -39,10 +40,11 @@ pub enum Targeted {
     Refused(RefusalLine),
 }
 
-/// The object of a target's text: where it begins with `IOR:` in any case the text of a reference
-/// (CORBA 3.3 Part 2, 7.6.9), of which the first IIOP profile is taken that can be read; else a
-/// corbaloc (7.6.10.1), of which the first address is taken. Refused as by `convert`, and a
-/// reference without such a profile as that.
+/// The object of a target's text. A text that begins with `IOR:`, in upper or lower case, is that
+/// of a reference (CORBA 3.3 Part 2, 7.6.9), of which the first IIOP profile is taken that can be
+/// read. Any other is a corbaloc (7.6.10.1), of which the first address is taken.
+///
+/// Refused as by `convert`; a reference without such a profile is refused as NoIiopProfile.
 pub fn target_of(alloc: Global, text: &[u8]) -> Result<Targeted, Failure>
     ensures ok { IfOk result (λ targeted. said targeted ≡ target_of text.now) }
     ensures err { IfErr result (λ failure. failure ≡ Memory) }
@@ -71,7 +73,7 @@ fn by_reference(alloc: Global, text: &[u8]) -> Result<Targeted, Failure>
     }
 }
 
-// Where the object of a profile is reached, where there is one.
+// Where the object of an IIOP profile is reached; refused where there is none.
 fn at_profile(profile: Option<IiopProfile>) -> Targeted
     ensures { said result ≡ at_profile profile }
 {
@@ -152,7 +154,7 @@ fn at_first(alloc: Global, addresses: &[Address], key: &[u8]) -> Result<Targeted
     }
 }
 
-// The version of a minor number.
+// The version that a minor number of IIOP is spoken to in: 1.2 for any above 1.
 fn version_of(minor: u8) -> Version
     ensures { result ≡ version_of minor }
 {

@@ -1,3 +1,4 @@
+//! The text of a fault of octets, in lines of several commands.
 use giop_cdr::CdrFault;
 use std::fmt;
 

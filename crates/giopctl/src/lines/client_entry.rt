@@ -1,16 +1,17 @@
+//! The line of a call in a client's table. Its text is `client_line` in specs/TableLines.antt.
 use crate::lines::EscapedText;
 use crate::lines::cdr_fault::CdrFaultText;
 use giop_calls::ClientEntry;
 use giop_msg::{Completion, ReplyBody};
 use std::fmt;
 
-/// What stands under an id at a client, in one line: `ID ENTRY`, and behind it what was answered,
+/// What is stored for an id at a client, in one line: `ID ENTRY`, and behind it what was answered,
 /// or why the reply can't be decoded.
 #[derive(Clone, Copy)]
 pub struct ClientEntryLine<'a> {
     /// The id.
     pub id: u32,
-    /// What stands there.
+    /// Its entry.
     pub entry: &'a ClientEntry,
     /// What a Reply brought: its values as a JSON list, or the text of its reference; else empty.
     pub brought: &'a str,

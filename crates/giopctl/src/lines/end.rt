@@ -1,3 +1,4 @@
+//! The lines of what can't be read: a fault in a header or in a head, and the octets that are left.
 use giop_cdr::CdrFault;
 use giop_msg::WireFault;
 use std::fmt;
@@ -7,7 +8,7 @@ use std::fmt;
 pub struct FaultLine {
     /// The offset of the header in the file.
     pub at: usize,
-    /// What is wrong, at an offset in the header.
+    /// What is wrong, with its place, which counts from the header's first octet.
     pub fault: WireFault,
 }
 

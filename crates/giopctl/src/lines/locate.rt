@@ -1,3 +1,4 @@
+//! The lines of a LocateRequest and a LocateReply (CORBA 3.3 Part 2, 9.4.5 and 9.4.6).
 use crate::lines::target::TargetText;
 use giop_cdr::SliceOctets;
 use giop_msg::{LocateReplyHead, LocateRequestAt};

@@ -1,3 +1,4 @@
+//! The line of a message: its header (CORBA 3.3 Part 2, 9.4.1) and its request id.
 use giop_cdr::{CdrFault, Order};
 use giop_msg::{Msg, Version};
 use std::fmt;
@@ -9,7 +10,7 @@ pub struct MessageLine<'a> {
     pub at: usize,
     /// The message.
     pub message: &'a Msg,
-    /// Its request id, as the message tells it.
+    /// Its request id, as `Msg::request_id` returns it.
     pub id: Option<Result<u32, CdrFault>>,
 }
 

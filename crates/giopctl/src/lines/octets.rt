@@ -1,3 +1,4 @@
+//! Octets in a line: as hexadecimal digits, or as text in which some are escaped.
 use percent_encoding::{AsciiSet, CONTROLS, ascii_set, ascii_str, percent_encode};
 use std::fmt;
 

@@ -1,3 +1,5 @@
+//! The lines of a reference: its type id (CORBA 3.3 Part 2, 7.6.2) and its profiles (9.7.2 for
+//! those of IIOP).
 use crate::lines::{EscapedText, HexText};
 use giop_ior::{IiopProfile, TaggedProfile};
 use std::fmt;
@@ -56,7 +58,7 @@ impl fmt::Display for VersionText {
     }
 }
 
-/// Any other profile, in one line: `profile TAG OCTETS`.
+/// A profile that isn't read as one of IIOP, in one line: `profile TAG OCTETS`.
 #[derive(Clone, Copy)]
 pub struct ProfileLine<'a>(pub &'a TaggedProfile);
 

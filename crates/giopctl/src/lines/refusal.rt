@@ -1,3 +1,5 @@
+//! The line of what `convert` and `call` refuse. The numbers are those of each fault's own type,
+//! and of `refusal_line` in specs/ConvertLines.antt.
 use giop_cdr::{CdrFault, EncodeFault};
 use giop_ior::{CorbalocFault, IorTextFault};
 use giop_types::FormFault;
@@ -19,7 +21,7 @@ pub enum RefusalLine {
     BadHex,
     /// Of octets: a value's, or those of a reference's text.
     Octets(CdrFault),
-    /// Of a reference that says no way over IIOP.
+    /// Of a reference that has no IIOP profile which can be read.
     NoIiopProfile,
 }
 

@@ -1,3 +1,4 @@
+//! The line of a Reply's head (CORBA 3.3 Part 2, 9.4.3).
 use giop_cdr::SliceOctets;
 use giop_msg::ReplyHeadAt;
 use std::fmt;

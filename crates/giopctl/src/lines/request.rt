@@ -1,3 +1,4 @@
+//! The line of a Request's head (CORBA 3.3 Part 2, 9.4.2).
 use crate::lines::EscapedText;
 use crate::lines::target::TargetText;
 use giop_cdr::SliceOctets;

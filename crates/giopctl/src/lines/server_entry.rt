@@ -1,16 +1,17 @@
+//! The line of a call in a server's table. Its text is `server_line` in specs/TableLines.antt.
 use crate::lines::EscapedText;
 use crate::lines::cdr_fault::CdrFaultText;
 use giop_calls::ServerEntry;
 use giop_msg::{Request, RequestFault};
 use std::fmt;
 
-/// What stands under an id at a server, in one line: `ID ENTRY`, and behind it what is asked, why
+/// What is stored for an id at a server, in one line: `ID ENTRY`, and behind it what is asked, why
 /// it can't be decoded, or what was answered.
 #[derive(Clone, Copy)]
 pub struct ServerEntryLine<'a> {
     /// The id.
     pub id: u32,
-    /// What stands there.
+    /// Its entry.
     pub entry: &'a ServerEntry,
     /// The ins of a Request that was decoded, as a JSON list; else empty.
     pub ins: &'a str,

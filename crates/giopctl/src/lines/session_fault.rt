@@ -1,8 +1,9 @@
+//! The line of the fault that ended a session. The numbers are giop_session's: change both.
 use crate::lines::cdr_fault::CdrFaultText;
 use giop_session::SessionFault;
 use std::fmt;
 
-/// Why an end of a connection goes no further, in one line: `fault 1 Wire NUMBER NAME at PLACE`,
+/// Why an end of a connection failed, in one line: `fault 1 Wire NUMBER NAME at PLACE`,
 /// `fault 2 Call ID NUMBER NAME`, `fault 10 NoId NUMBER NAME at PLACE`, else `fault NUMBER NAME`.
 #[derive(Clone, Copy)]
 pub struct SessionFaultLine(pub SessionFault);

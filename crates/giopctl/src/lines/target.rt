@@ -1,3 +1,4 @@
+//! The text of the target of a Request or a LocateRequest (CORBA 3.3 Part 2, 9.4.2.1).
 use crate::lines::HexText;
 use giop_cdr::SliceOctets;
 use giop_msg::{Target, TargetAt};

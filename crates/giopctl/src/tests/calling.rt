@@ -1,4 +1,4 @@
-//! One call over memory. What is sent and told of other calls is cases of the built program
+//! One call over memory. What is sent and printed for other calls is cases of the built program
 //! (tests/cases/calling).
 use crate::calls::{CallLine, calls_from_json};
 use crate::commands::call_session;
@@ -21,8 +21,8 @@ fn calls(alloc: Global, interface: &Interface, text: &str) -> Result<Vec<CallLin
     }
 }
 
-// The calls, the version and the size of pieces; what is read and what is written; what is told, and
-// the status.
+// The calls, the version and the size of pieces; what is read and what is written; what is printed,
+// and the status.
 type Row = (
     &'static str,
     Version,

@@ -1,3 +1,4 @@
+//! Commands that fail: a writer that fails, and the status and the text of each failure.
 use crate::commands::dump_octets;
 use crate::failure::Failure;
 use crate::status::Status;

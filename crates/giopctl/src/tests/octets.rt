@@ -1,3 +1,4 @@
+//! Which octets stand for themselves in a text, and which are escaped.
 use crate::lines::EscapedText;
 use std::test::Fail;
 

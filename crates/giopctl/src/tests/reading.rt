@@ -1,3 +1,4 @@
+//! `dump` over readers that are interrupted, fail or never end, and over a writer that is watched.
 use crate::commands::{BehindFault, MESSAGE_LIMIT, dump_stream};
 use crate::failure::Failure;
 use crate::status::Status;
@@ -111,7 +112,7 @@ fn a_read_that_fails_leaves_the_lines_before_it(rt: HostRuntime) -> Result<(), F
     Ok(())
 }
 
-// A read that fails is told before a fault in what was read.
+// A read that fails is reported before a fault in what was read.
 #[test]
 fn a_read_that_fails_behind_a_fault_is_told(rt: HostRuntime) -> Result<(), Fail> {
     let octets = hex::decode(rt.alloc(), "47494F510102000500000000FFFFFFFF")?;

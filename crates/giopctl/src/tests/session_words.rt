@@ -1,3 +1,4 @@
+//! The words that `call` and `serve` take, in several orders, and the defaults of some left out.
 use crate::cli::{Task, task_of};
 use giop_cdr::Order;
 use std::alloc::{AllocError, Global};

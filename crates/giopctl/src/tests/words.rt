@@ -1,3 +1,4 @@
+//! The words that `dump` and `convert` take, and where help is printed.
 use crate::cli::{ConvertKind, Task, task_of};
 use crate::commands::Way;
 use giop_cdr::Order;
@@ -24,7 +25,8 @@ fn dump_takes_a_file(rt: HostRuntime) -> Result<(), Fail> {
     Ok(())
 }
 
-// Whether the words ask for no task, and are told so on standard error.
+// Whether words that ask for no task are answered on standard error, and not on standard output.
+// `None` where they ask for one.
 fn is_usage(alloc: Global, words: &[String]) -> Option<bool> {
     match task_of(alloc, words) {
         Ok(_task) => None,
@@ -32,8 +34,8 @@ fn is_usage(alloc: Global, words: &[String]) -> Option<bool> {
     }
 }
 
-// What was asked for is told on standard output; what is refused, on standard error, which cases of
-// the built program show (tests/cases/usage).
+// What was asked for is printed on standard output. What is refused is printed on standard error,
+// which cases of the built program show (tests/cases/usage).
 #[test]
 fn help_and_the_version_are_no_usage(rt: HostRuntime) -> Result<(), Fail> {
     let asked: [&[&str]; 6] = [
