@@ -1,4 +1,5 @@
-//! Values and descriptions as JSON.
+//! Values, descriptions and interfaces as JSON. The forms are specs/JsonForms; for users the page
+//! docs/FORMATS.md says them, so change both.
 
 mod desc_json;
 pub mod form_fault;
