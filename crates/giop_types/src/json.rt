@@ -1,5 +1,5 @@
 //! Values, descriptions and interfaces as JSON. The forms are specs/JsonForms; for users the page
-//! docs/FORMATS.md says them, so change both.
+//! docs/FORMATS.md says them, so change them together.
 
 mod desc_json;
 pub mod form_fault;

@@ -1,5 +1,6 @@
 //! Reading a value in one pass, as long as memory is there. The value and the fault are
-//! specs/Coding/Decoding.antt; skip.rt refuses the same octets without memory, so change both.
+//! specs/Coding/Decoding.antt; skip.rt refuses the same octets without memory, so change them
+//! together.
 ghost use Rattle.std.specs.Prelude.{◌≡◌, ◌≤◌, ◌/◌, true, min, length, map, [], IfOk};
 ghost use Rattle.std.specs.Vec.{vec_capacity};
 ghost use Rattle.giop_cdr.specs.Reading.Values.{items_at};

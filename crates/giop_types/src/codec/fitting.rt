@@ -1,5 +1,6 @@
 //! Whether a value is of a description, and so can be written. The meaning is
-//! specs/Values/Fits.antt; append.rt refuses what doesn't fit as it writes, so change both.
+//! specs/Values/Fits.antt; append.rt refuses what doesn't fit as it writes, so change them
+//! together.
 ghost use Rattle.std.specs.Prelude.{◌≡◌, map, unwrap_or};
 ghost use Rattle.std.specs.List.{list_all};
 ghost use Rattle.giop_types.specs.Descriptions.CheckedShape.{checked_shape};

@@ -1,5 +1,5 @@
 //! Passing over a value without memory. It refuses what build.rt refuses for its octets, at the
-//! same places, so change both.
+//! same places, so change them together.
 ghost use Rattle.std.specs.Prelude.{map};
 ghost use Rattle.giop_cdr.specs.Reading.Values.{items_at};
 ghost use Rattle.giop_cdr.specs.Reading.Outcome.{Skips};

@@ -1,5 +1,5 @@
 //! Reading a value from JSON by its description. The form is specs/JsonForms/FromJson.antt, and
-//! to_json.rt writes what is read here, so change both.
+//! to_json.rt writes what is read here, so change them together.
 ghost use Rattle.std.specs.Prelude.{◌≡◌, true, map, option_and_then, IfOk, IfErr};
 ghost use Rattle.giop_types.specs.declared.json.form_fault.FormFault.TheVariants.{NoMemory};
 ghost use Rattle.giop_types.specs.Descriptions.CheckedShape.{checked_shape};

@@ -1,5 +1,5 @@
 //! Writing a value as JSON by its description. The form is specs/JsonForms/ToJson.antt, and
-//! from_json.rt reads it again, so change both.
+//! from_json.rt reads it again, so change them together.
 ghost use Rattle.std.specs.Prelude.{◌≡◌, ◌⊎◌, map, option_map, true, false, Ok, IfOk, IfErr, IsErrOf, OnOk, string_bytes};
 ghost use Rattle.serde_json.specs.Data.{array, object, no_members, put as with_member};
 ghost use Rattle.serde_json.specs.View.{view, items_of, members_view};
