@@ -1,3 +1,5 @@
+//! The header of a message (9.4.1): its fields, its twelve octets, and what is wrong with octets
+//! that are none. The tests and their order are specs/Header.antt; the framer refuses by them.
 ghost use Rattle.std.specs.Prelude.{◌≡◌, ◌<◌, Some, None, IfOk, IfErr, slice_index};
 ghost use Rattle.giop_msg.specs.Header.{octet_fault};
 
@@ -37,7 +39,7 @@ impl Header {
         [b'G', b'I', b'O', b'P', 1, minor, flags, kind, a, b, c, d]
     }
 
-    // Bit 0 is the byte order, bit 1 tells that more fragments follow.
+    // Bit 0 is the byte order, bit 1 says that more fragments follow.
     fn flags(&self) -> u8
         ensures { result ≡ flags_of self.now }
     {
@@ -109,7 +111,7 @@ impl Header {
     }
 }
 
-// What is wrong with the first eight of a header's octets.
+// What is wrong with the first eight octets of a header.
 #[tactic(auto, unfolding(crate::specs::Header::octet_fault))]
 fn octet_fault(octets: &[u8; 12]) -> Option<WireFault>
     ensures { result ≡ octet_fault octets.now }
