@@ -36,16 +36,21 @@ pub struct Reply {
 
 impl Reply {
     /// The Reply to a Request of an interface that joined octets are, which are as for
-    /// `RequestHead::view`. The body is where that of a Request is, and by the status: 0 the
-    /// operation's outs, and none where the flags of the request are 1; 1 the id of an exception of
-    /// the interface and its members; 2 an id, a minor code and a completion; 3 and 4 a reference;
-    /// 5 a short. Without a request, as where it could not be decoded, it is of status 2.
+    /// `RequestHead::view`. The body is where that of a Request is, and by the status:
     ///
-    /// Refused as the first field that is refused, in reading order: each as its own reader says; a
-    /// status or a completion that there isn't, and an id of an exception that the interface
-    /// hasn't, as BadLabel; a status other than 2 without a request as BadLabel at the end of the
-    /// head; then as Trailing at the first octet that is left. It is NoMemory at 12 when out of
-    /// memory, where nothing is refused.
+    /// - 0: the operation's outs, and none where the flags of the request are 1
+    /// - 1: the id of an exception of the interface, and its members
+    /// - 2: an id, a minor code and a completion
+    /// - 3 and 4: a reference
+    /// - 5: a short
+    ///
+    /// Without a request, as where it could not be decoded, it is of status 2.
+    ///
+    /// Refused as the first field that is refused, in reading order, each as its own reader says. A
+    /// status or a completion that there isn't is BadLabel, and so is an id of an exception that
+    /// the interface hasn't. A status other than 2 without a request is BadLabel at the end of the
+    /// head. Octets that are left are Trailing at the first of them. It is NoMemory at 12 when out
+    /// of memory, where nothing is refused.
     pub fn decode<S: Octets>(
         alloc: Global,
         interface: &Interface,

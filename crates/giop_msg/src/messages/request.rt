@@ -30,11 +30,15 @@ impl Request {
     /// multiple of 8 at or past the end of the head on, where octets before that are padding,
     /// whether all of them are there or not; before 1.2 it is at that end.
     ///
-    /// Refused by the first that holds: as Header at the first field of the head that is refused;
-    /// as Operation where the interface hasn't the operation; as Body at the first field of the ins
-    /// that is refused, in reading order, or as Trailing at the first octet that is left behind
-    /// them. When out of memory for the head or for the body, and nothing is refused, it is
-    /// NoMemory at 12 of that part.
+    /// Refused by the first of these that holds:
+    ///
+    /// - Header: at the first field of the head that is refused
+    /// - Operation: the interface hasn't the operation
+    /// - Body: at the first field of the ins that is refused, in reading order, or as Trailing at
+    ///   the first octet that is left behind them
+    ///
+    /// When out of memory for the head or for the body, and nothing is refused, it is NoMemory at
+    /// 12 of that part.
     pub fn decode<S: Octets>(
         alloc: Global,
         interface: &Interface,

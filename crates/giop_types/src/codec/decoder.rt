@@ -20,10 +20,14 @@ use std::alloc::Global;
 /// Reads a value of this description (9.3.2), at the place where `input` is.
 ///
 /// The first field in reading order that isn't spelled is refused, as giop_cdr's reader of its kind
-/// refuses it. These are refused besides: as BadLabel at its place, an ordinal that has no name; as
-/// BoundPassed at the place of a count, one that is above the bound; as BadCount where the reader
-/// is, an array of more values than octets are left. NoMemory is reported where the reader is, and
-/// only if nothing else is refused. The reader then stays where it was.
+/// refuses it. These are refused besides:
+///
+/// - BadLabel: an ordinal that has no name, at its place
+/// - BoundPassed: a count that is above the bound, at the place of the count
+/// - BadCount: an array of more values than octets are left, where the reader is
+///
+/// NoMemory is reported where the reader is, and only if nothing else is refused. After a refusal
+/// the reader is where it was.
 #[inline(always)]
 pub fn decode<S: Octets>(
     alloc: Global,
