@@ -1,5 +1,5 @@
 //! The request id of a message (9.4.2 to 9.4.9): at offset 12, or in a Request or a Reply before
-//! 1.2 behind the service contexts. Where it is, is specs/RequestId.antt.
+//! 1.2 behind the service contexts. specs/RequestId.antt has its place.
 #![tactic(auto, unfolding(crate::specs::RequestId::request_id_layout, crate::specs::RequestId::id_behind_contexts, crate::specs::RequestId::passed_contexts, giop_ior::specs::ServiceContext::service_contexts, giop_ior::specs::ServiceContext::service_context, giop_cdr::specs::Layout::chosen, giop_cdr::specs::Layout::field, giop_cdr::specs::Layout::number, giop_cdr::specs::Layout::octets, giop_cdr::specs::Layout::reserved, giop_cdr::specs::Layout::gives, giop_cdr::specs::Layout::sequence, giop_cdr::specs::Layout::tagged, giop_cdr::specs::Reading::View::tagged_at))]
 
 ghost use Rattle.std.specs.Prelude.{◌≡◌};

@@ -1,5 +1,5 @@
-//! A whole stream that comes in pieces, read by a framer at once. That its split doesn't depend on
-//! the pieces is specs/Stream.antt.
+//! A whole stream that comes in pieces, read by a framer at once. Its split doesn't depend on the
+//! pieces, by the law `one_split`.
 ghost use Rattle.std.specs.Prelude.{◌≡◌, ◌↔◌, Some, IfOk, IfErr};
 ghost use Rattle.std.specs.List.{flat_map};
 ghost use Rattle.giop_msg.specs.declared.fault.WireFault.{WireFault};

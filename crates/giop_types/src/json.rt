@@ -1,5 +1,5 @@
-//! Values, descriptions and interfaces as JSON. The forms are specs/JsonForms; for users the page
-//! docs/FORMATS.md says them, so change them together.
+//! Values, descriptions and interfaces as JSON. The forms are in specs/JsonForms, and for users on
+//! the page docs/FORMATS.md: change them together.
 
 mod desc_json;
 pub mod form_fault;
