@@ -1,4 +1,4 @@
--- What is wrong with a header (CORBA 3.3 Part 2, 9.4.1), and how it is told.
+-- What is wrong with a header (CORBA 3.3 Part 2, 9.4.1), and how it is reported.
 use Rattle.std.specs.Prelude.{ℕ, Bool, List, [], ◌∷◌, ◌++◌, codes, Option, Some, None, if◌then◌else◌}
 use Rattle.std.specs.Fmt.{decimal}
 use Rattle.giop_msg.specs.declared.fault.WireFault.{WireFault}

@@ -41,7 +41,7 @@ header_octets h =
     codes "GIOP"
     ++ (1 ∷ minor_of h.version ∷ flags_of h ∷ kind_number h.kind ∷ ulong_octets h.order h.size)
 
--- the byte order that the flags tell
+-- the byte order that the flags say
 abbrev pub order_of : ℕ → Order
 order_of flags = if flags % 2 == 0 then Big else Little
 
@@ -50,7 +50,7 @@ abbrev pub is_1_0 : Version → Bool
 is_1_0 V10 = true
 is_1_0 _ = false
 
--- the version that octet 5 tells
+-- the version that octet 5 says
 abbrev pub version_at : List ℕ → Version
 version_at octets = version_of (slice_index octets 5)
 
@@ -115,6 +115,6 @@ version_tests h =
     ∷ test (is_fragment h.kind && not (has_fragments h.version)) 7 BadKind
     ∷ []
 
--- what is wrong with a header, told by its fields
+-- what is wrong with a header, judged by its fields
 abbrev pub fault_of : ℕ → Header → Option WireFault
 fault_of limit h = first_failing (version_tests h ++ field_tests limit h)

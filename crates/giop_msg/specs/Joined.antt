@@ -25,8 +25,8 @@ body_place V12 at = at + pad 8 at
 abbrev pub right_behind : ℕ → ℕ
 right_behind at = at
 
--- joined octets begin with a head, and what follows it stands at an offset, which where the head
--- ends tells
+-- joined octets begin with a head, and what follows it is at an offset, which depends on where the
+-- head ends
 pub record BeginsWith {A : Type 0} (layout : Layout A) (place : ℕ → ℕ) (order : Order)
     (joined : List ℕ) (head : A) (body : ℕ) : Type 0 where
   pub front : List ℕ
@@ -53,11 +53,11 @@ whole_of_joined layout order joined = do
   value ← layout.read (joined_from order joined)
   if length value.1.rest == 0 then Ok value.0 else Err (fault value.1.at Trailing)
 
--- want of memory, of a head as a whole
+-- out of memory, reported of a head as a whole
 abbrev pub no_memory : CdrFault
 no_memory = fault 12 NoMemory
 
--- this head and this place of its body are the answer, unless memory is wanting
+-- this head and this place of its body are returned, or reading is out of memory
 abbrev pub IsAnswered : {A : Type 0} → Result (A × ℕ) CdrFault → A → ℕ → Type 0
 IsAnswered (Ok answer) head body = (answer.0 ≡ head) × (answer.1 ≡ body)
 IsAnswered (Err e) head body = e ≡ no_memory

@@ -17,8 +17,9 @@ use Rattle.giop_msg.specs.declared.fault.WireFault.{WireFault}
 use Rattle.giop_msg.specs.Stream.{BeginsWithFault, Msgs}
 
 pub record HeaderRoundTrip : Type 0 where
-  -- the octets of a header give the header back, and what is wrong with them its fields tell: 1.0
-  -- has no flag for more fragments and only 1.2 has Fragments, or else a test of the fields fails
+  -- the octets of a header are read as the header, and what is wrong with them is judged by its
+  -- fields: 1.0 has no flag for more fragments and only 1.2 has Fragments, or else a test of the
+  -- fields fails
   pub written : (limit : ℕ) (h : Header) → h.size < 2 ^ 32 →
       (header_of (header_octets h) ≡ h)
       × (header_fault limit (header_octets h) ≡ fault_of limit h)
@@ -27,7 +28,7 @@ pub record HeaderRoundTrip : Type 0 where
       header_fault limit octets ≡ None → header_octets (header_of octets) ≡ octets
 
 pub record RequestIds : Type 0 where
-  -- the id is what the fields up to it spell, and else the first of them that is refused is told
+  -- the id is what the fields up to it spell, and else the first that is refused is reported
   pub exact : (version : Version) (kind : Kind) →
       IsExact (Took (request_id_layout version kind).spells)
       (request_id_layout version kind).refused
@@ -64,7 +65,7 @@ FaultsStand =
 
 -- what holds of a table of fields
 pub record IsTable {A : Type 0} (layout : Layout A) : Type 0 where
-  -- what is read is what is spelled, field by field, and else the first refused field is answered
+  -- what is read is what is spelled, field by field, and else the first refused field is reported
   pub exact : IsExact (Took layout.spells) layout.refused layout.read
   -- no spelling begins another
   pub alone : StandsAlone layout.spells

@@ -1,3 +1,5 @@
+//! Cutting the joined octets of a message into a first message and Fragments (9.4.9). The meaning
+//! is specs/Cut.antt, and the law `cuts_are_undone` says that joining returns the octets.
 ghost use Rattle.std.specs.Prelude.{◌≡◌, ◌↔◌, ◌+◌, ◌<◌, ◌≤◌, ◌^◌, ◌++◌, List, length, IfOk, IsTrue, OnOk};
 ghost use Rattle.giop_msg.specs.declared.kind.Kind.TheVariants.{Fragment};
 ghost use Rattle.giop_msg.specs.declared.msg.Msg.{Msg};
@@ -8,9 +10,9 @@ use crate::{Kind, Msg, Version};
 use giop_cdr::{OctetList, Order};
 use std::alloc::{AllocError, Global};
 
-/// Whether joined octets of a message of this kind can be cut into messages of this piece's size:
-/// the kind is Request, Reply, LocateRequest or LocateReply; the octets are 4 at least, which is a
-/// request id's, and fewer than 2^32; and the piece is a multiple of 8 and 24 at least. It takes no
+/// Whether joined octets of a message of this kind can be cut into messages of this piece's size.
+/// The kind is Request, Reply, LocateRequest or LocateReply. The octets are 4 at least, which is a
+/// request id's, and fewer than 2^32. The piece is a multiple of 8 and 24 at least. It takes no
 /// memory.
 pub fn can_cut(kind: Kind, joined: &[u8], piece: u32) -> bool
     ensures { IsTrue result ↔ CanCut kind joined.now piece }
@@ -22,7 +24,7 @@ pub fn can_cut(kind: Kind, joined: &[u8], piece: u32) -> bool
         && piece % 8 == 0
 }
 
-// Whether Fragments may continue a message of the kind that is no Fragment itself.
+// Whether Fragments may continue a message of the kind, which is no Fragment itself.
 fn is_continued(kind: Kind) -> bool
     ensures { result ≡ is_continued kind }
 {
@@ -32,10 +34,11 @@ fn is_continued(kind: Kind) -> bool
     )
 }
 
-/// The messages that carry these joined octets: the first of the kind, and Fragments behind it,
-/// each with the request id, which in 1.2 is the first four of the joined octets. Each is `piece`
-/// octets long, its header counted, but the last, which is 17 to `piece` octets long. It is one
-/// message where that is no longer than `piece`, and in 1.0 and 1.1 always.
+/// The messages that carry these joined octets: the first of the kind, and the Fragments that
+/// follow it. Each Fragment begins with the request id, which in 1.2 is the first four of the
+/// joined octets. Each message is `piece` octets long, its header counted, but the last, which is
+/// 17 to `piece` octets long. There is one message where that is no longer than `piece`, and in 1.0
+/// and 1.1 always.
 ///
 /// The joined octets are as for `RequestHead::view`. `can_cut` is the test of the condition. The
 /// limit that a framer has to have for them is `piece` less 12, or the number of octets for one
@@ -63,7 +66,7 @@ pub fn cut(
     Ok(messages)
 }
 
-// A message of these octets behind its header.
+// A message of this kind whose payload is these octets.
 fn whole(
     alloc: Global,
     version: Version,
@@ -83,7 +86,7 @@ fn whole(
     })
 }
 
-// A Fragment of the message of this id, which goes on with these octets.
+// A Fragment that continues the message of this id with these octets.
 fn fragment(
     alloc: Global,
     order: Order,
@@ -106,8 +109,8 @@ fn fragment(
     })
 }
 
-// Appends the Fragments that go on with these octets. Where memory is wanting a part of them is
-// there.
+// Appends the Fragments that continue a message with these octets. Out of memory, a part of them is
+// left in the list.
 fn append_fragments(
     alloc: Global,
     order: Order,

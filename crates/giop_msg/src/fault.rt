@@ -1,3 +1,5 @@
+//! Why octets are no message (9.4.1), and the numbers and names of these faults. They are public,
+//! and so fixed by specs/Fault.antt; their order is that of the tests in specs/Header.antt.
 ghost use Rattle.std.specs.Prelude.{◌≡◌};
 
 use std::alloc::AllocError;
@@ -24,7 +26,7 @@ pub enum WireKind {
     FragmentSize,
     /// More fragments follow a message of a kind that none may continue, or a message of 1.1.
     NotFragmentable,
-    /// Memory ran out. It says nothing of the octets.
+    /// Out of memory. It says nothing of the octets.
     NoMemory,
 }
 

@@ -1,3 +1,5 @@
+//! The framer, which splits a stream into messages (9.4.1). How the stream comes in pieces changes
+//! nothing of what it returns: specs/Stream.antt and the laws of laws/stream.rt say so.
 ghost use Rattle.std.specs.Prelude.{◌≡◌, ◌+◌, ◌++◌, ◌⊎◌, [], drop, length, IfOk, IfErr, IfSome, IfNone, OnOk, OnErr};
 ghost use Rattle.giop_msg.specs.declared.fault.WireFault.{WireFault};
 ghost use Rattle.giop_msg.specs.declared.fault.WireKind.TheVariants.{NoMemory};
@@ -12,16 +14,16 @@ use std::alloc::{AllocError, Global};
 use std::marker::Model;
 use std::mem;
 
-// The most memory, in octets, that is kept for a message to come.
+// The most memory, in octets, that is kept for a later message.
 const MOST_SPARE: usize = 65_536;
 
-/// Cuts a stream of octets, which comes in pieces of any size, into messages. Contracts see the
+/// Splits a stream of octets, which comes in pieces of any size, into messages. Contracts see the
 /// unread octets and the greatest message size.
 #[derive(Debug, Drop)]
 pub struct Framer {
     limit: u32,
     unread: BytesMut,
-    // Memory of a message that was given back, and none of its octets.
+    // The memory of a message that the caller no longer needs, and none of its octets.
     spare: Vec<u8>,
     alloc: Global,
 }
@@ -70,18 +72,18 @@ impl Framer {
         self.unread.len()
     }
 
-    /// Takes away and gives the first message of the unread octets. `None`: neither a whole message
-    /// nor a fault stands at their front, and more octets have to be fed. A header is judged as
-    /// soon as its twelve octets are there.
+    /// Takes the first message off the unread octets and returns it. It returns `None` where
+    /// neither a whole message nor a fault is at their front: more octets have to be fed. A header
+    /// is judged as soon as its twelve octets are there.
     ///
-    /// A fault changes nothing. One of the octets stands for good, since it stands however many
-    /// octets follow; `NoMemory`, at 0, comes only where a whole message stands at the front.
+    /// A fault changes nothing. A fault of the octets is returned for good, however many octets
+    /// follow. `NoMemory`, at 0, is returned only where a whole message is at the front.
     pub fn next(&mut self) -> Result<Option<Msg>, WireFault>
-        // What is given stood at the front, and is taken away; None leaves what is no message yet.
+        // What is returned was at the front, and is taken away; None leaves what is no message yet.
         ensures found { IfOk result (λ o. IfSome o (λ m. TakesMessage self.old m self.new)) }
         ensures waits { IfOk result (λ o. IfNone o (Waits self.old × (self.new ≡ self.old))) }
 
-        // A fault at the front is told, and only such a one, or want of memory for a message.
+        // A fault at the front is returned, and only such a one, or out of memory for a message.
         ensures exact { (e : WireFault) → BeginsWithFault self.old.limit self.old.octets e →
             result ≡ Err e }
         ensures err { IfErr result (IsRefusal self.old) }
@@ -95,11 +97,11 @@ impl Framer {
         Ok(found)
     }
 
-    /// Takes away all messages at the front of the unread octets, and appends them to `messages`.
+    /// Takes all messages off the front of the unread octets, and appends them to `messages`.
     ///
-    /// After a fault the messages before it are taken, and nothing else has changed: one of the
-    /// octets stands at the front of those that are left, and `NoMemory`, at 0, comes only where a
-    /// whole message stands there.
+    /// After a fault the messages before it are taken, and nothing else has changed. A fault of the
+    /// octets is at the front of those that are left. `NoMemory`, at 0, is returned only where a
+    /// whole message is there.
     pub fn take_messages(&mut self, messages: &mut Vec<Msg>) -> Result<(), WireFault>
         ensures found { AppendsTaken self.old messages.old.items self.new messages.new.items }
         ensures ok { OnOk result (Waits self.new) }
@@ -117,7 +119,7 @@ impl Framer {
         }
     }
 
-    /// Takes a message back that is no longer needed: its memory serves one to come, unless it is
+    /// Takes a message that is no longer needed, and keeps its memory for a later one, unless it is
     /// large. It takes no memory.
     pub fn reuse(&mut self, message: Msg)
         ensures { self.new ≡ self.old }
@@ -129,7 +131,7 @@ impl Framer {
         }
     }
 
-    // Takes away the message that stands at the front of the unread octets.
+    // Takes the message that is at the front off the unread octets.
     fn pass(&mut self, message: &Msg)
         requires { IsMessage self.old.limit message.now
             × (self.old.octets ≡ message_octets message.now
@@ -137,7 +139,7 @@ impl Framer {
         ensures { TakesMessage self.old message.now self.new }
     {
         self.unread.advance(12 + message.payload.len());
-        // So that the next octets have all of its memory before them.
+        // So that the octets to come have all of its memory.
         if self.unread.is_empty() {
             self.unread.clear();
         }
@@ -175,7 +177,7 @@ fn first_message(
     }))
 }
 
-// A copy of the octets, in the spare memory where they have room in it.
+// A copy of the octets, in the spare memory where that has room for them.
 fn copied(alloc: Global, spare: &mut Vec<u8>, octets: &[u8]) -> Result<OctetList, AllocError>
     ensures { IfOk result (λ list. list ≡ octets.now) }
 {

@@ -1,3 +1,5 @@
+//! The header of a message (9.4.1): its fields, its twelve octets, and what is wrong with octets
+//! that are none. The tests and their order are specs/Header.antt; the framer refuses by them.
 ghost use Rattle.std.specs.Prelude.{◌≡◌, ◌<◌, Some, None, IfOk, IfErr, slice_index};
 ghost use Rattle.giop_msg.specs.Header.{octet_fault};
 
@@ -37,16 +39,36 @@ impl Header {
         [b'G', b'I', b'O', b'P', 1, minor, flags, kind, a, b, c, d]
     }
 
-    // Bit 0 is the byte order, bit 1 tells that more fragments follow.
+    // Bit 0 is the byte order, bit 1 says that more fragments follow.
     fn flags(&self) -> u8
         ensures { result ≡ flags_of self.now }
     {
         self.order.octet() + if self.more { 2 } else { 0 }
     }
 
-    // The header that twelve octets are, or the first thing that is wrong with them.
+    /// The header that twelve octets are (9.4.1), or the first thing that is wrong with them. No
+    /// other octet of the message is needed. It takes no memory.
+    ///
+    /// `limit` is the greatest message size that is accepted, in octets; it doesn't count the
+    /// header. Refused by the first of these tests that fails. A place is an offset from the first
+    /// of the twelve octets:
+    ///
+    /// - 1, BadMagic, at the first wrong octet, 0 to 3: the first four octets are not `GIOP`
+    /// - 2, BadVersion, at 4: the major number isn't 1; else at 5: the minor number is above 2
+    /// - 3, ReservedFlags, at 6: one of the six upper bits is set; in 1.0 the octet is above 1
+    /// - 4, BadKind, at 7: the message type is above 7, before 1.2 above 6
+    /// - 5, TooLarge, at 8: the message size is above `limit`
+    /// - 6, BadSize, at 8: the message size is not 0 of CloseConnection or MessageError, not 4 of
+    ///   CancelRequest, or below 4 of another kind
+    /// - 7, FragmentSize, at 8: in 1.2 more fragments follow, and the message size and 12 are
+    ///   together no multiple of 8 (9.4.9)
+    /// - 8, NotFragmentable, at 6: more fragments follow a kind that none may continue, or a
+    ///   message of 1.1 (9.4.9)
+    ///
+    /// It is never NoMemory. `Framer::next` refuses the twelve octets at the front of a stream by
+    /// the same tests, in the same order.
     #[tactic(auto, using(crate::proofs::FaultLemmas::judging))]
-    pub(crate) fn judge(octets: &[u8; 12], limit: u32) -> Result<Header, WireFault>
+    pub fn judge(octets: &[u8; 12], limit: u32) -> Result<Header, WireFault>
         ensures ok { IfOk result (λ h. (h ≡ header_of octets.now)
             × (header_fault limit octets.now ≡ None)) }
         ensures err { IfErr result (λ e. header_fault limit octets.now ≡ Some e) }
@@ -109,7 +131,7 @@ impl Header {
     }
 }
 
-// What is wrong with the first eight of a header's octets.
+// What is wrong with the first eight octets of a header.
 #[tactic(auto, unfolding(crate::specs::Header::octet_fault))]
 fn octet_fault(octets: &[u8; 12]) -> Option<WireFault>
     ensures { result ≡ octet_fault octets.now }

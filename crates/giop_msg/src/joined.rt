@@ -1,4 +1,5 @@
-//! The joined octets of a message, which begin at offset 12.
+//! The joined octets of a message: its octets from offset 12 on, and those of its Fragments behind
+//! their request ids (9.4.9). Here is where they begin, and where a body in them does.
 ghost use Rattle.std.specs.Prelude.{◌≡◌, IfOk};
 ghost use Rattle.giop_msg.specs.Joined.{body_place};
 ghost use Rattle.giop_msg.specs.Messages.Outcome.{joined_into};
@@ -10,15 +11,15 @@ use std::alloc::{AllocError, Global};
 // As many octets as most messages have, so that they are written without growing.
 const ROOM: usize = 64;
 
-// Where the joined octets of a message are to be written.
+// An output for the joined octets of a message, whose first octet has offset 12.
 pub(crate) fn joined_output(alloc: Global, order: Order) -> Result<CdrOut, AllocError>
     ensures { IfOk result (λ out. out ≡ joined_into order) }
 {
     CdrOut::with_room(alloc, order, 12, ROOM)
 }
 
-// The offset of a body, where a reader stands behind the head: in 1.2 the first multiple of 8 at or
-// past the reader's place, before that the reader's place.
+// The offset of a body, for a reader that is at the end of the head. In 1.2 it is the first
+// multiple of 8 at or past the reader's place (9.4.2.2), before that the reader's place.
 pub(crate) fn body_place<S: Octets>(version: Version, input: &CdrIn<S>) -> usize
     ensures { result ≡ body_place version input.now.at }
 {

@@ -1,3 +1,5 @@
+//! The kinds of messages (9.4.1): their numbers on the wire, the sizes that they may have, and
+//! which of them Fragments may continue (9.4.9). The meaning is specs/Kind.antt.
 ghost use Rattle.std.specs.Prelude.{◌≡◌, ◌<◌, slice_index_or};
 
 use std::fmt;
@@ -27,7 +29,7 @@ impl Kind {
     ghost use Rattle.giop_msg.specs.declared.kind.Kind.TheVariants.{Fragment};
     ghost use Rattle.giop_msg.specs.Kind.{can_have_size, has_request_id, is_fragmentable, kind_number, kinds};
 
-    /// The message type that stands for the kind on the wire, 0 to 7.
+    /// The message type that is the kind on the wire, 0 to 7.
     pub fn number(self) -> u8
         ensures { result ≡ kind_number self }
     {
@@ -60,7 +62,7 @@ impl Kind {
         }
     }
 
-    // Whether a message of the kind may have so many octets after its header.
+    // Whether a message of the kind may have this many octets after its header.
     pub(crate) fn can_have_size(self, size: u32) -> bool
         ensures { result ≡ can_have_size self size }
     {

@@ -1,5 +1,6 @@
-//! GIOP messages of versions 1.0 to 1.2 on the wire (CORBA 3.3 Part 2, 9.4): headers, and the
-//! framer that cuts a stream of octets into messages.
+//! GIOP messages of versions 1.0 to 1.2 on the wire (CORBA 3.3 Part 2, 9.4): the framer that splits
+//! a stream of octets into messages, their heads, whole Requests and Replies, and cutting into
+//! fragments. It knows no connection.
 #![tactic(auto)]
 
 mod cutting;

@@ -1,3 +1,5 @@
+//! The head of a LocateReply (9.4.6): read and written. Its layout is specs/Locate.antt, in the
+//! order of the fields: change them together.
 #![tactic(auto, unfolding(crate::specs::Locate::locate_reply_head, crate::specs::Locate::locate_status, giop_cdr::specs::Layout::field, giop_cdr::specs::Layout::such, giop_cdr::specs::Layout::number, giop_cdr::specs::Layout::gives, giop_cdr::specs::Reading::Values::such_at))]
 
 ghost use Rattle.std.specs.Prelude.{◌≡◌, ◌≤◌, ◌^◌, ◌↔◌, length, false, true, ℕ, List, Ok, IfOk, IsErrOf};
@@ -36,7 +38,7 @@ impl LocateReplyHead {
         order: Order,
     ) -> Result<(LocateReplyHead, usize), CdrFault>
         requires { length (S.octets octets.now) ≤ 2 ^ 62 }
-        // What is answered is what the octets begin with, and what they begin with is answered.
+        // What is returned is what the octets begin with, and what they begin with is returned.
         ensures found { IfOk result (λ x.
             BeginsWith (locate_reply_head version) right_behind order
             (S.octets octets.now) x.0 x.1) }
@@ -64,7 +66,7 @@ impl LocateReplyHead {
     /// Writes the head: the fields in their order.
     ///
     /// Refused as Unfit where `is_writable` is false, and then no octets spell the head; else as
-    /// NoMemory where memory is wanting. The output is then as it was.
+    /// NoMemory when out of memory. The output is then as it was.
     #[tactic(auto, using(crate::proofs::LocateLemmas::reply_unspelled))]
     pub fn write(&self, out: &mut CdrOut) -> Result<(), EncodeFault>
         ensures value { Writes out.old result out.new
@@ -88,7 +90,7 @@ impl LocateReplyHead {
     }
 }
 
-// The last locate status of a version.
+// The greatest locate status of a version.
 fn last_locate_status(version: Version) -> u32
     ensures { result ≡ last_locate_status version }
 {
@@ -98,7 +100,7 @@ fn last_locate_status(version: Version) -> u32
     }
 }
 
-// A locate status of a version.
+// Reads a locate status, which the version must have.
 fn read_status<S: Octets>(version: Version, input: &mut CdrIn<S>) -> Result<u32, CdrFault>
     ensures { Exactly result input.new ((locate_status version).read input.old) }
 {
@@ -113,7 +115,7 @@ fn read_status<S: Octets>(version: Version, input: &mut CdrIn<S>) -> Result<u32,
     Ok(status)
 }
 
-// The fields in their order.
+// Reads the fields in their order.
 pub(crate) fn read_head<S: Octets>(
     version: Version,
     input: &mut CdrIn<S>,
@@ -129,7 +131,7 @@ pub(crate) fn read_head<S: Octets>(
     })
 }
 
-// The fields in their order. Where memory is wanting a part of them is left.
+// Appends the fields in their order. Out of memory, a part of them is left.
 #[tactic(auto, unfolding(crate::specs::Locate::locate_reply_head, crate::specs::Locate::locate_status, giop_cdr::specs::Layout::field, giop_cdr::specs::Layout::such, giop_cdr::specs::Layout::number, giop_cdr::specs::Layout::gives), using(giop_cdr::proofs::Writing::WriterLemmas::grows_then, giop_cdr::proofs::Writing::WriterLemmas::grows_not))]
 pub(crate) fn append_head(head: &LocateReplyHead, out: &mut CdrOut) -> Result<(), AllocError>
     requires { (locate_reply_head head.now.version).fits head.now ≡ true }

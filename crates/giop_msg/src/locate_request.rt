@@ -1,3 +1,5 @@
+//! LocateRequest, a whole message (9.4.5): read and written. Its layout is specs/Locate.antt, in
+//! the order of the fields: change them together.
 #![tactic(auto, unfolding(crate::specs::Locate::locate_request, crate::specs::Locate::located, giop_cdr::specs::Layout::field, giop_cdr::specs::Layout::number, giop_cdr::specs::Layout::gives))]
 
 ghost use Rattle.std.specs.Prelude.{◌≡◌, ◌≤◌, ◌^◌, ◌⊎◌, ◌↔◌, length, false, true, ℕ, List, Ok, Err, IfOk, IfErr, IsOk, IsErrOf};
@@ -44,7 +46,7 @@ impl LocateRequest {
         order: Order,
     ) -> Result<LocateRequestAt<'a, S>, CdrFault>
         requires { length (S.octets octets.now) ≤ 2 ^ 62 }
-        // What is answered is what the octets are, and what they are is answered.
+        // What is returned is what the octets are, and what they are is returned.
         ensures found { IfOk result (AreWhole (locate_request version) order
             (S.octets octets.now)) }
         ensures only { (request : _)
@@ -66,8 +68,8 @@ impl LocateRequest {
         Ok(request)
     }
 
-    /// The same on its own. Where memory is wanting for octets that are a LocateRequest, it is
-    /// NoMemory at 12.
+    /// The LocateRequest that joined octets are, on its own. Refused as `view` refuses. It is
+    /// NoMemory at 12 when out of memory, and only for octets that are a LocateRequest.
     pub fn decode<S: Octets>(
         alloc: Global,
         octets: &S,
@@ -75,7 +77,7 @@ impl LocateRequest {
         order: Order,
     ) -> Result<LocateRequest, CdrFault>
         requires { length (S.octets octets.now) ≤ 2 ^ 62 }
-        // What is answered is what the octets are, and what they are is answered.
+        // What is returned is what the octets are, and what they are is returned.
         ensures found { IfOk result (AreWhole (locate_request version) order
             (S.octets octets.now)) }
         ensures only { (request : _)
@@ -100,8 +102,8 @@ impl LocateRequest {
         Ok(request)
     }
 
-    /// Whether octets spell the LocateRequest in its version: each text and list of the target is
-    /// short enough for its count and no null is in a text; before 1.2 the target is a key. It
+    /// Whether octets spell the LocateRequest in its version. Each text and list of the target is
+    /// short enough for its count, and no null is in a text; before 1.2 the target is a key. It
     /// takes no memory.
     pub fn is_writable(&self) -> bool
         ensures { result ≡ (locate_request self.now.version).fits self.now }
@@ -115,7 +117,7 @@ impl LocateRequest {
     /// Writes the LocateRequest: the fields in their order.
     ///
     /// Refused as Unfit where `is_writable` is false, and then no octets spell it; else as NoMemory
-    /// where memory is wanting. The output is then as it was.
+    /// when out of memory. The output is then as it was.
     #[tactic(auto, using(crate::proofs::LocateLemmas::request_unspelled))]
     pub fn write(&self, out: &mut CdrOut) -> Result<(), EncodeFault>
         ensures value { Writes out.old result out.new
@@ -138,10 +140,10 @@ impl LocateRequest {
         Ok(())
     }
 
-    /// The joined octets of the LocateRequest, in an order: the fields in their order.
+    /// The joined octets of the LocateRequest, in a byte order: the fields in their order.
     ///
     /// Refused as Unfit where `is_writable` is false, and then no octets spell it; else as NoMemory
-    /// where memory is wanting.
+    /// when out of memory.
     #[tactic(auto, using(crate::proofs::LocateLemmas::request_unspelled))]
     pub fn encode(&self, alloc: Global, order: Order) -> Result<Vec<u8>, EncodeFault>
         ensures value { IfOk result (λ octets. octets.items
@@ -191,7 +193,7 @@ fn view_located<'a, S: Octets>(
     }
 }
 
-// The fields in their order.
+// Reads the fields in their order.
 fn view_request<'a, S: Octets>(
     version: Version,
     input: &mut CdrIn<'a, S>,
@@ -219,7 +221,7 @@ fn append_located(version: Version, target: &Target, out: &mut CdrOut) -> Result
     Ok(())
 }
 
-// The fields in their order. Where memory is wanting a part of them is left.
+// Appends the fields in their order. Out of memory, a part of them is left.
 #[tactic(auto, unfolding(crate::specs::Locate::locate_request, giop_cdr::specs::Layout::field, giop_cdr::specs::Layout::number, giop_cdr::specs::Layout::gives), using(giop_cdr::proofs::Writing::WriterLemmas::grows_then, giop_cdr::proofs::Writing::WriterLemmas::grows_not))]
 fn append_request(request: &LocateRequest, out: &mut CdrOut) -> Result<(), AllocError>
     requires { (locate_request request.now.version).fits request.now ≡ true }

@@ -1,4 +1,5 @@
-//! Whole messages: a head and what stands behind it.
+//! Whole messages: a Request (9.4.2), a Reply (9.4.3) and a LocateReply (9.4.6), each of them a
+//! head and what follows it. Their layouts are in specs/Messages.
 
 pub mod body;
 mod body_checking;

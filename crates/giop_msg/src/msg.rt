@@ -1,3 +1,5 @@
+//! A message as the framer returns it (9.4.1), and its request id (9.4.2 to 9.4.9). Its octets on
+//! the wire are specs/Msg.antt, and its id specs/RequestId.antt.
 ghost use Rattle.std.specs.Prelude.{◌≡◌, ◌^◌, ◌<◌, ◌≤◌, length};
 
 use crate::request_id::read_request_id;

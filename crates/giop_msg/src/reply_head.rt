@@ -1,3 +1,5 @@
+//! Reading the head of a Reply (9.4.3). Its layout is specs/ReplyHead.antt, and
+//! reply_head_writing.rt writes it, in the order of the fields: change them together.
 #![tactic(auto, unfolding(crate::specs::ReplyHead::reply_head, crate::specs::ReplyHead::reply_head_1_2, crate::specs::ReplyHead::early_reply_head, crate::specs::ReplyHead::reply_status, giop_ior::specs::ServiceContext::service_contexts, giop_ior::specs::ServiceContext::service_context, giop_cdr::specs::Layout::field, giop_cdr::specs::Layout::such, giop_cdr::specs::Layout::number, giop_cdr::specs::Layout::octets, giop_cdr::specs::Layout::gives, giop_cdr::specs::Layout::sequence, giop_cdr::specs::Layout::tagged, giop_cdr::specs::Reading::Values::such_at, giop_cdr::specs::Reading::View::tagged_at))]
 
 ghost use Rattle.std.specs.Prelude.{◌≡◌, ◌≤◌, ◌^◌, ◌⊎◌, length, Ok, Err, IfOk, IfErr, IsOk};
@@ -43,7 +45,7 @@ impl ReplyHead {
         order: Order,
     ) -> Result<(ReplyHeadAt<'a, S>, usize), CdrFault>
         requires { length (S.octets octets.now) ≤ 2 ^ 62 }
-        // What is answered is what the octets begin with, and what they begin with is answered.
+        // What is returned is what the octets begin with, and what they begin with is returned.
         ensures found { IfOk result (λ x.
             BeginsWith (reply_head version) (body_place version) order
             (S.octets octets.now) x.0 x.1) }
@@ -61,8 +63,9 @@ impl ReplyHead {
         Ok((head, body_place(version, &input)))
     }
 
-    /// The same head on its own. Where memory is wanting for octets that no field refuses, it is
-    /// NoMemory at 12.
+    /// The head that joined octets begin with, on its own, and the offset of the body behind it.
+    /// Refused as `view` refuses. It is NoMemory at 12 when out of memory, and only for octets that
+    /// no field refuses.
     pub fn decode<S: Octets>(
         alloc: Global,
         octets: &S,
@@ -70,7 +73,7 @@ impl ReplyHead {
         order: Order,
     ) -> Result<(ReplyHead, usize), CdrFault>
         requires { length (S.octets octets.now) ≤ 2 ^ 62 }
-        // What is answered is what the octets begin with, and what they begin with is answered.
+        // What is returned is what the octets begin with, and what they begin with is returned.
         ensures found { IfOk result (λ x.
             BeginsWith (reply_head version) (body_place version) order
             (S.octets octets.now) x.0 x.1) }
@@ -115,7 +118,7 @@ impl<'a, S: Octets> ReplyHeadAt<'a, S> {
     }
 }
 
-// The last reply status of a version.
+// The greatest reply status of a version.
 pub(crate) fn last_reply_status(version: Version) -> u32
     ensures { result ≡ last_reply_status version }
 {
@@ -125,7 +128,7 @@ pub(crate) fn last_reply_status(version: Version) -> u32
     }
 }
 
-// A reply status of a version.
+// Reads a reply status, which the version must have.
 fn read_status<S: Octets>(version: Version, input: &mut CdrIn<S>) -> Result<u32, CdrFault>
     ensures { Exactly result input.new ((reply_status version).read input.old) }
 {
@@ -140,7 +143,7 @@ fn read_status<S: Octets>(version: Version, input: &mut CdrIn<S>) -> Result<u32,
     Ok(status)
 }
 
-// The fields of a head of 1.2 in their order.
+// Reads the fields of a head of 1.2 in their order.
 fn view_head_1_2<'a, S: Octets>(input: &mut CdrIn<'a, S>) -> Result<ReplyHeadAt<'a, S>, CdrFault>
     ensures { Exactly result input.new (reply_head_1_2.read input.old) }
 {
@@ -155,7 +158,7 @@ fn view_head_1_2<'a, S: Octets>(input: &mut CdrIn<'a, S>) -> Result<ReplyHeadAt<
     })
 }
 
-// The fields of a head before 1.2 in their order.
+// Reads the fields of a head before 1.2 in their order.
 fn view_early_head<'a, S: Octets>(
     version: Version,
     input: &mut CdrIn<'a, S>,
@@ -173,7 +176,7 @@ fn view_early_head<'a, S: Octets>(
     })
 }
 
-/// The fields of a head in their order.
+/// Reads the fields of a head in their order.
 pub fn view_head<'a, S: Octets>(
     version: Version,
     input: &mut CdrIn<'a, S>,

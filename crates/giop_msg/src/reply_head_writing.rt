@@ -1,3 +1,5 @@
+//! Writing the head of a Reply (9.4.3). Its layout is specs/ReplyHead.antt, and reply_head.rt reads
+//! it, in the order of the fields: change them together.
 #![tactic(auto, unfolding(crate::specs::ReplyHead::reply_head, crate::specs::ReplyHead::reply_head_1_2, crate::specs::ReplyHead::early_reply_head, crate::specs::ReplyHead::reply_status, giop_cdr::specs::Layout::field, giop_cdr::specs::Layout::such, giop_cdr::specs::Layout::number, giop_cdr::specs::Layout::gives), using(giop_cdr::proofs::Writing::WriterLemmas::grows_then, giop_cdr::proofs::Writing::WriterLemmas::grows_not))]
 
 ghost use Rattle.std.specs.Prelude.{◌≡◌, ◌↔◌, false, true, ℕ, List, IsErrOf};
@@ -26,7 +28,7 @@ impl ReplyHead {
     /// unless it is empty.
     ///
     /// Refused as Unfit where `is_writable` is false, and then no octets spell the head; else as
-    /// NoMemory where memory is wanting. The output is then as it was.
+    /// NoMemory when out of memory. The output is then as it was.
     #[tactic(auto, using(crate::proofs::ReplyHeadLemmas::reply_unspelled))]
     pub fn write(&self, out: &mut CdrOut) -> Result<(), EncodeFault>
         ensures value { Writes out.old result out.new
@@ -87,7 +89,7 @@ fn are_writable_early(version: Version, status: u32, contexts: &[ServiceContext]
     are_writable_contexts(contexts) && status <= last_reply_status(version)
 }
 
-// The fields of 1.2 in their order. Where memory is wanting a part of them is left.
+// Appends the fields of 1.2 in their order. Out of memory, a part of them is left.
 fn append_parts_1_2(
     id: u32,
     status: u32,
@@ -113,7 +115,7 @@ fn append_parts_1_2(
     Ok(())
 }
 
-// The fields before 1.2 in their order. Where memory is wanting a part of them is left.
+// Appends the fields before 1.2 in their order. Out of memory, a part of them is left.
 fn append_early_parts(
     version: Version,
     id: u32,
@@ -140,7 +142,7 @@ fn append_early_parts(
     Ok(())
 }
 
-/// Writes a head that has these parts. Where memory is wanting a part of it is left.
+/// Appends a head that has these parts. Out of memory, a part of it is left.
 pub(crate) fn append_parts(
     version: Version,
     id: u32,

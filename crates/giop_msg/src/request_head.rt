@@ -1,3 +1,5 @@
+//! Reading the head of a Request (9.4.2). Its layout is specs/RequestHead.antt, and
+//! request_head_writing.rt writes it, in the order of the fields: change them together.
 #![tactic(auto, unfolding(crate::specs::RequestHead::request_head, crate::specs::RequestHead::request_head_1_2, crate::specs::RequestHead::early_request_head, crate::specs::RequestHead::response_flags, crate::specs::RequestHead::response_expected, crate::specs::RequestHead::reserved_of, crate::specs::RequestHead::reserved_octets, crate::specs::RequestHead::reserved_octet, crate::specs::RequestHead::principal, crate::specs::Meaning::meaning, giop_ior::specs::ServiceContext::service_contexts, giop_ior::specs::ServiceContext::service_context, giop_cdr::specs::Layout::field, giop_cdr::specs::Layout::such, giop_cdr::specs::Layout::number, giop_cdr::specs::Layout::boolean, giop_cdr::specs::Layout::octets, giop_cdr::specs::Layout::text, giop_cdr::specs::Layout::reserved, giop_cdr::specs::Layout::gives, giop_cdr::specs::Layout::sequence, giop_cdr::specs::Layout::tagged, giop_cdr::specs::Reading::Values::such_at, giop_cdr::specs::Reading::View::tagged_at))]
 
 ghost use Rattle.std.specs.Prelude.{◌≡◌, ◌≤◌, ◌^◌, ◌⊎◌, length, Ok, Err, IfOk, IfErr, IsOk};
@@ -45,19 +47,20 @@ impl RequestHead {
     /// there or not; before 1.2 it is the end of the fields. It takes no memory.
     ///
     /// The joined octets are those of the message from offset 12 on and then those of its
-    /// fragments, each from offset 16 on, behind its request id; the first has offset 12, and all
-    /// are in the byte order of the message. Refused as the first field that is refused, in reading
-    /// order: each as its own reader says; in 1.2 flags other than 0, 1 and 3 as BadLabel, and a
-    /// disposition other than 0, 1 and 2; before 1.2 a `response_expected` other than 0 and 1 as
-    /// BadBoolean. Reserved octets may be any, and before 1.2 so may be the principal, which isn't
-    /// kept.
+    /// fragments, each from offset 16 on, behind its request id. The first of them has offset 12,
+    /// and all are in the byte order of the message.
+    ///
+    /// Refused as the first field that is refused, in reading order: each as its own reader says.
+    /// In 1.2 flags other than 0, 1 and 3 are BadLabel, and so is a disposition other than 0, 1 and
+    /// 2; before 1.2 a `response_expected` other than 0 and 1 is BadBoolean. Reserved octets may be
+    /// any, and before 1.2 so may be the principal, which isn't kept.
     pub fn view<'a, S: Octets>(
         octets: &'a S,
         version: Version,
         order: Order,
     ) -> Result<(RequestHeadAt<'a, S>, usize), CdrFault>
         requires { length (S.octets octets.now) ≤ 2 ^ 62 }
-        // What is answered is what the octets begin with, and what they begin with is answered.
+        // What is returned is what the octets begin with, and what they begin with is returned.
         ensures found { IfOk result (λ x.
             BeginsWith (request_head version) (body_place version) order
             (S.octets octets.now) x.0 x.1) }
@@ -75,8 +78,9 @@ impl RequestHead {
         Ok((head, body_place(version, &input)))
     }
 
-    /// The same head on its own. Where memory is wanting for octets that no field refuses, it is
-    /// NoMemory at 12.
+    /// The head that joined octets begin with, on its own, and the offset of the body behind it.
+    /// Refused as `view` refuses. It is NoMemory at 12 when out of memory, and only for octets that
+    /// no field refuses.
     pub fn decode<S: Octets>(
         alloc: Global,
         octets: &S,
@@ -84,7 +88,7 @@ impl RequestHead {
         order: Order,
     ) -> Result<(RequestHead, usize), CdrFault>
         requires { length (S.octets octets.now) ≤ 2 ^ 62 }
-        // What is answered is what the octets begin with, and what they begin with is answered.
+        // What is returned is what the octets begin with, and what they begin with is returned.
         ensures found { IfOk result (λ x.
             BeginsWith (request_head version) (body_place version) order
             (S.octets octets.now) x.0 x.1) }
@@ -132,7 +136,7 @@ impl<'a, S: Octets> RequestHeadAt<'a, S> {
     }
 }
 
-// The response flags of 1.2.
+// Reads the response flags of 1.2: 0, 1 or 3.
 #[inline(always)]
 fn read_flags<S: Octets>(input: &mut CdrIn<S>) -> Result<u8, CdrFault>
     ensures { Reads input.old result input.new (response_flags.read input.old) }
@@ -149,7 +153,7 @@ fn read_flags<S: Octets>(input: &mut CdrIn<S>) -> Result<u8, CdrFault>
     Ok(flags)
 }
 
-// The response flags that a boolean tells before 1.2.
+// Reads the boolean that is there before 1.2 as response flags.
 fn read_expected<S: Octets>(input: &mut CdrIn<S>) -> Result<u8, CdrFault>
     ensures { Exactly result input.new (response_expected.read input.old) }
 {
@@ -157,7 +161,7 @@ fn read_expected<S: Octets>(input: &mut CdrIn<S>) -> Result<u8, CdrFault>
     Ok(if expected { 3 } else { 0 })
 }
 
-// The three reserved octets, whatever they are.
+// Passes over the three reserved octets, whatever they are.
 #[inline(always)]
 fn read_reserved<S: Octets>(input: &mut CdrIn<S>) -> Result<(), CdrFault>
     ensures { Skips result input.new (reserved_octets.read input.old) }
@@ -168,7 +172,7 @@ fn read_reserved<S: Octets>(input: &mut CdrIn<S>) -> Result<(), CdrFault>
     Ok(())
 }
 
-// The reserved octets of a version, of which 1.0 has none.
+// Passes over the reserved octets of a version, of which 1.0 has none.
 fn read_reserved_of<S: Octets>(version: Version, input: &mut CdrIn<S>) -> Result<(), CdrFault>
     ensures { Skips result input.new ((reserved_of version).read input.old) }
 {
@@ -178,8 +182,8 @@ fn read_reserved_of<S: Octets>(version: Version, input: &mut CdrIn<S>) -> Result
     }
 }
 
-// The fields of a head of 1.2 in their order, by a reader of its own: one that is lent to nothing
-// that isn't inlined needs no place in memory.
+// Reads the fields of a head of 1.2 in their order, by a reader of its own: one that only inlined
+// calls borrow needs no place in memory.
 #[inline(always)]
 fn view_head_1_2<'a, S: Octets>(input: &mut CdrIn<'a, S>) -> Result<RequestHeadAt<'a, S>, CdrFault>
     ensures { Exactly result input.new (request_head_1_2.read input.old) }
@@ -202,7 +206,7 @@ fn view_head_1_2<'a, S: Octets>(input: &mut CdrIn<'a, S>) -> Result<RequestHeadA
     })
 }
 
-// The fields of a head before 1.2 in their order; the principal is passed over.
+// Reads the fields of a head before 1.2 in their order, and passes over the principal.
 fn view_early_head<'a, S: Octets>(
     version: Version,
     input: &mut CdrIn<'a, S>,
@@ -226,7 +230,7 @@ fn view_early_head<'a, S: Octets>(
     })
 }
 
-// The fields of a head in their order.
+// Reads the fields of a head in their order.
 #[inline(always)]
 pub(crate) fn view_head<'a, S: Octets>(
     version: Version,

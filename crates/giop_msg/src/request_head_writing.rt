@@ -1,3 +1,5 @@
+//! Writing the head of a Request (9.4.2). Its layout is specs/RequestHead.antt, and request_head.rt
+//! reads it, in the order of the fields: change them together.
 #![tactic(auto, unfolding(crate::specs::RequestHead::request_head, crate::specs::RequestHead::request_head_1_2, crate::specs::RequestHead::early_request_head, crate::specs::RequestHead::response_flags, crate::specs::RequestHead::response_expected, crate::specs::RequestHead::reserved_of, crate::specs::RequestHead::reserved_octets, crate::specs::RequestHead::reserved_octet, crate::specs::RequestHead::principal, crate::specs::Meaning::meaning, giop_cdr::specs::Layout::field, giop_cdr::specs::Layout::such, giop_cdr::specs::Layout::number, giop_cdr::specs::Layout::boolean, giop_cdr::specs::Layout::octets, giop_cdr::specs::Layout::text, giop_cdr::specs::Layout::reserved, giop_cdr::specs::Layout::gives), using(giop_cdr::proofs::Writing::WriterLemmas::grows_then, giop_cdr::proofs::Writing::WriterLemmas::grows_not))]
 
 ghost use Rattle.std.specs.Prelude.{◌≡◌, ◌↔◌, false, true, ℕ, List, IsErrOf};
@@ -14,8 +16,8 @@ use giop_ior::{append_contexts, are_writable_contexts};
 use std::alloc::AllocError;
 
 impl RequestHead {
-    /// Whether octets spell the head in its version: its flags are 0, 1 or 3, no null is in the
-    /// operation, and each text and list is short enough for its count; before 1.2 the flags are 0
+    /// Whether octets spell the head in its version. Its flags are 0, 1 or 3, no null is in the
+    /// operation, and each text and list is short enough for its count. Before 1.2 the flags are 0
     /// or 3 and the target is a key. It takes no memory.
     pub fn is_writable(&self) -> bool
         ensures { result ≡ (request_head self.now.version).fits self.now }
@@ -31,7 +33,7 @@ impl RequestHead {
     /// empty. In 1.2 the body is aligned to 8 behind it, unless it is empty.
     ///
     /// Refused as Unfit where `is_writable` is false, and then no octets spell the head; else as
-    /// NoMemory where memory is wanting. The output is then as it was.
+    /// NoMemory when out of memory. The output is then as it was.
     #[tactic(auto, using(crate::proofs::RequestHeadLemmas::head_unspelled))]
     pub fn write(&self, out: &mut CdrOut) -> Result<(), EncodeFault>
         ensures value { Writes out.old result out.new
@@ -73,7 +75,7 @@ fn is_writable_early(version: Version, head: &RequestHead) -> bool
         && is_text(head.operation.as_slice())
 }
 
-/// Whether octets are a string's, and few enough for its count.
+/// Whether octets can be a string: no null is in them, and they are few enough for its count.
 pub(crate) fn is_text(octets: &[u8]) -> bool
     ensures { result ≡ is_spellable octets.now }
 {
@@ -98,7 +100,7 @@ fn append_reserved_of(version: Version, out: &mut CdrOut) -> Result<(), AllocErr
     }
 }
 
-// The fields of 1.2 in their order. Where memory is wanting a part of them is left.
+// Appends the fields of 1.2 in their order. Out of memory, a part of them is left.
 fn append_head_1_2(head: &RequestHead, out: &mut CdrOut) -> Result<(), AllocError>
     requires { request_head_1_2.fits head.now ≡ true }
     ensures { Appends out.old result out.new (request_head_1_2.written head.now out.old) }
@@ -112,7 +114,7 @@ fn append_head_1_2(head: &RequestHead, out: &mut CdrOut) -> Result<(), AllocErro
     Ok(())
 }
 
-// The fields before 1.2 in their order, the principal empty. Where memory is wanting a part of them
+// Appends the fields before 1.2 in their order, the principal empty. Out of memory, a part of them
 // is left.
 fn append_early_head(
     version: Version,

@@ -1,3 +1,5 @@
+//! The request id of a message (9.4.2 to 9.4.9): at offset 12, or in a Request or a Reply before
+//! 1.2 behind the service contexts. specs/RequestId.antt has its place.
 #![tactic(auto, unfolding(crate::specs::RequestId::request_id_layout, crate::specs::RequestId::id_behind_contexts, crate::specs::RequestId::passed_contexts, giop_ior::specs::ServiceContext::service_contexts, giop_ior::specs::ServiceContext::service_context, giop_cdr::specs::Layout::chosen, giop_cdr::specs::Layout::field, giop_cdr::specs::Layout::number, giop_cdr::specs::Layout::octets, giop_cdr::specs::Layout::reserved, giop_cdr::specs::Layout::gives, giop_cdr::specs::Layout::sequence, giop_cdr::specs::Layout::tagged, giop_cdr::specs::Reading::View::tagged_at))]
 
 ghost use Rattle.std.specs.Prelude.{◌≡◌};
@@ -17,7 +19,7 @@ fn begins_with_contexts(version: Version, kind: Kind) -> bool
     }
 }
 
-// The request id of a message at whose first field a reader stands.
+// Reads the request id of a message. `input` is at the first field, behind the header.
 pub(crate) fn read_request_id<S: Octets>(
     version: Version,
     kind: Kind,

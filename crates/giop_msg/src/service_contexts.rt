@@ -1,3 +1,5 @@
+//! The service contexts of a message (7.7), as lists that contracts see as plain ones. What a
+//! context says is left to its service: they are carried as octets.
 ghost use Rattle.std.specs.Prelude.{◌≡◌, ◌==◌, length};
 
 use giop_cdr::TaggedListAt;

@@ -1,3 +1,5 @@
+//! A whole stream that comes in pieces, read by a framer at once. Its split doesn't depend on the
+//! pieces, by the law `one_split`.
 ghost use Rattle.std.specs.Prelude.{◌≡◌, ◌↔◌, Some, IfOk, IfErr};
 ghost use Rattle.std.specs.List.{flat_map};
 ghost use Rattle.giop_msg.specs.declared.fault.WireFault.{WireFault};
@@ -8,7 +10,7 @@ ghost use Rattle.giop_msg.specs.Stream.{AppendsTaken, BeginsWithFault, IsStopped
 use crate::{Framer, Msg, WireFault, WireKind};
 use std::alloc::Global;
 
-/// What a stream holds.
+/// What a stream has: its messages, then a fault or a part of a message.
 #[derive(Debug, Drop)]
 pub struct StreamRead {
     /// Its messages, in order.
@@ -19,9 +21,10 @@ pub struct StreamRead {
     pub framer: Framer,
 }
 
-/// Reads a stream that comes in these pieces: any pieces of it give the one split of it.
+/// Reads a stream that comes in these pieces: whatever the pieces, the split is the one that the
+/// stream has.
 ///
-/// The only fault that it answers is `NoMemory`, at 0.
+/// The only fault that it returns is `NoMemory`, at 0.
 pub fn read_pieces(
     alloc: Global,
     message_limit: u32,
@@ -47,7 +50,7 @@ pub fn read_pieces(
     })
 }
 
-// Takes away all messages at the front, and gives the fault that stands behind them, if one does.
+// Takes all messages off the front, and returns the fault that is behind them, if there is one.
 fn take_up_to_fault(
     framer: &mut Framer,
     messages: &mut Vec<Msg>,

@@ -1,3 +1,5 @@
+//! The target of a Request or a LocateRequest (9.4.2.1). Its layout is specs/Target.antt, read in
+//! target_reading.rt and written in target_writing.rt: change them together.
 ghost use Rattle.std.specs.Prelude.{◌≡◌, IfOk};
 
 use giop_cdr::{OctetList, Octets, OctetsAt};
@@ -32,7 +34,7 @@ pub type TargetAt<'a, S> = Target<OctetsAt<'a, S>, ProfileAt<'a, S>, IorAt<'a, S
 pub struct ProfileAt<'a, S: Octets> {
     /// What the octets are: 0 is an IIOP profile.
     pub tag: u32,
-    /// The octets.
+    /// What the profile says, by its tag.
     pub octets: OctetsAt<'a, S>,
 }
 

@@ -1,3 +1,5 @@
+//! Reading the target of a Request or a LocateRequest (9.4.2.1). The layout is specs/Target.antt,
+//! and target_writing.rt writes it: change them together.
 #![tactic(auto, unfolding(crate::specs::Target::target_layout, crate::specs::Target::target_by, crate::specs::Target::disposition, crate::specs::Target::key_target, crate::specs::Target::profile_target, crate::specs::Target::reference_target, crate::specs::Target::object_key, crate::specs::Meaning::meaning, giop_ior::specs::Ior::tagged_profile, giop_cdr::specs::Layout::chosen, giop_cdr::specs::Layout::field, giop_cdr::specs::Layout::such, giop_cdr::specs::Layout::number, giop_cdr::specs::Layout::signed, giop_cdr::specs::Layout::octets, giop_cdr::specs::Layout::gives, giop_cdr::specs::Layout::tagged, giop_cdr::specs::Reading::Values::such_at))]
 
 ghost use Rattle.std.specs.Prelude.{◌≡◌};
@@ -9,7 +11,7 @@ use crate::target::{ProfileAt, Target, TargetAt};
 use giop_cdr::{CdrFault, CdrIn, CdrKind, Octets};
 use giop_ior::view_ior;
 
-// The disposition of a target: 0, 1 or 2.
+// Reads the disposition of a target: 0, 1 or 2.
 #[inline(always)]
 fn read_disposition<S: Octets>(input: &mut CdrIn<S>) -> Result<i16, CdrFault>
     ensures { Exactly result input.new (disposition.read input.old) }
@@ -50,8 +52,8 @@ fn view_profile<'a, S: Octets>(input: &mut CdrIn<'a, S>) -> Result<TargetAt<'a, 
     Ok(Target::Profile(profile))
 }
 
-// The same by a reader of its own, so that the reader of the head is lent to nothing that isn't
-// inlined.
+// Reads a profile target by a reader of its own, so that only inlined calls borrow the reader of
+// the head.
 #[inline(always)]
 fn view_profile_ahead<'a, S: Octets>(input: &mut CdrIn<'a, S>) -> Result<TargetAt<'a, S>, CdrFault>
     ensures { Exactly result input.new (profile_target.read input.old) }
@@ -70,7 +72,8 @@ fn view_reference<'a, S: Octets>(input: &mut CdrIn<'a, S>) -> Result<TargetAt<'a
     Ok(Target::Reference { index, ior })
 }
 
-// The same by a reader of its own.
+// Reads a reference target by a reader of its own, so that only inlined calls borrow the reader of
+// the head.
 #[inline(always)]
 fn view_reference_ahead<'a, S: Octets>(
     input: &mut CdrIn<'a, S>,
@@ -83,7 +86,7 @@ fn view_reference_ahead<'a, S: Octets>(
     Ok(target)
 }
 
-// A target of 1.2: the disposition, and what it says.
+// Reads a target of 1.2: the disposition, and what follows by it.
 #[inline(always)]
 pub(crate) fn view_target<'a, S: Octets>(
     input: &mut CdrIn<'a, S>,
@@ -97,7 +100,7 @@ pub(crate) fn view_target<'a, S: Octets>(
     }
 }
 
-// A target before 1.2: an object key.
+// Reads a target before 1.2: an object key.
 #[inline(always)]
 pub(crate) fn view_object_key<'a, S: Octets>(
     input: &mut CdrIn<'a, S>,

@@ -1,3 +1,5 @@
+//! Writing the target of a Request or a LocateRequest (9.4.2.1). The layout is specs/Target.antt,
+//! and target_reading.rt reads it: change them together.
 #![tactic(auto, unfolding(crate::specs::Target::target_layout, crate::specs::Target::target_by, crate::specs::Target::disposition, crate::specs::Target::key_target, crate::specs::Target::profile_target, crate::specs::Target::reference_target, crate::specs::Target::object_key, crate::specs::Meaning::meaning, giop_ior::specs::Ior::tagged_profile, giop_cdr::specs::Layout::chosen, giop_cdr::specs::Layout::field, giop_cdr::specs::Layout::such, giop_cdr::specs::Layout::number, giop_cdr::specs::Layout::signed, giop_cdr::specs::Layout::octets, giop_cdr::specs::Layout::gives, giop_cdr::specs::Layout::tagged), using(giop_cdr::proofs::Writing::WriterLemmas::grows_then, giop_cdr::proofs::Writing::WriterLemmas::grows_not))]
 
 ghost use Rattle.std.specs.Prelude.{◌≡◌, true};
@@ -47,7 +49,7 @@ fn append_profile(profile: &TaggedProfile, out: &mut CdrOut) -> Result<(), Alloc
     Ok(())
 }
 
-// A reference that is writable, so that it is refused for want of memory alone.
+// Appends a reference that is writable, so that it is refused only when out of memory.
 pub(crate) fn append_reference(ior: &Ior, out: &mut CdrOut) -> Result<(), AllocError>
     requires { ior_layout.fits ior.now ≡ true }
     ensures { Appends out.old result out.new (ior_layout.written ior.now out.old) }
@@ -58,7 +60,7 @@ pub(crate) fn append_reference(ior: &Ior, out: &mut CdrOut) -> Result<(), AllocE
     }
 }
 
-// A target of 1.2.
+// Appends a target of 1.2: the disposition, and what follows by it.
 pub(crate) fn append_target(target: &Target, out: &mut CdrOut) -> Result<(), AllocError>
     requires { target_layout.fits target.now ≡ true }
     ensures { Appends out.old result out.new (target_layout.written target.now out.old) }
@@ -81,7 +83,7 @@ pub(crate) fn append_target(target: &Target, out: &mut CdrOut) -> Result<(), All
     Ok(())
 }
 
-// A target before 1.2.
+// Appends a target before 1.2, which is a key.
 pub(crate) fn append_key(target: &Target, out: &mut CdrOut) -> Result<(), AllocError>
     requires { object_key.fits target.now ≡ true }
     ensures { Appends out.old result out.new (object_key.written target.now out.old) }

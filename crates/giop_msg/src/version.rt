@@ -1,3 +1,5 @@
+//! The versions of GIOP (9.4.1), and what a header may say in each. The meaning is
+//! specs/Version.antt.
 ghost use Rattle.std.specs.Prelude.{◌≡◌};
 
 /// The version of GIOP in which a message is laid out (9.4.1, GIOP_version): its major number is 1.
@@ -26,7 +28,8 @@ impl Version {
         }
     }
 
-    // The version of a minor number: 1.2 of each that is above 1.
+    // The version of a minor number. Each above 1 is taken for 1.2; whether there is such a version
+    // is judged apart.
     pub(crate) fn from_minor(minor: u8) -> Version
         ensures { result ≡ version_of minor }
     {
@@ -37,7 +40,7 @@ impl Version {
         }
     }
 
-    // The number of values that octet 6 of a header may have, from 0 on.
+    // How many values octet 6 of a header may have, from 0 on.
     pub(crate) fn flag_values(self) -> u8
         ensures { result ≡ flag_values self }
     {
@@ -47,7 +50,7 @@ impl Version {
         }
     }
 
-    // The number of message types, from 0 on.
+    // How many message types there are, from 0 on.
     pub(crate) fn kind_count(self) -> u8
         ensures { result ≡ kind_count self }
     {

@@ -1,4 +1,4 @@
--- Values in CDR: what octets spell, what reading answers, and what is written (CORBA 3.3 Part 2,
+-- Values in CDR: what octets spell, what reading returns, and what is written (CORBA 3.3 Part 2,
 -- 9.3).
 pub mod Decoding
 pub mod Spells

@@ -52,7 +52,7 @@ pub record IorText {A : Type 0} (P : Spelling A) (v : A) (text : List ℕ) : Typ
   pub holds : Encapsulates P octets v
 
 -- why a text is none: it has no prefix; or what stands behind that is no octets; or these octets
--- are no encapsulation of a value, told at an offset that counts from the first of them
+-- are no encapsulation of a value, reported at an offset that counts from the first of them
 abbrev pub RefusedText : Refusal → List ℕ → IorTextFault → Type 0
 RefusedText R text BadPrefix = (front digits : List ℕ) → text ≡ front ++ digits → IsPrefix front → ⊥
 RefusedText R text BadHex =
@@ -82,7 +82,7 @@ octets_of text =
 abbrev pub nowhere : Cursor
 nowhere = record { order = Big; at = 0; rest = [] }
 
--- the value that was read, wherever reading ended: a fault of the octets is told as that
+-- the value that was read, wherever reading ended: a fault of the octets is reported as it is
 abbrev pub value_or_fault : {A : Type 0} → Reading A → TextReading A
 value_or_fault (Ok v) = Ok v.0
 value_or_fault (Err e) = Err (Cdr e)
@@ -95,7 +95,7 @@ encapsulated read octets = value_or_fault (inside_at read 0 octets nowhere)
 unfoldable pub ior_text_of : {A : Type 0} → (Cursor → Reading A) → List ℕ → TextReading A
 ior_text_of read text = octets_of text >>= encapsulated read
 
--- reading answers a value exactly where the text says it, and a fault exactly where it is refused
+-- reading returns a value exactly where the text says it, and a fault exactly where it is refused
 -- so
 pub record ReadsTexts {A : Type 0} (P : Spelling A) (R : Refusal)
     (read : List ℕ → TextReading A) : Type 0 where

@@ -1,4 +1,4 @@
--- What is wrong with the text of a reference, and how it is told.
+-- What is wrong with the text of a reference (CORBA 3.3 Part 2, 7.6.9), and how it is reported.
 use Rattle.std.specs.Prelude.{◌≡◌, ◌⊎◌, ℕ, List, codes, Result, Ok, Err}
 use Rattle.giop_types.specs.declared.ior_text_fault.IorTextFault.{IorTextFault}
 use Rattle.giop_types.specs.declared.ior_text_fault.IorTextFault.TheVariants.{BadPrefix, BadHex, Cdr, NoMemory}
@@ -27,13 +27,12 @@ abbrev pub ◌>>=◌ : {A B : Type 0} → TextReading A → (A → TextReading B
 Ok x >>= f = f x
 Err e >>= f = Err e
 
--- a call answers what reading gives, unless memory is wanting; view is what contracts see of a
--- value
+-- a call returns what reading gives, or is out of memory; view is what contracts see of a value
 abbrev pub AnswersOrWants : {X A : Type 0} → (X → A) → TextReading X → TextReading A → Type 0
 AnswersOrWants view (Ok x) reading = reading ≡ Ok (view x)
 AnswersOrWants view (Err e) reading = (reading ≡ Err e) ⊎ (e ≡ NoMemory)
 
--- a call answers this value, unless memory is wanting
+-- a call returns this value, or is out of memory
 abbrev pub IsAnswered : {A : Type 0} → TextReading A → A → Type 0
 IsAnswered (Ok x) value = x ≡ value
 IsAnswered (Err e) value = e ≡ NoMemory

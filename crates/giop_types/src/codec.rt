@@ -1,4 +1,5 @@
-//! Values in CDR: decoded, fitted, encoded.
+//! Values in CDR (CORBA 3.3 Part 2, 9.3): read, passed over, judged by a description, and written.
+//! What octets spell is specs/Coding/Spells.antt.
 pub mod append;
 pub mod build;
 pub mod decoder;

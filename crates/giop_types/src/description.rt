@@ -1,4 +1,4 @@
-//! Descriptions of types, and their check.
+//! Descriptions of IDL types (CORBA 3.3 Part 2, 9.3), and their check.
 pub mod check;
 pub mod checked_desc;
 pub mod desc;

@@ -1,5 +1,5 @@
 //! The text of a reference (CORBA 3.3 Part 2, 7.6.9): `IOR:` and the hexadecimal digits of octets,
-//! which are an encapsulation.
+//! which are an encapsulation. The grammar is specs/IorText.antt; giop_ior uses it too.
 ghost use Rattle.std.specs.Prelude.{◌≡◌, true, false, IfOk, MatchOption, MatchResult, Ok, Err, drop, take};
 ghost use Rattle.std.specs.String.{string_bytes};
 ghost use Rattle.giop_cdr.specs.Reading.Cursor.{Cursor};
@@ -12,12 +12,12 @@ use giop_cdr::{CdrFault, CdrKind, Order};
 use hex::FromHexError;
 use std::alloc::{AllocError, Global};
 
-/// The octets that the text of a reference says: behind `IOR:`, in any case, each is two
-/// hexadecimal digits in either case, the high one first. Whether they are a reference is not
-/// looked at.
+/// The octets that the text of a reference says: after `IOR:`, in any case, each is two hexadecimal
+/// digits in either case, the high one first. Whether they are a reference is not judged.
 ///
-/// Refused as BadPrefix where the text begins otherwise, else as BadHex where the digits are none
-/// or their number is odd; and as NoMemory where memory is wanting, in place of either.
+/// Refused as BadPrefix where the text begins otherwise, else as BadHex where a character is no
+/// hexadecimal digit or their number is odd. Out of memory, NoMemory may be returned in place of
+/// either.
 #[tactic(auto, unfolding(crate::specs::IorText::octets_of))]
 pub fn ior_octets_from_text(alloc: Global, text: &[u8]) -> Result<Vec<u8>, IorTextFault>
     ensures { AnswersOrWants (λ octets. octets.items) result (octets_of text.now) }
@@ -32,7 +32,7 @@ pub fn ior_octets_from_text(alloc: Global, text: &[u8]) -> Result<Vec<u8>, IorTe
     }
 }
 
-// What stands behind the prefix, where there is one.
+// The octets after the prefix `IOR:`, where the text begins with it.
 fn digits_of(text: &[u8]) -> Option<&[u8]>
     ensures { MatchOption result (is_prefix (take 4 text.now) ≡ false)
         (λ digits. (is_prefix (take 4 text.now) ≡ true) × (digits.now ≡ drop 4 text.now)) }
@@ -54,9 +54,9 @@ pub fn ior_octets_to_text(alloc: Global, octets: &[u8]) -> Result<String, AllocE
     Ok(text)
 }
 
-/// The byte order and the content of an encapsulation whose octets these are, the content from
-/// offset 1 on. Refused as Short at 0 where there are none, and as BadOrder at 0 where the first is
-/// no byte order.
+/// The byte order and the content of an encapsulation that is these octets (9.3.3); the content
+/// begins at offset 1. Refused as Short at 0 where there are none, and as BadOrder at 0 where the
+/// first is no byte order.
 pub fn open_octets(octets: &[u8]) -> Result<(Order, &[u8]), CdrFault>
     ensures { (behind : Cursor) → MatchResult result
         (λ parts. opened_of 0 octets.now behind ≡ Ok (content_of parts.0 parts.1.now, behind))

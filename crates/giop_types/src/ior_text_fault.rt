@@ -1,3 +1,5 @@
+//! Why the text of a reference is refused (CORBA 3.3 Part 2, 7.6.9), and the numbers and names of
+//! these faults. They are public, and so fixed by specs/IorTextFault.antt.
 ghost use Rattle.std.specs.Prelude.{◌≡◌};
 
 use giop_cdr::CdrFault;
@@ -5,17 +7,18 @@ use std::alloc::AllocError;
 use std::error::Error;
 use std::fmt;
 
-/// Why a text is no reference (CORBA 3.3 Part 2, 7.6.9). The first of 1 to 3 that holds is told.
+/// Why a text is no reference (CORBA 3.3 Part 2, 7.6.9). The first of 1 to 3 that holds is
+/// returned.
 #[derive(Clone, Copy, Debug, PartialEq, Eq)]
 pub enum IorTextFault {
     /// The text doesn't begin with `IOR:`, in any case.
     BadPrefix,
-    /// What stands behind the prefix is no even number of hexadecimal digits.
+    /// What follows the prefix is no even number of hexadecimal digits.
     BadHex,
     /// The octets that the digits say are no encapsulation of a reference. The offset counts from
-    /// the first of them, which is the byte order.
+    /// the first of these octets, which is the byte order.
     Cdr(CdrFault),
-    /// Memory ran out.
+    /// Out of memory.
     NoMemory,
 }
 

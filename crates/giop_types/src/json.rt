@@ -1,4 +1,5 @@
-//! Values and descriptions as JSON.
+//! Values, descriptions and interfaces as JSON. The forms are in specs/JsonForms, and for users on
+//! the page docs/FORMATS.md: change them together.
 
 mod desc_json;
 pub mod form_fault;

@@ -1,4 +1,5 @@
-//! Laws of the definitions that contracts cite. Each function's contract is one of them.
+//! Laws of the definitions that contracts cite. Each function's contract is one of them, and no
+//! program calls these.
 mod ior_texts;
 mod json;
 mod values;

@@ -1,4 +1,5 @@
-//! Descriptions of CDR types and the values that they describe.
+//! Descriptions of IDL types, and the values that they describe, in CDR (CORBA 3.3 Part 2, 9.3) and
+//! in JSON. It is for types that are known only when a program runs.
 #![tactic(auto)]
 
 mod codec;

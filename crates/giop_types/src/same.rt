@@ -1,4 +1,5 @@
-//! Whether two values are the same.
+//! Whether two values are the same: what `==` of `Value` and `ValueList` returns. A new kind of
+//! value takes a case here, and in specs/Values/Same.antt.
 ghost use Rattle.std.specs.Prelude.{◌≡◌, map};
 ghost use Rattle.giop_types.specs.Values.Same.{same_tree, same_trees};
 ghost use Rattle.giop_types.specs.Values.Views.{value_view, member_view, trees_of};

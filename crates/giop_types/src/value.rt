@@ -1,3 +1,5 @@
+//! A value of an IDL type (CORBA 3.3 Part 2, 9.3), as a tree. Its variants are those of `Desc`
+//! (description/desc.rt), so change them together.
 use crate::same::is_same;
 use giop_cdr::OctetList;
 

@@ -1,3 +1,4 @@
+//! The values of a body or of an exception, as a list that contracts see by what its values are.
 ghost use Rattle.std.specs.Prelude.{◌≡◌, ◌==◌, ◌++◌, [], ◌∷◌, length, map, OnOk, OnErr};
 ghost use Rattle.giop_types.specs.Values.Views.{value_view};
 
@@ -59,7 +60,7 @@ impl ValueList {
         self.values.is_empty()
     }
 
-    /// A value behind the others. Where memory is wanting it is dropped, and nothing changes.
+    /// Appends a value. Out of memory, the value is dropped and nothing changes.
     #[inline(always)]
     pub fn push(&mut self, value: Value) -> Result<(), AllocError>
         ensures ok { OnOk result (self.new ≡ self.old ++ value_view value ∷ []) }

@@ -1,5 +1,5 @@
-//! What takes no memory of what is read: finding its name in an interface where it lies, and passing
-//! over a value.
+//! Calls that take no memory: they find a name in an interface where its octets lie, and pass over
+//! a value. A message is judged by them where there is no memory to read it.
 ghost use Rattle.std.specs.Prelude.{◌≡◌, option_copied};
 ghost use Rattle.std.specs.BTreeMap.{get_by};
 ghost use Rattle.std.specs.Ordering.{nat_cmp};
@@ -17,8 +17,8 @@ use giop_cdr::{CdrFault, CdrIn, Octets};
 use std::collections::BTreeMap;
 
 impl Interface {
-    /// The operation of the name that these octets are, wherever they lie: as `operation`, in a
-    /// time that grows with the number of operations.
+    /// The operation of the name that these octets are, wherever they lie. It returns what
+    /// `operation` returns; its time grows with the number of operations.
     pub fn operation_at<S: Octets>(&self, name: &S) -> Option<&Operation>
         ensures { option_copied result
             ≡ get_by (λ key. slice_cmp nat_cmp (S.octets name.now) key.items) self.now.operations }
@@ -26,7 +26,8 @@ impl Interface {
         value_at(self.operations(), name)
     }
 
-    /// The members of the exception of the id that these octets are, likewise.
+    /// The members of the exception of the id that these octets are, wherever they lie. It returns
+    /// what `exception` returns; its time grows with the number of exceptions.
     pub fn exception_at<S: Octets>(&self, id: &S) -> Option<&Parameters>
         ensures { option_copied result
             ≡ get_by (λ key. slice_cmp nat_cmp (S.octets id.now) key.items) self.now.exceptions }
@@ -36,8 +37,8 @@ impl Interface {
 }
 
 impl CheckedDesc {
-    /// Passes over a value of this description: as `decode`, without the value and so without
-    /// memory.
+    /// Passes over a value of this description. It refuses what `decode` refuses, at the same
+    /// place, but makes no value and so takes no memory.
     pub fn skip<S: Octets>(&self, input: &mut CdrIn<S>) -> Result<(), CdrFault>
         ensures { Passes input.old result input.new (decode_at (checked_shape self.now) input.old) }
     {

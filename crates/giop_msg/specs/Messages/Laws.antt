@@ -19,7 +19,7 @@ use Rattle.giop_msg.specs.Messages.RequestAnswer.{DecodesRequest, RefusedRequest
 -- what holds of a whole message
 pub record IsWhole {A : Type 0} (message : Ending A) : Type 0 where
   -- what is read is what all octets up to the end spell, and else the first refused field is
-  -- answered
+  -- reported
   pub exact : (c : Cursor) →
       IsExactToEnd (λ v. message.spells c.order c.at v c.rest) (message.refused c) (message.read c)
   -- whatever octets spell fits, and its numbers are in the ranges of their types
@@ -30,7 +30,7 @@ pub record IsWhole {A : Type 0} (message : Ending A) : Type 0 where
       message.read (joined_from order (message.written v (joined_into order)).octets) ≡ Ok v
 
 -- a Request is refused exactly as is said: of its head, its operation and its body the first part
--- that is refused is told
+-- that is refused is reported
 abbrev pub RequestsAreRefused : Type 0
 RequestsAreRefused =
     (interface : Interface) (version : Version) (order : Order) (octets : List ℕ)
@@ -38,8 +38,8 @@ RequestsAreRefused =
     (request_of_joined interface version order octets ≡ Err e)
     ↔ RefusedRequest interface version (joined_from order octets) e
 
--- what is refused is told, whether memory is there or not: where joined octets are refused as a
--- Request, each answer that a call may give of them is the refusal
+-- a refusal is reported, whether memory is there or not: where joined octets are refused as a
+-- Request, whatever a call may return of them is the refusal
 abbrev pub RequestRefusalsAreTold : Type 0
 RequestRefusalsAreTold =
     (interface : Interface) (version : Version) (order : Order) (octets : List ℕ)
@@ -47,7 +47,8 @@ RequestRefusalsAreTold =
     DecodesRequest answer (request_of_joined interface version order octets) →
     RefusedRequest interface version (joined_from order octets) e → answer ≡ Err e
 
--- the same of a Reply
+-- a refusal is reported, whether memory is there or not: where joined octets are refused as a
+-- Reply, whatever a call may return of them is the refusal
 abbrev pub ReplyRefusalsAreTold : Type 0
 ReplyRefusalsAreTold =
     (interface : Interface) (asked : Option Request) (version : Version) (order : Order)

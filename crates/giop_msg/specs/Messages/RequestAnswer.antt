@@ -1,4 +1,4 @@
--- What reading a Request answers, and in which part of it a fault lies.
+-- What reading a Request returns, and in which part of it a fault is (CORBA 3.3 Part 2, 9.4.2).
 use Rattle.std.specs.Prelude.{◌≡◌, ◌⊎◌, ℕ, List, Option, Some, None, Result, Ok, Err, IsOk}
 use Rattle.giop_cdr.specs.declared.order.Order.{Order}
 use Rattle.giop_cdr.specs.declared.fault.CdrFault.{CdrFault}
@@ -28,19 +28,19 @@ RefusedRequest interface version c (Body e) =
     × (operation : Operation) × (operation_of interface head.operation ≡ Some operation)
     × (request_body version head (Some operation)).refused after e
 
--- the answer of a body
+-- what reading the body returns
 abbrev pub body_answer : Result Request CdrFault → Result Request RequestFault
 body_answer (Ok request) = Ok request
 body_answer (Err e) = Err (Body e)
 
--- the answer behind a head, by its operation
+-- what reading returns behind a head, by its operation
 abbrev pub operation_answer : Version → Head → Cursor → Option Operation
     → Result Request RequestFault
 operation_answer version head after None = Err NoOperation
 operation_answer version head after (Some operation) =
     body_answer ((request_body version head (Some operation)).read after)
 
--- the answer, by what reading the head gives
+-- what reading returns, by what reading the head gives
 abbrev pub head_answer : Interface → Version → Reading Head → Result Request RequestFault
 head_answer interface version (Err e) = Err (Header e)
 head_answer interface version (Ok x) =
@@ -52,29 +52,29 @@ unfoldable pub request_of_joined : Interface → Version → Order → List ℕ
 request_of_joined interface version order joined =
     head_answer interface version ((request_head version).read (joined_from order joined))
 
--- memory was wanting for a part of a Request
+-- reading is out of memory for a part of a Request
 abbrev pub IsWant : RequestFault → Type 0
 IsWant (Header e) = e.kind ≡ NoMemory
 IsWant NoOperation = ⊥
 IsWant (Body e) = e.kind ≡ NoMemory
 
--- want of memory for its head or for its body, as it is told
+-- out of memory for the head or for the body, as it is reported
 abbrev pub IsWholeWant : RequestFault → Type 0
 IsWholeWant (Header e) = e ≡ no_memory
 IsWholeWant NoOperation = ⊥
 IsWholeWant (Body e) = e ≡ no_memory
 
--- this Request is the answer, unless memory is wanting
+-- this Request is returned, or the call is out of memory
 abbrev pub IsRequestTold : Result Request RequestFault → Request → Type 0
 IsRequestTold (Ok told) request = told ≡ request
 IsRequestTold (Err e) request = IsWholeWant e
 
--- a call answers what reading gives; or that memory is wanting, where reading gives a Request
+-- a call returns what reading gives; or it is out of memory, where reading gives a Request
 abbrev pub DecodesRequest : Result Request RequestFault → Result Request RequestFault → Type 0
 DecodesRequest (Ok request) reading = reading ≡ Ok request
 DecodesRequest (Err e) reading = (reading ≡ Err e) ⊎ (IsWholeWant e × IsOk reading)
 
--- a step of such a call: where memory is wanting nothing else is known
+-- a step of such a call: where it is out of memory nothing else is known
 abbrev pub FollowsRequest : Result Request RequestFault → Result Request RequestFault → Type 0
 FollowsRequest (Ok request) reading = reading ≡ Ok request
 FollowsRequest (Err e) reading = (reading ≡ Err e) ⊎ IsWant e

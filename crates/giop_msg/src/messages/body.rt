@@ -1,4 +1,6 @@
-//! The bodies of Requests and Replies: where they stand, and the values in them.
+//! Reading the bodies of Requests and Replies: where they begin (9.4.2.2, 9.4.3.2), and the values
+//! in them. The layout is specs/Messages/Body.antt; body_checking.rt refuses the same octets
+//! without memory, so change them together.
 ghost use Rattle.std.specs.Prelude.{◌≡◌};
 ghost use Rattle.giop_cdr.specs.Ending.{ended};
 ghost use Rattle.giop_cdr.specs.Reading.Outcome.{Follows};
@@ -12,7 +14,7 @@ use giop_cdr::{CdrFault, CdrIn, CdrKind, Octets};
 use giop_types::{Parameter, ValueList, decode};
 use std::alloc::Global;
 
-/// Want of memory, of a message as a whole.
+/// Out of memory, reported of a message as a whole: at offset 12, where its joined octets begin.
 pub fn no_memory() -> CdrFault
     ensures { result ≡ no_memory }
 {
@@ -22,7 +24,7 @@ pub fn no_memory() -> CdrFault
     }
 }
 
-/// Goes on from the end of a head to where its version has the body.
+/// Moves a reader from the end of a head to the place where its version has the body.
 #[inline(always)]
 pub fn align_body<S: Octets>(version: Version, input: &mut CdrIn<S>)
     ensures { input.new ≡ body_cursor version input.old }
@@ -33,7 +35,7 @@ pub fn align_body<S: Octets>(version: Version, input: &mut CdrIn<S>)
     }
 }
 
-/// The values of parameters, one after the other.
+/// Reads the values of parameters, one after the other.
 #[inline(always)]
 pub fn read_values<S: Octets>(
     alloc: Global,
@@ -56,7 +58,7 @@ pub fn read_values<S: Octets>(
     Ok(values)
 }
 
-// The values of parameters, and nothing behind them.
+// Reads the values of parameters, and refuses what is left behind them.
 #[tactic(auto, unfolding(crate::specs::Messages::Body::values, giop_cdr::specs::Ending::ended))]
 #[inline(always)]
 fn read_last_values<S: Octets>(
@@ -79,7 +81,7 @@ fn read_last_values<S: Octets>(
     Ok(values)
 }
 
-/// The values of the body behind a head, which `input` stands at the end of.
+/// Reads the values of the body behind a head. `input` is at the end of that head.
 #[tactic(auto, using(crate::proofs::WholeMessages::BodyLemmas::body_read))]
 #[inline(always)]
 pub fn read_body<S: Octets>(

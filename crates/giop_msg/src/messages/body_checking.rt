@@ -1,4 +1,6 @@
-//! Bodies that are passed over, without memory: it finds the fault that there is.
+//! Bodies passed over without memory. When memory runs out while a message is read, this finds the
+//! fault that the octets have. It refuses what body.rt refuses, at the same places: change them
+//! together.
 ghost use Rattle.giop_cdr.specs.Ending.{ended};
 ghost use Rattle.giop_cdr.specs.Reading.Outcome.{Skips};
 ghost use Rattle.giop_types.specs.Coding.Decoding.{fields_at};
@@ -41,7 +43,7 @@ fn check_last_values<S: Octets>(
     Ok(())
 }
 
-/// Checks the values of the body behind a head, which `input` stands at the end of.
+/// Checks the values of the body behind a head. `input` is at the end of that head.
 #[tactic(auto, using(crate::proofs::WholeMessages::BodyLemmas::body_read))]
 pub fn check_body<S: Octets>(
     version: Version,

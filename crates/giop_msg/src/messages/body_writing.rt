@@ -1,4 +1,5 @@
-//! Writing the bodies of Requests and Replies.
+//! Writing the bodies of Requests and Replies (9.4.2.2, 9.4.3.2). The layout is
+//! specs/Messages/Body.antt, and body.rt reads it: change them together.
 #![tactic(auto, unfolding(crate::specs::Messages::Body::body_of, crate::specs::Messages::Body::values, giop_cdr::specs::Ending::ended, giop_cdr::specs::Ending::from_multiple_of_8), using(giop_cdr::proofs::Writing::WriterLemmas::grows_then, giop_cdr::proofs::Writing::WriterLemmas::grows_not))]
 
 ghost use Rattle.std.specs.Prelude.{◌≡◌, true, map};
@@ -31,7 +32,7 @@ pub fn are_fitting(parameters: &[Parameter], values: &[Value]) -> bool
     true
 }
 
-// A value of its description, which is refused for want of memory alone.
+// Appends a value of its description. It fits, so it is refused only when out of memory.
 fn append_value(desc: &CheckedDesc, value: &Value, out: &mut CdrOut) -> Result<(), AllocError>
     requires { fits (checked_shape desc.now) (value_view value.now) ≡ true }
     ensures { Writes out.old result out.new
@@ -43,7 +44,7 @@ fn append_value(desc: &CheckedDesc, value: &Value, out: &mut CdrOut) -> Result<(
     }
 }
 
-/// The values, each of its parameter's description, one after the other. Where memory is wanting a
+/// Appends the values, each of its parameter's description, one after the other. Out of memory, a
 /// part of them is left.
 pub fn append_values(
     parameters: &[Parameter],
@@ -60,7 +61,7 @@ pub fn append_values(
     Ok(())
 }
 
-// The values from the next multiple of 8 on, and no padding where they take no octets.
+// Appends the values from the next multiple of 8 on, and no padding where they take no octets.
 fn append_aligned(
     parameters: &[Parameter],
     values: &[Value],
@@ -81,7 +82,7 @@ fn append_aligned(
     Ok(())
 }
 
-/// The body behind a head, where its version has it. Where memory is wanting a part of it is left.
+/// Appends the body behind a head, where its version has it. Out of memory, a part of it is left.
 pub fn append_body(
     version: Version,
     parameters: &[Parameter],

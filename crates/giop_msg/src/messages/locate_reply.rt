@@ -1,3 +1,5 @@
+//! LocateReply, a whole message (9.4.6): read and written. Its layout is
+//! specs/Messages/LocateReply.antt, above that of its head (locate_reply_head.rt).
 #![tactic(auto, unfolding(crate::specs::Messages::LocateReply::locate_reply, giop_cdr::specs::Ending::leads, giop_cdr::specs::Ending::made_of, giop_cdr::specs::Ending::remainder))]
 
 ghost use Rattle.std.specs.Prelude.{◌≡◌, ◌≤◌, ◌^◌, ◌↔◌, length, false, true, ℕ, List, IfOk, IsErrOf};
@@ -28,8 +30,8 @@ impl LocateReply {
     /// memory for the octets behind the status.
     ///
     /// Refused as the first field of the head that is refused, in reading order: each as its own
-    /// reader says, and a status that the version hasn't as BadLabel; and as NoMemory at 12 where
-    /// nothing is refused and memory is wanting.
+    /// reader says, and a status that the version hasn't as BadLabel. It is NoMemory at 12 when out
+    /// of memory, where nothing is refused.
     pub fn decode<S: Octets>(
         alloc: Global,
         octets: &S,
@@ -37,7 +39,7 @@ impl LocateReply {
         order: Order,
     ) -> Result<LocateReply, CdrFault>
         requires { length (S.octets octets.now) ≤ 2 ^ 62 }
-        // What is answered is what the octets spell, and what they spell is answered.
+        // What is returned is what the octets spell, and what they spell is returned.
         ensures found { IfOk result (λ reply.
             (locate_reply version).spells order 12 reply (S.octets octets.now)) }
         ensures only { (reply : _)
@@ -59,11 +61,11 @@ impl LocateReply {
         self.head.is_writable()
     }
 
-    /// The joined octets of the LocateReply, in an order: the fields in their order, and the octets
-    /// behind them as they are.
+    /// The joined octets of the LocateReply, in a byte order: the fields in their order, and the
+    /// octets behind them as they are.
     ///
     /// Refused as Unfit where `is_writable` is false, and then no octets spell it; else as NoMemory
-    /// where memory is wanting.
+    /// when out of memory.
     #[tactic(auto, using(crate::proofs::WholeMessages::LocateReplyLemmas::locate_reply_unspelled))]
     pub fn encode(&self, alloc: Global, order: Order) -> Result<Vec<u8>, EncodeFault>
         ensures value { IfOk result (λ octets. octets.items
@@ -112,7 +114,7 @@ fn read_reply<S: Octets>(
     }
 }
 
-// The head and the octets behind it. Where memory is wanting a part of them is left.
+// Appends the head and the octets behind it. Out of memory, a part of them is left.
 #[tactic(auto, unfolding(crate::specs::Messages::LocateReply::locate_reply, giop_cdr::specs::Ending::leads, giop_cdr::specs::Ending::made_of, giop_cdr::specs::Ending::remainder), using(giop_cdr::proofs::Writing::WriterLemmas::grows_then, giop_cdr::proofs::Writing::WriterLemmas::grows_not))]
 fn append_reply(reply: &LocateReply, out: &mut CdrOut) -> Result<(), AllocError>
     requires { (locate_reply reply.now.head.version).fits reply.now ≡ true }

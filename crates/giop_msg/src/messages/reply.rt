@@ -1,3 +1,6 @@
+//! Reading a whole Reply (9.4.3): its head, and its body by its status. The layout is
+//! specs/Messages/Reply.antt. When out of memory a second pass without memory looks for a fault, so
+//! that a refusal doesn't depend on memory.
 #![tactic(auto, unfolding(crate::specs::Messages::Reply::reply, crate::specs::Messages::Reply::allowed, giop_cdr::specs::Ending::nothing, giop_cdr::specs::Ending::leads, giop_cdr::specs::Ending::made_of))]
 
 ghost use Rattle.std.specs.Prelude.{◌≡◌, ◌≤◌, ◌^◌, length, IfOk};
@@ -27,22 +30,27 @@ pub struct Reply {
     pub id: u32,
     /// The service contexts, in their order.
     pub contexts: ServiceContexts,
-    /// What is answered, of which the status is the number.
+    /// What is answered; its number is the status.
     pub body: ReplyBody,
 }
 
 impl Reply {
     /// The Reply to a Request of an interface that joined octets are, which are as for
-    /// `RequestHead::view`. The body is where that of a Request is, and by the status: 0 the
-    /// operation's outs, and none where the flags of the request are 1; 1 the id of an exception of
-    /// the interface and its members; 2 an id, a minor code and a completion; 3 and 4 a reference; 5
-    /// a short. Without a request, as where it could not be decoded, it is of status 2.
+    /// `RequestHead::view`. The body is where that of a Request is, and by the status:
     ///
-    /// Refused as the first field that is refused, in reading order: each as its own reader says; a
-    /// status or a completion that there isn't, and an id of an exception that the interface hasn't,
-    /// as BadLabel; a status other than 2 without a request as BadLabel at the end of the head; then
-    /// as Trailing at the first octet that is left; and as NoMemory at 12 where nothing is refused
-    /// and memory is wanting.
+    /// - 0: the operation's outs, and none where the flags of the request are 1
+    /// - 1: the id of an exception of the interface, and its members
+    /// - 2: an id, a minor code and a completion
+    /// - 3 and 4: a reference
+    /// - 5: a short
+    ///
+    /// Without a request, as where it could not be decoded, it is of status 2.
+    ///
+    /// Refused as the first field that is refused, in reading order, each as its own reader says. A
+    /// status or a completion that there isn't is BadLabel, and so is an id of an exception that
+    /// the interface hasn't. A status other than 2 without a request is BadLabel at the end of the
+    /// head. Octets that are left are Trailing at the first of them. It is NoMemory at 12 when out
+    /// of memory, where nothing is refused.
     pub fn decode<S: Octets>(
         alloc: Global,
         interface: &Interface,
@@ -52,7 +60,7 @@ impl Reply {
         order: Order,
     ) -> Result<Reply, CdrFault>
         requires { length (S.octets octets.now) ≤ 2 ^ 62 }
-        // What is answered is what the octets spell, and what they spell is answered.
+        // What is returned is what the octets spell, and what they spell is returned.
         ensures found { IfOk result (λ r.
             (reply interface.now (option_copied request.entry) version).spells order 12 r
             (S.octets octets.now)) }
@@ -70,8 +78,8 @@ impl Reply {
     }
 }
 
-// The Reply, in one pass where all goes well. Memory comes last: where it is wanting, a second pass
-// without memory looks for a fault.
+// Reads the Reply in one pass where all goes well. Out of memory is reported last: a second pass,
+// which takes no memory, looks for a fault first.
 fn decode_reply<S: Octets>(
     alloc: Global,
     interface: &Interface,
@@ -98,7 +106,7 @@ fn decode_reply<S: Octets>(
     }
 }
 
-// The head, and the body by its status.
+// Reads the head, and the body by its status.
 fn read_reply<S: Octets>(
     alloc: Global,
     interface: &Interface,
@@ -135,7 +143,8 @@ fn read_reply<S: Octets>(
     }
 }
 
-// The fault that `read_reply` answers where memory isn't wanting; none where it answers a Reply.
+// The fault of the octets that `read_reply` would report if memory were there; none where they are
+// a Reply.
 fn check_reply<S: Octets>(
     interface: &Interface,
     request: Option<&Request>,

@@ -1,3 +1,6 @@
+//! What a Reply says, by its status (CORBA 3.3 Part 2, 9.4.3.1). The bodies of the statuses are in
+//! specs/Messages/Reply.antt, and are read, checked and written in reply_reading.rt,
+//! reply_checking.rt and reply_body_writing.rt.
 use crate::messages::completion::Completion;
 use giop_cdr::OctetList;
 use giop_ior::Ior;
@@ -20,7 +23,7 @@ pub enum ReplyBody {
     SystemException {
         /// The repository id of the exception, without its null.
         id: OctetList,
-        /// What the vendor says more of it.
+        /// The vendor's minor code, which says more of the exception.
         minor: u32,
         /// Whether the operation was completed.
         completion: Completion,

@@ -1,4 +1,5 @@
-//! Writing the body of a Reply, by its kind.
+//! Writing the body of a Reply, by its kind, and the status of each kind (9.4.3.1). The layout is
+//! specs/Messages/Reply.antt, and reply_reading.rt reads it: change them together.
 #![tactic(auto, unfolding(crate::specs::Messages::Reply::completion, crate::specs::Messages::Reply::no_exception, crate::specs::Messages::Reply::user_exception, crate::specs::Messages::Reply::system_exception, crate::specs::Messages::Reply::forward, crate::specs::Messages::Reply::needs_addressing, crate::specs::Messages::Reply::reply_body, crate::specs::Messages::Body::values, giop_cdr::specs::Layout::field, giop_cdr::specs::Layout::such, giop_cdr::specs::Layout::number, giop_cdr::specs::Layout::signed, giop_cdr::specs::Layout::text, giop_cdr::specs::Layout::gives, giop_cdr::specs::Layout::chosen), using(giop_cdr::proofs::Writing::WriterLemmas::grows_then, giop_cdr::proofs::Writing::WriterLemmas::grows_not))]
 
 ghost use Rattle.std.specs.Prelude.{◌≡◌, true, map};
@@ -57,7 +58,7 @@ fn is_fitting_exception(interface: &Interface, id: &[u8], members: &[Value]) -> 
     is_text(id) && is_known(interface, id) && are_fitting(members_of(interface, id), members)
 }
 
-/// Whether octets spell a body: its values are of their descriptions, an exception of the interface
+/// Whether octets spell a body. Its values are of their descriptions, an exception of the interface
 /// is known, no null is in an id, and each text and list is short enough for its count.
 pub fn is_fitting_body(interface: &Interface, outs: &[Parameter], body: &ReplyBody) -> bool
     ensures { result ≡ (reply_body interface.now outs.now (status_of body.now)).fits body.now }
@@ -73,7 +74,7 @@ pub fn is_fitting_body(interface: &Interface, outs: &[Parameter], body: &ReplyBo
     }
 }
 
-// An exception of the interface: its id and its members.
+// Appends an exception of the interface: its id and its members.
 fn append_user_exception(
     interface: &Interface,
     id: &[u8],
@@ -89,7 +90,7 @@ fn append_user_exception(
     append_values(members_of(interface, id), members, out)
 }
 
-// An exception of the broker: its id, its minor code and the completion.
+// Appends an exception of the broker: its id, its minor code and the completion.
 fn append_system_exception(
     id: &[u8],
     minor: u32,
@@ -105,7 +106,7 @@ fn append_system_exception(
     out.write_ulong(completion_number(completion))
 }
 
-// The fields of a body, by its kind. Where memory is wanting a part of them is left.
+// Appends the fields of a body, by its kind. Out of memory, a part of them is left.
 fn append_fields(
     interface: &Interface,
     outs: &[Parameter],
@@ -131,7 +132,7 @@ fn append_fields(
     }
 }
 
-// The body from the next multiple of 8 on, and no padding where it takes no octets.
+// Appends the body from the next multiple of 8 on, and no padding where it takes no octets.
 #[tactic(auto, using(giop_cdr::proofs::Writing::WriterLemmas::grows_then, giop_cdr::proofs::Writing::WriterLemmas::grows_not))]
 fn append_aligned(
     interface: &Interface,
@@ -154,7 +155,7 @@ fn append_aligned(
     Ok(())
 }
 
-/// The body behind a head, where its version has it. Where memory is wanting a part of it is left.
+/// Appends the body behind a head, where its version has it. Out of memory, a part of it is left.
 #[tactic(auto, unfolding(crate::specs::Messages::Body::body_of, giop_cdr::specs::Ending::ended, giop_cdr::specs::Ending::from_multiple_of_8))]
 pub fn append_reply_body(
     version: Version,

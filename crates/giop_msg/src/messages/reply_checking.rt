@@ -1,4 +1,6 @@
-//! The body of a Reply passed over, without memory: it finds the fault that there is.
+//! The body of a Reply passed over without memory. When memory runs out while a Reply is read, this
+//! finds the fault that the octets have. It refuses what reply_reading.rt refuses, at the same
+//! places: change them together.
 #![tactic(auto, unfolding(crate::specs::Messages::Reply::no_exception, crate::specs::Messages::Reply::user_exception, crate::specs::Messages::Reply::system_exception, crate::specs::Messages::Reply::forward, crate::specs::Messages::Reply::needs_addressing, crate::specs::Messages::Reply::reply_body, crate::specs::Messages::Body::values, giop_cdr::specs::Layout::field, giop_cdr::specs::Layout::such, giop_cdr::specs::Layout::number, giop_cdr::specs::Layout::signed, giop_cdr::specs::Layout::text, giop_cdr::specs::Layout::gives, giop_cdr::specs::Layout::chosen, giop_cdr::specs::Reading::Values::such_at))]
 
 ghost use Rattle.std.specs.Prelude.{IfOk};
@@ -19,14 +21,15 @@ use giop_cdr::{CdrFault, CdrIn, CdrKind, Octets, OctetsAt};
 use giop_ior::view_ior;
 use giop_types::{Interface, Parameter};
 
-// The outs of an operation.
+// Passes over the outs of an operation.
 fn skip_no_exception<S: Octets>(outs: &[Parameter], input: &mut CdrIn<S>) -> Result<(), CdrFault>
     ensures { Skips result input.new ((no_exception outs.now).read input.old) }
 {
     skip_values(outs, input)
 }
 
-// The members of an exception that the interface has, by the id at which `input` stands.
+// Passes over an exception of the interface: its id, at which `input` is, and the members that it
+// has by that id.
 fn skip_user_exception<S: Octets>(
     interface: &Interface,
     input: &mut CdrIn<S>,
@@ -44,7 +47,7 @@ fn skip_user_exception<S: Octets>(
     skip_values(members.as_slice(), input)
 }
 
-// An exception of the broker.
+// Passes over an exception of the broker.
 fn skip_system_exception<S: Octets>(input: &mut CdrIn<S>) -> Result<(), CdrFault>
     ensures { Skips result input.new (system_exception.read input.old) }
 {
@@ -54,7 +57,7 @@ fn skip_system_exception<S: Octets>(input: &mut CdrIn<S>) -> Result<(), CdrFault
     Ok(())
 }
 
-// Where the object is, for this request.
+// Passes over a reference: where the object is, for this request.
 fn skip_forward<S: Octets>(input: &mut CdrIn<S>) -> Result<(), CdrFault>
     ensures { Skips result input.new ((forward (λ ior. Forward ior)).read input.old) }
 {
@@ -62,7 +65,7 @@ fn skip_forward<S: Octets>(input: &mut CdrIn<S>) -> Result<(), CdrFault>
     Ok(())
 }
 
-// Where the object is from now on.
+// Passes over a reference: where the object is from now on.
 fn skip_forward_perm<S: Octets>(input: &mut CdrIn<S>) -> Result<(), CdrFault>
     ensures { Skips result input.new ((forward (λ ior. ForwardPerm ior)).read input.old) }
 {
@@ -70,7 +73,7 @@ fn skip_forward_perm<S: Octets>(input: &mut CdrIn<S>) -> Result<(), CdrFault>
     Ok(())
 }
 
-// The disposition in which the target has to be addressed.
+// Passes over the disposition in which the target has to be addressed.
 fn skip_needs_addressing<S: Octets>(input: &mut CdrIn<S>) -> Result<(), CdrFault>
     ensures { Skips result input.new (needs_addressing.read input.old) }
 {
@@ -78,7 +81,7 @@ fn skip_needs_addressing<S: Octets>(input: &mut CdrIn<S>) -> Result<(), CdrFault
     Ok(())
 }
 
-// A body, by its status.
+// Passes over a body, by its status.
 fn skip_by_status<S: Octets>(
     interface: &Interface,
     outs: &[Parameter],
@@ -98,7 +101,7 @@ fn skip_by_status<S: Octets>(
     }
 }
 
-// A body, and nothing behind it.
+// Checks a body, and that nothing is behind it.
 #[tactic(auto, unfolding(giop_cdr::specs::Ending::ended))]
 fn check_last<S: Octets>(
     interface: &Interface,
@@ -119,7 +122,7 @@ fn check_last<S: Octets>(
     Ok(())
 }
 
-/// Checks the body behind a head, which `input` stands at the end of, by the status of the head.
+/// Checks the body behind a head, by the status of the head. `input` is at the end of that head.
 #[tactic(auto, using(crate::proofs::WholeMessages::BodyLemmas::body_read))]
 pub fn check_reply_body<S: Octets>(
     version: Version,

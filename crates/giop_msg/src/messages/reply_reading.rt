@@ -1,4 +1,5 @@
-//! Reading the body of a Reply, by its status.
+//! Reading the body of a Reply, by its status (9.4.3.1). The layout is specs/Messages/Reply.antt;
+//! reply_checking.rt refuses the same octets without memory: change them together.
 #![tactic(auto, unfolding(crate::specs::Messages::Reply::completion, crate::specs::Messages::Reply::no_exception, crate::specs::Messages::Reply::user_exception, crate::specs::Messages::Reply::system_exception, crate::specs::Messages::Reply::forward, crate::specs::Messages::Reply::needs_addressing, crate::specs::Messages::Reply::reply_body, crate::specs::Messages::Body::values, giop_cdr::specs::Layout::field, giop_cdr::specs::Layout::such, giop_cdr::specs::Layout::number, giop_cdr::specs::Layout::signed, giop_cdr::specs::Layout::text, giop_cdr::specs::Layout::gives, giop_cdr::specs::Layout::chosen, giop_cdr::specs::Reading::Values::such_at))]
 
 ghost use Rattle.std.specs.Prelude.{◌≡◌, Some};
@@ -22,7 +23,7 @@ use giop_ior::read_ior;
 use giop_types::{Interface, Parameter};
 use std::alloc::Global;
 
-// The outs of an operation.
+// Reads the outs of an operation.
 fn read_no_exception<S: Octets>(
     alloc: Global,
     outs: &[Parameter],
@@ -36,7 +37,7 @@ fn read_no_exception<S: Octets>(
     }
 }
 
-/// Whether the operation was completed.
+/// Reads whether the operation was completed.
 pub fn read_completion<S: Octets>(input: &mut CdrIn<S>) -> Result<Completion, CdrFault>
     ensures { Exactly result input.new (completion.read input.old) }
 {
@@ -52,7 +53,7 @@ pub fn read_completion<S: Octets>(input: &mut CdrIn<S>) -> Result<Completion, Cd
     }
 }
 
-// An exception of the broker.
+// Reads an exception of the broker.
 fn read_system_exception<S: Octets>(
     alloc: Global,
     input: &mut CdrIn<S>,
@@ -72,7 +73,7 @@ fn read_system_exception<S: Octets>(
     })
 }
 
-// The disposition in which the target has to be addressed.
+// Reads the disposition in which the target has to be addressed.
 fn read_needs_addressing<S: Octets>(input: &mut CdrIn<S>) -> Result<ReplyBody, CdrFault>
     ensures { Follows (λ body. body) result input.new (needs_addressing.read input.old) }
 {
@@ -80,7 +81,7 @@ fn read_needs_addressing<S: Octets>(input: &mut CdrIn<S>) -> Result<ReplyBody, C
     Ok(ReplyBody::NeedsAddressing(disposition))
 }
 
-// Where the object is, for this request.
+// Reads a reference: where the object is, for this request.
 fn read_forward<S: Octets>(alloc: Global, input: &mut CdrIn<S>) -> Result<ReplyBody, CdrFault>
     ensures { Follows (λ body. body) result input.new
         ((forward (λ ior. Forward ior)).read input.old) }
@@ -89,7 +90,7 @@ fn read_forward<S: Octets>(alloc: Global, input: &mut CdrIn<S>) -> Result<ReplyB
     Ok(ReplyBody::Forward(ior))
 }
 
-// Where the object is from now on.
+// Reads a reference: where the object is from now on.
 fn read_forward_perm<S: Octets>(alloc: Global, input: &mut CdrIn<S>) -> Result<ReplyBody, CdrFault>
     ensures { Follows (λ body. body) result input.new
         ((forward (λ ior. ForwardPerm ior)).read input.old) }
@@ -98,7 +99,7 @@ fn read_forward_perm<S: Octets>(alloc: Global, input: &mut CdrIn<S>) -> Result<R
     Ok(ReplyBody::ForwardPerm(ior))
 }
 
-// The id of an exception that the interface has.
+// Reads the id of an exception, which the interface must have.
 fn read_exception_id<S: Octets>(
     alloc: Global,
     interface: &Interface,
@@ -141,7 +142,7 @@ pub fn members_of<'a>(interface: &'a Interface, id: &[u8]) -> &'a [Parameter]
     }
 }
 
-// An exception of the interface: its id, and its members.
+// Reads an exception of the interface: its id, and its members.
 fn read_user_exception<S: Octets>(
     alloc: Global,
     interface: &Interface,
@@ -160,7 +161,7 @@ fn read_user_exception<S: Octets>(
     }
 }
 
-// A body, by its status.
+// Reads a body, by its status.
 fn read_by_status<S: Octets>(
     alloc: Global,
     interface: &Interface,
@@ -181,7 +182,7 @@ fn read_by_status<S: Octets>(
     }
 }
 
-// A body, and nothing behind it.
+// Reads a body, and refuses what is left behind it.
 #[tactic(auto, unfolding(giop_cdr::specs::Ending::ended))]
 fn read_last<S: Octets>(
     alloc: Global,
@@ -206,7 +207,7 @@ fn read_last<S: Octets>(
     Ok(body)
 }
 
-/// The body behind a head, which `input` stands at the end of, by the status of the head.
+/// Reads the body behind a head, by the status of the head. `input` is at the end of that head.
 #[tactic(auto, using(crate::proofs::WholeMessages::BodyLemmas::body_read))]
 pub fn read_reply_body<S: Octets>(
     alloc: Global,
@@ -223,8 +224,8 @@ pub fn read_reply_body<S: Octets>(
     read_last(alloc, interface, outs, status, input)
 }
 
-/// The outs that a reply to a request brings where there is no exception: none where the flags of
-/// the request are 1, or where it could not be decoded.
+/// The outs that a reply to a request has where there is no exception: none where the flags of the
+/// request are 1, or where it could not be decoded.
 pub fn outs_for<'a>(interface: &'a Interface, request: Option<&Request>) -> &'a [Parameter]
     ensures { result.now ≡ outs_for interface.now (option_copied request.entry) }
 {
@@ -247,7 +248,8 @@ fn outs_of<'a>(interface: &'a Interface, request: &Request) -> &'a [Parameter]
     }
 }
 
-/// Whether a status answers a request: to one that could not be decoded SYSTEM_EXCEPTION alone does.
+/// Whether a reply of this status may answer a request: one that could not be decoded is answered
+/// by SYSTEM_EXCEPTION alone.
 pub fn may_answer(request: Option<&Request>, status: u32) -> bool
     ensures { result ≡ may_answer (option_copied request.entry) status }
 {

@@ -1,3 +1,5 @@
+//! Writing a whole Reply (9.4.3). The layout is specs/Messages/Reply.antt, and reply.rt reads it:
+//! change them together.
 ghost use Rattle.std.specs.Prelude.{◌≡◌, ◌↔◌, false, true, ℕ, List, IfOk, IsErrOf};
 ghost use Rattle.std.specs.Option.{option_copied};
 ghost use Rattle.giop_cdr.specs.declared.order.Order.{Order};
@@ -18,11 +20,12 @@ use std::alloc::{AllocError, Global};
 
 impl Reply {
     /// Whether octets spell the Reply to a Request of an interface in its version, which has its
-    /// status: the outs are as many as the operation's, or none where the flags of the request are
-    /// 1, and each is of its description; an exception of the interface is known, and so are its
-    /// members; no null is in an id, and each text and list is short enough for its count. Without
-    /// a request, as where it could not be decoded, a system exception alone is. It takes no
-    /// memory.
+    /// status.
+    ///
+    /// The outs are as many as the operation's, or none where the flags of the request are 1, and
+    /// each is of its description. An exception of the interface is known, and so are its members.
+    /// No null is in an id, and each text and list is short enough for its count. Without a
+    /// request, as where it could not be decoded, a system exception alone is. It takes no memory.
     pub fn is_writable(&self, interface: &Interface, request: Option<&Request>) -> bool
         ensures { result ≡ (reply interface.now (option_copied request.entry)
             self.now.version).fits self.now }
@@ -30,7 +33,8 @@ impl Reply {
         self.is_writable_by(interface, request, outs_for(interface, request))
     }
 
-    // The same by the outs that the request expects, which are looked up once.
+    // Whether octets spell the Reply, as `is_writable`, by the outs that the request expects. The
+    // caller looks these up once.
     fn is_writable_by(
         &self,
         interface: &Interface,
@@ -49,12 +53,12 @@ impl Reply {
             && is_fitting_body(interface, outs, &self.body)
     }
 
-    /// The joined octets of the Reply to a Request of an interface, in an order: its head, and its
-    /// body by its status, padded with zeros. In 1.2 a body that has octets begins at a multiple of
-    /// 8, and an empty one is written without padding.
+    /// The joined octets of the Reply to a Request of an interface, in a byte order: its head, and
+    /// its body by its status, padded with zeros. In 1.2 a body that has octets begins at a
+    /// multiple of 8, and an empty one is written without padding.
     ///
     /// Refused as Unfit where `is_writable` is false, and then no octets spell it; else as NoMemory
-    /// where memory is wanting.
+    /// when out of memory.
     #[tactic(auto, using(crate::proofs::WholeMessages::ReplyWritingLemmas::reply_unspelled))]
     pub fn encode(
         &self,
@@ -89,7 +93,7 @@ impl Reply {
     }
 }
 
-// The head, and the body behind it. Where memory is wanting a part of them is left.
+// Appends the head, and the body behind it. Out of memory, a part of them is left.
 #[tactic(auto, using(giop_cdr::proofs::Writing::WriterLemmas::grows_then, giop_cdr::proofs::Writing::WriterLemmas::grows_not))]
 fn append_reply(
     answer: &Reply,

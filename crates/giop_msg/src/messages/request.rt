@@ -1,3 +1,6 @@
+//! Reading a whole Request (9.4.2): its head, and its body by its operation. The layout is
+//! specs/Messages/Request.antt. When out of memory a second pass without memory looks for a fault,
+//! so that a refusal doesn't depend on memory.
 ghost use Rattle.std.specs.Prelude.{◌≡◌, ◌≤◌, ◌^◌, length, IfOk, IfNone, IfSome};
 ghost use Rattle.giop_msg.specs.Messages.Outcome.{Checks};
 ghost use Rattle.giop_msg.specs.Messages.Request.{request};
@@ -23,15 +26,19 @@ pub struct Request {
 
 impl Request {
     /// The Request of an interface that joined octets are, which are as for `RequestHead::view`.
-    /// The body is that of the operation's ins, behind the head: in 1.2 from the first multiple of
-    /// 8 at or past its end on, where octets before that are padding, whether all of them are there
-    /// or not; before 1.2 at its end.
+    /// The body is that of the operation's ins, behind the head. In 1.2 it is from the first
+    /// multiple of 8 at or past the end of the head on, where octets before that are padding,
+    /// whether all of them are there or not; before 1.2 it is at that end.
     ///
-    /// Refused by the first that holds: as Header at the first field of the head that is refused;
-    /// as Operation where the interface hasn't the operation; as Body at the first field of the
-    /// ins that is refused, in reading order, or as Trailing at the first octet that is left behind
-    /// them. Where nothing is refused and memory is wanting for the head or for the body, it is
-    /// NoMemory at 12 of that part.
+    /// Refused by the first of these that holds:
+    ///
+    /// - Header: at the first field of the head that is refused
+    /// - Operation: the interface hasn't the operation
+    /// - Body: at the first field of the ins that is refused, in reading order, or as Trailing at
+    ///   the first octet that is left behind them
+    ///
+    /// When out of memory for the head or for the body, and nothing is refused, it is NoMemory at
+    /// 12 of that part.
     pub fn decode<S: Octets>(
         alloc: Global,
         interface: &Interface,
@@ -40,7 +47,7 @@ impl Request {
         order: Order,
     ) -> Result<Request, RequestFault>
         requires { length (S.octets octets.now) ≤ 2 ^ 62 }
-        // What is answered is what the octets spell, and what they spell is answered.
+        // What is returned is what the octets spell, and what they spell is returned.
         ensures found { IfOk result (λ q.
             (request interface.now version).spells order 12 q (S.octets octets.now)) }
         ensures only { (q : _)
@@ -55,8 +62,8 @@ impl Request {
     }
 }
 
-// The Request, in one pass where all goes well. Memory comes last: where it is wanting, a second pass
-// without memory looks for a fault.
+// Reads the Request in one pass where all goes well. Out of memory is reported last: a second pass,
+// which takes no memory, looks for a fault first.
 fn decode_request<S: Octets>(
     alloc: Global,
     interface: &Interface,
@@ -79,7 +86,7 @@ fn decode_request<S: Octets>(
     Err(want)
 }
 
-// Want of memory as it is told, where a fault is that.
+// Out of memory as it is reported, at offset 12, where a fault is that; else None.
 fn want_of(fault: RequestFault) -> Option<RequestFault>
     ensures some { IfSome result IsWholeWant }
     ensures none { IfNone result (IsWant fault → ⊥) }
@@ -95,7 +102,7 @@ fn want_of(fault: RequestFault) -> Option<RequestFault>
     }
 }
 
-// The head, its operation, and the body of that.
+// Reads the head, finds its operation, and reads the body by that.
 #[tactic(auto, unfolding(crate::specs::Messages::Request::request_body, crate::specs::Messages::RequestAnswer::request_of_joined, giop_cdr::specs::Ending::made_of))]
 fn read_request<S: Octets>(
     alloc: Global,
@@ -109,7 +116,8 @@ fn read_request<S: Octets>(
         (request_of_joined interface.now version order (S.octets octets.now)) }
 {
     let mut input = CdrIn::new(octets, order, 12);
-    // Copied where it lies: a head is large, and a move of it costs as much as a part of its reading.
+    // Copied where it lies: a head is large, and a move of it costs as much as a part of its
+    // reading.
     let head = match &view_head(version, &mut input) {
         Ok(head) => head.to_owned(alloc),
         Err(fault) => return Err(RequestFault::Header(*fault)),
@@ -126,7 +134,8 @@ fn read_request<S: Octets>(
     }
 }
 
-// The fault that `read_request` answers where memory isn't wanting; none where it answers a Request.
+// The fault of the octets that `read_request` would report if memory were there; none where they
+// are a Request.
 #[tactic(auto, unfolding(crate::specs::Messages::Request::request_body, crate::specs::Messages::RequestAnswer::request_of_joined, giop_cdr::specs::Ending::made_of))]
 fn check_request<S: Octets>(
     interface: &Interface,

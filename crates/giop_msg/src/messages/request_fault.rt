@@ -1,7 +1,9 @@
+//! Why joined octets are no Request (9.4.2), and in which part of it the fault is. The order of the
+//! parts is specs/Messages/RequestAnswer.antt.
 use giop_cdr::CdrFault;
 
 /// Why joined octets are no Request of an interface. The first that holds, in reading order, is
-/// told.
+/// returned.
 #[derive(Clone, Copy, Debug, PartialEq, Eq)]
 pub enum RequestFault {
     /// A field of the head is refused.

@@ -1,3 +1,5 @@
+//! Writing a whole Request (9.4.2). The layout is specs/Messages/Request.antt, and request.rt reads
+//! it: change them together.
 ghost use Rattle.std.specs.Prelude.{◌≡◌, ◌↔◌, false, true, ℕ, List, IfOk, IsErrOf};
 ghost use Rattle.giop_cdr.specs.declared.order.Order.{Order};
 ghost use Rattle.giop_cdr.specs.Layout.{AreOctets};
@@ -14,7 +16,7 @@ use giop_types::Interface;
 use std::alloc::{AllocError, Global};
 
 impl Request {
-    /// Whether octets spell the Request in its version: its head is writable, the interface has its
+    /// Whether octets spell the Request in its version. Its head is writable, the interface has its
     /// operation, and there are as many values as ins, each of its description. It takes no memory.
     pub fn is_writable(&self, interface: &Interface) -> bool
         ensures { result ≡ (request interface.now self.now.head.version).fits self.now }
@@ -25,12 +27,12 @@ impl Request {
         self.head.is_writable() && are_fitting(operation.ins.as_slice(), self.body.as_slice())
     }
 
-    /// The joined octets of the Request, in an order: its head and its body, padded with zeros. In
-    /// 1.2 a body that has octets begins at a multiple of 8, and an empty one is written without
+    /// The joined octets of the Request, in a byte order: its head and its body, padded with zeros.
+    /// In 1.2 a body that has octets begins at a multiple of 8, and an empty one is written without
     /// padding.
     ///
     /// Refused as Unfit where `is_writable` is false, and then no octets spell it; else as NoMemory
-    /// where memory is wanting.
+    /// when out of memory.
     #[tactic(auto, using(crate::proofs::WholeMessages::RequestLemmas::request_unspelled))]
     pub fn encode(
         &self,
@@ -61,7 +63,7 @@ impl Request {
     }
 }
 
-// The head, and the body behind it. Where memory is wanting a part of them is left.
+// Appends the head, and the body behind it. Out of memory, a part of them is left.
 #[tactic(auto, using(giop_cdr::proofs::Writing::WriterLemmas::grows_then, giop_cdr::proofs::Writing::WriterLemmas::grows_not))]
 fn append_request(q: &Request, interface: &Interface, out: &mut CdrOut) -> Result<(), AllocError>
     requires { (request interface.now q.now.head.version).fits q.now ≡ true }

@@ -1,4 +1,4 @@
--- What reading a value of a shape answers: the value and the cursor behind it, or the first fault
+-- What reading a value of a shape returns: the value and the cursor behind it, or the first fault
 -- (CORBA 3.3 Part 2, 9.3.2 constructed types).
 use Rattle.std.specs.Prelude.{ℕ, ℤ, pos, nat_lt, Bool, if◌then◌else◌, List, [], ◌∷◌, length, Ok, Err}
 use Rattle.std.specs.List.{list_any}
@@ -51,7 +51,7 @@ bounded_at item bound c = do
 abbrev pub is_label : ℤ → List ℤ → Bool
 is_label label ls = list_any (λ l. int_eq l label) ls
 
--- what reading answers at a cursor, shape by shape as `Spells` says what is spelled and
+-- what reading returns at a cursor, shape by shape as `Spells` says what is spelled and
 -- `RefusedShape` what is refused; that it is exact is the law `values_are_spelled`
 unfoldable mutual
   pub decode_at : Shape → Cursor → Reading Tree

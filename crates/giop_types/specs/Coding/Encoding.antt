@@ -5,15 +5,15 @@ use Rattle.giop_cdr.specs.declared.encode_fault.EncodeFault.TheVariants.{Unfit}
 use Rattle.giop_cdr.specs.Writing.Output.{Output}
 use Rattle.giop_cdr.specs.Writing.Outcome.{Grows}
 
--- a step of a longer writing: what is written of a value that fits; where it answers Unfit the
--- value doesn't fit; where it fails, a part of it may stand
+-- a step of a longer writing: what is written of a value that fits; where it returns Unfit the
+-- value doesn't fit; where it fails, a part of it may be left
 abbrev pub AppendsFitting : {X : Type 0} → Bool → Output → Result X EncodeFault → Output → Output
     → Type 0
 AppendsFitting fit old (Ok _) new done = (fit ≡ true) × (new ≡ done) × Grows old new
 AppendsFitting fit old (Err e) new done = (e ≡ Unfit → fit ≡ false) × Grows old new
 
--- the same of a union's member: one was written by a case, or no case has the label, and what fits
--- and what is written is as by default
+-- a step that writes a union's member: it was written by a case, or no case has the label, and what
+-- fits and what is written is as by default
 abbrev pub AppendsCase : Bool → Bool → Output → Result Bool EncodeFault → Output → Output → Output
     → Type 0
 AppendsCase fit other old (Ok true) new done more = (fit ≡ true) × (new ≡ done) × Grows old new

@@ -27,24 +27,24 @@ abbrev pub one_or_none : Option Value → List Tree
 one_or_none (Some v) = value_view v ∷ []
 one_or_none None = []
 
--- a union's value was made of its discriminant and its member, or memory is wanting
+-- a union's value was made of its discriminant and its member, or it is out of memory
 abbrev pub MakesChoice : ℤ → List Tree → Result Value CdrFault → Type 0
 MakesChoice label ts (Ok v) = value_view v ≡ choice_of label (trees_of ts)
 MakesChoice label ts (Err e) = e.kind ≡ NoMemory
 
--- a value was read, or refused so, or memory is wanting where nothing is refused, which is told
--- where the reader stands; a refusal leaves the reader
+-- a value was read, or refused so, or, where nothing is refused, reading is out of memory, which is
+-- reported where the reader is; a refusal leaves the reader where it was
 abbrev pub Decodes : Cursor → Result Value CdrFault → Cursor → Reading Tree → Type 0
 Decodes old (Ok v) new reading = reading ≡ Ok (value_view v, new)
 Decodes old (Err e) new reading =
     ((reading ≡ Err e) ⊎ ((e ≡ fault old.at NoMemory) × IsOk reading)) × (new ≡ old)
 
--- this value is the answer and the reader stands behind it, unless memory is wanting
+-- this value is returned and the reader is behind it, or reading is out of memory
 abbrev pub IsDecoded : Result Value CdrFault → Cursor → Tree → Cursor → Type 0
 IsDecoded (Ok v) new t after = (value_view v ≡ t) × (new ≡ after)
 IsDecoded (Err e) new t after = e.kind ≡ NoMemory
 
--- what was written of a value is read as that value, unless memory is wanting
+-- what was written of a value is read as that value, or reading is out of memory
 abbrev pub GivesBack : Tree → Result Value CdrFault → Type 0
 GivesBack t (Ok v) = value_view v ≡ t
 GivesBack t (Err e) = e.kind ≡ NoMemory

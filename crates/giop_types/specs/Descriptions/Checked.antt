@@ -148,7 +148,7 @@ unfoldable mutual
   branches_fault depth (branch ls name s bs) =
       option_or (desc_fault depth s) (branches_fault depth bs)
 
--- what a check answers where this fault is there, or none
+-- what a check returns where this fault is there, or none
 abbrev pub Tells : {A : Type 0} → Result A DescFault → Option DescFault → Type 0
 Tells (Ok x) fault = fault ≡ None
 Tells (Err e) fault = fault ≡ Some e

@@ -1,4 +1,4 @@
--- How faults of descriptions are told: their numbers, and their names.
+-- How faults of descriptions are reported: their numbers, and their names.
 use Rattle.std.specs.Prelude.{ℕ, List, codes}
 use Rattle.giop_types.specs.declared.description.desc_fault.DescFault.{DescFault}
 use Rattle.giop_types.specs.declared.description.desc_fault.DescFault.TheVariants.{Empty, Doubled, BadDiscriminant, TooDeep}

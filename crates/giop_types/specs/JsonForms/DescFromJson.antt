@@ -48,7 +48,7 @@ abbrev pub triple_in : json.Items → Option (json.Data × json.Data × json.Dat
 triple_in (json.item a (json.item b (json.item c json.no_items))) = Some (a, b, c)
 triple_in _ = None
 
--- what is told under a key, where it is there, and else what is told without it
+-- what JSON says under a key, where it is there, and else what it says without the key
 abbrev pub by_key : {A B : Type 0} → Option A → (A → Option B) → Option B → Option B
 by_key (Some part) told other = told part
 by_key None told other = other
@@ -177,7 +177,7 @@ abbrev pub judged : {A : Type 0} → A → Option DescFault → Result A FormFau
 judged x None = Ok x
 judged x (Some fault) = Err (BadDesc fault)
 
--- what a JSON value describes: another form is told before what is wrong with a description
+-- what a JSON value describes: another form is reported before what is wrong with a description
 abbrev pub described : Option Shape → Result Shape FormFault
 described None = Err BadShape
 described (Some s) = judged s (desc_fault 1 s)

@@ -114,7 +114,7 @@ abbrev pub both_parts : json.Data → Option (json.Data × json.Data)
 both_parts d = option_and_then
     (λ label. option_map (λ member. (label, member)) (get (codes "value") d)) (get (codes "disc") d)
 
--- the same, in an object of these two
+-- the discriminant and the member of a union, in an object of these two
 abbrev pub union_parts : json.Data → Option (json.Data × json.Data)
 union_parts d = in_object 2 both_parts d
 
@@ -174,9 +174,9 @@ unfoldable mutual
 abbrev pub members_shown : Fields → json.Data → Option (List Tree)
 members_shown fs d = in_object (field_count fs) (fields_shown fs) d
 
--- ---- what reading answers
+-- ---- what reading returns
 
--- a value of this form was made, or none is there, or memory is wanting
+-- a value of this form was made, or none is there, or it is out of memory
 abbrev pub Shows : {A B : Type 0} → (A → B) → Result A FormFault → Option B → Type 0
 Shows view (Ok x) form = form ≡ Some (view x)
 Shows view (Err e) form = ((e ≡ BadShape) × (form ≡ None)) ⊎ (e ≡ NoMemory)
@@ -193,17 +193,17 @@ abbrev pub fitting : Shape → Option Tree → Result Tree FormFault
 fitting s None = Err BadShape
 fitting s (Some t) = if fits s t then Ok t else Err Unfit
 
--- the value of a description that a JSON value is: another form is told before a value that is
--- unfit
+-- the value of a description that a JSON value is: another form is reported before a value that
+-- is unfit
 abbrev pub from_data : Shape → json.Data → Result Tree FormFault
 from_data s d = fitting s (shown s d)
 
--- what was made is the answer, or its refusal was told, or memory is wanting
+-- what was made is the answer, or its refusal was returned, or it is out of memory
 abbrev pub Reads : {A B : Type 0} → (A → B) → Result A FormFault → Result B FormFault → Type 0
 Reads view (Ok x) answer = answer ≡ Ok (view x)
 Reads view (Err e) answer = (answer ≡ Err e) ⊎ (e ≡ NoMemory)
 
--- what was written of a value is read as that value, unless memory is wanting
+-- what was written of a value is read as that value, or reading is out of memory
 abbrev pub ReadsBack : Tree → Result Value FormFault → Type 0
 ReadsBack t (Ok v) = value_view v ≡ t
 ReadsBack t (Err e) = e ≡ NoMemory

@@ -159,11 +159,11 @@ abbrev pub first_fault : {A : Type 0} → (A → Option DescFault) → List A �
 first_fault fault [] = None
 first_fault fault (x ∷ xs) = option_or (fault x) (first_fault fault xs)
 
--- the same of parameters, by their descriptions
+-- what is wrong with the first description of parameters with which something is
 abbrev pub parameters_fault : List Named → Option DescFault
 parameters_fault ms = first_fault (λ m. desc_fault 1 m.shape) ms
 
--- the same of an operation: its ins are judged before its outs
+-- what is wrong with the first description of an operation: its ins are judged before its outs
 abbrev pub signature_fault : Signature → Option DescFault
 signature_fault s = option_or (parameters_fault s.ins) (parameters_fault s.outs)
 
@@ -196,7 +196,8 @@ abbrev pub judged_offer : Offer → Result Offer FormFault
 judged_offer o =
     behind_operations (judged_table signature_fault o.operations) o.exceptions
 
--- the interface that a JSON value is: another form is told before what is wrong with a description
+-- the interface that a JSON value is: another form is reported before what is wrong with a
+-- description
 abbrev pub offered : Option Offer → Result Offer FormFault
 offered None = Err BadShape
 offered (Some o) = judged_offer o

@@ -1,4 +1,4 @@
--- Which values are the same: what `==` answers.
+-- Which values are the same: what `==` returns.
 use Rattle.std.specs.Prelude.{◌==◌, ◌&&◌, nat_eq, not, Bool, true, false, List}
 use Rattle.std.specs.Ordering.{int_eq, on}
 use Rattle.std.specs.Cmp.Lexicographic.{pointwise}
@@ -8,7 +8,7 @@ use Rattle.giop_types.specs.Values.Tree.{longlong_of, ulonglong_of, text_of, oct
 use Rattle.giop_types.specs.Values.Tree.{choice_of, items_of, row_of, Trees, no_trees, tree}
 use Rattle.giop_types.specs.Values.Views.{value_view}
 
--- the same truth
+-- whether two booleans are the same
 abbrev pub same_bool : Bool → Bool → Bool
 same_bool true b = b
 same_bool false b = not b
@@ -40,10 +40,10 @@ unfoldable mutual
   same_trees (tree t ts) (tree u us) = same_tree t u && same_trees ts us
   same_trees _ _ = false
 
--- what `==` answers of two values
+-- what `==` returns of two values
 abbrev pub same_value : Value → Value → Bool
 same_value = on value_view same_tree
 
--- what `==` answers of two lists of values: as many, each the same
+-- what `==` returns of two lists of values: as many, each the same
 abbrev pub same_list : List Tree → List Tree → Bool
 same_list = pointwise same_tree

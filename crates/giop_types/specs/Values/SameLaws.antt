@@ -1,4 +1,4 @@
--- That `==` answers whether two values are the same, and so is an equivalence.
+-- That `==` returns whether two values are the same, and so is an equivalence.
 use Rattle.std.proofs.Common.{◌≡◌, Bool, true, false, List, refl, ap, ◌∙◌}
 use Rattle.std.proofs.lemmas.Bool.{and_parts, false≢true}
 use Rattle.std.proofs.lemmas.Bool.Decides.{Decides-eqb, Decides-int_eq}

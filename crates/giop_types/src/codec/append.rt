@@ -1,4 +1,6 @@
-//! Writing a value in one pass, as far as it fits and memory is there.
+//! Writing a value in one pass, as far as it fits and memory is there: `encode` without its
+//! checkpoint. The octets are specs/Coding/Written.antt, and what fits is specs/Values/Fits.antt. A
+//! new kind of value takes a case in both.
 ghost use Rattle.std.specs.Prelude.{◌≡◌, ◌==◌, ◌&&◌, true, nat_lt, length, map};
 ghost use Rattle.std.specs.List.{list_all};
 ghost use Rattle.std.specs.Int.{w32};
@@ -16,7 +18,7 @@ use crate::description::desc::{CaseDesc, Desc, NamedDesc};
 use crate::value::Value;
 use giop_cdr::{CdrOut, EncodeFault};
 
-/// Appends a value. Where it doesn't fit, or memory is wanting, a part of it may be left.
+/// Appends a value. Where it doesn't fit, or out of memory, a part of it may be left.
 #[cycle(append)]
 #[tactic(auto, unfolding(crate::specs::Values::Fits::fits, crate::specs::Coding::Written::value_out))]
 pub fn append(out: &mut CdrOut, desc: &Desc, value: &Value) -> Result<(), EncodeFault>
@@ -57,7 +59,7 @@ pub fn append(out: &mut CdrOut, desc: &Desc, value: &Value) -> Result<(), Encode
     }
 }
 
-// A value within which no other stands.
+// A value that holds no other value.
 #[tactic(auto, unfolding(crate::specs::Values::Fits::fits, crate::specs::Coding::Written::value_out))]
 fn append_leaf(out: &mut CdrOut, desc: &Desc, value: &Value) -> Result<(), EncodeFault>
     requires { is_leaf (desc_view desc.now) ≡ true }
@@ -116,7 +118,7 @@ fn append_primitives(out: &mut CdrOut, item: &Desc, values: &[Value]) -> Result<
     Ok(())
 }
 
-// A value within another: a number, a char or a boolean without a call.
+// A value within another. A number, a char or a boolean is written without a call.
 #[cycle(append)]
 #[inline(always)]
 fn append_part(out: &mut CdrOut, desc: &Desc, value: &Value) -> Result<(), EncodeFault>
@@ -129,7 +131,7 @@ fn append_part(out: &mut CdrOut, desc: &Desc, value: &Value) -> Result<(), Encod
     append(out, desc, value)
 }
 
-// A text within its bound.
+// A text within its bound; one that has a null is Unfit too.
 fn append_text(out: &mut CdrOut, bound: u32, text: &[u8]) -> Result<(), EncodeFault>
     ensures { AppendsFitting (is_text_of bound text.now)
         out.old result out.new (string_out text.now out.old) }
@@ -220,7 +222,7 @@ fn append_members(
     Ok(())
 }
 
-// The values of a sequence within its bound, behind their count.
+// The values of a sequence within its bound, after their count.
 #[cycle(append)]
 #[tactic(auto, unfolding(giop_cdr::specs::Writing::Output::sequence_out))]
 fn append_items(
@@ -239,7 +241,7 @@ fn append_items(
     append_each(out, item, values)
 }
 
-// The values of an array of so many.
+// The values of an array, which has `n` of them.
 #[cycle(append)]
 fn append_row(out: &mut CdrOut, item: &Desc, n: u32, values: &[Value]) -> Result<(), EncodeFault>
     ensures { AppendsFitting
@@ -270,7 +272,8 @@ fn append_each(out: &mut CdrOut, item: &Desc, values: &[Value]) -> Result<(), En
     Ok(())
 }
 
-// The member of a union that the label selects by a case, and tells whether one does.
+// Appends the member of a union that the label selects by a case. Returns whether a case has the
+// label.
 #[cycle(append)]
 fn append_case(
     out: &mut CdrOut,

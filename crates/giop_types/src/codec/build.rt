@@ -1,4 +1,6 @@
-//! Reading a value in one pass, as long as memory is there.
+//! Reading a value in one pass, as long as memory is there. The value and the fault are
+//! specs/Coding/Decoding.antt; skip.rt refuses the same octets without memory, so change them
+//! together.
 ghost use Rattle.std.specs.Prelude.{◌≡◌, ◌≤◌, ◌/◌, true, min, length, map, [], IfOk};
 ghost use Rattle.std.specs.Vec.{vec_capacity};
 ghost use Rattle.giop_cdr.specs.Reading.Values.{items_at};
@@ -15,7 +17,7 @@ use crate::value::Value;
 use giop_cdr::{CdrFault, CdrIn, CdrKind, Octets};
 use std::alloc::{AllocError, Global};
 
-/// A value.
+/// Reads a value of a description, one part after the other.
 #[cycle(build)]
 #[tactic(auto, unfolding(crate::specs::Coding::Decoding::decode_at))]
 pub fn build<S: Octets>(alloc: Global, desc: &Desc, input: &mut CdrIn<S>) -> Result<Value, CdrFault>
@@ -41,7 +43,7 @@ pub fn build<S: Octets>(alloc: Global, desc: &Desc, input: &mut CdrIn<S>) -> Res
     }
 }
 
-/// The same, a number, a char or a boolean without a call.
+/// Reads a value as `build` does. A number, a char or a boolean is read without a call.
 #[cycle(build)]
 #[inline(always)]
 pub fn build_part<S: Octets>(
@@ -57,7 +59,7 @@ pub fn build_part<S: Octets>(
     build(alloc, desc, input)
 }
 
-// Want of memory, told here.
+// Out of memory, reported where the reader is.
 fn wanting<S: Octets>(input: &CdrIn<S>) -> CdrFault
     ensures { result.kind ≡ CdrKind.NoMemory }
 {
@@ -182,8 +184,9 @@ fn build_row<S: Octets>(
     build_counted(alloc, item, count, input)
 }
 
-// Room for values of which so many are claimed: for one in eight octets that are left at most,
-// since a value takes many more octets in memory than on the wire. The rest is made as they come.
+// Room for values of which a message claims so many. It is room for one value in eight octets that
+// are left at most, since a value takes many more octets in memory than on the wire. More room is
+// made as values come.
 fn room<S: Octets>(alloc: Global, count: usize, input: &CdrIn<S>) -> Result<Vec<Value>, AllocError>
     requires { count ≤ length input.now.rest }
     ensures none { IfOk result (λ values. values.items ≡ []) }
@@ -193,7 +196,7 @@ fn room<S: Octets>(alloc: Global, count: usize, input: &CdrIn<S>) -> Result<Vec<
     Vec::with_capacity(alloc, count.min(input.remaining() / 8))
 }
 
-// As many numbers, chars or booleans, without a call for each.
+// Reads `count` numbers, chars or booleans, without a call for each.
 fn build_primitives<S: Octets>(
     alloc: Global,
     item: &Desc,
@@ -218,7 +221,7 @@ fn build_primitives<S: Octets>(
     Ok(values)
 }
 
-// As many values.
+// Reads `count` values of one description.
 #[cycle(build)]
 fn build_counted<S: Octets>(
     alloc: Global,

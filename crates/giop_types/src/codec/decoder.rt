@@ -1,3 +1,5 @@
+//! The public call that reads a value (9.3.2). It fixes which of two refusals is reported: a fault
+//! of the octets comes before out of memory.
 ghost use Rattle.std.specs.Prelude.{◌≡◌, ◌+◌, ◌≤◌, length, IfOk};
 ghost use Rattle.giop_cdr.specs.Reading.Exactness.{Took};
 ghost use Rattle.giop_types.specs.Coding.Decoding.{decode_at};
@@ -15,20 +17,24 @@ use crate::value::Value;
 use giop_cdr::{CdrFault, CdrIn, CdrKind, Octets};
 use std::alloc::Global;
 
-/// A value of this description (9.3.2), which `input` stands at.
+/// Reads a value of this description (9.3.2), at the place where `input` is.
 ///
 /// The first field in reading order that isn't spelled is refused, as giop_cdr's reader of its kind
-/// refuses it; besides, as BadLabel at its place where it is the ordinal of no name, as BoundPassed
-/// at the place of a count that is above the bound, and as BadCount where the reader stands at an
-/// array of more values than octets are left. As NoMemory, where the reader stands, if nothing else
-/// is refused and memory is wanting. The reader then stays where it was.
+/// refuses it. These are refused besides:
+///
+/// - BadLabel: an ordinal that has no name, at its place
+/// - BoundPassed: a count that is above the bound, at the place of the count
+/// - BadCount: an array of more values than octets are left, where the reader is
+///
+/// NoMemory is reported where the reader is, and only if nothing else is refused. After a refusal
+/// the reader is where it was.
 #[inline(always)]
 pub fn decode<S: Octets>(
     alloc: Global,
     input: &mut CdrIn<S>,
     desc: &CheckedDesc,
 ) -> Result<Value, CdrFault>
-    // What is answered is what is spelled there, and what is spelled there is answered.
+    // What is returned is what is spelled there, and what is spelled there is returned.
     ensures found { IfOk result (λ value.
         Took (Spells (checked_shape desc.now)) input.old (value_view value) input.new) }
     ensures only { (tree : _) (after : _)
@@ -46,8 +52,8 @@ pub fn decode<S: Octets>(
     value_of(alloc, desc.desc(), input)
 }
 
-/// The value, in one pass where all goes well. Memory comes last: where it is wanting, a second
-/// pass without memory looks for a fault.
+/// Reads the value in one pass where all goes well. Out of memory is reported last: a second pass,
+/// which takes no memory, looks for a fault first.
 #[inline(always)]
 pub fn value_of<S: Octets>(
     alloc: Global,

@@ -1,4 +1,6 @@
-//! Whether a value is of a description.
+//! Whether a value is of a description, and so can be written. The meaning is
+//! specs/Values/Fits.antt; append.rt refuses what doesn't fit as it writes, so change them
+//! together.
 ghost use Rattle.std.specs.Prelude.{◌≡◌, map, unwrap_or};
 ghost use Rattle.std.specs.List.{list_all};
 ghost use Rattle.giop_types.specs.Descriptions.CheckedShape.{checked_shape};
@@ -12,34 +14,35 @@ use crate::description::label_check::{is_label_of, is_ordinal};
 use crate::value::Value;
 use giop_cdr::passes;
 
-/// Whether a value is of this description (9.3.2), and so can be written: its variants are those of
-/// the description; its numbers, ordinals and discriminants are in range; texts and sequences are
-/// no longer than their bounds (0 is none) and short enough for their counts; no null stands in a
-/// text; a struct has as many values as members, and an array as many as it says; and a union has a
+/// Whether a value is of this description (9.3.2), and so can be written. Its variants are those of
+/// the description. Its numbers, ordinals and discriminants are in range. Texts and sequences are
+/// no longer than their bounds (0 is none), and short enough for their counts. No null is in a
+/// text. A struct has as many values as members, and an array as many as it says. A union has a
 /// member exactly where its label selects one, or a default is there.
 ///
-/// It takes no memory, and time that grows with the value, and for each union with its labels.
+/// It takes no memory. Its time grows with the value, and for each union with its labels.
 pub fn fits(desc: &CheckedDesc, value: &Value) -> bool
     ensures { result ≡ fits (checked_shape desc.now) (value_view value.now) }
 {
     value_fits(desc.desc(), value)
 }
 
-/// Whether so many values can be counted, and are within the bound, where 0 is none.
+/// Whether a count fits an unsigned long and is within the bound, where 0 is none.
 pub fn is_counted(bound: u32, count: usize) -> bool
     ensures { result ≡ is_counted bound count }
 {
     count < 1 << 32 && !passes(bound, count)
 }
 
-/// Whether octets are a sequence within the bound.
+/// Whether octets are a sequence within the bound, where 0 is none.
 pub fn is_octets_of(bound: u32, octets: &[u8]) -> bool
     ensures { result ≡ is_octets_of bound octets.now }
 {
     is_counted(bound, octets.len())
 }
 
-/// Whether octets are a text within the bound, whose null can be counted too.
+/// Whether octets are a text within the bound, whose null can be counted too, and which has none
+/// inside.
 pub fn is_text_of(bound: u32, text: &[u8]) -> bool
     ensures { result ≡ is_text_of bound text.now }
 {
@@ -59,8 +62,8 @@ pub fn fits_label(disc: &Desc, label: &i128) -> bool
     }
 }
 
-/// Whether a value is of a description. A number is in range by its type, which the proof knows of
-/// each number that is read here.
+/// Whether a value is of a description. A number needs no test: its type keeps it in range, which
+/// the proof knows of each number that is read here.
 #[cycle(fitting)]
 #[tactic(auto, unfolding(crate::specs::Values::Fits::fits))]
 pub fn value_fits(desc: &Desc, value: &Value) -> bool
@@ -158,7 +161,7 @@ fn case_fits(label: &i128, cases: &[CaseDesc], member: &Option<Box<Value>>) -> O
     None
 }
 
-// Whether a union's member is of the description by default, or there is neither.
+// Whether a union's member is of the description by default, or neither is there.
 #[cycle(fitting)]
 fn default_fits(fallback: &Option<Box<NamedDesc>>, member: &Option<Box<Value>>) -> bool
     ensures { result ≡ fields_fit (fallback_view fallback.now) (member_view member.now) }

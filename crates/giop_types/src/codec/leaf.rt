@@ -1,4 +1,5 @@
-//! Reading values within which no other stands.
+//! Reading the values that hold no other value: numbers, chars, booleans, texts, octets and enums.
+//! These readers are outside the cycles of calls, since they call nothing back.
 ghost use Rattle.std.specs.Prelude.{◌≡◌, true};
 ghost use Rattle.giop_cdr.specs.Reading.Outcome.{ReadsAs, Follows, Skips};
 ghost use Rattle.giop_types.specs.Coding.Decoding.{decode_at};
@@ -11,7 +12,7 @@ use crate::value::Value;
 use giop_cdr::{CdrFault, CdrIn, OctetList, Octets};
 use std::alloc::Global;
 
-/// Whether values are numbers, chars or booleans, which are read without memory.
+/// Whether a description is that of a number, a char or a boolean, which is read without memory.
 #[inline(always)]
 pub fn is_primitive(desc: &Desc) -> bool
     ensures { result ≡ is_primitive (desc_view desc.now) }
@@ -30,7 +31,7 @@ pub fn is_primitive(desc: &Desc) -> bool
     )
 }
 
-/// A number, a char or a boolean.
+/// Reads a number, a char or a boolean.
 #[inline(always)]
 #[tactic(auto, unfolding(crate::specs::Coding::Decoding::decode_at))]
 pub fn read_primitive<S: Octets>(desc: &Desc, input: &mut CdrIn<S>) -> Result<Value, CdrFault>
@@ -52,7 +53,7 @@ pub fn read_primitive<S: Octets>(desc: &Desc, input: &mut CdrIn<S>) -> Result<Va
     }
 }
 
-/// A value within which no other stands.
+/// Reads a value that holds no other value.
 #[tactic(auto, unfolding(crate::specs::Coding::Decoding::decode_at))]
 pub fn build_leaf<S: Octets>(
     alloc: Global,
@@ -72,7 +73,7 @@ pub fn build_leaf<S: Octets>(
     }
 }
 
-/// Passes over a value within which no other stands.
+/// Passes over a value that holds no other value.
 #[tactic(auto, unfolding(crate::specs::Coding::Decoding::decode_at))]
 pub fn skip_leaf<S: Octets>(desc: &Desc, input: &mut CdrIn<S>) -> Result<(), CdrFault>
     requires { is_leaf (desc_view desc.now) ≡ true }

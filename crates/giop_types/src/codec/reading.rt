@@ -1,4 +1,6 @@
-//! The parts of values: ordinals, counts and discriminants.
+//! Reading the parts of values that giop_cdr doesn't know: ordinals (9.3.2.6), the lengths of
+//! arrays (9.3.2.4) and discriminants (9.3.2.3). build.rt and skip.rt share these, so that both
+//! refuse alike.
 ghost use Rattle.std.specs.Prelude.{◌≡◌, ◌<◌, ◌≤◌, length, IfOk, IfErr};
 ghost use Rattle.giop_cdr.specs.declared.fault.CdrKind.TheVariants.{BadCount};
 ghost use Rattle.giop_cdr.specs.Reading.Values.{fault};
@@ -9,8 +11,8 @@ ghost use Rattle.giop_types.specs.Values.Views.{desc_view};
 use crate::description::desc::Desc;
 use giop_cdr::{CdrFault, CdrIn, CdrKind, Octets};
 
-/// The ordinal of an enum of so many names (9.3.2.6). Refused as Short where it isn't there, as
-/// BadLabel where it has no name, both at its place.
+/// Reads the ordinal of an enum of so many names (9.3.2.6). Refused at its place: as Short where it
+/// isn't there, as BadLabel where it has no name.
 #[tactic(auto, unfolding(crate::specs::Coding::Decoding::ordinal_at, giop_cdr::specs::Reading::Values::such_at))]
 pub fn read_ordinal<S: Octets>(names: usize, input: &mut CdrIn<S>) -> Result<u32, CdrFault>
     ensures { Exactly result input.new (ordinal_at names input.old) }
@@ -26,8 +28,9 @@ pub fn read_ordinal<S: Octets>(names: usize, input: &mut CdrIn<S>) -> Result<u32
     Ok(ordinal)
 }
 
-/// A discriminant, as a number: of a boolean 0 or 1, of a char its octet, of an enum its ordinal.
-/// Refused as its description is read, and as BadLabel here where it can be none.
+/// Reads a discriminant, as a number: of a boolean 0 or 1, of a char its octet, of an enum its
+/// ordinal. Refused as its description is read, and as BadLabel where the reader is if the
+/// description can't be a discriminant's.
 #[tactic(auto, unfolding(crate::specs::Coding::Decoding::label_at))]
 pub fn read_label<S: Octets>(disc: &Desc, input: &mut CdrIn<S>) -> Result<i128, CdrFault>
     ensures { Exactly result input.new (label_at (desc_view disc.now) input.old) }
@@ -51,8 +54,8 @@ pub fn read_label<S: Octets>(disc: &Desc, input: &mut CdrIn<S>) -> Result<i128, 
     })
 }
 
-/// The length of an array, which is in its description. Refused here as BadCount where more values
-/// than octets are left, since each takes an octet or more.
+/// The length of an array, which is in its description. Refused as BadCount, where the reader is,
+/// if more values than octets are left, since each takes an octet or more.
 pub fn row_length<S: Octets>(n: u32, input: &CdrIn<S>) -> Result<usize, CdrFault>
     ensures ok { IfOk result (λ count. (count ≡ n) × (n ≤ length input.now.rest)) }
     ensures err { IfErr result (λ e.

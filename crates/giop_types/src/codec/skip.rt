@@ -1,4 +1,5 @@
-//! Passing over a value without memory: it finds each fault that there is.
+//! Passing over a value without memory. It refuses what build.rt refuses for its octets, at the
+//! same places, so change them together.
 ghost use Rattle.std.specs.Prelude.{map};
 ghost use Rattle.giop_cdr.specs.Reading.Values.{items_at};
 ghost use Rattle.giop_cdr.specs.Reading.Outcome.{Skips};
@@ -12,7 +13,7 @@ use crate::codec::reading::{has_label, read_label, row_length};
 use crate::description::desc::{CaseDesc, Desc, NamedDesc};
 use giop_cdr::{CdrFault, CdrIn, Octets};
 
-/// Passes over a value.
+/// Passes over a value of a description.
 #[cycle(skip)]
 #[tactic(auto, unfolding(crate::specs::Coding::Decoding::decode_at))]
 pub fn skip<S: Octets>(desc: &Desc, input: &mut CdrIn<S>) -> Result<(), CdrFault>
@@ -48,7 +49,7 @@ fn skip_members<S: Octets>(members: &[NamedDesc], input: &mut CdrIn<S>) -> Resul
     Ok(())
 }
 
-// Passes over the member that the label selects by a case, and tells whether one does.
+// Passes over the member that the label selects by a case. Returns whether a case has the label.
 #[cycle(skip)]
 fn skip_case<S: Octets>(
     label: &i128,

@@ -1,4 +1,5 @@
 //! Whether a description describes a type of IDL: the first node, in reading order, that doesn't.
+//! The faults and their order are specs/Descriptions/Checked.antt.
 ghost use Rattle.std.specs.Prelude.{◌≡◌, map};
 ghost use Rattle.giop_types.specs.Descriptions.Full.{is_discriminant};
 ghost use Rattle.giop_types.specs.Descriptions.Checked.{has_bare_branch, is_empty, has_bad_discriminant, has_doubles, own_fault, desc_fault, fields_fault, branches_fault, Tells};
@@ -9,7 +10,8 @@ use crate::description::desc_fault::DescFault;
 use crate::description::label_check::{are_cases_of, has_doubled_label};
 use crate::description::name_check::{has_doubled_choice, has_doubled_member, has_doubled_name};
 
-// How deep a description may be nested, where the outermost one is 1 deep.
+// How deep a description may be nested, where the outermost one is 1 deep. Docstrings and the pages
+// of docs/ give this number too.
 const DEEPEST: u32 = 32;
 
 // Whether a case has no label.
@@ -55,7 +57,7 @@ fn is_discriminant(disc: &Desc) -> bool
     )
 }
 
-// Whether a union's discriminant can be none, or a label is none of its values.
+// Whether a union's discriminant is of a type that none may have, or a label is none of its values.
 fn has_bad_discriminant(desc: &Desc) -> bool
     ensures { result ≡ has_bad_discriminant (desc_view desc.now) }
 {
@@ -97,8 +99,8 @@ fn check_own(desc: &Desc) -> Result<(), DescFault>
     Ok(())
 }
 
-/// Checks a description of which the first node stands at this depth. Refused with the fault of the
-/// first node in reading order that has one. What is too deep is not looked into.
+/// Checks a description whose first node is at this depth. Refused with the fault of the first node
+/// in reading order that has one. What is too deep is not looked into.
 #[cycle(check)]
 #[tactic(auto, unfolding(crate::specs::Descriptions::Checked::desc_fault))]
 pub fn check_desc(desc: &Desc, depth: u32) -> Result<(), DescFault>

@@ -1,4 +1,5 @@
-//! Descriptions that were checked.
+//! Descriptions that were checked. Readers and writers take no others, so that each value of one
+//! takes an octet or more.
 ghost use Rattle.std.specs.Prelude.{◌≡◌, true, IfOk, IfErr, None};
 ghost use Rattle.giop_types.specs.Descriptions.Checked.{desc_fault};
 ghost use Rattle.giop_types.specs.Descriptions.Full.{is_full};
@@ -8,9 +9,9 @@ use crate::description::check::check_desc;
 use crate::description::desc::Desc;
 use crate::description::desc_fault::DescFault;
 
-/// A description that was checked: nothing of it is empty, no name or label stands twice, each
-/// union's labels are values of its discriminant, and it is nested no more than 32 deep. So each of
-/// its values takes an octet or more.
+/// A description that was checked. Nothing of it is empty, and no name or label is there twice. The
+/// labels of each union are values of its discriminant. It is nested no more than 32 deep. So each
+/// of its values takes an octet or more.
 #[derive(Debug, Drop)]
 pub struct CheckedDesc {
     desc: Desc,
@@ -22,10 +23,10 @@ impl CheckedDesc {
 
     /// Checks a description. Refused, and dropped, with the fault of the first node in reading
     /// order that has one, the node itself before its parts: of a union the discriminant, then the
-    /// cases in their order, then the default. Of one node the first fault of these is told:
+    /// cases in their order, then the default. Of one node the first of these faults is returned:
     /// TooDeep, Empty, BadDiscriminant, Doubled.
     ///
-    /// It takes no memory, and looks 33 nodes deep at most; to drop a description takes as much
+    /// It takes no memory, and looks 33 nodes deep at most. To drop a description takes as much
     /// stack as it is deep. The time grows with the square of the names, or of the labels, of one
     /// node.
     pub fn check(desc: Desc) -> Result<CheckedDesc, DescFault>
@@ -37,7 +38,7 @@ impl CheckedDesc {
         Ok(CheckedDesc { desc })
     }
 
-    /// The description.
+    /// The description that was checked.
     pub fn desc(&self) -> &Desc
         ensures same { desc_view result.now ≡ checked_shape self.now }
         ensures checked { desc_fault 1 (desc_view result.now) ≡ None }

@@ -1,3 +1,5 @@
+//! Why a description is refused, and the numbers and names of these faults. They are public, and so
+//! fixed by specs/Descriptions/DescFaults.antt.
 ghost use Rattle.std.specs.Prelude.{◌≡◌};
 
 use std::error::Error;
@@ -9,8 +11,8 @@ pub enum DescFault {
     /// A struct has no member, an enum no name, a union no case, a case no label, or an array no
     /// item.
     Empty,
-    /// Two names of an enum, two members of a struct or of a union, or two labels of a union are
-    /// the same.
+    /// Two names of an enum are the same, or two members of a struct or of a union, or two labels
+    /// of a union.
     Doubled,
     /// A union's discriminant is of no type that a discriminant may have, or a label is no value of
     /// it.

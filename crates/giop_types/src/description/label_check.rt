@@ -1,4 +1,5 @@
-//! The labels of a union: whether each is a value of the discriminant, and whether two are equal.
+//! The labels of a union (CORBA 3.3 Part 2, 9.3.2.3): whether each is a value of the discriminant,
+//! and whether two are equal.
 ghost use Rattle.std.specs.Prelude.{◌≡◌, ◌≢◌, ◌↔◌, map, false};
 ghost use Rattle.std.specs.List.{list_all, AllPairs};
 ghost use Rattle.std.specs.Ordering.{int_eq};
@@ -78,7 +79,7 @@ fn has_case_of(cases: &[CaseDesc], label: &i128) -> bool
     false
 }
 
-// Whether a label stands again later among its case's, or among those of a later case.
+// Whether a label is there again, later among those of its case or among those of a later case.
 fn is_repeated(labels: &[i128], later: &[CaseDesc]) -> bool
     ensures { result ≡ is_repeated int_eq labels.now
         (all_labels (branches_of (map case_view later.now))) }

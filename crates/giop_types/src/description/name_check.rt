@@ -1,4 +1,4 @@
-//! The names of enums, structs and unions: whether two are the same.
+//! The names of enums, structs and unions: whether two are the same, octet for octet.
 ghost use Rattle.std.specs.Prelude.{◌≡◌, ◌≢◌, ◌↔◌, ◌++◌, map, false};
 ghost use Rattle.std.specs.List.{list_any, AllPairs};
 ghost use Rattle.giop_types.specs.Descriptions.Checked.{has_doubled, same_name, field_names, branch_names};
@@ -7,7 +7,7 @@ ghost use Rattle.giop_types.specs.Values.Views.{named_view, case_view, fallback_
 use crate::description::desc::{CaseDesc, NamedDesc};
 use giop_cdr::OctetList;
 
-/// Whether two names are the same.
+/// Whether two of the names are the same.
 pub fn has_doubled_name(names: &[OctetList]) -> bool
     ensures value { result ≡ has_doubled same_name names.now }
     ensures apart { (result ≡ false) ↔ AllPairs (λ one other. one ≢ other) names.now }

@@ -1,4 +1,4 @@
-//! Descriptions read from JSON.
+//! Reading a description from JSON. The form is specs/JsonForms/DescFromJson.antt.
 ghost use Rattle.std.specs.Prelude.{◌≡◌, map, option_and_then, IfOk, IfErr};
 ghost use Rattle.serde_json.specs.Find.{as_array};
 ghost use Rattle.serde_json.specs.View.{view, items_view};
@@ -20,12 +20,12 @@ use giop_cdr::OctetList;
 use serde_json::Value as Json;
 use std::alloc::Global;
 
-/// How many descriptions within one another are read: no JSON that is read nests deeper.
+/// How many descriptions within one another are read. JSON that is read nests no deeper.
 pub const LEVELS: u32 = 128;
 
 /// The description that a JSON text is. Refused as BadJson where the text is none, or nests arrays
 /// and objects more than 127 deep; else as BadShape where it has another form; else as BadDesc with
-/// the fault that `CheckedDesc::check` finds; and as NoMemory where memory is wanting, in place of
+/// the fault that `CheckedDesc::check` finds. Out of memory, NoMemory may be returned in place of
 /// any.
 pub fn desc_from_json(alloc: Global, text: &[u8]) -> Result<CheckedDesc, FormFault>
     ensures { Reads checked_shape result (desc_told (json_in text.now)) }
@@ -35,7 +35,7 @@ pub fn desc_from_json(alloc: Global, text: &[u8]) -> Result<CheckedDesc, FormFau
     checked(desc)
 }
 
-/// A description that was checked.
+/// Checks a description; its fault is returned as BadDesc.
 pub fn checked(desc: Desc) -> Result<CheckedDesc, FormFault>
     ensures ok { IfOk result
         (λ checked. judged (desc_view desc) (desc_fault 1 (desc_view desc))
@@ -49,7 +49,7 @@ pub fn checked(desc: Desc) -> Result<CheckedDesc, FormFault>
     }
 }
 
-/// A description, of which so many may stand within one another.
+/// Reads a description. At most `levels` descriptions may be nested in it, itself counted.
 #[cycle(desc_of)]
 #[tactic(auto, unfolding(crate::specs::JsonForms::DescFromJson::desc_in))]
 pub fn desc_of(alloc: Global, json: &Json, levels: u32) -> Result<Desc, FormFault>
@@ -64,7 +64,7 @@ pub fn desc_of(alloc: Global, json: &Json, levels: u32) -> Result<Desc, FormFaul
     }
 }
 
-// A description that is told by its name alone.
+// A description that JSON gives by its name alone.
 fn named_desc(alloc: Global, name: &str) -> Result<Desc, FormFault>
     ensures { Shows desc_view result (named_shape name.now) }
 {
@@ -85,7 +85,7 @@ fn named_desc(alloc: Global, name: &str) -> Result<Desc, FormFault>
     }
 }
 
-// A description that is told by an object, by the first of these keys that it has.
+// A description that JSON gives by an object, read by the first of these keys that it has.
 #[cycle(desc_of)]
 fn composed_desc(alloc: Global, json: &Json, levels: u32) -> Result<Desc, FormFault>
     ensures { Shows desc_view result (composed_in (desc_in levels) (view json.now)) }
@@ -114,7 +114,7 @@ fn composed_desc(alloc: Global, json: &Json, levels: u32) -> Result<Desc, FormFa
     }
 }
 
-// An unsigned long.
+// Reads a whole number that an unsigned long holds.
 fn ulong_of(json: &Json) -> Result<u32, FormFault>
     ensures { Shows (λ n. n) result (ulong_in (view json.now)) }
 {
@@ -127,7 +127,7 @@ fn ulong_of(json: &Json) -> Result<u32, FormFault>
     }
 }
 
-// A bound, which is 1 or more.
+// Reads a bound, which is 1 or more.
 fn bound_of(json: &Json) -> Result<u32, FormFault>
     ensures { Shows (λ n. n) result (bound_in (view json.now)) }
 {
@@ -137,7 +137,7 @@ fn bound_of(json: &Json) -> Result<u32, FormFault>
     }
 }
 
-// A bounded string.
+// A bounded string, which has no other key.
 fn text_desc(json: &Json, bound: &Json) -> Result<Desc, FormFault>
     ensures { Shows desc_view result (text_in (view json.now) (view bound.now)) }
 {
@@ -147,7 +147,7 @@ fn text_desc(json: &Json, bound: &Json) -> Result<Desc, FormFault>
     Ok(Desc::Text(bound_of(bound)?))
 }
 
-// A bounded sequence of octets.
+// A bounded sequence of octets, which has no other key.
 fn octets_desc(json: &Json, bound: &Json) -> Result<Desc, FormFault>
     ensures { Shows desc_view result (octets_in (view json.now) (view bound.now)) }
 {
@@ -157,7 +157,7 @@ fn octets_desc(json: &Json, bound: &Json) -> Result<Desc, FormFault>
     Ok(Desc::Octets(bound_of(bound)?))
 }
 
-// An enum.
+// An enum, which has no other key.
 fn enum_desc(alloc: Global, json: &Json, names: &Json) -> Result<Desc, FormFault>
     ensures { Shows desc_view result (enum_in (view json.now) (view names.now)) }
 {
@@ -216,7 +216,7 @@ fn names_of(alloc: Global, json: &Json) -> Result<Vec<OctetList>, FormFault>
     Ok(names)
 }
 
-// A struct.
+// A struct, which has no other key.
 #[cycle(desc_of)]
 fn struct_of(alloc: Global, json: &Json, members: &Json, levels: u32) -> Result<Desc, FormFault>
     ensures { Shows desc_view result
@@ -228,7 +228,7 @@ fn struct_of(alloc: Global, json: &Json, members: &Json, levels: u32) -> Result<
     Ok(Desc::Members(members_of(alloc, members, levels)?))
 }
 
-/// Members: names with their descriptions.
+/// The members of a struct, or parameters: a list of names with their descriptions.
 #[cycle(desc_of)]
 pub fn members_of(alloc: Global, json: &Json, levels: u32) -> Result<Vec<NamedDesc>, FormFault>
     ensures { Shows (λ members. map named_view members.items) result
@@ -255,7 +255,7 @@ fn member_of(alloc: Global, json: &Json, levels: u32) -> Result<NamedDesc, FormF
     })
 }
 
-// The bound of a sequence, or 0 where it has none.
+// The bound of a sequence, or 0 where it has none. No other key may be there.
 fn bound_beside(json: &Json) -> Result<u32, FormFault>
     ensures { Shows (λ n. n) result (bound_beside (view json.now)) }
 {
@@ -277,7 +277,7 @@ fn sequence_of(alloc: Global, json: &Json, item: &Json, levels: u32) -> Result<D
     Ok(Desc::Items(Box::new(alloc, item)?, bound))
 }
 
-// The length of an array.
+// The length of an array. No other key may be there.
 fn length_beside(json: &Json) -> Result<u32, FormFault>
     ensures { Shows (λ n. n) result (length_beside (view json.now)) }
 {
@@ -312,7 +312,7 @@ fn union_of(alloc: Global, json: &Json, disc: &Json, levels: u32) -> Result<Desc
     })
 }
 
-// The member by default of a union, where it has one.
+// The member by default of a union, where it has one. No other key may be there.
 #[cycle(desc_of)]
 fn default_beside(
     alloc: Global,
@@ -382,7 +382,7 @@ fn case_of(alloc: Global, disc: &Desc, json: &Json, levels: u32) -> Result<CaseD
     })
 }
 
-// The labels of a case.
+// The labels of a case, each by the description of the discriminant.
 fn labels_of(alloc: Global, disc: &Desc, json: &Json) -> Result<Vec<i128>, FormFault>
     ensures { Shows (λ labels. labels.items) result
         (list_in (label_shown (desc_view disc.now)) (view json.now)) }

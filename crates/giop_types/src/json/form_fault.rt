@@ -1,3 +1,5 @@
+//! Why JSON is refused, and the numbers and names of these faults. They are public, and so fixed by
+//! specs/JsonForms/FormFault.antt.
 ghost use Rattle.std.specs.Prelude.{◌≡◌};
 
 use crate::description::desc_fault::DescFault;
@@ -6,28 +8,28 @@ use std::error::Error;
 use std::fmt;
 
 /// Why a JSON text or a JSON value is no value, no description or no interface. The first of 1 to 4
-/// that holds of the whole is told; NoMemory may stand in place of any.
+/// that holds of the whole is returned. NoMemory may be returned in place of any.
 #[derive(Clone, Copy, Debug, PartialEq, Eq)]
 pub enum FormFault {
     /// The text is no JSON, or its arrays and objects nest more than 127 deep.
     BadJson,
-    /// A JSON value is of another form than the one that is asked for: of another kind, with a key
-    /// too many or one that is missing, with a character above U+00FF, or a number with a fraction
-    /// or an exponent.
+    /// A JSON value is of another form than the one that is asked for. It is of another kind, has a
+    /// key too many or misses one, has a character above U+00FF, or is a number with a fraction or
+    /// an exponent.
     BadShape,
     /// A description describes no type of IDL.
     BadDesc(DescFault),
-    /// A value isn't of its description: its form is right, and a range, a bound, a name or a
+    /// A value isn't of its description. Its form is right, and a range, a bound, a name or a
     /// length is not.
     Unfit,
-    /// Memory ran out.
+    /// Out of memory.
     NoMemory,
 }
 
 impl FormFault {
     ghost use Rattle.giop_types.specs.JsonForms.FormFault.{form_fault_number};
 
-    /// The number of the fault, 1 to 5, in the order in which faults are told.
+    /// The number of the fault, 1 to 5, in the order in which faults are reported.
     pub fn number(self) -> u8
         ensures { result ≡ form_fault_number self }
     {

@@ -1,4 +1,5 @@
-//! Values read from JSON.
+//! Reading a value from JSON by its description. The form is specs/JsonForms/FromJson.antt, and
+//! to_json.rt writes what is read here, so change them together.
 ghost use Rattle.std.specs.Prelude.{◌≡◌, true, map, option_and_then, IfOk, IfErr};
 ghost use Rattle.giop_types.specs.declared.json.form_fault.FormFault.TheVariants.{NoMemory};
 ghost use Rattle.giop_types.specs.Descriptions.CheckedShape.{checked_shape};
@@ -27,7 +28,7 @@ use std::alloc::Global;
 
 /// The value of this description that a JSON value is. Refused as BadShape where the JSON value, or
 /// a part of it, is of another form than the description's; else as Unfit where a range, a bound, a
-/// name or a length is broken; and as NoMemory where memory is wanting, in place of either.
+/// name or a length is broken. Out of memory, NoMemory may be returned in place of either.
 pub fn value_from_json(alloc: Global, desc: &CheckedDesc, json: &Json) -> Result<Value, FormFault>
     ensures { Reads value_view result (from_data (checked_shape desc.now) (view json.now)) }
 {
@@ -71,7 +72,7 @@ pub fn show(alloc: Global, desc: &Desc, json: &Json) -> Result<Value, FormFault>
     }
 }
 
-// A value within which no other stands.
+// A value that holds no other value.
 #[tactic(auto, unfolding(crate::specs::JsonForms::FromJson::shown))]
 fn show_leaf(alloc: Global, desc: &Desc, json: &Json) -> Result<Value, FormFault>
     requires { is_leaf (desc_view desc.now) ≡ true }
@@ -100,7 +101,7 @@ pub fn is_object_of(count: usize, json: &Json) -> bool
     }
 }
 
-// The values of the members of a struct.
+// The values of the members of a struct, which is an object of these members and no others.
 #[cycle(show)]
 fn show_members(alloc: Global, members: &[NamedDesc], json: &Json) -> Result<Vec<Value>, FormFault>
     ensures { Shows (λ values. map value_view values.items) result
@@ -113,7 +114,7 @@ fn show_members(alloc: Global, members: &[NamedDesc], json: &Json) -> Result<Vec
     }
 }
 
-// The same, one after the other.
+// The values of the members of a struct, one after the other, from an object that has as many.
 #[cycle(show)]
 fn show_fields(alloc: Global, members: &[NamedDesc], json: &Json) -> Result<Vec<Value>, FormFault>
     ensures { Shows (λ values. map value_view values.items) result
@@ -127,7 +128,7 @@ fn show_fields(alloc: Global, members: &[NamedDesc], json: &Json) -> Result<Vec<
     Ok(values)
 }
 
-// The value of a member, under its name.
+// The value of a member, which is under its name in the object.
 #[cycle(show)]
 fn show_member(alloc: Global, member: &NamedDesc, json: &Json) -> Result<Value, FormFault>
     ensures { Shows value_view result
@@ -141,7 +142,7 @@ fn show_member(alloc: Global, member: &NamedDesc, json: &Json) -> Result<Value, 
     }
 }
 
-// The values of a list.
+// The values of a sequence or an array, which is a list.
 #[cycle(show)]
 fn show_items(alloc: Global, item: &Desc, json: &Json) -> Result<Vec<Value>, FormFault>
     ensures { Shows (λ values. map value_view values.items) result
@@ -224,7 +225,8 @@ fn show_case(
     Ok(None)
 }
 
-// The value of the member that is there by default, or null.
+// The value of the member by default. It is None where the union has no default and the JSON value
+// is null.
 #[cycle(show)]
 fn show_fallback(
     alloc: Global,

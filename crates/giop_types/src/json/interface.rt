@@ -1,3 +1,5 @@
+//! An interface as callers see it: its operations and exceptions, by name and by id.
+//! interface_json.rt makes one of JSON.
 ghost use Rattle.std.specs.Prelude.{◌≡◌, option_copied, length, true};
 ghost use Rattle.std.specs.BTreeMap.{get_by};
 ghost use Rattle.std.specs.Ordering.{nat_cmp};
@@ -10,7 +12,7 @@ use std::collections::BTreeMap;
 /// 9.4.3).
 #[derive(Debug, Drop)]
 pub struct Operation {
-    /// Whether no reply is sent. There are no outs then.
+    /// Whether no reply is sent. Then there are no outs.
     pub oneway: bool,
     /// The in and inout parameters.
     pub ins: Parameters,
@@ -20,7 +22,7 @@ pub struct Operation {
 }
 
 /// What an interface offers: its operations by their names and its exceptions by their ids. No name
-/// and no id stands twice, none has a null, and every description is checked.
+/// and no id is there twice, none has a null, and every description is checked.
 #[derive(Debug, Drop)]
 pub struct Interface {
     operations: BTreeMap<Vec<u8>, Operation>,
@@ -42,8 +44,8 @@ impl Interface {
         }
     }
 
-    /// The operation of this name. It takes no memory, and a time that grows with the logarithm of
-    /// the number of operations.
+    /// The operation of this name. It takes no memory. Its time grows with the logarithm of the
+    /// number of operations.
     pub fn operation(&self, name: &[u8]) -> Option<&Operation>
         ensures { option_copied result
             ≡ get_by (λ key. slice_cmp nat_cmp name.now key.items) self.now.operations }
@@ -51,7 +53,8 @@ impl Interface {
         self.operations.get(name)
     }
 
-    /// The members of the exception of this id, likewise.
+    /// The members of the exception of this id. It takes no memory. Its time grows with the
+    /// logarithm of the number of exceptions.
     pub fn exception(&self, id: &[u8]) -> Option<&Parameters>
         ensures { option_copied result
             ≡ get_by (λ key. slice_cmp nat_cmp id.now key.items) self.now.exceptions }

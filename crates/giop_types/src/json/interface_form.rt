@@ -1,4 +1,5 @@
-//! Parts of an interface whose descriptions are still to be checked.
+//! Parts of an interface whose descriptions are still to be checked: the form of the whole JSON
+//! text is judged before any description.
 ghost use Rattle.std.specs.Prelude.{◌≡◌, map, true, false, length};
 ghost use Rattle.giop_types.specs.Descriptions.Checked.{has_doubled, same_name, field_names};
 ghost use Rattle.giop_types.specs.Values.Views.{named_view, fields_of};

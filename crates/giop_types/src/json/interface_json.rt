@@ -1,4 +1,5 @@
-//! Interfaces read from JSON.
+//! Reading an interface from JSON: first its form, then its descriptions. Both are
+//! specs/JsonForms/InterfaceFromJson.antt.
 ghost use Rattle.std.specs.Prelude.{◌≡◌, map, option_map, IfOk, length};
 ghost use Rattle.std.specs.List.{list_any};
 ghost use Rattle.serde_json.specs.Find.{as_object};
@@ -26,12 +27,14 @@ use std::alloc::Global;
 use std::collections::BTreeMap;
 
 impl Interface {
-    /// The interface that a JSON text is. Refused as BadJson where the text is none, or nests
-    /// arrays and objects more than 127 deep; else as BadShape where it, or a part of it, has
-    /// another form, a oneway operation has outs, a name or an id has a null, or two parameters of
-    /// one list have the same name; else as BadDesc with the fault of the first description that
-    /// has one, those of operations before those of exceptions, each in the order of the names, ins
-    /// before outs; and as NoMemory where memory is wanting, in place of any.
+    /// The interface that a JSON text is.
+    ///
+    /// Refused as BadJson where the text is none, or nests arrays and objects more than 127 deep.
+    /// Else it is BadShape where the text, or a part of it, has another form, a oneway operation
+    /// has outs, a name or an id has a null, or two parameters of one list have the same name. Else
+    /// it is BadDesc with the fault of the first description that has one: those of operations
+    /// before those of exceptions, each in the order of the names, ins before outs. Out of memory,
+    /// NoMemory may be returned in place of any.
     pub fn from_json(alloc: Global, text: &[u8]) -> Result<Interface, FormFault>
         ensures { Reads interface_view result (interface_told (json_in text.now)) }
     {
@@ -68,7 +71,7 @@ fn name_of(alloc: Global, text: &str) -> Result<OctetList, FormFault>
     Ok(name)
 }
 
-// Whether a null stands in octets.
+// Whether octets have a null.
 fn has_null(octets: &[u8]) -> bool
     ensures { result ≡ has_null octets.now }
 {
@@ -134,7 +137,7 @@ fn one_if(json: Option<&Json>) -> usize
     }
 }
 
-// Whether an operation is oneway, which it isn't where nothing is said.
+// Whether an operation is oneway. It isn't where the key is missing.
 fn oneway_of(json: Option<&Json>) -> Result<bool, FormFault>
     ensures { Shows (λ b. b) result (oneway_told (option_map (λ j. view j.now) json.entry)) }
 {
@@ -147,7 +150,7 @@ fn oneway_of(json: Option<&Json>) -> Result<bool, FormFault>
     }
 }
 
-// Parameters, none of which is there where nothing is said.
+// Parameters; there are none where the key is missing.
 fn parameter_forms(alloc: Global, json: Option<&Json>) -> Result<ParametersForm, FormFault>
     ensures { Shows parameters_form_view result
         (parameters_told (option_map (λ j. view j.now) json.entry)) }
@@ -183,7 +186,7 @@ fn has_null_name(parameters: &[NamedDesc]) -> bool
     false
 }
 
-// The exceptions of an interface, none of which is there where nothing is said.
+// The exceptions of an interface; there are none where the key is missing.
 fn exception_forms(
     alloc: Global,
     json: &Json,
@@ -213,7 +216,7 @@ fn exceptions_of(alloc: Global, json: &Json) -> Result<Vec<(OctetList, Parameter
     Ok(forms)
 }
 
-// The operations by their names, their descriptions checked.
+// Checks the descriptions of the operations, one after the other.
 fn checked_operations(
     alloc: Global,
     forms: Vec<(OctetList, OperationForm)>,
@@ -229,7 +232,7 @@ fn checked_operations(
     Ok(operations)
 }
 
-// An operation, its descriptions checked.
+// Checks the descriptions of an operation, ins before outs.
 fn checked_operation(alloc: Global, form: OperationForm) -> Result<Operation, FormFault>
     ensures { Reads operation_view result
         (judged (operation_form_view form) (signature_fault (operation_form_view form))) }
@@ -241,7 +244,7 @@ fn checked_operation(alloc: Global, form: OperationForm) -> Result<Operation, Fo
     })
 }
 
-// The exceptions by their ids, their descriptions checked.
+// Checks the descriptions of the exceptions, one after the other.
 fn checked_exceptions(
     alloc: Global,
     forms: Vec<(OctetList, ParametersForm)>,
@@ -257,7 +260,7 @@ fn checked_exceptions(
     Ok(exceptions)
 }
 
-// Parameters, their descriptions checked.
+// Checks the descriptions of parameters, in their order.
 fn checked_parameters(alloc: Global, form: ParametersForm) -> Result<Parameters, FormFault>
     ensures told { Reads parameters_view result
         (judged (parameters_form_view form) (parameters_fault (parameters_form_view form))) }

@@ -1,4 +1,5 @@
-//! The leaves of values as JSON: names, numbers and discriminants.
+//! Writing the parts of values that are one JSON value: texts, names, numbers and discriminants.
+//! read_leaves.rt reads them.
 ghost use Rattle.std.specs.Prelude.{◌≡◌, IfOk};
 ghost use Rattle.serde_json.specs.View.{view};
 ghost use Rattle.giop_types.specs.JsonForms.ToJson.{text_data, name_data, whole_data, label_data};
@@ -10,14 +11,14 @@ use giop_cdr::OctetList;
 use serde_json::{Number, Value as Json};
 use std::alloc::{AllocError, Global};
 
-/// The text of octets.
+/// Octets as a JSON text, a character for each octet.
 pub fn text_json(alloc: Global, octets: &[u8]) -> Result<Json, AllocError>
     ensures { IfOk result (λ json. view json ≡ text_data octets.now) }
 {
     Ok(Json::String(text_of(alloc, octets)?))
 }
 
-/// The name of an ordinal, or null where it has none.
+/// The name of an ordinal as a JSON text, or null where it has none.
 pub fn name_json(alloc: Global, names: &[OctetList], ordinal: usize) -> Result<Json, AllocError>
     ensures { IfOk result (λ json. view json ≡ name_data names.now ordinal) }
 {
@@ -28,7 +29,7 @@ pub fn name_json(alloc: Global, names: &[OctetList], ordinal: usize) -> Result<J
     }
 }
 
-/// A number of 64 bits, or null where it has more.
+/// A number as JSON, or null where it takes more than 64 bits.
 pub fn whole_json(number: &i128) -> Json
     ensures { view result ≡ whole_data number.now }
 {
@@ -38,7 +39,8 @@ pub fn whole_json(number: &i128) -> Json
     }
 }
 
-/// A discriminant by its number, or null where it is none of its values.
+/// A discriminant as JSON. It is null where a char or an enum has no such number, or the number
+/// takes more than 64 bits.
 pub fn label_json(alloc: Global, disc: &Desc, label: &i128) -> Result<Json, AllocError>
     ensures { IfOk result (λ json. view json ≡ label_data (desc_view disc.now) label.now) }
 {

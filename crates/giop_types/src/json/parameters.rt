@@ -1,4 +1,5 @@
-//! Parameters, of which no two have the same name.
+//! The parameters of an operation, or the members of an exception: checked descriptions with names,
+//! of which no two are the same.
 ghost use Rattle.std.specs.Prelude.{◌≡◌, map, true, false, IfSome, IfNone};
 ghost use Rattle.std.specs.List.{list_any};
 ghost use Rattle.giop_types.specs.Descriptions.Checked.{has_doubled, same_name};
@@ -23,8 +24,8 @@ pub struct Parameters {
 }
 
 impl Parameters {
-    /// These parameters, or None where two have the same name. It takes no memory, and a time that
-    /// grows with the square of their number.
+    /// These parameters, or None where two have the same name. It takes no memory. Its time grows
+    /// with the square of their number.
     pub fn new(list: Vec<Parameter>) -> Option<Parameters>
         ensures some { IfSome result (λ parameters. parameters.list ≡ list) }
         ensures none { IfNone result (has_doubled same_name (map (λ p. p.name) list.items) ≡ true) }
@@ -36,7 +37,7 @@ impl Parameters {
         }
     }
 
-    /// The parameters.
+    /// The parameters, in their order.
     pub fn as_slice(&self) -> &[Parameter]
         ensures same { result.now ≡ self.now.list.items }
         ensures distinct { has_doubled same_name (map (λ p. p.name) result.now) ≡ false }

@@ -1,4 +1,5 @@
-//! The leaves of values read from JSON: numbers, texts, names and discriminants.
+//! Reading the parts of values that are one JSON value: numbers, texts, names and discriminants.
+//! leaves.rt and to_json.rt write them.
 ghost use Rattle.std.specs.Prelude.{◌≡◌, IfOk, option_map};
 ghost use Rattle.giop_types.specs.JsonForms.FromJson.{Shows, natural_tree, number_tree, whole, octets_shown, char_shown, hex_shown, ordinal_in, ordinal_shown, ordinal_tree, label_shown};
 ghost use Rattle.giop_types.specs.Values.Views.{desc_view, value_view};
@@ -13,7 +14,8 @@ use hex::FromHexError;
 use serde_json::Value as Json;
 use std::alloc::{AllocError, Global};
 
-/// A whole number.
+/// Reads a whole number. Another JSON value is BadShape, and so is a number with a fraction or an
+/// exponent.
 pub fn whole_of(json: &Json) -> Result<i128, FormFault>
     ensures { Shows (λ z. z) result (whole (view json.now)) }
 {
@@ -26,8 +28,8 @@ pub fn whole_of(json: &Json) -> Result<i128, FormFault>
     }
 }
 
-/// A number of this description, or the longer number that it is where the description can't hold
-/// it.
+/// Reads a number as a value of this description. Where the description can't hold it, it is a
+/// longer number, which then doesn't fit.
 pub fn number_of(desc: &Desc, json: &Json) -> Result<Value, FormFault>
     ensures { Shows value_view result
         (option_map (number_tree (desc_view desc.now)) (whole (view json.now))) }
@@ -41,7 +43,8 @@ pub fn number_of(desc: &Desc, json: &Json) -> Result<Value, FormFault>
     }
 }
 
-// A number of 0 or more.
+// A number of 0 or more as a value of a description, or as the longest one where that can't hold
+// it.
 fn natural_value(desc: &Desc, number: u64) -> Value
     ensures { value_view result ≡ natural_tree (desc_view desc.now) number }
 {
@@ -56,7 +59,8 @@ fn natural_value(desc: &Desc, number: u64) -> Value
     }
 }
 
-// A number that a long long holds.
+// A number that a long long holds, as a value of a description, or as a longer one where that can't
+// hold it.
 fn integer_value(desc: &Desc, number: i64) -> Value
     ensures { value_view result ≡ number_tree (desc_view desc.now) number }
 {
@@ -70,7 +74,7 @@ fn integer_value(desc: &Desc, number: i64) -> Value
     }
 }
 
-/// The octets of a text.
+/// The octets of a JSON text, an octet for each character.
 pub fn octets_of(alloc: Global, json: &Json) -> Result<OctetList, FormFault>
     ensures { Shows (λ octets. octets) result (octets_shown (view json.now)) }
 {
@@ -94,7 +98,7 @@ pub fn char_of(alloc: Global, json: &Json) -> Result<u8, FormFault>
     }
 }
 
-/// The octets of hexadecimal digits.
+/// The octets that a JSON text says in hexadecimal digits.
 pub fn hex_of(alloc: Global, json: &Json) -> Result<OctetList, FormFault>
     ensures { Shows (λ octets. octets) result (hex_shown (view json.now)) }
 {
@@ -108,7 +112,7 @@ pub fn hex_of(alloc: Global, json: &Json) -> Result<OctetList, FormFault>
     }
 }
 
-// The ordinal of the first name that has this text: how many names there are, where none has.
+// The ordinal of the first name that has this text, or the number of names where none has it.
 fn ordinal_in(alloc: Global, text: &str, names: &[OctetList]) -> Result<usize, AllocError>
     ensures { IfOk result (λ ordinal. ordinal ≡ ordinal_in text.now names.now) }
 {
@@ -120,7 +124,8 @@ fn ordinal_in(alloc: Global, text: &str, names: &[OctetList]) -> Result<usize, A
     Ok(names.len())
 }
 
-/// The ordinal of a name: how many names there are, where it is none of them.
+/// The ordinal of a name, or the number of names where the text is none of them. A text with a
+/// character above U+00FF is BadShape.
 pub fn ordinal_of(alloc: Global, names: &[OctetList], json: &Json) -> Result<usize, FormFault>
     ensures { Shows (λ ordinal. ordinal) result (ordinal_shown names.now (view json.now)) }
 {
@@ -137,7 +142,7 @@ pub fn ordinal_of(alloc: Global, names: &[OctetList], json: &Json) -> Result<usi
     }
 }
 
-/// An ordinal as a value, which doesn't fit where an unsigned long can't hold it.
+/// An ordinal as a value. It is one that doesn't fit where an unsigned long can't hold the ordinal.
 pub fn ordinal_value(ordinal: usize) -> Value
     ensures { value_view result ≡ ordinal_tree ordinal }
 {
@@ -147,7 +152,8 @@ pub fn ordinal_value(ordinal: usize) -> Value
     }
 }
 
-/// A discriminant, as a number: of a boolean 0 or 1, of a char its octet, of an enum its ordinal.
+/// Reads a discriminant, as a number: of a boolean 0 or 1, of a char its octet, of an enum its
+/// ordinal.
 pub fn label_of(alloc: Global, disc: &Desc, json: &Json) -> Result<i128, FormFault>
     ensures { Shows (λ z. z) result (label_shown (desc_view disc.now) (view json.now)) }
 {

@@ -1,4 +1,5 @@
-//! Object references: their description (CORBA 3.3 Part 2, 7.6.2) and their text (7.6.9).
+//! Object references as values: their description (CORBA 3.3 Part 2, 7.6.2) and, in JSON, their
+//! text (7.6.9). The forms are specs/JsonForms/Reference.antt.
 ghost use Rattle.std.specs.Prelude.{◌≡◌, map, option_map, IfOk};
 ghost use Rattle.std.specs.Result.{result_ok};
 ghost use Rattle.giop_cdr.specs.Encapsulation.Opened.{content_of};
@@ -22,8 +23,8 @@ use giop_cdr::{CdrIn, CdrKind, CdrOut, EncodeFault, OctetList, Order, SliceOctet
 use serde_json::Value as Json;
 use std::alloc::{AllocError, Global};
 
-/// The description of an IOR: a struct of `type_id`, a string, and `profiles`, a sequence of
-/// structs of `tag`, an unsigned long, and `octets`, a sequence of octets.
+/// The description of an IOR (7.6.2): a struct of `type_id`, a string, and `profiles`, a sequence
+/// of structs of `tag`, an unsigned long, and `octets`, a sequence of octets.
 pub fn reference_desc(alloc: Global) -> Result<Desc, AllocError>
     ensures { IfOk result (λ desc. desc_view desc ≡ reference_shape) }
 {
@@ -65,7 +66,7 @@ fn is_named(member: &NamedDesc, name: &[u8]) -> bool
     member.name.as_slice() == name
 }
 
-// Whether this is an unbounded sequence of profiles.
+// Whether this is the description of an unbounded sequence of profiles.
 fn are_profiles(desc: &Desc) -> bool
     ensures { result ≡ are_profiles (desc_view desc.now) }
 {
@@ -75,7 +76,7 @@ fn are_profiles(desc: &Desc) -> bool
     }
 }
 
-// Whether this is a profile: a tag and octets.
+// Whether this is the description of a profile: a tag and octets.
 fn is_profile(desc: &Desc) -> bool
     ensures { result ≡ is_profile (desc_view desc.now) }
 {
@@ -92,7 +93,7 @@ fn is_profile(desc: &Desc) -> bool
     }
 }
 
-/// Whether these are the members of a reference.
+/// Whether these are the members of a reference, as `reference_desc` gives them.
 pub fn is_reference(members: &[NamedDesc]) -> bool
     ensures { result ≡ is_reference (fields_of (map named_view members.now)) }
 {
@@ -106,7 +107,8 @@ pub fn is_reference(members: &[NamedDesc]) -> bool
     }
 }
 
-/// The text of a reference, big-endian; null where the value doesn't fit.
+/// The text of a reference as JSON, in big-endian byte order. It is null where the value doesn't
+/// fit.
 pub fn reference_json(alloc: Global, value: &Value, desc: &Desc) -> Result<Json, AllocError>
     ensures { IfOk result
         (λ json. view json ≡ reference_data (desc_view desc.now) (value_view value.now)) }
@@ -121,7 +123,7 @@ pub fn reference_json(alloc: Global, value: &Value, desc: &Desc) -> Result<Json,
     Ok(Json::String(ior_octets_to_text(alloc, out.as_slice())?))
 }
 
-/// The value of a reference's text.
+/// The value of a reference that a JSON text says.
 #[tactic(auto, unfolding(crate::specs::IorText::ior_text_of))]
 pub fn reference_of(alloc: Global, desc: &Desc, json: &Json) -> Result<Value, FormFault>
     ensures { Shows value_view result (reference_shown (desc_view desc.now) (view json.now)) }
@@ -136,7 +138,7 @@ pub fn reference_of(alloc: Global, desc: &Desc, json: &Json) -> Result<Value, Fo
     }
 }
 
-// The value of an encapsulation, whatever stands behind it.
+// The value of an encapsulation (9.3.3). Octets that follow it are not judged.
 #[tactic(auto, unfolding(crate::specs::IorText::encapsulated, giop_cdr::specs::Encapsulation::OfLayout::inside_at))]
 fn encapsulated(alloc: Global, desc: &Desc, octets: &[u8]) -> Result<Value, FormFault>
     ensures { Shows value_view result
@@ -148,7 +150,7 @@ fn encapsulated(alloc: Global, desc: &Desc, octets: &[u8]) -> Result<Value, Form
     content_value(alloc, desc, content, order)
 }
 
-// The value of an encapsulation's content.
+// The value of an encapsulation's content, which begins at offset 1.
 fn content_value(
     alloc: Global,
     desc: &Desc,

@@ -1,11 +1,12 @@
-//! Texts of JSON that stand for octets: the characters U+0000 to U+00FF are the octets 0 to 255.
+//! JSON texts that are octets: the characters U+0000 to U+00FF are the octets 0 to 255. The code is
+//! specs/JsonForms/JsonText.antt; other characters are refused.
 ghost use Rattle.std.specs.Prelude.{◌≡◌, IfOk, option_map, string_bytes};
 ghost use Rattle.giop_types.specs.JsonForms.JsonText.{text_of, octets_in};
 
 use giop_cdr::OctetList;
 use std::alloc::{AllocError, Global};
 
-/// The text of octets.
+/// The text of octets, a character for each.
 pub fn text_of(alloc: Global, octets: &[u8]) -> Result<String, AllocError>
     ensures { IfOk result (λ text. string_bytes text ≡ text_of octets.now) }
 {
@@ -16,7 +17,7 @@ pub fn text_of(alloc: Global, octets: &[u8]) -> Result<String, AllocError>
     Ok(text)
 }
 
-/// The octets that a text stands for, unless a character is above U+00FF.
+/// The octets of a text, or None where a character is above U+00FF.
 pub fn octets_in(alloc: Global, text: &str) -> Result<Option<OctetList>, AllocError>
     ensures { IfOk result (λ octets. octets ≡ octets_in text.now) }
 {

@@ -1,4 +1,5 @@
-//! Values written as JSON.
+//! Writing a value as JSON by its description. The form is specs/JsonForms/ToJson.antt, and
+//! from_json.rt reads it again, so change them together.
 ghost use Rattle.std.specs.Prelude.{◌≡◌, ◌⊎◌, map, option_map, true, false, Ok, IfOk, IfErr, IsErrOf, OnOk, string_bytes};
 ghost use Rattle.serde_json.specs.Data.{array, object, no_members, put as with_member};
 ghost use Rattle.serde_json.specs.View.{view, items_of, members_view};
@@ -22,8 +23,8 @@ use crate::value::Value;
 use serde_json::{Map, Value as Json};
 use std::alloc::{AllocError, Global};
 
-/// A value of this description as JSON, of which `value_from_json` is the value again. Refused as
-/// Unfit where the value isn't of the description, and as NoMemory where memory is wanting.
+/// A value of this description as JSON, which `value_from_json` reads as the value. Refused as
+/// Unfit where the value isn't of the description, and as NoMemory when out of memory.
 pub fn value_to_json(alloc: Global, desc: &CheckedDesc, value: &Value) -> Result<Json, FormFault>
     ensures value { IfOk result (λ json.
         view json ≡ to_data (checked_shape desc.now) (value_view value.now)) }
@@ -41,7 +42,7 @@ pub fn value_to_json(alloc: Global, desc: &CheckedDesc, value: &Value) -> Result
     Ok(to_json(alloc, value, desc.desc())?)
 }
 
-/// A value as JSON; null where it is of another kind than its description.
+/// Writes a value as JSON. It is null where the value is of another kind than its description.
 #[cycle(to_json)]
 #[tactic(auto, unfolding(crate::specs::JsonForms::ToJson::to_data))]
 pub fn to_json(alloc: Global, value: &Value, desc: &Desc) -> Result<Json, AllocError>
@@ -86,7 +87,7 @@ pub fn to_json(alloc: Global, value: &Value, desc: &Desc) -> Result<Json, AllocE
     }
 }
 
-// A value within which no other stands.
+// A value that holds no other value.
 #[tactic(auto, unfolding(crate::specs::JsonForms::ToJson::to_data))]
 fn leaf_json(alloc: Global, value: &Value, desc: &Desc) -> Result<Json, AllocError>
     requires { is_leaf (desc_view desc.now) ≡ true }
@@ -129,7 +130,7 @@ fn members_json(alloc: Global, values: &[Value], members: &[NamedDesc]) -> Resul
     Ok(Json::Object(object))
 }
 
-// A member of an object, whose name isn't copied once more.
+// Adds a member to an object. The name is moved, where `serde_json::put` would copy it.
 fn put(object: &mut Map<String, Json>, name: String, value: Json) -> Result<(), AllocError>
     ensures { OnOk result (members_view object.new.entries
         ≡ with_member (string_bytes name) (view value) (members_view object.old.entries)) }

@@ -1,5 +1,6 @@
-// Laws of the text of a reference. Each function's contract is one of them; the bodies are empty,
-// and no program calls these.
+//! Laws of the text of a reference (CORBA 3.3 Part 2, 7.6.9), above the definitions of
+//! specs/IorText.antt. Each function's contract is one of them; the bodies are empty, and no
+//! program calls these.
 ghost use Rattle.std.specs.Prelude.{◌≡◌, ◌++◌, ℕ, List, true, false, codes, Ok};
 ghost use Rattle.giop_cdr.specs.Layout.{AreOctets};
 ghost use Rattle.giop_types.specs.Coding.Decoding.{decode_at};
@@ -12,9 +13,9 @@ ghost use Rattle.giop_types.specs.Coding.Spells.{Spells};
 ghost use Rattle.giop_types.specs.Values.Tree.{Tree};
 ghost use Rattle.giop_types.specs.Coding.Written.{value_out};
 
-/// The grammar of the texts of references, whatever the value that is encapsulated: what is read is
-/// what the text says, and the fault that is told is the one that it has. A text says one value at
-/// most.
+/// The grammar of the texts of references, whatever the value that is encapsulated. What is read is
+/// what the text says, and the fault that is reported is the one that it has. A text says one value
+/// at most.
 pub fn ior_texts_are_read()
     ensures exact { (shape : Shape) → is_full shape ≡ true
         → ReadsTexts (Spells shape) (RefusedShape shape) (ior_text_of (decode_at shape)) }
@@ -22,8 +23,8 @@ pub fn ior_texts_are_read()
         → IorText (Spells shape) t text → IorText (Spells shape) u text → t ≡ u }
 {}
 
-/// The text that is written of octets says them, and the text that is written of a fitting value
-/// says the value, and is read back.
+/// The text that is written of octets says them. The text that is written of a fitting value says
+/// the value, and is read as that value again.
 pub fn written_ior_texts_are_read_back()
     ensures octets { (octets : List ℕ) → AreOctets octets → PrefixedText octets (prefixed octets) }
     ensures written { (shape : Shape) → is_full shape ≡ true

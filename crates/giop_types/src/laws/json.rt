@@ -1,5 +1,5 @@
-// Laws of values as JSON. The body of the first is empty, that of the second makes the very calls,
-// and no program calls these.
+//! Laws of values as JSON, above the definitions of specs/JsonForms. The body of the first is
+//! empty, and that of the second makes the calls that it is about. No program calls these.
 ghost use Rattle.std.specs.Prelude.{◌≡◌, ◌↔◌, true, false, None, Ok, IfOk, IsErrOf};
 ghost use Rattle.giop_types.specs.declared.json.form_fault.FormFault.TheVariants.{Unfit};
 ghost use Rattle.giop_types.specs.Descriptions.Checked.{desc_fault};
@@ -18,17 +18,17 @@ use crate::json::{value_from_json, value_to_json};
 use crate::value::Value;
 use std::alloc::Global;
 
-/// The JSON value that a fitting value is written as is read as that value, references included: of
-/// every description without a fault, of which each union has one member by default at most (as in
-/// each `Desc`).
+/// A fitting value that is written as JSON is read as that value, references included. That holds
+/// of every description without a fault in which each union has one member by default at most, as
+/// in each `Desc`.
 pub fn json_gives_values_back()
     ensures { (shape : Shape) → desc_fault 1 shape ≡ None → is_plain shape ≡ true
         → (tree : Tree) → fits shape tree ≡ true → from_data shape (to_data shape tree) ≡ Ok tree }
 {}
 
 /// Writes a value as JSON and reads that again. Refused as Unfit where the value isn't of the
-/// description, or as NoMemory. What `value_from_json` answers of what `value_to_json` wrote is the
-/// value, or that memory is wanting: it refuses nothing else.
+/// description, or as NoMemory. `value_from_json` returns the value for what `value_to_json` wrote,
+/// or is out of memory: it refuses nothing else.
 pub fn written_and_read_as_json(
     alloc: Global,
     desc: &CheckedDesc,

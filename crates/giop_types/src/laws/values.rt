@@ -1,5 +1,6 @@
-// Laws of the definitions. Each function's contract is one of them; the bodies are empty but for
-// the last, which makes the very calls, and no program calls these.
+//! Laws of values and descriptions, above the definitions of specs/Coding, specs/Values and
+//! specs/Descriptions. Each function's contract is one of them. The bodies are empty but for the
+//! last, which makes the calls that it is about. No program calls these.
 ghost use Rattle.std.specs.Prelude.{◌≡◌, ◌+◌, ◌<◌, ◌≤◌, ◌↔◌, ◌^◌, ℕ, ℤ, List, length, true, false, None, IfOk, IsErrOf};
 ghost use Rattle.std.specs.List.{AllByRecursion};
 ghost use Rattle.giop_cdr.specs.declared.order.Order.{Order};
@@ -30,8 +31,8 @@ use crate::value::Value;
 use giop_cdr::{CdrFault, CdrIn, CdrOut, EncodeFault, Order, SliceOctets};
 use std::alloc::Global;
 
-/// Values of every description that can be checked (9.3.2): what is read is what is spelled, and
-/// where nothing is spelled the first refused field is answered. No spelling of a value begins
+/// Values of every description that can be checked (9.3.2). What is read is what is spelled, and
+/// where nothing is spelled the first refused field is reported. No spelling of a value begins
 /// another.
 pub fn values_are_spelled()
     ensures exact { (shape : Shape) → is_full shape ≡ true
@@ -39,31 +40,30 @@ pub fn values_are_spelled()
     ensures alone { (shape : Shape) → is_full shape ≡ true → StandsAlone (Spells shape) }
 {}
 
-/// No value has more leaves than octets spell it: so no count makes a small message a large value.
+/// No value has more leaves than octets spell it. So no count makes a small message a large value.
 pub fn values_are_bounded()
     ensures { (shape : Shape) → is_full shape ≡ true
         → (order : Order) (at : ℕ) (tree : Tree) (octets : List ℕ)
         → Spells shape order at tree octets → leaves tree ≤ length octets }
 {}
 
-/// What is written of a fitting value spells it, and reading gives the value back and leaves what
-/// stands behind it: in both orders, at every offset.
+/// What is written of a fitting value spells it. Reading returns the value and leaves what follows
+/// it, in both byte orders and at every offset.
 pub fn written_values_are_read_back()
     ensures { (shape : Shape) → is_full shape ≡ true → (tree : Tree) → fits shape tree ≡ true
         → (out : Output) → IsReadBack (Spells shape) (decode_at shape) tree out
         (value_out shape tree out) }
 {}
 
-/// What octets spell is a value that fits, and so can be written again: for octets, which are
-/// numbers below 256.
+/// What octets spell is a value that fits, and so can be written again. It holds of octets, which
+/// are numbers below 256.
 pub fn spelled_values_fit()
     ensures { (shape : Shape) (order : Order) (at : ℕ) (tree : Tree) (octets : List ℕ)
         → are_octets octets ≡ true → Spells shape order at tree octets → fits shape tree ≡ true }
 {}
 
-/// Descriptions: the fault that `CheckedDesc::check` tells is that of the first node in reading
-/// order that has one, and a description is checked exactly where every node of it is sound at its
-/// depth.
+/// The fault that `CheckedDesc::check` returns is that of the first node in reading order that has
+/// one. A description is checked exactly where every node of it is sound at its depth.
 pub fn descriptions_are_checked_node_by_node()
     ensures first { (depth : ℕ) (shape : Shape)
         → desc_fault depth shape ≡ first_fault (nodes depth shape) }
@@ -71,7 +71,7 @@ pub fn descriptions_are_checked_node_by_node()
         → (desc_fault 1 shape ≡ None) ↔ AllByRecursion IsSound (nodes 1 shape) }
 {}
 
-/// No part of a value is left out of its leaves: each number, label and discriminant is one, each
+/// No part of a value is left out of its leaves. Each number, label and discriminant is one, each
 /// octet of a text is one, and those of the parts add up.
 pub fn leaves_count_every_part()
     ensures texts { (text : List ℕ)
@@ -99,9 +99,9 @@ pub fn equal_values_are_the_same()
     ensures lists { (one other : List Tree) → (same_list one other ≡ true) ↔ (one ≡ other) }
 {}
 
-/// Writes a value, in an order and from an offset on, and reads it again. Refused as Unfit where it
-/// doesn't fit, or as NoMemory. What `decode` answers of what `encode` wrote is the value, or that
-/// memory is wanting: it refuses nothing else.
+/// Writes a value, in a byte order and from an offset on, and reads it again. Refused as Unfit
+/// where it doesn't fit, or as NoMemory. `decode` returns the value for what `encode` wrote, or is
+/// out of memory: it refuses nothing else.
 pub fn encoded_and_decoded(
     alloc: Global,
     order: Order,
