@@ -1,0 +1,48 @@
+# Completion of giopctl for bash. Made by tools/pages from giopctl's own --help.
+
+_giopctl() {
+    local word=${COMP_WORDS[COMP_CWORD]} before=${COMP_WORDS[COMP_CWORD-1]}
+    local path=giopctl words='' files='' i
+    COMPREPLY=()
+    # Of --option=value bash makes three words.
+    if [[ $word == = ]]; then
+        word=''
+    elif [[ $before == = ]]; then
+        before=${COMP_WORDS[COMP_CWORD-2]}
+    fi
+    for ((i = 1; i < COMP_CWORD; i++)); do
+        case "$path ${COMP_WORDS[i]}" in
+            'giopctl dump'|'giopctl check'|'giopctl convert'|'giopctl convert ior'|'giopctl convert corbaloc'|'giopctl convert encode'|'giopctl convert decode'|'giopctl call'|'giopctl serve'|'giopctl help'|'giopctl convert help') path="$path ${COMP_WORDS[i]}" ;;
+        esac
+    done
+    case "$path $before" in
+        'giopctl check --interface'|'giopctl convert encode --desc'|'giopctl convert decode --desc'|'giopctl call --interface'|'giopctl serve --interface'|'giopctl serve --answers') files=yes ;;
+        'giopctl dump --message-limit'|'giopctl check --message-limit'|'giopctl check --calls-limit'|'giopctl check --gathered-limit'|'giopctl call --target'|'giopctl call --piece'|'giopctl call --message-limit'|'giopctl call --calls-limit'|'giopctl call --gathered-limit'|'giopctl serve --port'|'giopctl serve --key'|'giopctl serve --connections'|'giopctl serve --piece'|'giopctl serve --message-limit'|'giopctl serve --calls-limit'|'giopctl serve --gathered-limit') return ;;
+        *)
+            case "$path:$word" in
+                'giopctl:-'*) words='-h --help -V --version' ;;
+                'giopctl dump:-'*) words='--message-limit -h --help' ;;
+                'giopctl check:-'*) words='--interface --message-limit --calls-limit --gathered-limit -h --help' ;;
+                'giopctl convert:-'*) words='-h --help' ;;
+                'giopctl convert ior:-'*) words='-h --help' ;;
+                'giopctl convert corbaloc:-'*) words='-h --help' ;;
+                'giopctl convert encode:-'*) words='--desc --little -h --help' ;;
+                'giopctl convert decode:-'*) words='--desc --little -h --help' ;;
+                'giopctl call:-'*) words='--target --interface --piece --little --message-limit --calls-limit --gathered-limit -h --help' ;;
+                'giopctl serve:'*) words='--port --interface --answers --key --connections --piece --little --message-limit --calls-limit --gathered-limit -h --help' ;;
+                'giopctl:'*) words='dump check convert call serve help' ;;
+                'giopctl convert:'*) words='ior corbaloc encode decode help' ;;
+                'giopctl help:'*) words='dump check convert call serve' ;;
+                'giopctl convert help:'*) words='ior corbaloc encode decode' ;;
+                'giopctl dump:'*|'giopctl check:'*|'giopctl convert ior:'*|'giopctl convert corbaloc:'*|'giopctl convert encode:'*|'giopctl convert decode:'*|'giopctl call:'*) files=yes ;;
+            esac ;;
+    esac
+    if [[ -n $files ]]; then
+        compopt -o filenames 2>/dev/null
+        mapfile -t COMPREPLY < <(compgen -f -- "$word")
+    else
+        mapfile -t COMPREPLY < <(compgen -W "$words" -- "$word")
+    fi
+}
+
+complete -F _giopctl giopctl
