@@ -6,6 +6,7 @@ mod EventLemmas
 mod InputLemmas
 mod ItemLemmas
 mod CutItemLemmas
+mod CodingLemmas
 mod ServerItemLemmas
 mod ClientCancelLemmas
 mod ClientReplyLemmas

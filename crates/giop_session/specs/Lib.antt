@@ -7,6 +7,7 @@ pub mod ClientCarries
 pub mod ClientHears
 pub mod ClientRuns
 pub mod Codes
+pub mod Coding
 pub mod Decoding
 pub mod Driven
 pub mod EndRuns
@@ -17,6 +18,7 @@ pub mod Heard
 pub mod Inputs
 pub mod LeftToSend
 pub mod Limits
+pub mod OwnLane
 pub mod Pumping
 pub mod PutOut
 pub mod Putting

@@ -11,6 +11,7 @@ ghost use Rattle.giop_session.specs.Feeding.{Fed, Through, with_octets};
 ghost use Rattle.giop_session.specs.Heard.{hears_by};
 ghost use Rattle.giop_session.specs.CallTable.{at, Held, is_of_call, rules_of, turn};
 
+mod coding;
 mod headline;
 mod inputs;
 mod left;
@@ -19,6 +20,7 @@ mod running;
 mod world;
 
 use crate::{Hearing, Side};
+pub use coding::{own_ends_of_one_lane_agree, what_is_sent_is_read};
 pub use headline::{
     each_call_of_a_run, same_calls_same_entries_at_client, same_calls_same_entries_at_server,
     what_is_cut_is_carried,
