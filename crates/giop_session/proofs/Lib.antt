@@ -7,6 +7,7 @@ mod InputLemmas
 mod ItemLemmas
 mod CutItemLemmas
 mod CodingLemmas
+mod LaneAtEndsLemmas
 mod ServerItemLemmas
 mod ClientCancelLemmas
 mod ClientReplyLemmas

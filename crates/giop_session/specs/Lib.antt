@@ -16,6 +16,7 @@ pub mod Feeding
 pub mod Form
 pub mod Heard
 pub mod Inputs
+pub mod LaneAtEnds
 pub mod LeftToSend
 pub mod Limits
 pub mod OwnLane

@@ -1,14 +1,26 @@
 // The session's own ends over one lane: what they send is read back, and so they agree. Each
 // function's contract is a law, and no program calls these.
-ghost use Rattle.std.specs.Prelude.{◌≡◌, List};
+ghost use Rattle.std.specs.Prelude.{◌≡◌, ◌++◌, ◌∷◌, [], false, true, List, map, Some};
 ghost use Rattle.giop_types.specs.declared.json.interface.Interface.{Interface};
+ghost use Rattle.giop_msg.specs.declared.kind.Kind.TheVariants as message;
+ghost use Rattle.giop_msg.specs.declared.msg.Msg.{Msg};
 ghost use Rattle.giop_calls.specs.Lane.{Act, Cut, CutsCall, CutsLocated, CutsReply, IsSound, Lane, Runs};
-ghost use Rattle.giop_calls.specs.Lane.{new, pieces_of};
+ghost use Rattle.giop_calls.specs.Lane.{kind_of, new, Opens, pieces_of, version_of};
+ghost use Rattle.giop_calls.specs.declared.client.entry.ClientEntry.TheVariants as client;
 ghost use Rattle.giop_calls.specs.declared.client.event.ClientEvent.TheVariants as at_client;
+ghost use Rattle.giop_calls.specs.declared.kind.CallKind.TheVariants as kind;
+ghost use Rattle.giop_calls.specs.declared.server.entry.ServerEntry.TheVariants as server;
 ghost use Rattle.giop_calls.specs.declared.server.event.ServerEvent.TheVariants as at_server;
+ghost use Rattle.giop_session.specs.CallTable.{Hears, More, Nothing};
+ghost use Rattle.giop_session.specs.ClientCarries.{replies};
+ghost use Rattle.giop_session.specs.ClientHears.{awaited, client_befalls};
 ghost use Rattle.giop_session.specs.Coding.{coding};
+ghost use Rattle.giop_session.specs.Heard.{behind_id, kept};
+ghost use Rattle.giop_session.specs.LaneAtEnds.{carried, gathers, seen};
 ghost use Rattle.giop_session.specs.OwnLane.{OwnRuns, PlansCall, PlansLocated, PlansReply, sends_cut};
 ghost use Rattle.giop_session.specs.Sent.{sends_one};
+ghost use Rattle.giop_session.specs.ServerCarries.{asks};
+ghost use Rattle.giop_session.specs.ServerHears.{server_befalls};
 
 use giop_calls::laws::ends_of_one_lane_agree;
 
@@ -31,6 +43,46 @@ pub fn what_is_sent_is_read()
         → PlansLocated q here planned
         → (piece told : _) × (planned ≡ sends_one (at_server.AnswerLocate here) piece)
         × CutsLocated (coding interface) q here piece told }
+{}
+
+/// `coding` is how ends read: a server's end hears a Request or a LocateRequest, whole or as its last
+/// Fragment comes, as the call that `coding` reads in all of its pieces. A client's end so hears the
+/// reply to a call that waits for it, or whose reply it gathers.
+pub fn coding_is_how_ends_read()
+    ensures whole_call { (interface : Interface) (k : _) (m : Msg) (call : _)
+        → m.kind ≡ asks k → m.more ≡ false → server_befalls interface m call
+        ≡ Hears (kept (at_server.Whole ((coding interface).read_call (m ∷ [])))) Nothing }
+    ensures last_call { (interface : Interface) (k : _) (cut : Cut) (m : Msg) (unsent : _)
+        → cut.first.kind ≡ asks k → m.kind ≡ message.Fragment → m.more ≡ false
+        → m.order ≡ cut.first.order
+        → server_befalls interface m (gathers (server.Gathering k) unsent cut)
+        ≡ Hears (kept (at_server.Last true
+        ((coding interface).read_call (pieces_of cut ++ m ∷ [])))) (More (behind_id m)) }
+    ensures whole_reply { (interface : Interface) (k q : _) (m : Msg) (call : _)
+        → m.kind ≡ replies k → m.more ≡ false → awaited k m.version call.slot ≡ Some q
+        → client_befalls interface m call
+        ≡ Hears (kept (at_client.Whole k m.version
+        ((coding interface).read_reply q (m ∷ [])))) Nothing }
+    ensures last_reply { (interface : Interface) (q : _) (cut : Cut) (m : Msg) (unsent : _)
+        → m.kind ≡ message.Fragment → m.more ≡ false → m.order ≡ cut.first.order
+        → client_befalls interface m (gathers (client.Gathering q) unsent cut)
+        ≡ Hears (kept (at_client.Last true
+        ((coding interface).read_reply q (pieces_of cut ++ m ∷ [])))) (More (behind_id m)) }
+{}
+
+/// The pieces that an end plans to send are on the lane of their id as a lane carries them: by the
+/// headers of these messages, the first opens a call or an answer of its version, each behind it
+/// continues it, and the last alone says that no more follow.
+pub fn what_is_sent_is_a_lanes()
+    ensures call { (interface : Interface) (entry call : _) (cut : Cut)
+        → PlansCall interface entry call (sends_cut (at_client.Call call) cut)
+        → map seen (pieces_of cut) ≡ carried (kind_of call) (version_of call) cut }
+    ensures reply { (interface : Interface) (q r : _) (cut : Cut)
+        → PlansReply interface q r (sends_cut (at_server.Answer r) cut)
+        → map seen (pieces_of cut) ≡ carried kind.Request r.version cut }
+    ensures located { (interface : Interface) (q here : _) (piece : Msg)
+        → PlansLocated q here (sends_one (at_server.AnswerLocate here) piece)
+        → seen piece ≡ Opens kind.Locate q.version true piece }
 {}
 
 /// So a client's end and a server's end agree on one id, whatever they do under it, in whatever
