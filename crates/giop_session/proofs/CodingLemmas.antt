@@ -122,7 +122,7 @@ record IsSendable (fits : Bool) (octets : List ℕ) : Type 0 where
 no_less : (n m : ℕ) → not (nat_lt n m) ≡ true → m ≤ n
 no_less n m is = grind (arith, nat_tests)
 
-less : (n m : ℕ) → nat_lt n m ≡ true → n < m
+pub less : (n m : ℕ) → nat_lt n m ≡ true → n < m
 less n m is = grind (arith, nat_tests)
 
 sendable : (room size : ℕ) (version : Version) (octets : List ℕ) (piece : ℕ) (fits : Bool)
@@ -149,17 +149,66 @@ can_cut kind octets form fits continued is sized below = record {
   multiple = sized.multiple;
 }
 
--- what is sent is a cut of its octets
-record IsSentIn {V : Type 0} (version : Version) (kind : Kind) (form : Form) (octets : List ℕ) (event : ℕ → V) (planned : Planned V) : Type 0 where
-  cut : Cut
-  is_cut : IsCut version kind form.order octets form.piece (pieces_of cut)
-  sent : planned ≡ sends_cut event cut
+-- what is sent is a cut of octets that can be cut
+pub record IsSentIn {V : Type 0} (version : Version) (kind : Kind) (form : Form) (octets : List ℕ) (fits : Bool) (event : ℕ → V)
+    (planned : Planned V) : Type 0 where
+  pub fit : fits ≡ true
+  pub cut : Cut
+  pub can : CanCut kind octets form.piece
+  pub is_cut : IsCut version kind form.order octets form.piece (pieces_of cut)
+  pub sent : planned ≡ sends_cut event cut
 
-sent_in : {V : Type 0} (version : Version) (kind : Kind) (form : Form) (octets : List ℕ) (event : ℕ → V) (planned : Planned V)
-    → IsSent version kind form octets event planned → IsSentIn version kind form octets event planned
-sent_in version kind form octets event planned ([], is, planned_so) = absurd is
-sent_in version kind form octets event planned (m ∷ messages, is, planned_so) =
-    record { cut = record { first = m; rest = messages }; is_cut = is; sent = planned_so }
+sent_in : {V : Type 0} (version : Version) (kind : Kind) (form : Form) (octets : List ℕ) (fits : Bool) (event : ℕ → V) (planned : Planned V)
+    → is_continued kind ≡ true → IsSendable fits octets → IsForm form → form.piece < 2 ^ 32
+    → IsSent version kind form octets event planned → IsSentIn version kind form octets fits event planned
+sent_in version kind form octets fits event planned continued fit sized below ([], is, planned_so) = absurd is
+sent_in version kind form octets fits event planned continued fit sized below (m ∷ messages, is, planned_so) = record {
+  fit = fit.fit;
+  cut = record { first = m; rest = messages };
+  can = can_cut kind octets form fits continued fit sized below;
+  is_cut = is;
+  sent = planned_so;
+}
+
+pub request_sent : (interface : Interface) (entry : Option ClientEntry) (q : Request) (planned : Planned ClientEvent)
+    (is : PlansCall interface entry (asked.Request q) planned)
+    → IsSentIn q.head.version message.Request is.form (request_octets interface q is.form.order) ((request interface q.head.version).fits q)
+    (at_client.Call (asked.Request q)) planned
+request_sent interface entry q planned is =
+    let version = q.head.version in
+    let octets = request_octets interface q is.form.order in
+    let fits = (request interface version).fits q in
+    let whole = none_of_either (begin_fault interface entry q)
+    (unfit_unless (is_request_sendable interface is.limits q is.form)) is.unrefused in
+    let fit = sendable is.limits.gathered is.limits.message version octets is.form.piece fits
+    (none_is_fit (is_request_sendable interface is.limits q is.form) whole) in
+    sent_in version message.Request is.form octets fits (at_client.Call (asked.Request q)) planned refl fit is.is_form is.in_range.piece is.plans
+
+pub locate_sent : (interface : Interface) (entry : Option ClientEntry) (q : AnyLocateRequest) (planned : Planned ClientEvent)
+    (is : PlansCall interface entry (asked.Locate q) planned)
+    → IsSentIn q.version message.LocateRequest is.form (locate_octets q is.form.order) ((locate_request q.version).fits q)
+    (at_client.Call (asked.Locate q)) planned
+locate_sent interface entry q planned is =
+    let version = q.version in
+    let octets = locate_octets q is.form.order in
+    let fits = (locate_request version).fits q in
+    let whole = none_of_either (if is_free entry then None else Some IdInUse)
+    (unfit_unless (is_locate_sendable is.limits q is.form)) is.unrefused in
+    let fit = sendable is.limits.gathered is.limits.message version octets is.form.piece fits
+    (none_is_fit (is_locate_sendable is.limits q is.form) whole) in
+    sent_in version message.LocateRequest is.form octets fits (at_client.Call (asked.Locate q)) planned refl fit is.is_form is.in_range.piece
+    is.plans
+
+pub reply_sent : (interface : Interface) (q : Request) (r : Reply) (planned : Planned ServerEvent) (is : PlansReply interface q r planned)
+    → IsSentIn r.version message.Reply is.form (reply_octets interface (Some q) r is.form.order) ((reply interface (Some q) r.version).fits r)
+    (at_server.Answer r) planned
+reply_sent interface q r planned is =
+    let version = r.version in
+    let octets = reply_octets interface (Some q) r is.form.order in
+    let fits = (reply interface (Some q) version).fits r in
+    let fit = sendable is.limits.gathered is.limits.message version octets is.form.piece fits
+    (none_is_fit (is_reply_sendable interface is.limits (Some q) r is.form) is.unrefused) in
+    sent_in version message.Reply is.form octets fits (at_server.Answer r) planned refl fit is.is_form is.in_range.piece is.plans
 
 -- ---- calls
 
@@ -190,20 +239,14 @@ request_read : (interface : Interface) (entry : Option ClientEntry) (q : Request
 request_read interface entry q planned is =
     let version = q.head.version in
     let octets = request_octets interface q is.form.order in
-    let fits = (request interface version).fits q in
-    let whole = none_of_either (begin_fault interface entry q)
-    (unfit_unless (is_request_sendable interface is.limits q is.form)) is.unrefused in
-    let fit = sendable is.limits.gathered is.limits.message version octets is.form.piece fits
-    (none_is_fit (is_request_sendable interface is.limits q is.form) whole) in
-    let sent = sent_in version message.Request is.form octets (at_client.Call (asked.Request q)) planned is.plans in
-    let read = are_read interface version message.Request is.form.order octets is.form.piece sent.cut
-    (can_cut message.Request octets is.form fits refl fit is.is_form is.in_range.piece) sent.is_cut in (
+    let sent = request_sent interface entry q planned is in
+    let read = are_read interface version message.Request is.form.order octets is.form.piece sent.cut sent.can sent.is_cut in (
       sent.cut,
       sent.sent,
       record {
         order = is.form.order;
         one_order = read.one_order;
-        read = read.as_call ∙ request_heard interface version is.form.order q fit.fit is.in_range.holds;
+        read = read.as_call ∙ request_heard interface version is.form.order q sent.fit is.in_range.holds;
       },
     )
 
@@ -213,20 +256,14 @@ unfolding ended
 locate_read interface entry q planned is =
     let version = q.version in
     let octets = locate_octets q is.form.order in
-    let fits = (locate_request version).fits q in
-    let whole = none_of_either (if is_free entry then None else Some IdInUse)
-    (unfit_unless (is_locate_sendable is.limits q is.form)) is.unrefused in
-    let fit = sendable is.limits.gathered is.limits.message version octets is.form.piece fits
-    (none_is_fit (is_locate_sendable is.limits q is.form) whole) in
-    let sent = sent_in version message.LocateRequest is.form octets (at_client.Call (asked.Locate q)) planned is.plans in
-    let read = are_read interface version message.LocateRequest is.form.order octets is.form.piece sent.cut
-    (can_cut message.LocateRequest octets is.form fits refl fit is.is_form is.in_range.piece) sent.is_cut in (
+    let sent = locate_sent interface entry q planned is in
+    let read = are_read interface version message.LocateRequest is.form.order octets is.form.piece sent.cut sent.can sent.is_cut in (
       sent.cut,
       sent.sent,
       record {
         order = is.form.order;
         one_order = read.one_order;
-        read = read.as_call ∙ locate_heard interface version is.form.order q fit.fit is.in_range.holds;
+        read = read.as_call ∙ locate_heard interface version is.form.order q sent.fit is.in_range.holds;
       },
     )
 
@@ -257,29 +294,25 @@ pub reply_read : (interface : Interface) (q : Request) (r : Reply) (planned : Pl
 reply_read interface q r planned is =
     let version = r.version in
     let octets = reply_octets interface (Some q) r is.form.order in
-    let fits = (reply interface (Some q) version).fits r in
-    let fit = sendable is.limits.gathered is.limits.message version octets is.form.piece fits
-    (none_is_fit (is_reply_sendable interface is.limits (Some q) r is.form) is.unrefused) in
-    let sent = sent_in version message.Reply is.form octets (at_server.Answer r) planned is.plans in
-    let read = are_read interface version message.Reply is.form.order octets is.form.piece sent.cut
-    (can_cut message.Reply octets is.form fits refl fit is.is_form is.in_range.piece) sent.is_cut in (
+    let sent = reply_sent interface q r planned is in
+    let read = are_read interface version message.Reply is.form.order octets is.form.piece sent.cut sent.can sent.is_cut in (
       sent.cut,
       sent.sent,
       record {
         order = is.form.order;
         one_order = read.one_order;
-        read = read.as_reply (asked.Request q) ∙ reply_heard interface q version is.form.order r fit.fit is.in_range.holds;
+        read = read.as_reply (asked.Request q) ∙ reply_heard interface q version is.form.order r sent.fit is.in_range.holds;
       },
     )
 
 -- the LocateReply of an id, which says whether the target is here and no more
-abbrev told_of : Version → ℕ → Bool → LocateReply
+abbrev pub told_of : Version → ℕ → Bool → LocateReply
 told_of version id here = record {
   head = record { version = version; id = id; status = if here then 1 else 0 };
   rest = [];
 }
 
-told_fits : (version : Version) (id : ℕ) (here : Bool) → (locate_reply version).fits (told_of version id here) ≡ true
+pub told_fits : (version : Version) (id : ℕ) (here : Bool) → (locate_reply version).fits (told_of version id here) ≡ true
 told_fits V10 id true = unfold locate_reply leads made_of remainder locate_reply_head field gives locate_status such number in refl
 told_fits V10 id false = unfold locate_reply leads made_of remainder locate_reply_head field gives locate_status such number in refl
 told_fits V11 id true = unfold locate_reply leads made_of remainder locate_reply_head field gives locate_status such number in refl
@@ -291,7 +324,7 @@ status_small : (here : Bool) → (if here then 1 else 0) < 2 ^ 32
 status_small true = omega arith
 status_small false = omega arith
 
-told_holds : (version : Version) (id : ℕ) (here : Bool) → id < 2 ^ 32 → (locate_reply version).holds (told_of version id here)
+pub told_holds : (version : Version) (id : ℕ) (here : Bool) → id < 2 ^ 32 → (locate_reply version).holds (told_of version id here)
 told_holds version id here small =
     unfold locate_reply leads made_of remainder locate_reply_head field gives locate_status such number in
     ((small, (status_small here, refl)), (refl, tt))
@@ -324,7 +357,7 @@ put_of Next = []
 put_of Keep = []
 
 -- plans that send the same are of the same pieces
-same_pieces : {V : Type 0} (event : ℕ → V) (one other : Cut) → sends_cut event one ≡ sends_cut event other → pieces_of other ≡ pieces_of one
+pub same_pieces : {V : Type 0} (event : ℕ → V) (one other : Cut) → sends_cut event one ≡ sends_cut event other → pieces_of other ≡ pieces_of one
 same_pieces event one other same = sym (ap (λ (p : Planned _). put_of p.plan) same)
 
 abbrev first_or : Msg → List Msg → Msg

@@ -8,6 +8,9 @@ mod ItemLemmas
 mod CutItemLemmas
 mod CodingLemmas
 mod LaneAtEndsLemmas
+mod OnTheWayLemmas
+mod SentLemmas
+mod IdLemmas
 mod ServerItemLemmas
 mod ClientCancelLemmas
 mod ClientReplyLemmas

@@ -19,6 +19,7 @@ pub mod Inputs
 pub mod LaneAtEnds
 pub mod LeftToSend
 pub mod Limits
+pub mod OnTheWay
 pub mod OwnLane
 pub mod Pumping
 pub mod PutOut

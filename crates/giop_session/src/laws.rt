@@ -17,6 +17,7 @@ mod inputs;
 mod left;
 mod limits;
 mod running;
+mod sent;
 mod world;
 
 use crate::{Hearing, Side};
@@ -32,6 +33,7 @@ pub use inputs::{Answered, CheckedForm, ClientInput, ServerInput, WorldEvent};
 pub use left::{what_is_left_is_unsent_at_client, what_is_left_is_unsent_at_server};
 pub use limits::{limits_in_any_order_at_client, limits_in_any_order_at_server};
 pub use running::{run_client, run_server};
+pub use sent::{what_is_on_its_way, what_is_sent_is_framed, what_is_sent_names_its_id};
 pub use world::{World, run_world};
 
 /// Whatever befalls other ids in a run of acts, which goes on behind refusals, a call has the
