@@ -76,7 +76,8 @@ whole_read : (interface : Interface) (k : CallKind) (m : Msg) → m.kind ≡ ask
     → heard_call interface k m.version m.order m.payload ≡ read_call interface (m ∷ [])
 whole_read interface k m is = sym (λ i. heard_call interface ((ap kind_asked is ∙ asked_as k) i) m.version m.order (append-nil m.payload i))
 
-whole_act : (interface : Interface) (k : CallKind) (m : Msg) (call : Call ServerEntry) → server.befalls_by interface m call (asks k) ≡ server.comes interface k m
+whole_act : (interface : Interface) (k : CallKind) (m : Msg) (call : Call ServerEntry)
+    → server.befalls_by interface m call (asks k) ≡ server.comes interface k m
 whole_act interface kind.Request m call = refl
 whole_act interface kind.Locate m call = refl
 

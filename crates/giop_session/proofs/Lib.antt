@@ -11,6 +11,7 @@ mod LaneAtEndsLemmas
 mod OnTheWayLemmas
 mod SentLemmas
 mod IdLemmas
+mod OwnRunLemmas
 mod ServerItemLemmas
 mod ClientCancelLemmas
 mod ClientReplyLemmas

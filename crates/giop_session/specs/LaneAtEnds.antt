@@ -1,5 +1,5 @@
--- What an end hears, as messages of a lane, and the pieces that a call has gathered at an end (CORBA
--- 3.3 Part 2, 9.4.1 and 9.4.9).
+-- What an end hears, as messages of a lane, and the pieces that a call has gathered at an end
+-- (CORBA 3.3 Part 2, 9.4.1 and 9.4.9).
 use Rattle.std.specs.Prelude.{Bool, not, List, ◌∷◌, Some}
 use Rattle.giop_msg.specs.Cut.{joined}
 use Rattle.giop_msg.specs.declared.kind.Kind.{Kind}
@@ -11,8 +11,8 @@ use Rattle.giop_calls.specs.declared.kind.CallKind.{CallKind}
 use Rattle.giop_calls.specs.declared.kind.CallKind.TheVariants as kind
 use Rattle.giop_session.specs.CallTable.{Call}
 
--- a message of this type and version, of which more is announced or not; the two that name no id are
--- on no lane
+-- a message of this type and version, of which more is announced or not; the two that name no id
+-- are on no lane
 abbrev pub seen_as : Kind → Version → Bool → Msg → Message
 seen_as message.Request version more m = Opens kind.Request version (not more) m
 seen_as message.Reply version more m = Opens kind.Request version (not more) m

@@ -1,5 +1,5 @@
--- What is on its way from one end to the other: messages that were put out and aren't taken yet (CORBA
--- 3.3 Part 2, 9.4.1).
+-- What is on its way from one end to the other: messages that were put out and aren't taken yet
+-- (CORBA 3.3 Part 2, 9.4.1).
 use Rattle.std.specs.Prelude.{◌≡◌, ℕ, ◌-◌, ◌^◌, All, List, ◌++◌, Some, Ok}
 use Rattle.std.specs.List.{flat_map}
 use Rattle.giop_msg.specs.Msg.{IsMessage, message_octets}

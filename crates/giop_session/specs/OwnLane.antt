@@ -1,5 +1,5 @@
--- What the session's own ends put on a lane: the calls and replies that they plan to send (CORBA 3.3
--- Part 2, 9.4.2, 9.4.3, 9.4.5, 9.4.6 and 9.4.9).
+-- What the session's own ends put on a lane: the calls and replies that they plan to send (CORBA
+-- 3.3 Part 2, 9.4.2, 9.4.3, 9.4.5, 9.4.6 and 9.4.9).
 use Rattle.std.specs.Prelude.{◌≡◌, ℕ, ◌<◌, ◌^◌, Bool, List, [], ◌∷◌, Option, Some, None}
 use Rattle.giop_cdr.specs.Ending.{Ending, ended}
 use Rattle.giop_cdr.specs.declared.order.Order.{Order}
@@ -9,7 +9,7 @@ use Rattle.giop_msg.specs.Messages.Reply.{reply}
 use Rattle.giop_msg.specs.Messages.Request.{request}
 use Rattle.giop_msg.specs.declared.messages.reply.Reply.{Reply}
 use Rattle.giop_msg.specs.declared.messages.request.Request.{Request}
-use Rattle.giop_calls.specs.Lane.{Act, Cut, Lane, count, pieces_of, step}
+use Rattle.giop_calls.specs.Lane.{Act, Cut, Lane, Piece, count, pieces_of, step}
 use Rattle.giop_calls.specs.Lane as lanes
 use Rattle.giop_calls.specs.declared.client.call.Call.{Call}
 use Rattle.giop_calls.specs.declared.client.call.Call.TheVariants as asked
@@ -63,7 +63,8 @@ PlansCall interface entry (asked.Locate q) =
 abbrev pub PlansReply : Interface → Request → Reply → Planned ServerEvent → Type 0
 PlansReply interface q r =
     IsPlanned (reply interface (Some q) r.version) r
-    (λ limits. answer_fault interface limits (Some (Some q)) r) (IsAnswer interface (Some (Some q)) r)
+    (λ limits. answer_fault interface limits (Some (Some q)) r)
+    (IsAnswer interface (Some (Some q)) r)
 
 -- and a LocateReply to a LocateRequest
 abbrev pub PlansLocated : AnyLocateRequest → Bool → Planned ServerEvent → Type 0
@@ -87,3 +88,19 @@ OwnRuns interface lane [] end = lane ≡ end
 OwnRuns interface lane (act ∷ acts) end = IsOwn interface lane act
     × ((after : Lane) × (step (coding interface) lane act ≡ Some after)
     × OwnRuns interface after acts end)
+
+-- a message in one piece
+abbrev pub alone : Piece → Cut
+alone piece = record { first = piece; rest = [] }
+
+-- a Request is called in one piece, arrives, is answered in one, and that arrives
+abbrev pub replied_run : Request → Reply → (one other : Piece) → List Act
+replied_run q r one other =
+    lanes.Calls (asked.Request q) (alone one) ∷ lanes.ToServer
+    ∷ lanes.Answers r (alone other) ∷ lanes.ToClient ∷ []
+
+-- so a LocateRequest
+abbrev pub located_run : AnyLocateRequest → Bool → (one other : Piece) → List Act
+located_run q here one other =
+    lanes.Calls (asked.Locate q) (alone one) ∷ lanes.ToServer
+    ∷ lanes.Locates here other ∷ lanes.ToClient ∷ []

@@ -1,11 +1,13 @@
 // The session's own ends over one lane: what they send is read back, and so they agree. Each
 // function's contract is a law, and no program calls these.
-ghost use Rattle.std.specs.Prelude.{◌≡◌, ◌++◌, ◌∷◌, [], false, true, List, map, Some};
+ghost use Rattle.std.specs.Prelude.{◌≡◌, ◌++◌, ◌∷◌, [], false, true, List, map, None, Some};
 ghost use Rattle.giop_types.specs.declared.json.interface.Interface.{Interface};
 ghost use Rattle.giop_msg.specs.declared.kind.Kind.TheVariants as message;
 ghost use Rattle.giop_msg.specs.declared.msg.Msg.{Msg};
 ghost use Rattle.giop_calls.specs.Lane.{Act, Cut, CutsCall, CutsLocated, CutsReply, IsSound, Lane, Runs};
-ghost use Rattle.giop_calls.specs.Lane.{kind_of, new, Opens, pieces_of, version_of};
+ghost use Rattle.giop_calls.specs.Lane.{kind_of, new, Opens, Piece, pieces_of, version_of};
+ghost use Rattle.giop_calls.specs.Messages.{is_oneway, is_same_version};
+ghost use Rattle.giop_calls.specs.declared.client.call.Call.TheVariants as asked;
 ghost use Rattle.giop_calls.specs.declared.client.entry.ClientEntry.TheVariants as client;
 ghost use Rattle.giop_calls.specs.declared.client.event.ClientEvent.TheVariants as at_client;
 ghost use Rattle.giop_calls.specs.declared.kind.CallKind.TheVariants as kind;
@@ -17,19 +19,20 @@ ghost use Rattle.giop_session.specs.ClientHears.{awaited, client_befalls};
 ghost use Rattle.giop_session.specs.Coding.{coding};
 ghost use Rattle.giop_session.specs.Heard.{behind_id, kept};
 ghost use Rattle.giop_session.specs.LaneAtEnds.{carried, gathers, seen};
-ghost use Rattle.giop_session.specs.OwnLane.{OwnRuns, PlansCall, PlansLocated, PlansReply, sends_cut};
+ghost use Rattle.giop_session.specs.OwnLane.{alone, located_run, OwnRuns, PlansCall, PlansLocated};
+ghost use Rattle.giop_session.specs.OwnLane.{PlansReply, replied_run, sends_cut};
 ghost use Rattle.giop_session.specs.Sent.{sends_one};
 ghost use Rattle.giop_session.specs.ServerCarries.{asks};
 ghost use Rattle.giop_session.specs.ServerHears.{server_befalls};
 
 use giop_calls::laws::ends_of_one_lane_agree;
 
-/// What an end plans to send is what the other end reads: a call of `ClientEnd::call` or `locate`, a
-/// Reply of `ServerEnd::answer`, a LocateReply of `answer_locate`, in any of the three versions, in
-/// either byte order and in pieces of any size. The pieces have one byte order.
+/// What an end plans to send is what the other end reads: a call of `ClientEnd::call` or `locate`,
+/// a Reply of `ServerEnd::answer`, a LocateReply of `answer_locate`, in any of the three versions,
+/// in either byte order and in pieces of any size. The pieces have one byte order.
 ///
-/// It is read as the value that was sent, where each number of that value and the size of a piece are
-/// in the range of their types.
+/// It is read as the value that was sent, where each number of that value and the size of a piece
+/// are in the range of their types.
 pub fn what_is_sent_is_read()
     ensures call { (interface : Interface) (entry call : _) (planned : _)
         → PlansCall interface entry call planned
@@ -45,9 +48,9 @@ pub fn what_is_sent_is_read()
         × CutsLocated (coding interface) q here piece told }
 {}
 
-/// `coding` is how ends read: a server's end hears a Request or a LocateRequest, whole or as its last
-/// Fragment comes, as the call that `coding` reads in all of its pieces. A client's end so hears the
-/// reply to a call that waits for it, or whose reply it gathers.
+/// `coding` is how ends read: a server's end hears a Request or a LocateRequest, whole or as its
+/// last Fragment comes, as the call that `coding` reads in all of its pieces. A client's end so
+/// hears the reply to a call that waits for it, or whose reply it gathers.
 pub fn coding_is_how_ends_read()
     ensures whole_call { (interface : Interface) (k : _) (m : Msg) (call : _)
         → m.kind ≡ asks k → m.more ≡ false → server_befalls interface m call
@@ -96,3 +99,22 @@ pub fn own_ends_of_one_lane_agree()
 {
     ends_of_one_lane_agree();
 }
+
+/// Lanes of the session's own acts come to replies. A Request that is sent in one message, arrives,
+/// is answered in one message of its version, and that arrives: the client has that Reply. So a
+/// LocateRequest: the client has its LocateReply.
+pub fn own_lanes_come_to_replies()
+    ensures replied { (interface : Interface) (q r : _) (one other : Piece)
+        → is_oneway q ≡ false → is_same_version q.head.version r.version ≡ true
+        → PlansCall interface None (asked.Request q)
+        (sends_cut (at_client.Call (asked.Request q)) (alone one))
+        → PlansReply interface q r (sends_cut (at_server.Answer r) (alone other))
+        → (lane : Lane) × OwnRuns interface new (replied_run q r one other) lane
+        × (lane.client.entry ≡ Some (client.Done q r)) }
+    ensures located { (interface : Interface) (q here : _) (one other : Piece)
+        → PlansCall interface None (asked.Locate q)
+        (sends_cut (at_client.Call (asked.Locate q)) (alone one))
+        → PlansLocated q here (sends_one (at_server.AnswerLocate here) other)
+        → (lane : Lane) × (told : _) × OwnRuns interface new (located_run q here one other) lane
+        × (lane.client.entry ≡ Some (client.LocateDone q told)) }
+{}

@@ -33,8 +33,8 @@ pub fn what_is_sent_is_framed()
 {}
 
 /// Each message that an end plans to send names the id of its call: a Fragment too, and before 1.2,
-/// where a head has its id behind the service contexts. The id of a LocateReply or a CancelRequest is
-/// below 2^32, as each `u32`.
+/// where a head has its id behind the service contexts. The id of a LocateReply or a CancelRequest
+/// is below 2^32, as each `u32`.
 pub fn what_is_sent_names_its_id()
     ensures call { (interface : Interface) (entry call : _) (cut : Cut)
         → PlansCall interface entry call (sends_cut (at_client.Call call) cut)
