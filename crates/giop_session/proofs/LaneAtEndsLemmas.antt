@@ -5,7 +5,7 @@ use Rattle.std.proofs.lemmas.Grind.{flat_map-append}
 use Rattle.giop_cdr.specs.declared.order.Order.{Order}
 use Rattle.giop_cdr.specs.declared.order.Order.TheVariants.{Big, Little}
 use Rattle.giop_types.specs.declared.json.interface.Interface.{Interface}
-use Rattle.giop_frag.specs.Gathered.{same_order}
+use Rattle.giop_frag.specs.Gathered.{Pieces, same_order}
 use Rattle.giop_msg.specs.Cut.{IsCut, continued, joined}
 use Rattle.giop_msg.specs.declared.kind.Kind.{Kind}
 use Rattle.giop_msg.specs.declared.kind.Kind.TheVariants as message
@@ -27,7 +27,7 @@ use Rattle.giop_calls.specs.declared.server.entry.ServerEntry.TheVariants as ser
 use Rattle.giop_calls.specs.declared.server.event.ServerEvent.TheVariants as at_server
 use Rattle.giop_session.specs.declared.form.Form.{Form}
 use Rattle.giop_session.specs.declared.plan.Planned.{Planned}
-use Rattle.giop_session.specs.CallTable.{Call, Hears, More, Nothing}
+use Rattle.giop_session.specs.CallTable.{Call, First, Hears, More, Nothing, brought}
 use Rattle.giop_session.specs.Carries.{IsSeries}
 use Rattle.giop_session.specs.ClientCarries.{replies}
 use Rattle.giop_session.specs.ClientHears as client
@@ -35,7 +35,7 @@ use Rattle.giop_session.specs.ClientHears.{awaited, client_befalls, heard_reply}
 use Rattle.giop_session.specs.Coding.{coding, kind_asked, last_piece, read_call, read_reply}
 use Rattle.giop_session.specs.Decoding.{heard_call}
 use Rattle.giop_session.specs.Heard.{behind_id, kept}
-use Rattle.giop_session.specs.LaneAtEnds.{carried, gathers, seen, seen_as}
+use Rattle.giop_session.specs.LaneAtEnds.{carried, gathered_in, gathers, seen, seen_as}
 use Rattle.giop_session.specs.OwnLane.{PlansCall, PlansLocated, PlansReply, sends_cut}
 use Rattle.giop_session.specs.Sent.{IsSent, sends_one}
 use Rattle.giop_session.specs.ServerAnswers.{located}
@@ -70,6 +70,17 @@ not_more : {A : Type 0} (more : Bool) (one other : A) → more ≡ false → (if
 not_more true one other is = absurd cc
 not_more false one other is = refl
 
+more_is : {A : Type 0} (more : Bool) (one other : A) → more ≡ true → (if more then one else other) ≡ one
+more_is true one other is = refl
+more_is false one other is = absurd cc
+
+-- what has come of a message by its first piece, and by one more
+pub begun : (m : Msg) (pieces : Option Pieces) → brought (First m.order m.payload) pieces ≡ gathered_in (record { first = m; rest = [] })
+begun m pieces = ap (λ octets. Some (record { order = m.order; octets = octets })) (sym (append-nil m.payload))
+
+pub longer : (cut : Cut) (m : Msg) → brought (More (behind_id m)) (gathered_in cut) ≡ gathered_in (record cut { rest = cut.rest ++ m ∷ [] })
+longer cut m = ap (λ octets. Some (record { order = cut.first.order; octets = octets })) (joined_is cut.first m cut.rest)
+
 -- ---- a server's end
 
 whole_read : (interface : Interface) (k : CallKind) (m : Msg) → m.kind ≡ asks k
@@ -88,6 +99,20 @@ whole_call interface k m call is more =
     ∙ whole_act interface k m call
     ∙ not_more m.more _ _ more
     ∙ ap (λ heard. Hears (kept (at_server.Whole heard)) Nothing) (whole_read interface k m is)
+
+pub first_call : (interface : Interface) (k : CallKind) (m : Msg) (call : Call ServerEntry) → m.kind ≡ asks k → m.more ≡ true
+    → server_befalls interface m call ≡ Hears (kept (at_server.First k)) (First m.order m.payload)
+first_call interface k m call is more =
+    ap (server.befalls_by interface m call) is ∙ whole_act interface k m call ∙ more_is m.more _ _ more
+
+pub more_call : (interface : Interface) (k : CallKind) (cut : Cut) (m : Msg) (unsent : List Msg) → m.kind ≡ message.Fragment → m.more ≡ true
+    → m.order ≡ cut.first.order
+    → server_befalls interface m (gathers (server_entry.Gathering k) unsent cut) ≡ Hears (kept (at_server.More true)) (More (behind_id m))
+more_call interface k cut m unsent fragment more order =
+    ap (server.befalls_by interface m (gathers (server_entry.Gathering k) unsent cut)) fragment
+    ∙ ap (λ same. server.continues interface m (if same then Some (k, joined (pieces_of cut)) else None))
+    (ap (λ one. same_order one cut.first.order) order ∙ same_is cut.first.order)
+    ∙ more_is m.more _ _ more
 
 pub last_call : (interface : Interface) (k : CallKind) (cut : Cut) (m : Msg) (unsent : List Msg) → cut.first.kind ≡ asks k
     → m.kind ≡ message.Fragment → m.more ≡ false → m.order ≡ cut.first.order
@@ -119,6 +144,21 @@ whole_reply interface k q m call is more waits =
     ∙ ap (client.comes interface k m) waits
     ∙ not_more m.more _ _ more
     ∙ ap (λ octets. Hears (kept (at_client.Whole k m.version (heard_reply interface q m.version m.order octets))) Nothing) (sym (append-nil m.payload))
+
+pub first_reply : (interface : Interface) (k : CallKind) (q : Asked) (m : Msg) (call : Call ClientEntry) → m.kind ≡ replies k → m.more ≡ true
+    → awaited k m.version call.slot ≡ Some q
+    → client_befalls interface m call ≡ Hears (kept (at_client.First k m.version)) (First m.order m.payload)
+first_reply interface k q m call is more waits =
+    ap (client.befalls_by interface m call) is ∙ answer_act interface k m call ∙ ap (client.comes interface k m) waits ∙ more_is m.more _ _ more
+
+pub more_reply : (interface : Interface) (q : Asked) (cut : Cut) (m : Msg) (unsent : List Msg) → m.kind ≡ message.Fragment → m.more ≡ true
+    → m.order ≡ cut.first.order
+    → client_befalls interface m (gathers (client_entry.Gathering q) unsent cut) ≡ Hears (kept (at_client.More true)) (More (behind_id m))
+more_reply interface q cut m unsent fragment more order =
+    ap (client.befalls_by interface m (gathers (client_entry.Gathering q) unsent cut)) fragment
+    ∙ ap (λ same. client.continues interface m (if same then Some (q, joined (pieces_of cut)) else None))
+    (ap (λ one. same_order one cut.first.order) order ∙ same_is cut.first.order)
+    ∙ more_is m.more _ _ more
 
 pub last_reply : (interface : Interface) (q : Asked) (cut : Cut) (m : Msg) (unsent : List Msg) → m.kind ≡ message.Fragment → m.more ≡ false
     → m.order ≡ cut.first.order

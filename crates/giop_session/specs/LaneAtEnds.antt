@@ -1,6 +1,7 @@
 -- What an end hears, as messages of a lane, and the pieces that a call has gathered at an end
 -- (CORBA 3.3 Part 2, 9.4.1 and 9.4.9).
-use Rattle.std.specs.Prelude.{Bool, not, List, ◌∷◌, Some}
+use Rattle.std.specs.Prelude.{Bool, not, List, ◌∷◌, Option, Some}
+use Rattle.giop_frag.specs.Gathered.{Pieces}
 use Rattle.giop_msg.specs.Cut.{joined}
 use Rattle.giop_msg.specs.declared.kind.Kind.{Kind}
 use Rattle.giop_msg.specs.declared.kind.Kind.TheVariants as message
@@ -30,9 +31,13 @@ abbrev pub carried : CallKind → Version → Cut → List Message
 carried kind version cut =
     Opens kind version (is_last cut.rest) cut.first ∷ fragments cut.rest
 
+-- these pieces, as an end has gathered them: their joined octets, in the byte order of the first
+abbrev pub gathered_in : Cut → Option Pieces
+gathered_in cut = Some (record { order = cut.first.order; octets = joined (pieces_of cut) })
+
 -- a call with this entry, whose reply or which itself has come so far in these pieces
 abbrev pub gathers : {E : Type 0} → E → List Msg → Cut → Call E
 gathers entry unsent cut = record {
   slot = Some (record { entry = entry; unsent = unsent });
-  pieces = Some (record { order = cut.first.order; octets = joined (pieces_of cut) });
+  pieces = gathered_in cut;
 }

@@ -22,8 +22,9 @@ mod world;
 
 use crate::{Hearing, Side};
 pub use coding::{
-    coding_is_how_ends_read, own_ends_of_one_lane_agree, own_lanes_come_to_replies,
-    what_is_sent_is_a_lanes, what_is_sent_is_read,
+    clients_read_as_coding, own_ends_of_one_lane_agree, own_lanes_come_to_replies,
+    pieces_are_gathered_as_they_come, servers_read_as_coding, what_is_sent_is_a_lanes,
+    what_is_sent_is_read,
 };
 pub use headline::{
     each_call_of_a_run, same_calls_same_entries_at_client, same_calls_same_entries_at_server,

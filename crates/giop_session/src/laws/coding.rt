@@ -13,12 +13,12 @@ ghost use Rattle.giop_calls.specs.declared.client.event.ClientEvent.TheVariants 
 ghost use Rattle.giop_calls.specs.declared.kind.CallKind.TheVariants as kind;
 ghost use Rattle.giop_calls.specs.declared.server.entry.ServerEntry.TheVariants as server;
 ghost use Rattle.giop_calls.specs.declared.server.event.ServerEvent.TheVariants as at_server;
-ghost use Rattle.giop_session.specs.CallTable.{Hears, More, Nothing};
+ghost use Rattle.giop_session.specs.CallTable.{brought, First, Hears, More, Nothing};
 ghost use Rattle.giop_session.specs.ClientCarries.{replies};
 ghost use Rattle.giop_session.specs.ClientHears.{awaited, client_befalls};
 ghost use Rattle.giop_session.specs.Coding.{coding};
 ghost use Rattle.giop_session.specs.Heard.{behind_id, kept};
-ghost use Rattle.giop_session.specs.LaneAtEnds.{carried, gathers, seen};
+ghost use Rattle.giop_session.specs.LaneAtEnds.{carried, gathered_in, gathers, seen};
 ghost use Rattle.giop_session.specs.OwnLane.{alone, located_run, OwnRuns, PlansCall, PlansLocated};
 ghost use Rattle.giop_session.specs.OwnLane.{PlansReply, replied_run, sends_cut};
 ghost use Rattle.giop_session.specs.Sent.{sends_one};
@@ -48,29 +48,56 @@ pub fn what_is_sent_is_read()
         × CutsLocated (coding interface) q here piece told }
 {}
 
-/// `coding` is how ends read: a server's end hears a Request or a LocateRequest, whole or as its
-/// last Fragment comes, as the call that `coding` reads in all of its pieces. A client's end so
-/// hears the reply to a call that waits for it, or whose reply it gathers.
-pub fn coding_is_how_ends_read()
-    ensures whole_call { (interface : Interface) (k : _) (m : Msg) (call : _)
+/// `coding` is how a server's end reads: a Request or a LocateRequest, whole or as its last Fragment
+/// comes, is heard as the call that `coding` reads in all of its pieces. Those before the last one
+/// are gathered.
+pub fn servers_read_as_coding()
+    ensures whole { (interface : Interface) (k : _) (m : Msg) (call : _)
         → m.kind ≡ asks k → m.more ≡ false → server_befalls interface m call
         ≡ Hears (kept (at_server.Whole ((coding interface).read_call (m ∷ [])))) Nothing }
-    ensures last_call { (interface : Interface) (k : _) (cut : Cut) (m : Msg) (unsent : _)
+    ensures first { (interface : Interface) (k : _) (m : Msg) (call : _)
+        → m.kind ≡ asks k → m.more ≡ true → server_befalls interface m call
+        ≡ Hears (kept (at_server.First k)) (First m.order m.payload) }
+    ensures more { (interface : Interface) (k : _) (cut : Cut) (m : Msg) (unsent : _)
+        → m.kind ≡ message.Fragment → m.more ≡ true → m.order ≡ cut.first.order
+        → server_befalls interface m (gathers (server.Gathering k) unsent cut)
+        ≡ Hears (kept (at_server.More true)) (More (behind_id m)) }
+    ensures last { (interface : Interface) (k : _) (cut : Cut) (m : Msg) (unsent : _)
         → cut.first.kind ≡ asks k → m.kind ≡ message.Fragment → m.more ≡ false
         → m.order ≡ cut.first.order
         → server_befalls interface m (gathers (server.Gathering k) unsent cut)
         ≡ Hears (kept (at_server.Last true
         ((coding interface).read_call (pieces_of cut ++ m ∷ [])))) (More (behind_id m)) }
-    ensures whole_reply { (interface : Interface) (k q : _) (m : Msg) (call : _)
+{}
+
+/// And how a client's end reads the reply to a call that waits for it, or whose reply it gathers.
+pub fn clients_read_as_coding()
+    ensures whole { (interface : Interface) (k q : _) (m : Msg) (call : _)
         → m.kind ≡ replies k → m.more ≡ false → awaited k m.version call.slot ≡ Some q
         → client_befalls interface m call
         ≡ Hears (kept (at_client.Whole k m.version
         ((coding interface).read_reply q (m ∷ [])))) Nothing }
-    ensures last_reply { (interface : Interface) (q : _) (cut : Cut) (m : Msg) (unsent : _)
+    ensures first { (interface : Interface) (k q : _) (m : Msg) (call : _)
+        → m.kind ≡ replies k → m.more ≡ true → awaited k m.version call.slot ≡ Some q
+        → client_befalls interface m call
+        ≡ Hears (kept (at_client.First k m.version)) (First m.order m.payload) }
+    ensures more { (interface : Interface) (q : _) (cut : Cut) (m : Msg) (unsent : _)
+        → m.kind ≡ message.Fragment → m.more ≡ true → m.order ≡ cut.first.order
+        → client_befalls interface m (gathers (client.Gathering q) unsent cut)
+        ≡ Hears (kept (at_client.More true)) (More (behind_id m)) }
+    ensures last { (interface : Interface) (q : _) (cut : Cut) (m : Msg) (unsent : _)
         → m.kind ≡ message.Fragment → m.more ≡ false → m.order ≡ cut.first.order
         → client_befalls interface m (gathers (client.Gathering q) unsent cut)
         ≡ Hears (kept (at_client.Last true
         ((coding interface).read_reply q (pieces_of cut ++ m ∷ [])))) (More (behind_id m)) }
+{}
+
+/// What an end gathers are the joined octets of the pieces that came, in the order of the first.
+pub fn pieces_are_gathered_as_they_come()
+    ensures first { (m : Msg) (pieces : _) → brought (First m.order m.payload) pieces
+        ≡ gathered_in (record { first = m; rest = [] }) }
+    ensures more { (cut : Cut) (m : Msg) → brought (More (behind_id m)) (gathered_in cut)
+        ≡ gathered_in (record cut { rest = cut.rest ++ m ∷ [] }) }
 {}
 
 /// The pieces that an end plans to send are on the lane of their id as a lane carries them: by the
