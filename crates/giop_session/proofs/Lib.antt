@@ -12,6 +12,7 @@ mod OnTheWayLemmas
 mod SentLemmas
 mod IdLemmas
 mod OwnRunLemmas
+mod ActingLemmas
 mod ServerItemLemmas
 mod ClientCancelLemmas
 mod ClientReplyLemmas

@@ -1,3 +1,4 @@
+pub mod Acting
 pub mod Alone
 pub mod Begun
 pub mod CallTable

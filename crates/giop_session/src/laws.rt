@@ -11,6 +11,7 @@ ghost use Rattle.giop_session.specs.Feeding.{Fed, Through, with_octets};
 ghost use Rattle.giop_session.specs.Heard.{hears_by};
 ghost use Rattle.giop_session.specs.CallTable.{at, Held, is_of_call, rules_of, turn};
 
+mod acting;
 mod coding;
 mod headline;
 mod inputs;
@@ -21,6 +22,7 @@ mod sent;
 mod world;
 
 use crate::{Hearing, Side};
+pub use acting::what_an_own_act_leaves;
 pub use coding::{
     clients_read_as_coding, own_ends_of_one_lane_agree, own_lanes_come_to_replies,
     pieces_are_gathered_as_they_come, servers_read_as_coding, what_is_sent_is_a_lanes,

@@ -48,9 +48,9 @@ pub fn what_is_sent_is_read()
         × CutsLocated (coding interface) q here piece told }
 {}
 
-/// `coding` is how a server's end reads: a Request or a LocateRequest, whole or as its last Fragment
-/// comes, is heard as the call that `coding` reads in all of its pieces. Those before the last one
-/// are gathered.
+/// `coding` is how a server's end reads: a Request or a LocateRequest, whole or as its last
+/// Fragment comes, is heard as the call that `coding` reads in all of its pieces. Those before the
+/// last one are gathered.
 pub fn servers_read_as_coding()
     ensures whole { (interface : Interface) (k : _) (m : Msg) (call : _)
         → m.kind ≡ asks k → m.more ≡ false → server_befalls interface m call
