@@ -22,7 +22,8 @@ fragments (m ∷ []) order id piece octets are = of_fields m V12 Fragment order 
 fragments (m ∷ n ∷ messages) order id piece octets are =
     (of_fields m V12 Fragment order true _ are.0, fragments (n ∷ messages) order id piece _ are.2)
 
-series : (messages : List Msg) (version : Version) (kind : Kind) (order : Order) (octets : List ℕ) (piece : ℕ)
+-- they are a series
+pub series : (messages : List Msg) (version : Version) (kind : Kind) (order : Order) (octets : List ℕ) (piece : ℕ)
     → IsCut version kind order octets piece messages → IsSeries kind version order false messages
 series [] version kind order octets piece is = absurd is
 series (m ∷ []) version kind order octets piece is = of_fields m version kind order false octets is.0

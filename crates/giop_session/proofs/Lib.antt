@@ -6,6 +6,13 @@ mod EventLemmas
 mod InputLemmas
 mod ItemLemmas
 mod CutItemLemmas
+mod CodingLemmas
+mod LaneAtEndsLemmas
+mod OnTheWayLemmas
+mod SentLemmas
+mod IdLemmas
+mod OwnRunLemmas
+mod ActingLemmas
 mod ServerItemLemmas
 mod ClientCancelLemmas
 mod ClientReplyLemmas

@@ -11,7 +11,7 @@ use Rattle.giop_msg.specs.declared.version.Version.{Version}
 use Rattle.giop_msg.specs.declared.version.Version.TheVariants.{V10, V11, V12}
 use Rattle.giop_msg.specs.Messages.Outcome.{joined_into}
 
-located_eight : (version : Version) (order : Order) (id status : ℕ)
+pub located_eight : (version : Version) (order : Order) (id status : ℕ)
     → length ((locate_reply version).written (record {
       head = record { version = version; id = id; status = status };
       rest = [];

@@ -1,3 +1,4 @@
+pub mod Acting
 pub mod Alone
 pub mod Begun
 pub mod CallTable
@@ -7,6 +8,7 @@ pub mod ClientCarries
 pub mod ClientHears
 pub mod ClientRuns
 pub mod Codes
+pub mod Coding
 pub mod Decoding
 pub mod Driven
 pub mod EndRuns
@@ -15,8 +17,11 @@ pub mod Feeding
 pub mod Form
 pub mod Heard
 pub mod Inputs
+pub mod LaneAtEnds
 pub mod LeftToSend
 pub mod Limits
+pub mod OnTheWay
+pub mod OwnLane
 pub mod Pumping
 pub mod PutOut
 pub mod Putting

@@ -13,14 +13,23 @@ ghost use Rattle.giop_session.specs.Feeding.{Fed, Through, with_octets};
 ghost use Rattle.giop_session.specs.Heard.{hears_by};
 ghost use Rattle.giop_session.specs.CallTable.{at, Held, is_of_call, rules_of, turn};
 
+mod acting;
+mod coding;
 mod headline;
 mod inputs;
 mod left;
 mod limits;
 mod running;
+mod sent;
 mod world;
 
 use crate::{Hearing, Side};
+pub use acting::what_an_own_act_leaves;
+pub use coding::{
+    clients_read_as_coding, own_ends_of_one_lane_agree, own_lanes_come_to_replies,
+    pieces_are_gathered_as_they_come, servers_read_as_coding, what_is_sent_is_a_lanes,
+    what_is_sent_is_read,
+};
 pub use headline::{
     each_call_of_a_run, same_calls_same_entries_at_client, same_calls_same_entries_at_server,
     what_is_cut_is_carried,
@@ -29,6 +38,7 @@ pub use inputs::{Answered, CheckedForm, ClientInput, ServerInput, WorldEvent};
 pub use left::{what_is_left_is_unsent_at_client, what_is_left_is_unsent_at_server};
 pub use limits::{limits_in_any_order_at_client, limits_in_any_order_at_server};
 pub use running::{run_client, run_server};
+pub use sent::{what_is_on_its_way, what_is_sent_is_framed, what_is_sent_names_its_id};
 pub use world::{World, run_world};
 
 /// A run of acts continues after refusals. Whatever happens to other ids in it, a call has the

@@ -1,0 +1,8 @@
+use Rattle.giop_session.proofs.LaneAtEndsLemmas.{begun, longer}
+use Rattle.giop_session.proofs.laws.coding.pieces_are_gathered_as_they_come.Goals as goal
+
+pub returns-clause-first : goal.returns-clause-first
+returns-clause-first c = begun
+
+pub returns-clause-more : goal.returns-clause-more
+returns-clause-more c = longer

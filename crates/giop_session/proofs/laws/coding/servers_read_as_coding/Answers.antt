@@ -1,0 +1,14 @@
+use Rattle.giop_session.proofs.LaneAtEndsLemmas.{first_call, last_call, more_call, whole_call}
+use Rattle.giop_session.proofs.laws.coding.servers_read_as_coding.Goals as goal
+
+pub returns-clause-whole : goal.returns-clause-whole
+returns-clause-whole c = whole_call
+
+pub returns-clause-first : goal.returns-clause-first
+returns-clause-first c = first_call
+
+pub returns-clause-more : goal.returns-clause-more
+returns-clause-more c = more_call
+
+pub returns-clause-last : goal.returns-clause-last
+returns-clause-last c = last_call

@@ -1,0 +1,147 @@
+// The session's own ends over one lane: what they send is read back, and so they agree. Each
+// function's contract is a law, and no program calls these.
+ghost use Rattle.std.specs.Prelude.{◌≡◌, ◌++◌, ◌∷◌, [], false, true, List, map, None, Some};
+ghost use Rattle.giop_types.specs.declared.json.interface.Interface.{Interface};
+ghost use Rattle.giop_msg.specs.declared.kind.Kind.TheVariants as message;
+ghost use Rattle.giop_msg.specs.declared.msg.Msg.{Msg};
+ghost use Rattle.giop_calls.specs.Lane.{Act, Cut, CutsCall, CutsLocated, CutsReply, IsSound, Lane, Runs};
+ghost use Rattle.giop_calls.specs.Lane.{kind_of, new, Opens, Piece, pieces_of, version_of};
+ghost use Rattle.giop_calls.specs.Messages.{is_oneway, is_same_version};
+ghost use Rattle.giop_calls.specs.declared.client.call.Call.TheVariants as asked;
+ghost use Rattle.giop_calls.specs.declared.client.entry.ClientEntry.TheVariants as client;
+ghost use Rattle.giop_calls.specs.declared.client.event.ClientEvent.TheVariants as at_client;
+ghost use Rattle.giop_calls.specs.declared.kind.CallKind.TheVariants as kind;
+ghost use Rattle.giop_calls.specs.declared.server.entry.ServerEntry.TheVariants as server;
+ghost use Rattle.giop_calls.specs.declared.server.event.ServerEvent.TheVariants as at_server;
+ghost use Rattle.giop_session.specs.CallTable.{brought, First, Hears, More, Nothing};
+ghost use Rattle.giop_session.specs.ClientCarries.{replies};
+ghost use Rattle.giop_session.specs.ClientHears.{awaited, client_befalls};
+ghost use Rattle.giop_session.specs.Coding.{coding};
+ghost use Rattle.giop_session.specs.Heard.{behind_id, kept};
+ghost use Rattle.giop_session.specs.LaneAtEnds.{carried, gathered_in, gathers, seen};
+ghost use Rattle.giop_session.specs.OwnLane.{alone, located_run, OwnRuns, PlansCall, PlansLocated};
+ghost use Rattle.giop_session.specs.OwnLane.{PlansReply, replied_run, sends_cut};
+ghost use Rattle.giop_session.specs.Sent.{sends_one};
+ghost use Rattle.giop_session.specs.ServerCarries.{asks};
+ghost use Rattle.giop_session.specs.ServerHears.{server_befalls};
+
+use giop_calls::laws::ends_of_one_lane_agree;
+
+/// What an end plans to send is what the other end reads: a call of `ClientEnd::call` or `locate`,
+/// a Reply of `ServerEnd::answer`, a LocateReply of `answer_locate`, in any of the three versions,
+/// in either byte order and in pieces of any size. The pieces have one byte order.
+///
+/// It is read as the value that was sent, where each number of that value and the size of a piece
+/// are in the range of their types.
+pub fn what_is_sent_is_read()
+    ensures call { (interface : Interface) (entry call : _) (planned : _)
+        → PlansCall interface entry call planned
+        → (cut : Cut) × (planned ≡ sends_cut (at_client.Call call) cut)
+        × CutsCall (coding interface) call (pieces_of cut) }
+    ensures reply { (interface : Interface) (q r : _) (planned : _)
+        → PlansReply interface q r planned
+        → (cut : Cut) × (planned ≡ sends_cut (at_server.Answer r) cut)
+        × CutsReply (coding interface) q r (pieces_of cut) }
+    ensures located { (interface : Interface) (q here : _) (planned : _)
+        → PlansLocated q here planned
+        → (piece told : _) × (planned ≡ sends_one (at_server.AnswerLocate here) piece)
+        × CutsLocated (coding interface) q here piece told }
+{}
+
+/// `coding` is how a server's end reads: a Request or a LocateRequest, whole or as its last
+/// Fragment comes, is heard as the call that `coding` reads in all of its pieces. Those before the
+/// last one are gathered.
+pub fn servers_read_as_coding()
+    ensures whole { (interface : Interface) (k : _) (m : Msg) (call : _)
+        → m.kind ≡ asks k → m.more ≡ false → server_befalls interface m call
+        ≡ Hears (kept (at_server.Whole ((coding interface).read_call (m ∷ [])))) Nothing }
+    ensures first { (interface : Interface) (k : _) (m : Msg) (call : _)
+        → m.kind ≡ asks k → m.more ≡ true → server_befalls interface m call
+        ≡ Hears (kept (at_server.First k)) (First m.order m.payload) }
+    ensures more { (interface : Interface) (k : _) (cut : Cut) (m : Msg) (unsent : _)
+        → m.kind ≡ message.Fragment → m.more ≡ true → m.order ≡ cut.first.order
+        → server_befalls interface m (gathers (server.Gathering k) unsent cut)
+        ≡ Hears (kept (at_server.More true)) (More (behind_id m)) }
+    ensures last { (interface : Interface) (k : _) (cut : Cut) (m : Msg) (unsent : _)
+        → cut.first.kind ≡ asks k → m.kind ≡ message.Fragment → m.more ≡ false
+        → m.order ≡ cut.first.order
+        → server_befalls interface m (gathers (server.Gathering k) unsent cut)
+        ≡ Hears (kept (at_server.Last true
+        ((coding interface).read_call (pieces_of cut ++ m ∷ [])))) (More (behind_id m)) }
+{}
+
+/// And how a client's end reads the reply to a call that waits for it, or whose reply it gathers.
+pub fn clients_read_as_coding()
+    ensures whole { (interface : Interface) (k q : _) (m : Msg) (call : _)
+        → m.kind ≡ replies k → m.more ≡ false → awaited k m.version call.slot ≡ Some q
+        → client_befalls interface m call
+        ≡ Hears (kept (at_client.Whole k m.version
+        ((coding interface).read_reply q (m ∷ [])))) Nothing }
+    ensures first { (interface : Interface) (k q : _) (m : Msg) (call : _)
+        → m.kind ≡ replies k → m.more ≡ true → awaited k m.version call.slot ≡ Some q
+        → client_befalls interface m call
+        ≡ Hears (kept (at_client.First k m.version)) (First m.order m.payload) }
+    ensures more { (interface : Interface) (q : _) (cut : Cut) (m : Msg) (unsent : _)
+        → m.kind ≡ message.Fragment → m.more ≡ true → m.order ≡ cut.first.order
+        → client_befalls interface m (gathers (client.Gathering q) unsent cut)
+        ≡ Hears (kept (at_client.More true)) (More (behind_id m)) }
+    ensures last { (interface : Interface) (q : _) (cut : Cut) (m : Msg) (unsent : _)
+        → m.kind ≡ message.Fragment → m.more ≡ false → m.order ≡ cut.first.order
+        → client_befalls interface m (gathers (client.Gathering q) unsent cut)
+        ≡ Hears (kept (at_client.Last true
+        ((coding interface).read_reply q (pieces_of cut ++ m ∷ [])))) (More (behind_id m)) }
+{}
+
+/// What an end gathers are the joined octets of the pieces that came, in the order of the first.
+pub fn pieces_are_gathered_as_they_come()
+    ensures first { (m : Msg) (pieces : _) → brought (First m.order m.payload) pieces
+        ≡ gathered_in (record { first = m; rest = [] }) }
+    ensures more { (cut : Cut) (m : Msg) → brought (More (behind_id m)) (gathered_in cut)
+        ≡ gathered_in (record cut { rest = cut.rest ++ m ∷ [] }) }
+{}
+
+/// The pieces that an end plans to send are on the lane of their id as a lane carries them: by the
+/// headers of these messages, the first opens a call or an answer of its version, each behind it
+/// continues it, and the last alone says that no more follow.
+pub fn what_is_sent_is_a_lanes()
+    ensures call { (interface : Interface) (entry call : _) (cut : Cut)
+        → PlansCall interface entry call (sends_cut (at_client.Call call) cut)
+        → map seen (pieces_of cut) ≡ carried (kind_of call) (version_of call) cut }
+    ensures reply { (interface : Interface) (q r : _) (cut : Cut)
+        → PlansReply interface q r (sends_cut (at_server.Answer r) cut)
+        → map seen (pieces_of cut) ≡ carried kind.Request r.version cut }
+    ensures located { (interface : Interface) (q here : _) (piece : Msg)
+        → PlansLocated q here (sends_one (at_server.AnswerLocate here) piece)
+        → seen piece ≡ Opens kind.Locate q.version true piece }
+{}
+
+/// So a client's end and a server's end agree on one id, whatever they do under it, in whatever
+/// order, an id used again included, as long as each pipe keeps its order: all that
+/// `giop_calls::laws::ends_of_one_lane_agree` says, of the session's own pieces and reading.
+pub fn own_ends_of_one_lane_agree()
+    ensures read { (interface : Interface) (acts : List Act) (lane : Lane)
+        → Runs (coding interface) new acts lane → IsSound (coding interface) lane }
+    ensures own { (interface : Interface) (acts : List Act) (lane : Lane)
+        → OwnRuns interface new acts lane → IsSound (coding interface) lane }
+{
+    ends_of_one_lane_agree();
+}
+
+/// Lanes of the session's own acts come to replies. A Request that is sent in one message, arrives,
+/// is answered in one message of its version, and that arrives: the client has that Reply. So a
+/// LocateRequest: the client has its LocateReply.
+pub fn own_lanes_come_to_replies()
+    ensures replied { (interface : Interface) (q r : _) (one other : Piece)
+        → is_oneway q ≡ false → is_same_version q.head.version r.version ≡ true
+        → PlansCall interface None (asked.Request q)
+        (sends_cut (at_client.Call (asked.Request q)) (alone one))
+        → PlansReply interface q r (sends_cut (at_server.Answer r) (alone other))
+        → (lane : Lane) × OwnRuns interface new (replied_run q r one other) lane
+        × (lane.client.entry ≡ Some (client.Done q r)) }
+    ensures located { (interface : Interface) (q here : _) (one other : Piece)
+        → PlansCall interface None (asked.Locate q)
+        (sends_cut (at_client.Call (asked.Locate q)) (alone one))
+        → PlansLocated q here (sends_one (at_server.AnswerLocate here) other)
+        → (lane : Lane) × (told : _) × OwnRuns interface new (located_run q here one other) lane
+        × (lane.client.entry ≡ Some (client.LocateDone q told)) }
+{}
