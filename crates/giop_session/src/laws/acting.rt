@@ -1,5 +1,5 @@
-// What an end's own acts leave of its calls. Each function's contract is a law; the bodies are
-// empty, and no program calls these.
+//! What an end's own acts leave of its calls. Each function's contract is a law; the bodies are
+//! empty, and no program calls these.
 ghost use Rattle.std.specs.Prelude.{◌≡◌, ℕ, Err, Ok};
 ghost use Rattle.giop_session.specs.Acting.{IsAccepted};
 ghost use Rattle.giop_session.specs.CallTable.{Held, rules_of};

@@ -1,5 +1,5 @@
-// The session's own ends over one lane: what they send is read back, and so they agree. Each
-// function's contract is a law, and no program calls these.
+//! The session's own ends over one lane: what they send is read back, and so they agree. Each
+//! function's contract is a law, and no program calls these.
 ghost use Rattle.std.specs.Prelude.{◌≡◌, ◌++◌, ◌∷◌, [], false, true, List, map, None, Some};
 ghost use Rattle.giop_types.specs.declared.json.interface.Interface.{Interface};
 ghost use Rattle.giop_msg.specs.declared.kind.Kind.TheVariants as message;
