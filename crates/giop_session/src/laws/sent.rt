@@ -1,5 +1,5 @@
-//! What ends send, and what of it is on its way to the other end. Each function's contract is a law;
-//! the bodies are empty, and no program calls these.
+//! What ends send, and what of it is on its way to the other end. Each function's contract is a
+//! law; the bodies are empty, and no program calls these.
 ghost use Rattle.std.specs.Prelude.{◌≡◌, ◌++◌, ◌<◌, ◌^◌, [], All, length, List, Some};
 ghost use Rattle.std.specs.List.{AllByRecursion};
 ghost use Rattle.giop_types.specs.declared.json.interface.Interface.{Interface};
