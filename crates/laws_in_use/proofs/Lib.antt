@@ -1,3 +1,6 @@
+mod CdrSpelled
+mod Running
+mod GatheringRuns
 mod Taking
 mod LocatingMessages
 mod LocatingReads

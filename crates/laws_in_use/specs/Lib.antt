@@ -1,3 +1,4 @@
 pub mod Exchange
+pub mod Gathering
 pub mod Locating
 pub mod ServerCalls

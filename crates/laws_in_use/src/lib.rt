@@ -3,5 +3,7 @@
 #![tactic(auto)]
 
 mod calls;
+mod cdr;
+mod gathering;
 mod locating;
 mod sides;
