@@ -1,5 +1,9 @@
 -- What octets spell, and how it lies between two cursors.
-use Rattle.std.proofs.Common.{◌≡◌, ℕ, ◌+◌, ◌%◌, ◌≤◌, List, [], ◌∷◌, ◌++◌, length, codes, negsuc, Ok, refl, sym, ap, subst, ◌∙◌, arith}
+use Rattle.std.proofs.Common.{◌<◌, ◌&&◌, Bool, true, false, nat_lt, ◌≡◌, ℕ, ◌+◌, ◌%◌, ◌≤◌, List, [], ◌∷◌, ◌++◌, length, codes, negsuc, Ok, refl, sym, ap, subst, ◌∙◌, arith}
+use Rattle.std.proofs.lemmas.Bool.Decides.{nat_tests}
+use Rattle.std.proofs.lemmas.List.Elements.{All-cons, All-nil}
+use Rattle.std.specs.List.{list_all}
+use Rattle.giop_cdr.specs.Layout.{AreOctets}
 use Rattle.std.specs.Int.{w8, w16, w32, w64}
 use Rattle.giop_cdr.specs.declared.order.Order.{Order}
 use Rattle.giop_cdr.specs.declared.order.Order.TheVariants.{Big, Little}
@@ -96,3 +100,17 @@ pub again : {A : Type 0} {P : Spelling A} {read : Cursor → Reading A} {v : A} 
 again {read = read} {v = v} {out = out} {done = done} back empty behind =
     subst (λ part. read (cursor out.order out.at (part ++ behind)) ≡ Ok (v, cursor done.order done.at behind))
     (sym (back.octets ∙ ap (λ octets. octets ++ back.part) empty)) (back.back behind)
+
+-- octets, by a test of each
+pub are_octets : (octets : List ℕ) → list_all (λ octet. nat_lt octet 256) octets ≡ true → AreOctets octets
+are_octets [] tested = All-nil (λ octet. octet < 256)
+are_octets (octet ∷ octets) tested =
+    let parts = both (nat_lt octet 256) (list_all (λ octet. nat_lt octet 256) octets) tested in
+    All-cons (λ octet. octet < 256) octet octets (small octet (nat_lt octet 256) refl parts.0) (are_octets octets parts.1)
+  where
+    both : (a b : Bool) → (a && b) ≡ true → (a ≡ true) × (b ≡ true)
+    both true b is = (refl, is)
+    both false b is = absurd cc
+
+    small : (n : ℕ) (b : Bool) → nat_lt n 256 ≡ b → b ≡ true → n < 256
+    small n b is less = grind (arith, nat_tests)

@@ -1,4 +1,6 @@
+pub mod Described
 pub mod Exchange
 pub mod Gathering
 pub mod Locating
+pub mod Referred
 pub mod ServerCalls

@@ -4,6 +4,8 @@
 
 mod calls;
 mod cdr;
+mod described;
 mod gathering;
 mod locating;
+mod referred;
 mod sides;
