@@ -1,5 +1,6 @@
 mod CdrSpelled
 mod Running
+mod DoorRuns
 mod GatheringRuns
 mod Taking
 mod LocatingMessages

@@ -1,4 +1,5 @@
 pub mod Described
+pub mod Doors
 pub mod Exchange
 pub mod Gathering
 pub mod Locating

@@ -5,7 +5,9 @@
 mod calls;
 mod cdr;
 mod described;
+mod doors;
 mod gathering;
 mod locating;
 mod referred;
 mod sides;
+mod tables;
