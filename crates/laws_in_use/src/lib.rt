@@ -8,6 +8,7 @@ mod described;
 mod doors;
 mod gathering;
 mod locating;
+mod messages;
 mod referred;
 mod sides;
 mod tables;
