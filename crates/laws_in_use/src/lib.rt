@@ -4,6 +4,7 @@
 
 mod calls;
 mod cdr;
+mod classes;
 mod described;
 mod doors;
 mod gathering;
