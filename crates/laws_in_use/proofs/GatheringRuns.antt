@@ -46,7 +46,8 @@ total_one =
 pub total_both : total_of both_begun ≡ 4
 total_both =
     let put = sum_put (λ (pieces : Pieces). length pieces.octets) one_begun 9 (Some of_nine) in
-    let was : weight_in (λ (pieces : Pieces). length pieces.octets) (finite.get one_begun 9) ≡ 0 = ap (weight_in (λ pieces. length pieces.octets)) nine_is_new in
+    let was : weight_in (λ (pieces : Pieces). length pieces.octets) (finite.get one_begun 9) ≡ 0 =
+    ap (weight_in (λ pieces. length pieces.octets)) nine_is_new in
     omega (arith, put, was, total_one)
 
 -- there is room for so many octets more, or not
@@ -64,7 +65,8 @@ run = (
   accepts (gather_rules 8) none (under 7 (Begins Big (1 ∷ 2 ∷ 3 ∷ []))) (record { now = Some begun; answer = IsDone }) refl (has_room none 0 3 total_none refl),
   (
     both_begun,
-    accepts (gather_rules 8) one_begun (under 9 (Begins Little (4 ∷ []))) (record { now = Some of_nine; answer = IsDone }) refl (has_room one_begun 3 1 total_one refl),
+    accepts (gather_rules 8) one_begun (under 9 (Begins Little (4 ∷ []))) (record { now = Some of_nine; answer = IsDone }) refl
+        (has_room one_begun 3 1 total_one refl),
     (
       both_begun,
       refuses (gather_rules 8) both_begun (under 7 (Adds Little (5 ∷ []))) OrderDiffers (ap (λ held. turn held (Adds Little (5 ∷ []))) seven_begun),
@@ -78,7 +80,8 @@ run = (
               (ap (λ held. turn held (Adds Big (5 ∷ 6 ∷ []))) seven_begun) (has_room both_begun 4 2 total_both refl),
           (
             handed_out,
-            accepts (gather_rules 8) joined (under 9 IsFinished) (record { now = None; answer = Gives of_nine }) (ap (λ held. turn held IsFinished) nine_stays) refl,
+            accepts (gather_rules 8) joined (under 9 IsFinished) (record { now = None; answer = Gives of_nine })
+                (ap (λ held. turn held IsFinished) nine_stays) refl,
             refl,
           ),
         ),

@@ -20,4 +20,10 @@ module _ {S V Act Answer Why : Type 0} (rules : Rules S V Act Answer Why) (s : S
   -- or for a limit
   pub limits : (done : Done V Answer) (why : Why) → rules.turn (rules.at s act.id) act.what ≡ Ok done → rules.limit s act ≡ Some why
       → Does rules s act (Err why) s
-  limits done why turns full = record { answer = tt; refusal = inl (ap (λ over. refusal_of (within over (turn_of rules s act))) full ∙ ap (λ turned. refusal_of (within (Some why) turned)) turns); leaves = refl }
+  limits done why turns full = record {
+    answer = tt;
+    refusal =
+        inl (ap (λ over. refusal_of (within over (turn_of rules s act))) full
+        ∙ ap (λ turned. refusal_of (within (Some why) turned)) turns);
+    leaves = refl;
+  }

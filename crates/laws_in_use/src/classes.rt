@@ -12,8 +12,8 @@ ghost use Rattle.laws_in_use.specs.declared.doors.Stuck.{Stuck};
 ghost use Rattle.laws_in_use.specs.Doors.{is_closed, step_of};
 
 /// A gatherer refuses as Stray or OrderDiffers for the id's own sake, and as GatherFull or NoMemory
-/// not: limits and memory are of the one kind, and whatever an id's own pieces are refused for is of
-/// the other.
+/// not: limits and memory are of the one kind, and whatever an id's own pieces are refused for is
+/// of the other.
 pub fn refusals_of_a_gatherer()
     ensures stray { is_of_id Stray ≡ true }
     ensures order { is_of_id OrderDiffers ≡ true }

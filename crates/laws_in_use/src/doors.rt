@@ -1,5 +1,5 @@
-//! A rule as small as can be, and the laws of every table by id in use by it: doors under ids, which
-//! are opened and shut in turn, with a limit that one of them meets.
+//! A rule as small as can be, and the laws of every table by id in use by it: doors under ids,
+//! which are opened and shut in turn, with a limit that one of them meets.
 ghost use Rattle.std.specs.Prelude.{◌≡◌, ◌≤◌, ◌++◌, ◌∷◌, [], ℕ, List, Ok, Err, Result, Some, None};
 ghost use Rattle.std.specs.FinMap as finite;
 ghost use Rattle.giop_ids.specs.ById.{AddressesOnly, HasOnly, ids_of, put, sum_of};
@@ -91,9 +91,10 @@ impl CallRule for Doors {
     }
 }
 
-/// Doors under 7 and 9 are pushed in turn; one push is refused for the door's own sake, and one under
-/// a third id meets the limit of two. 7 has what its own pushes leave, and is answered as by these
-/// alone; and where no push is refused for a limit, any other order leaves and answers the same.
+/// Doors under 7 and 9 are pushed in turn; one push is refused for the door's own sake, and one
+/// under a third id meets the limit of two. 7 has what its own pushes leave, and is answered as by
+/// these alone; and where no push is refused for a limit, any other order leaves and answers the
+/// same.
 pub fn doors_in_turn()
     ensures apart { IsApart rules }
     ensures classes { Distinguishes rules is_of_door }
@@ -139,8 +140,8 @@ pub fn a_table_of_two_doors()
     sums_change_by_one::<Door>();
 }
 
-/// What was found is told, and out of memory only where nothing was; and premises that hold of every
-/// run without a refusal.
+/// What was found is told, and out of memory only where nothing was; and premises that hold of
+/// every run without a refusal.
 pub fn premises_in_use()
     ensures refused { RefusedAs {Why = Refusal Stuck} NoMemory stuck (Some stuck) }
     ensures found { (why : Refusal Stuck) → RefusedAs NoMemory why (Some stuck) → why ≡ stuck }

@@ -1,5 +1,5 @@
-//! Messages in use: a header, a stream of messages with a rest, a message that is cut, and the heads
-//! and the refusals of whole messages.
+//! Messages in use: a header, a stream of messages with a rest, a message that is cut, and the
+//! heads and the refusals of whole messages.
 ghost use Rattle.std.specs.Prelude.{◌≡◌, ◌++◌, ◌∷◌, [], ℕ, List, Ok, Err, Some, None, true};
 ghost use Rattle.std.specs.List.{flat_map};
 ghost use Rattle.giop_cdr.specs.declared.fault.CdrKind.TheVariants.{Short};
@@ -31,12 +31,13 @@ use giop_msg::laws::{
     split_on,
 };
 
-/// Twelve octets are a header, and the header is these octets; the id of a message is what its first
-/// four octets spell, in either order.
+/// Twelve octets are a header, and the header is these octets; the id of a message is what its
+/// first four octets spell, in either order.
 pub fn a_header_and_an_id()
     ensures read { header_of header_line ≡ header }
     ensures octets { header_octets header ≡ header_line }
-    ensures id { (request_id_layout V12 LocateRequest).read (joined_from Little (7 ∷ 0 ∷ 0 ∷ 0 ∷ []))
+    ensures id { (request_id_layout V12 LocateRequest).read
+        (joined_from Little (7 ∷ 0 ∷ 0 ∷ 0 ∷ []))
         ≡ Ok (7, record { order = Little; at = 16; rest = [] }) }
     ensures there { (id : ℕ) × (request_id_of cancels ≡ Some (Ok id)) }
 {
@@ -77,8 +78,8 @@ pub fn a_message_in_two()
     cuts_are_undone();
 }
 
-/// The heads of a Request in 1.2, a Reply in 1.1 and a LocateReply in 1.0 are written, and read back
-/// with what is behind them.
+/// The heads of a Request in 1.2, a Reply in 1.1 and a LocateReply in 1.0 are written, and read
+/// back with what is behind them.
 pub fn heads_in_three_versions()
     ensures asked { (request_head V12).read (joined_from Big (asked_octets ++ 9 ∷ []))
         ≡ Ok (asked_head, record { order = Big; at = 48; rest = 9 ∷ [] }) }

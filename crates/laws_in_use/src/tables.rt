@@ -12,8 +12,8 @@ ghost use Rattle.laws_in_use.specs.Doors.{doors, is_closed, step_of, take_result
 use crate::doors::Doors;
 use giop_mux::laws::{any_interleaving, each_call_alone, limits_in_any_order};
 
-/// An open door isn't taken out, and a third meets the limit; 7 is gone at the end, and was answered
-/// by what befell it alone.
+/// An open door isn't taken out, and a third meets the limit; 7 is gone at the end, and was
+/// answered by what befell it alone.
 pub fn doors_are_taken_out(rule: &Doors)
     ensures run { Runs (call_rules step_of is_closed 2) doors takes take_results taken }
     ensures met_none { MeetsNoLimit is_of_call 7 takes take_results }
@@ -28,8 +28,8 @@ pub fn doors_are_taken_out(rule: &Doors)
     each_call_alone(rule);
 }
 
-/// Two orders that are equal for each id leave one table and one list of answers for each; and under
-/// two ids, with a limit of two, no order meets it.
+/// Two orders that are equal for each id leave one table and one list of answers for each; and
+/// under two ids, with a limit of two, no order meets it.
 pub fn doors_in_two_orders(rule: &Doors)
     ensures same { (n k answers others : _)
         → Runs (call_rules step_of is_closed 2) doors takes_in_turn answers n

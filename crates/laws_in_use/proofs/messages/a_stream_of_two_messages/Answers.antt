@@ -41,7 +41,8 @@ returns-clause-first c = record {
 }
 
 pub returns-clause-split : goal.returns-clause-split
-returns-clause-split c = λ messages rest split. c.one_split.ensures 64 (message_octets asks ++ 71 ∷ []) messages (asks ∷ []) rest (71 ∷ []) split (returns-clause-first c)
+returns-clause-split c = λ messages rest split.
+    c.one_split.ensures 64 (message_octets asks ++ 71 ∷ []) messages (asks ∷ []) rest (71 ∷ []) split (returns-clause-first c)
 
 pub returns-clause-splits : goal.returns-clause-splits
 unfolding header_octets
