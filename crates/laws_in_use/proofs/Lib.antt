@@ -1,3 +1,7 @@
+mod CdrSpelled
+mod Running
+mod DoorRuns
+mod GatheringRuns
 mod Taking
 mod LocatingMessages
 mod LocatingReads

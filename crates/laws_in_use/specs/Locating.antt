@@ -27,6 +27,7 @@ abbrev pub door_begins : Msg
 door_begins = message_of V12 LocateRequest Big true
     (0 ∷ 0 ∷ 0 ∷ 7 ∷ 0 ∷ 0 ∷ 0 ∷ 0 ∷ 0 ∷ 0 ∷ 0 ∷ 4 ∷ [])
 
+-- its Fragment, with the octets of the key
 abbrev pub door_ends : Msg
 door_ends = message_of V12 Fragment Big false (0 ∷ 0 ∷ 0 ∷ 7 ∷ codes "door")
 
@@ -35,18 +36,20 @@ abbrev pub door_whole : Msg
 door_whole = message_of V12 LocateRequest Little false
     (7 ∷ 0 ∷ 0 ∷ 0 ∷ 0 ∷ 0 ∷ 255 ∷ 255 ∷ 4 ∷ 0 ∷ 0 ∷ 0 ∷ codes "door")
 
--- under 9, in 1.0: where `k` is, in either order
+-- under 9, in 1.0: where `k` is, big-endian
 abbrev pub key_big : Msg
 key_big = message_of V10 LocateRequest Big false (0 ∷ 0 ∷ 0 ∷ 9 ∷ 0 ∷ 0 ∷ 0 ∷ 1 ∷ codes "k")
 
+-- and little-endian
 abbrev pub key_little : Msg
 key_little = message_of V10 LocateRequest Little false
     (9 ∷ 0 ∷ 0 ∷ 0 ∷ 1 ∷ 0 ∷ 0 ∷ 0 ∷ codes "k")
 
--- it is cancelled
+-- it is cancelled, big-endian in 1.2
 abbrev pub cancel_big : Msg
 cancel_big = message_of V12 CancelRequest Big false (0 ∷ 0 ∷ 0 ∷ 9 ∷ [])
 
+-- and little-endian in 1.0
 abbrev pub cancel_little : Msg
 cancel_little = message_of V10 CancelRequest Little false (9 ∷ 0 ∷ 0 ∷ 0 ∷ [])
 
@@ -55,16 +58,19 @@ cancel_little = message_of V10 CancelRequest Little false (9 ∷ 0 ∷ 0 ∷ 0 �
 abbrev pub bad_octets : List ℕ
 bad_octets = 0 ∷ 0 ∷ 0 ∷ 9 ∷ 0 ∷ 0 ∷ 0 ∷ 5 ∷ []
 
+-- they come as a message of 1.0
 abbrev pub bad : Msg
 bad = message_of V10 LocateRequest Big false bad_octets
 
--- the server answers 7 that the object is here, in a byte order of its own
+-- the server answers that the object is here, by this message
 abbrev pub answering : Msg → Local ServerEvent
 answering m = Hears (record { event = AnswerLocate true; plan = Put (m ∷ []) })
 
+-- under 7, big-endian: the id and the status OBJECT_HERE
 abbrev pub here_big : Msg
 here_big = message_of V12 LocateReply Big false (0 ∷ 0 ∷ 0 ∷ 7 ∷ 0 ∷ 0 ∷ 0 ∷ 1 ∷ [])
 
+-- and little-endian
 abbrev pub here_little : Msg
 here_little = message_of V12 LocateReply Little false (7 ∷ 0 ∷ 0 ∷ 0 ∷ 1 ∷ 0 ∷ 0 ∷ 0 ∷ [])
 
@@ -72,7 +78,7 @@ here_little = message_of V12 LocateReply Little false (7 ∷ 0 ∷ 0 ∷ 0 ∷ 1
 abbrev pub limits : Limits
 limits = record { calls = 3; message = 64; gathered = 20 }
 
--- and at the other end
+-- and at the other end, whose messages have up to 16 and which gathers none
 abbrev pub tight_limits : Limits
 tight_limits = record { calls = 3; message = 16; gathered = 0 }
 
@@ -96,18 +102,22 @@ other_way =
     ∷ Does 7 (answering here_little)
     ∷ []
 
--- what both say of 7 and of 9, and of no other id
+-- the LocateRequest that the messages of 7 spell
 abbrev pub door : AnyLocateRequest
 door = record { version = V12; id = 7; target = Key (codes "door") }
 
+-- and the first one of 9
 abbrev pub key : AnyLocateRequest
 key = record { version = V10; id = 9; target = Key (codes "k") }
 
+-- what both ways say of 7: it is asked, and answered
 abbrev pub said_of_seven : List ServerItem
 said_of_seven = Got (heard.Locate door) ∷ Did (Hears (AnswerLocate true)) ∷ []
 
+-- of 9: it is asked and cancelled, and asked again by octets that spell nothing
 abbrev pub said_of_nine : List ServerItem
 said_of_nine = Got (heard.Locate key) ∷ Cancel ∷ Bad kind.Locate V10 Big bad_octets ∷ []
 
+-- and of no other id anything
 abbrev pub said : ℕ → List ServerItem
 said id = if id == 7 then said_of_seven else if id == 9 then said_of_nine else []

@@ -3,5 +3,13 @@
 #![tactic(auto)]
 
 mod calls;
+mod cdr;
+mod classes;
+mod described;
+mod doors;
+mod gathering;
 mod locating;
+mod messages;
+mod referred;
 mod sides;
+mod tables;

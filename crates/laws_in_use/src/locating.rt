@@ -16,11 +16,11 @@ ghost use Rattle.laws_in_use.specs.Locating.{door, limits, one_way, other_way, s
 use giop_msg::laws::locate_requests_are_spelled;
 use giop_session::laws::{same_calls_same_entries_at_server, what_is_cut_is_carried};
 
-/// One LocateRequest is cut in two, and between its pieces another one comes in the other byte order
-/// and version; it is cancelled, and its id used again by octets that spell nothing. At the other end
-/// all of that comes in one read, in other byte orders, the two ids in another order, uncut. Neither
-/// end refuses anything, both hold the same calls, and each id has the same entry, whatever the
-/// interface.
+/// One LocateRequest is cut in two, and between its pieces another one comes in the other byte
+/// order and version; it is cancelled, and its id used again by octets that spell nothing. At the
+/// other end all of that comes in one read, in other byte orders, the two ids in another order,
+/// uncut. Neither end refuses anything, both hold the same calls, and each id has the same entry,
+/// whatever the interface.
 pub fn two_ways_of_locating()
     ensures one_taken { (interface : Interface) → (left : _) × (k : _)
         × ServerTakes interface limits one_way left k }

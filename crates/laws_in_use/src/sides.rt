@@ -8,8 +8,8 @@ ghost use Rattle.giop_session.specs.PutOut.{is_of_client, is_of_server};
 ghost use Rattle.giop_session.specs.ServerHears as server;
 ghost use Rattle.giop_session.specs.declared.session_fault.SessionFault.TheVariants.{Closed, PeerError, WrongDirection};
 
-/// What a client sends is exactly what a server takes for no wrong direction and for no MessageError;
-/// and what a server sends is exactly what a client takes so.
+/// What a client sends is exactly what a server takes for no wrong direction and for no
+/// MessageError; and what a server sends is exactly what a client takes so.
 pub fn what_one_side_sends_the_other_hears()
     ensures client { (one : Kind) → (is_of_client one ≡ true)
         ↔ ((server.breaks_by one ≢ Some WrongDirection)
@@ -19,8 +19,8 @@ pub fn what_one_side_sends_the_other_hears()
         × (client.breaks_by one ≢ Some PeerError)) }
 {}
 
-/// Each kind, at a server: Requests, LocateRequests, cancels and Fragments are heard, replies come in
-/// the wrong direction, and two kinds end the session.
+/// Each kind, at a server: Requests, LocateRequests, cancels and Fragments are heard, replies come
+/// in the wrong direction, and two kinds end the session.
 pub fn each_kind_at_a_server()
     ensures asks { (is_of_client kind.Request ≡ true) × (server.breaks_by kind.Request ≡ None) }
     ensures locates { (is_of_client kind.LocateRequest ≡ true)

@@ -1,0 +1,42 @@
+use Rattle.std.proofs.Common.{◌≡◌, [], ◌∷◌, true, None, refl, ◌∙◌}
+use Rattle.giop_cdr.specs.Writing.Output.{number_out, string_out}
+use Rattle.giop_cdr.specs.declared.order.Order.TheVariants.{Big}
+use Rattle.giop_types.specs.Coding.Written.{fields_out, value_out}
+use Rattle.giop_types.specs.Descriptions.Checked.{desc_fault, fields_fault}
+use Rattle.giop_types.specs.Descriptions.Full.{are_full, is_full}
+use Rattle.giop_types.specs.JsonForms.Plain.{fields_plain, is_plain}
+use Rattle.giop_types.specs.Values.Fits.{fields_fit, fits}
+use Rattle.laws_in_use.specs.Described.{pair, value}
+use Rattle.laws_in_use.proofs.CdrSpelled.{again}
+use Rattle.laws_in_use.proofs.described.a_struct_at_one.Goals as goal
+
+full : is_full pair ≡ true
+unfolding is_full are_full
+full = refl
+
+fitting : fits pair value ≡ true
+unfolding fits fields_fit
+fitting = refl
+
+faultless : desc_fault 1 pair ≡ None
+unfolding desc_fault fields_fault
+faultless = refl
+
+plain : is_plain pair ≡ true
+unfolding is_plain fields_plain
+plain = refl
+
+pub returns-clause-back : goal.returns-clause-back
+unfolding value_out fields_out number_out string_out
+returns-clause-back c = again (c.written_values_are_read_back.ensures pair full value fitting (record { order = Big; at = 1; octets = [] })) refl (9 ∷ [])
+
+pub returns-clause-spelled : goal.returns-clause-spelled
+returns-clause-spelled c = (c.values_are_spelled.ensures.exact pair full _).found value _ (returns-clause-back c)
+
+pub returns-clause-alone : goal.returns-clause-alone
+returns-clause-alone c = λ other octets rest spells is.
+    let took = returns-clause-spelled c in
+    (c.values_are_spelled.ensures.alone pair full Big 1 other value octets took.octets rest (9 ∷ []) spells took.spells (is ∙ took.front)).0
+
+pub returns-clause-json : goal.returns-clause-json
+returns-clause-json c = c.json_gives_values_back.ensures pair faultless plain value fitting
