@@ -63,6 +63,26 @@ typedef struct giop_fault {
     uint32_t number; /* what is wrong, GIOP_BAD_MAGIC to GIOP_MEMORY_RAN_OUT */
 } giop_fault;
 
+/* What is wrong with a head: the number of a giop_fault that giop_request_head writes. */
+#define GIOP_CDR_SHORT 1u        /* the octets end before the field does */
+#define GIOP_CDR_BAD_BOOLEAN 2u  /* a boolean is neither 0 nor 1 */
+#define GIOP_CDR_BAD_STRING 3u   /* a string has no null at its end, or one within */
+#define GIOP_CDR_BAD_COUNT 4u    /* a count is above what the octets can hold */
+#define GIOP_CDR_BAD_LABEL 5u    /* the response flags or the addressing disposition is none of its values */
+#define GIOP_CDR_BAD_ORDER 6u    /* a byte order is neither 0 nor 1 */
+#define GIOP_CDR_BOUND_PASSED 7u /* a string or a sequence is longer than its bound */
+#define GIOP_CDR_TRAILING 8u     /* octets stand behind the end */
+
+/* What the head of a Request says (9.4.2). */
+typedef struct giop_request {
+    size_t body;      /* where the body stands, from the first octet of the message's header */
+    size_t operation; /* the number of octets of the operation's name, without its null */
+    size_t key;       /* the number of octets of the object's key; 0 where the target is no key */
+    uint32_t id;      /* the request id */
+    uint8_t flags;    /* the response flags: 0 for no reply, 1 for one without a body, 3 for a reply */
+    uint8_t target;   /* the addressing disposition: 0 a key, 1 a profile, 2 a reference */
+} giop_request;
+
 /* A framer: it takes the octets of a stream in pieces of any size, and gives its messages. */
 typedef struct giop_framer {
     void *at;
@@ -97,6 +117,19 @@ uint32_t giop_framer_payload(giop_framer *framer, uint8_t *buffer, size_t room, 
 
 /* Writes how many octets are unread to *rest. Answers GIOP_OK or GIOP_CLOSED. */
 uint32_t giop_framer_rest(giop_framer *framer, size_t *rest);
+
+/* Reads the head of a Request out of its payload, and copies the operation's name, without a null, and the
+ * object's key to the fronts of two buffers. message is the header that giop_framer_next wrote, whose kind
+ * is GIOP_REQUEST and whose more is 0; payload is its payload, of at most 2^62 octets. It takes no handle
+ * and no memory. Answers
+ *   GIOP_OK: *request is written, and both are copied;
+ *   GIOP_SMALL: *request is written, one of the buffers has fewer octets than it says, and neither is
+ *     changed;
+ *   GIOP_FAULT: the head is refused, and *fault says why and where, by the GIOP_CDR_ numbers.
+ * *fault is written with GIOP_FAULT alone. No two of the arguments overlap. */
+uint32_t giop_request_head(const giop_message *message, const uint8_t *payload, size_t size,
+                           giop_request *request, uint8_t *operation, size_t operation_room,
+                           uint8_t *key, size_t key_room, giop_fault *fault);
 
 /* Frees what the handle holds, which holds nothing then. A second call does nothing. */
 void giop_framer_free(giop_framer *framer);

@@ -254,6 +254,44 @@ static void an_open_handle_is_opened_again(void) {
     giop_framer_free(&framer);
 }
 
+/* The head of PING (9.4.2), worked by hand: its fields end at 48, which is a multiple of 8. */
+static void the_head_of_a_request(void) {
+    const giop_message *ping = &HEADS[0];
+    giop_request head = {9, 9, 9, 9, 9, 9};
+    giop_fault fault = {77, 77};
+    uint8_t operation[8], key[2], octets[36];
+    memset(operation, 0xEE, sizeof operation);
+    memset(key, 0xEE, sizeof key);
+    CHECK(giop_request_head(ping, PING + 12, 36, &head, operation, 3, key, 2, &fault) == GIOP_SMALL);
+    CHECK(head.operation == 4 && head.key == 1 && operation[0] == 0xEE && key[0] == 0xEE);
+    CHECK(giop_request_head(ping, PING + 12, 36, &head, operation, 8, key, 0, &fault) == GIOP_SMALL);
+    CHECK(operation[0] == 0xEE);
+    CHECK(giop_request_head(ping, PING + 12, 36, &head, operation, 4, key, 1, &fault) == GIOP_OK);
+    CHECK(head.body == 48 && head.id == 1 && head.flags == 3 && head.target == 0);
+    CHECK(memcmp(operation, "ping", 4) == 0 && operation[4] == 0xEE);
+    CHECK(key[0] == 'k' && key[1] == 0xEE && fault.at == 77 && fault.number == 77);
+    /* response flags of 2, at 16, are none of 0, 1 and 3 */
+    memcpy(octets, PING + 12, 36);
+    octets[4] = 2;
+    CHECK(giop_request_head(ping, octets, 36, &head, operation, 8, key, 2, &fault) == GIOP_FAULT);
+    CHECK(fault.at == 16 && fault.number == GIOP_CDR_BAD_LABEL && head.flags == 3);
+    /* an addressing disposition of 3, at 20, is none of 0, 1 and 2 */
+    octets[4] = 3;
+    octets[9] = 3;
+    CHECK(giop_request_head(ping, octets, 36, &head, operation, 8, key, 2, &fault) == GIOP_FAULT);
+    CHECK(fault.at == 20 && fault.number == GIOP_CDR_BAD_LABEL);
+    /* the octets end within the request id, which stands at 12 */
+    CHECK(giop_request_head(ping, octets, 3, &head, operation, 8, key, 2, &fault) == GIOP_FAULT);
+    CHECK(fault.at == 12 && fault.number == GIOP_CDR_SHORT);
+    CHECK(giop_request_head(ping, NULL, 0, &head, operation, 8, key, 2, &fault) == GIOP_FAULT);
+    CHECK(fault.at == 12 && fault.number == GIOP_CDR_SHORT);
+    /* the name of the operation, counted at 32, has no null at its end */
+    memcpy(octets, PING + 12, 36);
+    octets[28] = 's';
+    CHECK(giop_request_head(ping, octets, 36, &head, operation, 8, key, 2, &fault) == GIOP_FAULT);
+    CHECK(fault.at == 32 && fault.number == GIOP_CDR_BAD_STRING);
+}
+
 /* Each allocation is refused in turn: the call says so, and goes well when it is made again. */
 static void refused_memory_changes_nothing(void) {
     long before = blocks;
@@ -363,6 +401,7 @@ int main(void) {
     a_small_buffer_is_told_the_size();
     a_closed_handle_answers_closed();
     an_open_handle_is_opened_again();
+    the_head_of_a_request();
     refused_memory_changes_nothing();
     streams_at_random();
     CHECK(blocks == 0);

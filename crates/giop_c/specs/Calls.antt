@@ -40,7 +40,8 @@ At (Some old) (Some new) _ _ does = does old new
 -- a handle is opened with this limit, whatever it held; or memory ran out, and it is as it was
 abbrev pub Opens : ℕ → Option Reader → Option Reader → ℕ → Type 0
 Opens limit old new status =
-    ((status ≡ ok) × (new ≡ Some (record { framer = record { limit = limit; octets = [] }; message = None })))
+    ((status ≡ ok)
+    × (new ≡ Some (record { framer = record { limit = limit; octets = [] }; message = None })))
     ⊎ ((status ≡ no_memory) × (new ≡ old))
 
 -- octets are appended to those that are unread; or memory ran out, and nothing has changed
@@ -55,9 +56,10 @@ abbrev pub refusal : WireKind → ℕ
 refusal NoMemory = no_memory
 refusal _ = fault
 
--- the message before is gone, and the framer answers: the first message of the unread octets is taken
--- and its header written; or there is none yet; or it is refused, and the fault written
-abbrev pub Answers : Reader → Result (Option Msg) WireFault → Reader → Message → Message → Fault → Fault → ℕ → Type 0
+-- the message before is gone, and the framer answers: the first message of the unread octets is
+-- taken and its header written; or there is none yet; or it is refused, and the fault written
+abbrev pub Answers : Reader → Result (Option Msg) WireFault → Reader → Message → Message
+    → Fault → Fault → ℕ → Type 0
 Answers old (Ok (Some g)) new m m' f f' status =
     (status ≡ ok) × (new.message ≡ Some g) × TakesMessage old.framer g new.framer
     × (m' ≡ c_message g) × (f' ≡ f)

@@ -1,4 +1,4 @@
-//! The exported functions of a framer. Each takes what the handle holds, calls it, and puts it back.
+//! The exported functions of a framer. Each takes what the handle holds, calls it and puts it back.
 ghost use Rattle.std.specs.Prelude.{◌≡◌, None, length};
 ghost use Rattle.giop_c.specs.Calls.{At, Copies, Feeds, Opens, Takes, ok};
 
@@ -56,8 +56,8 @@ pub extern "C" fn giop_framer_next(
 }
 
 /// Copies the payload of the message that was taken last into a buffer, and writes its size. It
-/// answers OK; SMALL where the buffer has no room, and nothing is copied; WAITS where no message was
-/// taken; or CLOSED.
+/// answers OK; SMALL where the buffer has no room, and nothing is copied; WAITS where no message
+/// was taken; or CLOSED.
 #[unsafe(no_mangle)]
 pub extern "C" fn giop_framer_payload(
     alloc: Global,

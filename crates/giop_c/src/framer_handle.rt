@@ -80,7 +80,8 @@ impl FramerHandle {
     }
 
     pub fn take(&mut self, alloc: Global) -> Option<Box<Reader>>
-        ensures held { MatchOption result (self.old.value ≡ None) (λ b. self.old.value ≡ Some b.value) }
+        ensures held { MatchOption result (self.old.value ≡ None)
+            (λ b. self.old.value ≡ Some b.value) }
         ensures left { self.new.value ≡ None }
     {
         mem::replace(self, FramerHandle::closed(alloc)).into_box()

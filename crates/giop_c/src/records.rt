@@ -1,6 +1,8 @@
 ghost use Rattle.std.specs.Prelude.{◌≡◌, ◌<◌, ◌^◌, length};
+ghost use Rattle.giop_c.specs.Heads.{c_cdr_fault};
 ghost use Rattle.giop_c.specs.Records.{c_fault, c_message};
 
+use giop_cdr::CdrFault;
 use giop_msg::{Msg, WireFault};
 
 /// What the header of a message says, as C sees it: `giop_message`.
@@ -55,4 +57,32 @@ impl Fault {
             number: u32::from(fault.number()),
         }
     }
+
+    /// A fault of a head.
+    pub fn of_cdr(refused: CdrFault) -> Fault
+        ensures { result ≡ c_cdr_fault refused }
+    {
+        Fault {
+            at: refused.at,
+            number: u32::from(refused.number()),
+        }
+    }
+}
+
+/// What the head of a Request says, as C sees it: `giop_request`.
+#[repr(C)]
+#[derive(Clone, Copy, Debug, PartialEq, Eq)]
+pub struct Request {
+    /// Where the body stands, from the first octet of the message's header.
+    pub body: usize,
+    /// The number of octets of the operation's name, without its null.
+    pub operation: usize,
+    /// The number of octets of the object's key; 0 where the target is no key.
+    pub key: usize,
+    /// The request id.
+    pub id: u32,
+    /// The response flags: 0 for no reply, 1 for one without a body, 3 for a reply.
+    pub flags: u8,
+    /// The addressing disposition: 0 a key, 1 a profile, 2 a reference.
+    pub target: u8,
 }

@@ -87,4 +87,5 @@ module _ (heap : Global) (R : RattleType) {M : Type 1} {𝓤 : Ura M} {𝓛 : Lo
   by_held t at None empty full = fpick t (λ is. drop t $ empty is refl)
   by_held t at (Some x) empty full =
       in_a_block t at (λ p. held_at heap R p (Some x)) (fst∗ 𝓤 (never 𝓤) (sem 𝓛 (ghosts.dealloc_token heap (bare (lone R.mir)) null_ptr))) (λ b o is.
-      use1 𝓛 (given (Testable (block_ptr b o)) (‵ (held_at heap R (block_ptr b o) (Some x)))) (tested 𝓛 heap R (block_ptr b o) x) $ learn t (λ may. full b o x is refl may))
+      use1 𝓛 (given (Testable (block_ptr b o)) (‵ (held_at heap R (block_ptr b o) (Some x)))) (tested 𝓛 heap R (block_ptr b o) x) $
+      learn t (λ may. full b o x is refl may))

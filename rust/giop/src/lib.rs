@@ -38,6 +38,16 @@ struct Head {
 }
 
 #[repr(C)]
+struct CRequest {
+    body: usize,
+    operation: usize,
+    key: usize,
+    id: u32,
+    flags: u8,
+    target: u8,
+}
+
+#[repr(C)]
 struct CFault {
     at: usize,
     number: u32,
@@ -50,6 +60,17 @@ extern "C" {
     fn giop_framer_payload(framer: *mut Handle, buffer: *mut u8, room: usize, size: *mut usize) -> u32;
     fn giop_framer_rest(framer: *mut Handle, rest: *mut usize) -> u32;
     fn giop_framer_free(framer: *mut Handle);
+    fn giop_request_head(
+        message: *const Head,
+        payload: *const u8,
+        size: usize,
+        request: *mut CRequest,
+        operation: *mut u8,
+        operation_room: usize,
+        key: *mut u8,
+        key_room: usize,
+        fault: *mut CFault,
+    ) -> u32;
 }
 
 const OK: u32 = 0;
@@ -111,6 +132,38 @@ impl fmt::Display for Fault {
 }
 
 impl error::Error for Fault {}
+
+/// Why the head of a Request is refused, and where.
+#[derive(Clone, Copy, Debug, PartialEq, Eq)]
+pub struct HeadFault {
+    /// The offset of what is wrong, from the first octet of the message's header.
+    pub at: usize,
+    /// The number of what is wrong: one of `GIOP_CDR_` in giop.h.
+    pub number: u32,
+}
+
+impl fmt::Display for HeadFault {
+    fn fmt(&self, f: &mut fmt::Formatter<'_>) -> fmt::Result {
+        write!(f, "CDR fault {} at {}", self.number, self.at)
+    }
+}
+
+impl error::Error for HeadFault {}
+
+/// What the head of a Request says (9.4.2).
+#[derive(Clone, Debug, PartialEq, Eq)]
+pub struct RequestHead {
+    /// The request id.
+    pub id: u32,
+    /// The response flags: 0 for no reply, 1 for one without a body, 3 for a reply.
+    pub flags: u8,
+    /// The name of the operation, without its null.
+    pub operation: Vec<u8>,
+    /// The object's key, where the target is one.
+    pub key: Option<Vec<u8>>,
+    /// Where the body stands, from the first octet of the message's header.
+    pub body: usize,
+}
 
 /// Why a call didn't do what it is for.
 #[derive(Clone, Copy, Debug, PartialEq, Eq)]
@@ -201,6 +254,41 @@ impl<'a> Message<'a> {
     /// The octets after the header.
     pub fn payload(&self) -> &'a [u8] {
         self.payload
+    }
+
+    /// The head of a Request that no Fragment continues; `None` of another message.
+    ///
+    /// # Errors
+    /// Where and why the head is refused.
+    pub fn request_head(&self) -> Option<Result<RequestHead, HeadFault>> {
+        if self.kind() != Kind::Request || self.has_more() {
+            return None;
+        }
+        let mut fault = CFault { at: 0, number: 0 };
+        let mut head = CRequest { body: 0, operation: 0, key: 0, id: 0, flags: 0, target: 0 };
+        // Neither is longer than the payload that it stands in.
+        let (mut operation, mut key) = (vec![0; self.payload.len()], vec![0; self.payload.len()]);
+        // SAFETY: each slice has the length that is said, and none overlaps another.
+        let status = unsafe {
+            giop_request_head(
+                &self.head,
+                self.payload.as_ptr(),
+                self.payload.len(),
+                &mut head,
+                operation.as_mut_ptr(),
+                operation.len(),
+                key.as_mut_ptr(),
+                key.len(),
+                &mut fault,
+            )
+        };
+        if status != OK {
+            return Some(Err(HeadFault { at: fault.at, number: fault.number }));
+        }
+        operation.truncate(head.operation);
+        key.truncate(head.key);
+        let key = (head.target == 0).then_some(key);
+        Some(Ok(RequestHead { id: head.id, flags: head.flags, operation, key, body: head.body }))
     }
 }
 

@@ -47,3 +47,19 @@ fn a_cancel_request_of_1_0() -> Result<(), Error> {
     assert_eq!(message.payload(), [7, 0, 0, 0]);
     Ok(())
 }
+
+#[test]
+fn the_head_of_a_request() -> Result<(), Error> {
+    let mut framer = Framer::new(36)?;
+    framer.feed(PING)?;
+    let message = framer.next()?.expect("a whole message");
+    let head = message.request_head().expect("a Request").expect("a lawful head");
+    assert_eq!((head.id, head.flags, head.body), (1, 3, 48));
+    assert_eq!((head.operation.as_slice(), head.key.as_deref()), (&b"ping"[..], Some(&b"k"[..])));
+    // a Request of 1.2 that ends behind its id, so within the response flags at 16
+    framer.feed(b"GIOP\x01\x02\0\0\0\0\0\x04\0\0\0\x01")?;
+    let message = framer.next()?.expect("a whole message");
+    let fault = message.request_head().expect("a Request").expect_err("it is short");
+    assert_eq!((fault.at, fault.number), (16, 1));
+    Ok(())
+}

@@ -57,7 +57,8 @@ of_raw_spec 𝓤 𝓛 𝓜 𝓡 wired =
     sets ! (agg ! (and_then ! (get ! refl) (and_then ! (get ! refl) (no_more !)))) refl typed $
     words_in Heap heap_laws ghosts ! at heap h $ fjoin ! $
     use1 𝓛 (‵ (Handle.own_val made (given ∷ []))) (id⊢ 𝓤 _) $
-    use0 𝓛 (raw (fact 𝓤 (Some raw_box.value ≡ Some raw_box.value))) (fact_i 𝓤 (Some raw_box.value ≡ Some raw_box.value) (emp 𝓤) refl) $ nothing ! $ nothing ! $ fjoin ! $
+    use0 𝓛 (raw (fact 𝓤 (Some raw_box.value ≡ Some raw_box.value))) (fact_i 𝓤 (Some raw_box.value ≡ Some raw_box.value) (emp 𝓤) refl) $
+    nothing ! $ nothing ! $ fjoin ! $
     returns ! (look_at ! 0 refl) $ free_all ! refl $
     -- [what is left of the parameter; the promise; the handle; no more parameters; no lifetimes]
     keep ! (4 ∷ 0 ∷ 2 ∷ 1 ∷ []) $ by ! (leaves 𝓛 this.ended stays says z given made (tt, tt) (tt, tt)))))

@@ -74,7 +74,8 @@ into_box_spec 𝓤 𝓛 𝓜 𝓡 wired T A of_T of_A g does drops_T drops_A all
     first ! $ blocks ! $ sets ! (of_opd ! (get ! refl)) refl fits $
     calls_at_last ! (fm 𝓛 𝓜 𝓡) call answers y (and_then ! (get ! refl) (and_then ! (get ! refl) (no_more !))) (λ back.
     use1 𝓛 (later (some (λ (r : D E). (alive ⊛ ‵ ((B E).own_val r (back ∷ [])))
-    ⊛ some (λ (ends : Lasts (made.ended T A g does drops_A) κs y.0.3). ‵ (lasts (made.ended T A g does drops_A) κs y.0.3 ends) ⊛ (raw (fact 𝓤 (r.value ≡ held.value)) ⊛ raw (fact 𝓤 (r.alloc ≡ heap))))))) (id⊢ 𝓤 (call.post y back)) $
+    ⊛ some (λ (ends : Lasts (made.ended T A g does drops_A) κs y.0.3). ‵ (lasts (made.ended T A g does drops_A) κs y.0.3 ends)
+    ⊛ (raw (fact 𝓤 (r.value ≡ held.value)) ⊛ raw (fact 𝓤 (r.alloc ≡ heap))))))) (id⊢ 𝓤 (call.post y back)) $
     await ! tt $ pick ! (λ r. split ! $ move ! (1 ∷ []) $ pick ! (λ _. split3 ! $ drop ! $ move ! (2 ∷ []) $ split ! $ move ! (1 ∷ []) $
     -- [the box; the lifetimes; its value; its allocator]
     box_out E ! r (back ∷ []) (λ b' o' h' at' is_box fits'. box_in E ! r b' o' r.value at' refl $

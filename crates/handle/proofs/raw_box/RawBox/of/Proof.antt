@@ -48,7 +48,8 @@ of_spec 𝓤 𝓛 𝓜 𝓡 wired T A of_T of_A g does drops_T drops_A allocates
     let stays : Stays ended.signature.params ended.kept = (stay_dropped (plain (λ _. B E)) no, tt) in
     let W = walk_of 𝓛 ended stays says in
     let call = triple_of 𝓛 (taken.signature T A g does drops_A drops_T) (taken.spec T A g does drops_A drops_T 𝓛 𝓜.mem 𝓡.returns) in
-    let answers = met 𝓤 𝓛 𝓜 𝓡 (code.calls-std_alloc::boxed::Box::into_raw_with_allocator 𝓡.env wired) T A of_T of_A g does drops_A drops_T allocates frees_A frees_T in
+    let answers = met 𝓤 𝓛 𝓜 𝓡 (code.calls-std_alloc::boxed::Box::into_raw_with_allocator 𝓡.env wired)
+        T A of_T of_A g does drops_A drops_T allocates frees_A frees_T in
     proved_at 𝓛 ended stays says 𝓜 𝓡 (Goes-blank 𝓛 2 (plain (λ _. B E)) no (λ _ _ _. tt), tt)
     (this.Key.name args) fn (code.unfolded 𝓤 𝓛.H 𝓜 𝓡 wired (T, (A, tt)) does drops_T drops_A) (λ z are.
     let κs = z.0.0 in let qs = z.0.1 in let boxed = z.0.3.0 in let heap = boxed.alloc in
@@ -67,7 +68,8 @@ of_spec 𝓤 𝓛 𝓜 𝓡 wired T A of_T of_A g does drops_T drops_A allocates
     sets ! (of_opd ! (get ! refl)) refl (box_typed E h b o fits) $
     calls_at ! (fm 𝓛 𝓜 𝓡) call answers y (and_then ! (get ! refl) (no_more !)) (λ pair.
     use1 𝓛 (later (some (λ (r : Ptr × A.Denot). (alive ⊛ ‵ ((Tuple (RawPtr ∷ P E ∷ [])).own_val r (pair ∷ [])))
-    ⊛ some (λ (_ : (Unit {0} × (Unit {0} × Unit {0})) × Unit {0}). ‵ (fsep (fsep ftrue (fsep ftrue ftrue)) ftrue) ⊛ (raw (fact 𝓤 (r.1 ≡ heap)) ⊛ ‵ (box_owns (token E.al heap) (R E) r.0 boxed.value)))))) (id⊢ 𝓤 _) $
+    ⊛ some (λ (_ : (Unit {0} × (Unit {0} × Unit {0})) × Unit {0}). ‵ (fsep (fsep ftrue (fsep ftrue ftrue)) ftrue)
+    ⊛ (raw (fact 𝓤 (r.1 ≡ heap)) ⊛ ‵ (box_owns (token E.al heap) (R E) r.0 boxed.value)))))) (id⊢ 𝓤 _) $
     await ! tt $ pick ! (λ r. split ! $ move ! (1 ∷ []) $ pick ! (λ _. split3 ! $ drop ! $ heard ! (r.1 ≡ heap) (λ same.
     in_a_block ! r.0 (λ p. box_owns (token E.al heap) (R E) p boxed.value) (fst∗ 𝓤 (never 𝓤) (sem 𝓛 (token E.al heap (bare (τ E)) null_ptr))) (λ b' o' at'.
     -- [what lies there; the lifetimes and the pair]
