@@ -5,8 +5,9 @@ use crate::framer_calls::{
     giop_framer_feed, giop_framer_free, giop_framer_new, giop_framer_next, giop_framer_payload,
     giop_framer_rest,
 };
+use crate::request_calls::giop_request_head;
 use crate::status::{CLOSED, FAULT, OK, SMALL, WAITS};
-use crate::{Fault, FramerHandle, Message};
+use crate::{Fault, FramerHandle, Message, Request};
 
 // A CancelRequest of 1.0, little endian, of id 7 (9.4.4).
 const CANCEL: [u8; 16] = [b'G', b'I', b'O', b'P', 1, 0, 1, 2, 4, 0, 0, 0, 7, 0, 0, 0];
@@ -78,4 +79,52 @@ fn a_fault_is_written_with_its_place(rt: HostRuntime) {
     // 4 is above the limit of 3, which is TooLarge: 5
     assert_eq!(rt; fault, Fault { at: 8, number: 5 });
     assert_eq!(rt; message, UNWRITTEN);
+}
+
+// A Request of 1.2, big endian, id 1, to the key "k", of the operation "ping" (9.4.2): its octets
+// after the header. Its fields end at 48, a multiple of 8.
+const PING: [u8; 36] = [
+    0, 0, 0, 1, 3, 0, 0, 0, 0, 0, 0, 0, 0, 0, 0, 1, b'k', 0, 0, 0, 0, 0, 0, 5, b'p', b'i', b'n',
+    b'g', 0, 0, 0, 0, 0, 0, 0, 0,
+];
+
+#[test]
+fn the_head_of_a_request_is_read_and_copied(rt: HostRuntime) {
+    let message = Message {
+        minor: 2,
+        little_endian: 0,
+        more: 0,
+        kind: 0,
+        size: 36,
+    };
+    let mut request = Request {
+        body: 0,
+        operation: 0,
+        key: 0,
+        id: 0,
+        flags: 0,
+        target: 9,
+    };
+    let mut fault = Fault { at: 77, number: 77 };
+    let (mut operation, mut key) = ([9; 5], [9; 2]);
+    let status = giop_request_head(
+        &message,
+        &PING,
+        &mut request,
+        &mut operation,
+        &mut key,
+        &mut fault,
+    );
+    assert_eq!(rt; status, OK);
+    let head = Request {
+        body: 48,
+        operation: 4,
+        key: 1,
+        id: 1,
+        flags: 3,
+        target: 0,
+    };
+    assert_eq!(rt; request, head);
+    assert_eq!(rt; operation, [b'p', b'i', b'n', b'g', 9]);
+    assert_eq!(rt; key, [b'k', 9]);
 }
