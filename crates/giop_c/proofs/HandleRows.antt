@@ -1,0 +1,18 @@
+-- The rows that the walks of a handle speak of.
+use denote.Param.Laws.{Laws}
+use denote.RattleType.{RattleType}
+use Rattle.std.specs.contracts.alloc.Global as global
+use Rattle.std.proofs.alloc.Global.TheLaws as global_laws
+use Rattle.std.specs.contracts.impls.GlobalAllocator.TheImpl.{ghosts}
+use Rattle.handle.specs.contracts.raw_box.RawBox as raw_box
+use Rattle.giop_c.specs.contracts.reader.Reader as reader
+
+abbrev pub Heap : RattleType
+Heap = global.the_row
+
+abbrev pub heap_laws : Laws Heap
+heap_laws = global_laws.the_row_laws
+
+-- a reader behind a pointer
+abbrev pub RawReader : RattleType
+RawReader = raw_box.the_row reader.the_row Heap ghosts

@@ -1,0 +1,88 @@
+ghost use Rattle.std.specs.Prelude.{◌≡◌, ◌<◌, ◌^◌, length};
+ghost use Rattle.giop_c.specs.Heads.{c_cdr_fault};
+ghost use Rattle.giop_c.specs.Records.{c_fault, c_message};
+
+use giop_cdr::CdrFault;
+use giop_msg::{Msg, WireFault};
+
+/// What the header of a message says, as C sees it: `giop_message`.
+#[repr(C)]
+#[derive(Clone, Copy, Debug, PartialEq, Eq)]
+pub struct Message {
+    /// The minor number of the version: 0, 1 or 2.
+    pub minor: u8,
+    /// 1 where the message is little endian, else 0.
+    pub little_endian: u8,
+    /// 1 where more fragments follow, else 0.
+    pub more: u8,
+    /// The message type, 0 to 7.
+    pub kind: u8,
+    /// The number of octets after the header.
+    pub size: u32,
+}
+
+impl Message {
+    /// The header of a message whose size is an unsigned long.
+    pub fn of(message: &Msg) -> Message
+        requires { length message.now.payload < 2 ^ 32 }
+        ensures { result ≡ c_message message.now }
+    {
+        Message {
+            minor: message.version.minor(),
+            little_endian: message.order.octet(),
+            more: if message.more { 1 } else { 0 },
+            kind: message.kind.number(),
+            size: message.payload.len() as u32,
+        }
+    }
+}
+
+/// Why octets are refused, and where, as C sees it: `giop_fault`.
+#[repr(C)]
+#[derive(Clone, Copy, Debug, PartialEq, Eq)]
+pub struct Fault {
+    /// The offset of what is wrong, from the first octet of the message's header.
+    pub at: usize,
+    /// The number of what is wrong, 1 to 9, in the order in which headers are judged.
+    pub number: u32,
+}
+
+impl Fault {
+    /// A fault of the framer.
+    pub fn of(fault: WireFault) -> Fault
+        ensures { result ≡ c_fault fault }
+    {
+        Fault {
+            at: fault.at,
+            number: u32::from(fault.number()),
+        }
+    }
+
+    /// A fault of a head.
+    pub fn of_cdr(refused: CdrFault) -> Fault
+        ensures { result ≡ c_cdr_fault refused }
+    {
+        Fault {
+            at: refused.at,
+            number: u32::from(refused.number()),
+        }
+    }
+}
+
+/// What the head of a Request says, as C sees it: `giop_request`.
+#[repr(C)]
+#[derive(Clone, Copy, Debug, PartialEq, Eq)]
+pub struct Request {
+    /// Where the body stands, from the first octet of the message's header.
+    pub body: usize,
+    /// The number of octets of the operation's name, without its null.
+    pub operation: usize,
+    /// The number of octets of the object's key; 0 where the target is no key.
+    pub key: usize,
+    /// The request id.
+    pub id: u32,
+    /// The response flags: 0 for no reply, 1 for one without a body, 3 for a reply.
+    pub flags: u8,
+    /// The addressing disposition: 0 a key, 1 a profile, 2 a reference.
+    pub target: u8,
+}
