@@ -13,6 +13,7 @@ mod SentLemmas
 mod IdLemmas
 mod OwnRunLemmas
 mod ActingLemmas
+mod LaneEventLemmas
 mod ServerItemLemmas
 mod ClientCancelLemmas
 mod ClientReplyLemmas
