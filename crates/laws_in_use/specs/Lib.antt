@@ -1,8 +1,10 @@
+pub mod ClientCalls
 pub mod Described
 pub mod Doors
 pub mod Exchange
 pub mod Framed
 pub mod Gathering
+pub mod Lanes
 pub mod Locating
 pub mod Referred
 pub mod ServerCalls

@@ -1,5 +1,5 @@
-// What an end hears is an event of the lane of its id. Each function's contract is a law; the bodies
-// are empty, and no program calls these.
+//! What an end hears is an event of the lane of its id. Each function's contract is a law; the bodies
+//! are empty, and no program calls these.
 ghost use Rattle.std.specs.Prelude.{◌≡◌, Some};
 ghost use Rattle.giop_types.specs.declared.json.interface.Interface.{Interface};
 ghost use Rattle.giop_msg.specs.declared.kind.Kind.TheVariants as message;
