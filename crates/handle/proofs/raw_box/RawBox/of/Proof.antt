@@ -49,7 +49,7 @@ of_spec 𝓤 𝓛 𝓜 𝓡 wired T A of_T of_A g does drops_T drops_A allocates
     let W = walk_of 𝓛 ended stays says in
     let call = triple_of 𝓛 (taken.signature T A g does drops_A drops_T) (taken.spec T A g does drops_A drops_T 𝓛 𝓜.mem 𝓡.returns) in
     let answers = met 𝓤 𝓛 𝓜 𝓡 (code.calls-std_alloc::boxed::Box::into_raw_with_allocator 𝓡.env wired)
-        T A of_T of_A g does drops_A drops_T allocates frees_A frees_T in
+    T A of_T of_A g does drops_A drops_T allocates frees_A frees_T in
     proved_at 𝓛 ended stays says 𝓜 𝓡 (Goes-blank 𝓛 2 (plain (λ _. B E)) no (λ _ _ _. tt), tt)
     (this.Key.name args) fn (code.unfolded 𝓤 𝓛.H 𝓜 𝓡 wired (T, (A, tt)) does drops_T drops_A) (λ z are.
     let κs = z.0.0 in let qs = z.0.1 in let boxed = z.0.3.0 in let heap = boxed.alloc in
