@@ -175,15 +175,32 @@ module _ (interface : Interface) where
 
   pub one_taken : ClientTakes interface limits one_way (nothing_unread limits.message) one_9
   one_taken =
-      let asks = done client_step is_closed is_gathering (new limits) limits ids 0 7 (record { event = event.Call (asked.Locate door) 2; plan = Put (door_begins ∷ door_ends ∷ []) }) Nothing none sending (record { answer = tt; message = Some door_begins }) one_s_0 (omega arith) (omega arith) one_at_0 refl in
-      let asks_key = done client_step is_closed is_gathering one_1 limits ids 0 9 (record { event = event.Call (asked.Locate key) 1; plan = Put (key_little ∷ []) }) Nothing none key_waiting (record { answer = tt; message = Some key_little }) one_s_1 (omega arith) (omega arith) one_at_1 refl in
-      let cancels = done client_step is_closed is_gathering one_2 limits ids 0 9 (record { event = event.Cancel; plan = Put (cancel_big ∷ []) }) Nothing key_waiting cancelled (record { answer = tt; message = Some cancel_big }) one_s_2 (omega arith) (omega arith) one_at_2 refl in
-      let sends = done client_step is_closed is_gathering one_3 limits ids 0 7 (record { event = event.Send; plan = Next }) Nothing sending waiting (record { answer = tt; message = Some door_ends }) one_s_3 (omega arith) (omega arith) one_at_3 refl in
-      let begins = hears client_step is_closed is_gathering client_breaks (client_befalls interface) one_4 limits ids 0 here_begins 7 (kept (event.First kind.Locate V12)) (First Big here_begins.payload) waiting gathering refl named.here_begins one_s_4 (omega arith) (omega arith) one_at_4 refl refl in
-      let late = hears client_step is_closed is_gathering client_breaks (client_befalls interface) one_5 limits ids 4 unknown_little 9 (kept (event.Whole kind.Locate V10 heard.Unread)) Nothing cancelled seen refl named.unknown_little one_s_5 (omega arith) (omega arith) one_at_5 refl refl in
-      let again = done client_step is_closed is_gathering one_6 limits ids 4 9 (record { event = event.Call (asked.Locate key) 1; plan = Put (key_big ∷ []) }) Nothing seen key_waiting (record { answer = tt; message = Some key_big }) one_s_6 (omega arith) (omega arith) one_at_6 refl in
-      let ends = hears client_step is_closed is_gathering client_breaks (client_befalls interface) one_7 limits ids 4 here_ends 7 (kept (event.Last true (heard.Locate here))) (More (drop 4 here_ends.payload)) gathering located refl named.here_ends one_s_7 (omega arith) (omega arith) one_at_7 (ap (λ told. Hears (kept (event.Last true told)) (More (drop 4 here_ends.payload))) (decoded interface).here_joined) refl in
-      let bad = hears client_step is_closed is_gathering client_breaks (client_befalls interface) one_8 limits ids 0 short 9 (kept (event.Whole kind.Locate V10 (heard.Undecoded (record { at = 16; kind = Short })))) Nothing key_waiting undecoded refl named.short one_s_8 (omega arith) (omega arith) one_at_8 (whole_old (decoded interface).short) refl in (
+      let asks = done client_step is_closed is_gathering (new limits) limits ids 0 7
+      (record { event = event.Call (asked.Locate door) 2; plan = Put (door_begins ∷ door_ends ∷ []) }) Nothing none sending
+      (record { answer = tt; message = Some door_begins }) one_s_0 (omega arith) (omega arith) one_at_0 refl in
+      let asks_key = done client_step is_closed is_gathering one_1 limits ids 0 9
+      (record { event = event.Call (asked.Locate key) 1; plan = Put (key_little ∷ []) }) Nothing none key_waiting
+      (record { answer = tt; message = Some key_little }) one_s_1 (omega arith) (omega arith) one_at_1 refl in
+      let cancels = done client_step is_closed is_gathering one_2 limits ids 0 9 (record { event = event.Cancel; plan = Put (cancel_big ∷ []) })
+      Nothing key_waiting cancelled (record { answer = tt; message = Some cancel_big }) one_s_2 (omega arith) (omega arith) one_at_2 refl in
+      let sends = done client_step is_closed is_gathering one_3 limits ids 0 7 (record { event = event.Send; plan = Next }) Nothing sending waiting
+      (record { answer = tt; message = Some door_ends }) one_s_3 (omega arith) (omega arith) one_at_3 refl in
+      let begins = hears client_step is_closed is_gathering client_breaks (client_befalls interface) one_4 limits ids 0 here_begins 7
+      (kept (event.First kind.Locate V12)) (First Big here_begins.payload) waiting gathering refl named.here_begins one_s_4 (omega arith)
+      (omega arith) one_at_4 refl refl in
+      let late = hears client_step is_closed is_gathering client_breaks (client_befalls interface) one_5 limits ids 4 unknown_little 9
+      (kept (event.Whole kind.Locate V10 heard.Unread)) Nothing cancelled seen refl named.unknown_little one_s_5 (omega arith) (omega arith)
+      one_at_5 refl refl in
+      let again = done client_step is_closed is_gathering one_6 limits ids 4 9
+      (record { event = event.Call (asked.Locate key) 1; plan = Put (key_big ∷ []) }) Nothing seen key_waiting
+      (record { answer = tt; message = Some key_big }) one_s_6 (omega arith) (omega arith) one_at_6 refl in
+      let ends = hears client_step is_closed is_gathering client_breaks (client_befalls interface) one_7 limits ids 4 here_ends 7
+      (kept (event.Last true (heard.Locate here))) (More (drop 4 here_ends.payload)) gathering located refl named.here_ends one_s_7 (omega arith)
+      (omega arith) one_at_7 (ap (λ told. Hears (kept (event.Last true told)) (More (drop 4 here_ends.payload))) (decoded interface).here_joined)
+      refl in
+      let bad = hears client_step is_closed is_gathering client_breaks (client_befalls interface) one_8 limits ids 0 short 9
+      (kept (event.Whole kind.Locate V10 (heard.Undecoded (record { at = 16; kind = Short })))) Nothing key_waiting undecoded refl named.short
+      one_s_8 (omega arith) (omega arith) one_at_8 (whole_old (decoded interface).short) refl in (
         one_1,
         (Answers (record { answer = tt; message = Some door_begins }), asks),
         (
@@ -268,7 +285,8 @@ module _ (interface : Interface) where
   other_s_4 = stands_more other_3 tight_limits ids 0 0 9 seen key_waiting other_s_3 refl other_at_3 refl
 
   other_at_4 : at other_4 7 ≡ none
-  other_at_4 = at-put other_3 9 key_waiting 7 ∙ at-put other_2 9 seen 7 ∙ at-put other_1 9 cancelled 7 ∙ at-put (new tight_limits) 9 key_waiting 7 ∙ none_at tight_limits 7
+  other_at_4 = at-put other_3 9 key_waiting 7 ∙ at-put other_2 9 seen 7 ∙ at-put other_1 9 cancelled 7 ∙ at-put (new tight_limits) 9 key_waiting 7 ∙
+      none_at tight_limits 7
 
   other_s_5 : Stands other_5 tight_limits ids 0
   other_s_5 = stands_more other_4 tight_limits ids 0 0 7 none sending other_s_4 refl other_at_4 refl
@@ -290,14 +308,29 @@ module _ (interface : Interface) where
 
   pub other_taken : ClientTakes interface tight_limits other_way (nothing_unread tight_limits.message) other_8
   other_taken =
-      let asks_key = done client_step is_closed is_gathering (new tight_limits) tight_limits ids 0 9 (record { event = event.Call (asked.Locate key) 1; plan = Put (key_big ∷ []) }) Nothing none key_waiting (record { answer = tt; message = Some key_big }) other_s_0 (omega arith) (omega arith) other_at_0 refl in
-      let cancels = done client_step is_closed is_gathering other_1 tight_limits ids 0 9 (record { event = event.Cancel; plan = Put (cancel_little ∷ []) }) Nothing key_waiting cancelled (record { answer = tt; message = Some cancel_little }) other_s_1 (omega arith) (omega arith) other_at_1 refl in
-      let late = hears client_step is_closed is_gathering client_breaks (client_befalls interface) other_2 tight_limits ids 0 unknown_big 9 (kept (event.Whole kind.Locate V10 heard.Unread)) Nothing cancelled seen refl named.unknown_big other_s_2 (omega arith) (omega arith) other_at_2 refl refl in
-      let again = done client_step is_closed is_gathering other_3 tight_limits ids 0 9 (record { event = event.Call (asked.Locate key) 1; plan = Put (key_little ∷ []) }) Nothing seen key_waiting (record { answer = tt; message = Some key_little }) other_s_3 (omega arith) (omega arith) other_at_3 refl in
-      let asks = done client_step is_closed is_gathering other_4 tight_limits ids 0 7 (record { event = event.Call (asked.Locate door) 2; plan = Put (door_begins ∷ door_ends ∷ []) }) Nothing none sending (record { answer = tt; message = Some door_begins }) other_s_4 (omega arith) (omega arith) other_at_4 refl in
-      let sends = done client_step is_closed is_gathering other_5 tight_limits ids 0 7 (record { event = event.Send; plan = Next }) Nothing sending waiting (record { answer = tt; message = Some door_ends }) other_s_5 (omega arith) (omega arith) other_at_5 refl in
-      let bad = hears client_step is_closed is_gathering client_breaks (client_befalls interface) other_6 tight_limits ids 0 short 9 (kept (event.Whole kind.Locate V10 (heard.Undecoded (record { at = 16; kind = Short })))) Nothing key_waiting undecoded refl named.short other_s_6 (omega arith) (omega arith) other_at_6 (whole_old (decoded interface).short) refl in
-      let came = hears client_step is_closed is_gathering client_breaks (client_befalls interface) other_7 tight_limits ids 0 here_little 7 (kept (event.Whole kind.Locate V12 (heard.Locate here))) Nothing waiting located refl named.here_little other_s_7 (omega arith) (omega arith) other_at_7 (whole (decoded interface).here_little) refl in (
+      let asks_key = done client_step is_closed is_gathering (new tight_limits) tight_limits ids 0 9
+      (record { event = event.Call (asked.Locate key) 1; plan = Put (key_big ∷ []) }) Nothing none key_waiting
+      (record { answer = tt; message = Some key_big }) other_s_0 (omega arith) (omega arith) other_at_0 refl in
+      let cancels = done client_step is_closed is_gathering other_1 tight_limits ids 0 9
+      (record { event = event.Cancel; plan = Put (cancel_little ∷ []) }) Nothing key_waiting cancelled
+      (record { answer = tt; message = Some cancel_little }) other_s_1 (omega arith) (omega arith) other_at_1 refl in
+      let late = hears client_step is_closed is_gathering client_breaks (client_befalls interface) other_2 tight_limits ids 0 unknown_big 9
+      (kept (event.Whole kind.Locate V10 heard.Unread)) Nothing cancelled seen refl named.unknown_big other_s_2 (omega arith) (omega arith)
+      other_at_2 refl refl in
+      let again = done client_step is_closed is_gathering other_3 tight_limits ids 0 9
+      (record { event = event.Call (asked.Locate key) 1; plan = Put (key_little ∷ []) }) Nothing seen key_waiting
+      (record { answer = tt; message = Some key_little }) other_s_3 (omega arith) (omega arith) other_at_3 refl in
+      let asks = done client_step is_closed is_gathering other_4 tight_limits ids 0 7
+      (record { event = event.Call (asked.Locate door) 2; plan = Put (door_begins ∷ door_ends ∷ []) }) Nothing none sending
+      (record { answer = tt; message = Some door_begins }) other_s_4 (omega arith) (omega arith) other_at_4 refl in
+      let sends = done client_step is_closed is_gathering other_5 tight_limits ids 0 7 (record { event = event.Send; plan = Next }) Nothing sending
+      waiting (record { answer = tt; message = Some door_ends }) other_s_5 (omega arith) (omega arith) other_at_5 refl in
+      let bad = hears client_step is_closed is_gathering client_breaks (client_befalls interface) other_6 tight_limits ids 0 short 9
+      (kept (event.Whole kind.Locate V10 (heard.Undecoded (record { at = 16; kind = Short })))) Nothing key_waiting undecoded refl named.short
+      other_s_6 (omega arith) (omega arith) other_at_6 (whole_old (decoded interface).short) refl in
+      let came = hears client_step is_closed is_gathering client_breaks (client_befalls interface) other_7 tight_limits ids 0 here_little 7
+      (kept (event.Whole kind.Locate V12 (heard.Locate here))) Nothing waiting located refl named.here_little other_s_7 (omega arith)
+      (omega arith) other_at_7 (whole (decoded interface).here_little) refl in (
         other_1,
         (Answers (record { answer = tt; message = Some key_big }), asks_key),
         (
@@ -313,7 +346,11 @@ module _ (interface : Interface) where
               (
                 other_5,
                 (Answers (record { answer = tt; message = Some door_begins }), asks),
-                (other_6, (Answers (record { answer = tt; message = Some door_ends }), sends), (tight [], other_8, fed read.last (other_7, bad, (other_8, came, refl)), (refl, refl))),
+                (
+                  other_6,
+                  (Answers (record { answer = tt; message = Some door_ends }), sends),
+                  (tight [], other_8, fed read.last (other_7, bad, (other_8, came, refl)), (refl, refl)),
+                ),
               ),
             ),
           ),

@@ -145,24 +145,29 @@ module _ (interface : Interface) where
   Hears_it m h k = hears_by (λ rule. server_step) (λ rule. is_closed) is_gathering in_call server_breaks (server_befalls interface) m h (Ok tt) k
 
   pub begun : Hears_it door_begins (new limits) one_1
-  begun = hears server_step is_closed is_gathering server_breaks (server_befalls interface) (new limits) limits ids 0 door_begins 7 (kept (event.First kind.Locate))
+  begun = hears server_step is_closed is_gathering server_breaks (server_befalls interface) (new limits) limits ids 0 door_begins 7
+      (kept (event.First kind.Locate))
       (First Big door_begins.payload) none gathering refl named.door_begins s_0 (omega arith) (omega arith) (none_at limits 7) refl refl
 
   pub asked : Hears_it key_little one_1 one_2
-  asked = hears server_step is_closed is_gathering server_breaks (server_befalls interface) one_1 limits ids 12 key_little 9 (kept (event.Whole (heard.Locate key))) Nothing none
+  asked = hears server_step is_closed is_gathering server_breaks (server_befalls interface) one_1 limits ids 12 key_little 9
+      (kept (event.Whole (heard.Locate key))) Nothing none
       key_asked refl named.key_little s_1 (omega arith) (omega arith) at_1 (whole (decoded interface).key_little) refl
 
   pub ended : Hears_it door_ends one_2 one_3
-  ended = hears server_step is_closed is_gathering server_breaks (server_befalls interface) one_2 limits ids 12 door_ends 7 (kept (event.Last true (heard.Locate door)))
+  ended = hears server_step is_closed is_gathering server_breaks (server_befalls interface) one_2 limits ids 12 door_ends 7
+      (kept (event.Last true (heard.Locate door)))
       (More (drop 4 door_ends.payload)) gathering door_asked refl named.door_ends s_2 (omega arith) (omega arith) at_2
       (ap (λ call. Hears (kept (event.Last true call)) (More (drop 4 door_ends.payload))) (decoded interface).door_joined) refl
 
   pub stopped : Hears_it cancel_big one_3 one_4
-  stopped = hears server_step is_closed is_gathering server_breaks (server_befalls interface) one_3 limits ids 0 cancel_big 9 (kept event.Cancel) Nothing key_asked cancelled refl
+  stopped = hears server_step is_closed is_gathering server_breaks (server_befalls interface) one_3 limits ids 0 cancel_big 9 (kept event.Cancel)
+      Nothing key_asked cancelled refl
       named.cancel_big s_3 (omega arith) (omega arith) at_3 refl refl
 
   pub used : Hears_it bad one_5 one_end
-  used = hears server_step is_closed is_gathering server_breaks (server_befalls interface) one_5 limits ids 0 bad 9 (kept (event.Whole undecoded)) Nothing cancelled again refl
+  used = hears server_step is_closed is_gathering server_breaks (server_befalls interface) one_5 limits ids 0 bad 9 (kept (event.Whole undecoded))
+      Nothing cancelled again refl
       named.bad s_5 (omega arith) (omega arith) at_5 (whole (decoded interface).bad) refl
 
   -- the answer to 7, and that it is done
@@ -234,15 +239,21 @@ module _ (interface : Interface) where
 
   pub other_taken : ServerTakes interface tight_limits other_way (nothing_unread tight_limits.message) other_end
   other_taken =
-      let asked = hears server_step is_closed is_gathering server_breaks (server_befalls interface) (new tight_limits) tight_limits ids 0 key_big 9 (kept (event.Whole (heard.Locate key))) Nothing none key_asked
-      refl named.key_big (stands_none (record {}) tight_limits ids) (omega arith) (omega arith) (none_at tight_limits 9) (whole (decoded interface).key_big) refl in
-      let stopped = hears server_step is_closed is_gathering server_breaks (server_befalls interface) other_1 tight_limits ids 0 cancel_little 9 (kept event.Cancel) Nothing key_asked cancelled
+      let asked = hears server_step is_closed is_gathering server_breaks (server_befalls interface) (new tight_limits) tight_limits ids 0 key_big 9
+      (kept (event.Whole (heard.Locate key))) Nothing none key_asked
+      refl named.key_big (stands_none (record {}) tight_limits ids) (omega arith) (omega arith) (none_at tight_limits 9)
+      (whole (decoded interface).key_big) refl in
+      let stopped = hears server_step is_closed is_gathering server_breaks (server_befalls interface) other_1 tight_limits ids 0 cancel_little 9
+      (kept event.Cancel) Nothing key_asked cancelled
       refl named.cancel_little t_1 (omega arith) (omega arith) on_1 refl refl in
-      let used = hears server_step is_closed is_gathering server_breaks (server_befalls interface) other_2 tight_limits ids 0 bad 9 (kept (event.Whole undecoded)) Nothing cancelled again
+      let used = hears server_step is_closed is_gathering server_breaks (server_befalls interface) other_2 tight_limits ids 0 bad 9
+      (kept (event.Whole undecoded)) Nothing cancelled again
       refl named.bad t_2 (omega arith) (omega arith) on_2 (whole (decoded interface).bad) refl in
-      let came = hears server_step is_closed is_gathering server_breaks (server_befalls interface) other_3 tight_limits ids 0 door_whole 7 (kept (event.Whole (heard.Locate door))) Nothing none door_asked
+      let came = hears server_step is_closed is_gathering server_breaks (server_befalls interface) other_3 tight_limits ids 0 door_whole 7
+      (kept (event.Whole (heard.Locate door))) Nothing none door_asked
       refl named.door_whole t_3 (omega arith) (omega arith) on_3 (whole (decoded interface).door_whole) refl in
-      let answered = done server_step is_closed is_gathering other_4 tight_limits ids 0 7 (record { event = event.AnswerLocate true; plan = Put (here_little ∷ []) }) Nothing
+      let answered = done server_step is_closed is_gathering other_4 tight_limits ids 0 7
+      (record { event = event.AnswerLocate true; plan = Put (here_little ∷ []) }) Nothing
       door_asked door_answered (record { answer = tt; message = Some here_little }) t_4 (omega arith) (omega arith) on_4 refl in (
         tight [],
         other_4,

@@ -99,7 +99,8 @@ module _ {R E V : Type 0} (next : Option E → V → Step E (Unit {0}) CallFault
       ap (λ call. turn next closed gathering call (Hears planned brings)) was ∙ is in
       let entry = (step_of next closed gathering (finite.get h.table id) planned).entry in
       let less = len_within_ids ids h.table stands.only in
-      let apart : (finite.len h.table == h.calls) ≡ false = eq_apart (finite.len h.table) h.calls (λ same. absurd (omega (arith, less, few, stands.calls, same))) in
+      let apart : (finite.len h.table == h.calls) ≡ false = eq_apart (finite.len h.table) h.calls
+      (λ same. absurd (omega (arith, less, few, stands.calls, same))) in
       let calls : calls_fault {F = CallFault} h id entry ≡ None =
       few_calls (is_none (finite.get h.table id)) (is_some entry) (finite.len h.table == h.calls) apart in
       let octets = small_brings h id entry brings (omega (arith, stands.total, stands.room, within)) in

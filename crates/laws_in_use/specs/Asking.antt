@@ -61,8 +61,8 @@ short_octets = 0 ∷ 0 ∷ 0 ∷ 9 ∷ 0 ∷ 0 ∷ 0 ∷ []
 abbrev pub short : Msg
 short = message_of V10 LocateReply Big false short_octets
 
--- the first way: a read ends within the first piece of the one answer and another within its second,
--- and the late answer under the id 9 comes between them
+-- the first way: a read ends within the first piece of the one answer and another within its
+-- second, and the late answer under the id 9 comes between them
 abbrev pub one_way : List (Input ClientEvent)
 one_way =
     Does 7 asking

@@ -22,9 +22,9 @@ use giop_session::laws::{same_calls_same_entries_at_client, what_is_cut_is_carri
 
 /// A LocateRequest is sent in two messages and its LocateReply comes in two; between them another
 /// one is cancelled, its answer comes late, and its id is used again and answered by octets that
-/// spell nothing. At the other end all of that comes in other reads, byte orders and pieces, the two
-/// ids in another order. Neither end refuses anything, both hold the same calls, and each id has the
-/// same entry, whatever the interface.
+/// spell nothing. At the other end all of that comes in other reads, byte orders and pieces, the
+/// two ids in another order. Neither end refuses anything, both hold the same calls, and each id
+/// has the same entry, whatever the interface.
 pub fn two_ways_of_being_answered()
     ensures one_taken { (interface : Interface) → (left : _) × (k : _)
         × ClientTakes interface limits one_way left k }

@@ -20,8 +20,8 @@ use giop_session::laws::{
 };
 
 /// The first piece of a LocateRequest and a whole other one: 7 gathers what its own piece brought,
-/// and the same where the other one came first; in one read they are heard as in two; and nothing of
-/// either is unsent.
+/// and the same where the other one came first; in one read they are heard as in two; and nothing
+/// of either is unsent.
 pub fn two_messages_are_heard(rule: &ServerRule)
     ensures heard { (interface : Interface) → (k : _)
         × Through (hears_by (λ rule. server_step) (λ rule. is_closed) is_gathering in_call

@@ -48,7 +48,8 @@ returns-clause-written c = record {
 pub returns-clause-other_holds : goal.returns-clause-other_holds
 returns-clause-other_holds c = λ interface.
     holds.other_holds interface (c.locate_replies_are_spelled.ensures V10) (c.locate_replies_are_spelled.ensures V12)
-    (c.what_is_cut_is_carried.ensures.located interface V12 Little door here 24 (here_little ∷ []) (holds.asked_then interface (c.locate_replies_are_spelled.ensures V10) (c.locate_replies_are_spelled.ensures V12)) refl
+    (c.what_is_cut_is_carried.ensures.located interface V12 Little door here 24 (here_little ∷ [])
+    (holds.asked_then interface (c.locate_replies_are_spelled.ensures V10) (c.locate_replies_are_spelled.ensures V12)) refl
     (returns-clause-written c))
 
 pub returns-clause-seven : goal.returns-clause-seven
