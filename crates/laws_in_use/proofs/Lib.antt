@@ -8,3 +8,7 @@ mod LocatingReads
 mod LocatingRuns
 mod LocatingSpelled
 mod LocatingHolds
+mod AskingMessages
+mod AskingReads
+mod AskingRuns
+mod AskingHolds

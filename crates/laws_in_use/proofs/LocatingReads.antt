@@ -17,7 +17,7 @@ abbrev pub tight : List ℕ → Unread
 tight octets = record { limit = 16; octets = octets }
 
 -- two messages
-two : (limit : ℕ) (m n : Msg) → IsMessage limit m → IsMessage limit n → All (IsMessage limit) (m ∷ n ∷ [])
+pub two : (limit : ℕ) (m n : Msg) → IsMessage limit m → IsMessage limit n → All (IsMessage limit) (m ∷ n ∷ [])
 two limit m n is also = All-cons (IsMessage limit) m (n ∷ []) is (All-cons (IsMessage limit) n [] also (All-nil (IsMessage limit)))
 
 -- a read brings messages, and then the end waits

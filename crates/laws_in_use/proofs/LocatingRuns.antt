@@ -15,13 +15,15 @@ use Rattle.giop_calls.specs.declared.server.event.ServerEvent.TheVariants as eve
 use Rattle.giop_calls.specs.declared.server.heard.HeardCall.{HeardCall}
 use Rattle.giop_calls.specs.declared.server.heard.HeardCall.TheVariants as heard
 use Rattle.giop_calls.specs.declared.server.rule.ServerRule.{ServerRule}
-use Rattle.giop_calls.specs.ServerTable.{arrived}
+use Rattle.giop_calls.specs.ServerTable.{arrived, is_closed, is_gathering, server_step}
 use Rattle.giop_session.specs.Begun.{no_calls}
-use Rattle.giop_session.specs.CallTable.{Act, Answers, Call, First, Hears, Held, More, Nothing, at, put_call}
+use Rattle.giop_ids.specs.Runs.{Does}
+use Rattle.giop_session.specs.CallTable.{Act, Answers, Call, First, Hears, Held, More, Nothing, Reply, at, put_call, rules_of}
 use Rattle.giop_session.specs.EndRuns.{ServerTakes}
 use Rattle.giop_session.specs.Feeding.{Fed, Through}
-use Rattle.giop_session.specs.Heard.{kept}
+use Rattle.giop_session.specs.Heard.{hears_by, in_call, kept}
 use Rattle.giop_session.specs.Inputs.{nothing_unread}
+use Rattle.giop_session.specs.ServerHears.{server_befalls, server_breaks}
 use Rattle.giop_session.specs.declared.session_fault.SessionFault.{SessionFault}
 use Rattle.giop_session.specs.declared.limits.Limits.{Limits}
 use Rattle.laws_in_use.specs.Locating.{bad, cancel_big, cancel_little, door, door_begins, door_ends, door_whole, here_big, here_little, key, key_big, key_little, limits, one_way, other_way, tight_limits}
@@ -34,7 +36,7 @@ use Rattle.laws_in_use.proofs.Taking.{Stands, at-put, done, hears, stands_more, 
 abbrev call_of : ServerEntry → Call ServerEntry
 call_of entry = record { slot = Some (record { entry = entry; unsent = [] }); pieces = None }
 
-abbrev none : Call ServerEntry
+abbrev pub none : Call ServerEntry
 none = record { slot = None; pieces = None }
 
 abbrev gathering : Call ServerEntry
@@ -62,13 +64,13 @@ abbrev ids : List ℕ
 ids = 7 ∷ 9 ∷ []
 
 -- the ends, as they become
-abbrev End : Type 0
+abbrev pub End : Type 0
 End = Held ServerRule ServerEntry
 
-abbrev new : Limits → End
+abbrev pub new : Limits → End
 new given = no_calls (record {}) given
 
-none_at : (given : Limits) (id : ℕ) → at (new given) id ≡ none
+pub none_at : (given : Limits) (id : ℕ) → at (new given) id ≡ none
 none_at given id i = record { slot = finite.get-empty nat_cmp id i; pieces = finite.get-empty nat_cmp id i }
 
 -- a whole message that comes to this
@@ -76,7 +78,7 @@ whole : {call known : HeardCall} → call ≡ known → ◌≡◌ {A = Act Serve
 whole is = ap (λ call. Hears (kept (event.Whole call)) Nothing) is
 
 -- what a read brings is heard
-fed : {Hears : Msg → End → Result (Unit {0}) SessionFault → End → Type 0} {h k : End} {unread left : Unread} {messages : List Msg}
+pub fed : {H : Type 0} {Hears : Msg → H → Result (Unit {0}) SessionFault → H → Type 0} {h k : H} {unread left : Unread} {messages : List Msg}
     → Brings unread messages left → Through Hears h messages k → Fed Hears unread h (Ok tt) left k
 fed {left = left} {messages = messages} brings through = record {
   messages = messages;
@@ -87,26 +89,26 @@ fed {left = left} {messages = messages} brings through = record {
 }
 
 module _ (interface : Interface) where
-  abbrev one_1 : End
+  abbrev pub one_1 : End
   one_1 = put_call (new limits) 7 gathering
 
-  abbrev one_2 : End
+  abbrev pub one_2 : End
   one_2 = put_call one_1 9 key_asked
 
-  abbrev one_3 : End
+  abbrev pub one_3 : End
   one_3 = put_call one_2 7 door_asked
 
-  abbrev one_4 : End
+  abbrev pub one_4 : End
   one_4 = put_call one_3 9 cancelled
 
-  abbrev one_5 : End
+  abbrev pub one_5 : End
   one_5 = put_call one_4 7 door_answered
 
   abbrev pub one_end : End
   one_end = put_call one_5 9 again
 
   s_0 : Stands (new limits) limits ids 0
-  s_0 = stands_none limits ids
+  s_0 = stands_none (record {}) limits ids
 
   s_1 : Stands one_1 limits ids 12
   s_1 = stands_more (new limits) limits ids 0 12 7 none gathering s_0 refl (none_at limits 7) refl
@@ -129,7 +131,7 @@ module _ (interface : Interface) where
   s_4 : Stands one_4 limits ids 0
   s_4 = stands_more one_3 limits ids 0 0 9 key_asked cancelled s_3 refl at_3 refl
 
-  at_4 : at one_4 7 ≡ door_asked
+  pub at_4 : at one_4 7 ≡ door_asked
   at_4 = at-put one_3 9 cancelled 7 ∙ at-put one_2 7 door_asked 7
 
   s_5 : Stands one_5 limits ids 0
@@ -138,40 +140,62 @@ module _ (interface : Interface) where
   at_5 : at one_5 9 ≡ cancelled
   at_5 = at-put one_4 7 door_answered 9 ∙ at-put one_3 9 cancelled 9
 
+  -- what a message does at these ends
+  abbrev pub Hears_it : Msg → End → End → Type 0
+  Hears_it m h k = hears_by (λ rule. server_step) (λ rule. is_closed) is_gathering in_call server_breaks (server_befalls interface) m h (Ok tt) k
+
+  pub begun : Hears_it door_begins (new limits) one_1
+  begun = hears server_step is_closed is_gathering server_breaks (server_befalls interface) (new limits) limits ids 0 door_begins 7
+      (kept (event.First kind.Locate))
+      (First Big door_begins.payload) none gathering refl named.door_begins s_0 (omega arith) (omega arith) (none_at limits 7) refl refl
+
+  pub asked : Hears_it key_little one_1 one_2
+  asked = hears server_step is_closed is_gathering server_breaks (server_befalls interface) one_1 limits ids 12 key_little 9
+      (kept (event.Whole (heard.Locate key))) Nothing none
+      key_asked refl named.key_little s_1 (omega arith) (omega arith) at_1 (whole (decoded interface).key_little) refl
+
+  pub ended : Hears_it door_ends one_2 one_3
+  ended = hears server_step is_closed is_gathering server_breaks (server_befalls interface) one_2 limits ids 12 door_ends 7
+      (kept (event.Last true (heard.Locate door)))
+      (More (drop 4 door_ends.payload)) gathering door_asked refl named.door_ends s_2 (omega arith) (omega arith) at_2
+      (ap (λ call. Hears (kept (event.Last true call)) (More (drop 4 door_ends.payload))) (decoded interface).door_joined) refl
+
+  pub stopped : Hears_it cancel_big one_3 one_4
+  stopped = hears server_step is_closed is_gathering server_breaks (server_befalls interface) one_3 limits ids 0 cancel_big 9 (kept event.Cancel)
+      Nothing key_asked cancelled refl
+      named.cancel_big s_3 (omega arith) (omega arith) at_3 refl refl
+
+  pub used : Hears_it bad one_5 one_end
+  used = hears server_step is_closed is_gathering server_breaks (server_befalls interface) one_5 limits ids 0 bad 9 (kept (event.Whole undecoded))
+      Nothing cancelled again refl
+      named.bad s_5 (omega arith) (omega arith) at_5 (whole (decoded interface).bad) refl
+
+  -- the answer to 7, and that it is done
+  abbrev pub sent_here : Reply ServerEntry (Unit {0})
+  sent_here = Answers (record { answer = tt; message = Some here_big })
+
+  pub answered : Does (rules_of server_step is_closed is_gathering) one_4
+      (record { id = 7; what = Hears (record { event = event.AnswerLocate true; plan = Put (here_big ∷ []) }) Nothing }) (Ok sent_here) one_5
+  answered = done server_step is_closed is_gathering one_4 limits ids 0 7 (record { event = event.AnswerLocate true; plan = Put (here_big ∷ []) })
+      Nothing door_asked door_answered (record { answer = tt; message = Some here_big }) s_4 (omega arith) (omega arith) at_4 refl
+
   pub one_taken : ServerTakes interface limits one_way (nothing_unread limits.message) one_end
-  one_taken =
-      let begun = hears interface (new limits) limits ids 0 door_begins 7 (kept (event.First kind.Locate)) (First Big door_begins.payload) none gathering
-      refl named.door_begins s_0 (omega arith) (omega arith) (none_at limits 7) refl refl in
-      let asked = hears interface one_1 limits ids 12 key_little 9 (kept (event.Whole (heard.Locate key))) Nothing none key_asked
-      refl named.key_little s_1 (omega arith) (omega arith) at_1 (whole (decoded interface).key_little) refl in
-      let ended = hears interface one_2 limits ids 12 door_ends 7 (kept (event.Last true (heard.Locate door))) (More (drop 4 door_ends.payload))
-      gathering door_asked refl named.door_ends s_2 (omega arith) (omega arith) at_2
-      (ap (λ call. Hears (kept (event.Last true call)) (More (drop 4 door_ends.payload))) (decoded interface).door_joined) refl in
-      let stopped = hears interface one_3 limits ids 0 cancel_big 9 (kept event.Cancel) Nothing key_asked cancelled
-      refl named.cancel_big s_3 (omega arith) (omega arith) at_3 refl refl in
-      let used = hears interface one_5 limits ids 0 bad 9 (kept (event.Whole undecoded)) Nothing cancelled again
-      refl named.bad s_5 (omega arith) (omega arith) at_5 (whole (decoded interface).bad) refl in
-      let answered = done one_4 limits ids 0 7 (record { event = event.AnswerLocate true; plan = Put (here_big ∷ []) }) Nothing
-      door_asked door_answered (record { answer = tt; message = Some here_big }) s_4 (omega arith) (omega arith) at_4 refl in (
-        wide (take 5 (message_octets door_begins)),
-        new limits,
-        fed first refl,
-        (
-          wide (take 7 (message_octets door_ends)),
-          one_2,
-          fed second (one_1, begun, (one_2, asked, refl)),
-          (
-            wide [],
-            one_4,
-            fed third (one_3, ended, (one_4, stopped, refl)),
-            (
-              one_5,
-              (Answers (record { answer = tt; message = Some here_big }), answered),
-              (wide [], one_end, fed last (one_end, used, refl), (refl, refl)),
-            ),
-          ),
-        ),
-      )
+  one_taken = (
+    wide (take 5 (message_octets door_begins)),
+    new limits,
+    fed first refl,
+    (
+      wide (take 7 (message_octets door_ends)),
+      one_2,
+      fed second (one_1, begun, (one_2, asked, refl)),
+      (
+        wide [],
+        one_4,
+        fed third (one_3, ended, (one_4, stopped, refl)),
+        (one_5, (sent_here, answered), (wide [], one_end, fed last (one_end, used, refl), (refl, refl))),
+      ),
+    ),
+  )
 
   -- the other way
   abbrev other_1 : End
@@ -190,7 +214,7 @@ module _ (interface : Interface) where
   other_end = put_call other_4 7 door_answered
 
   t_1 : Stands other_1 tight_limits ids 0
-  t_1 = stands_more (new tight_limits) tight_limits ids 0 0 9 none key_asked (stands_none tight_limits ids) refl (none_at tight_limits 9) refl
+  t_1 = stands_more (new tight_limits) tight_limits ids 0 0 9 none key_asked (stands_none (record {}) tight_limits ids) refl (none_at tight_limits 9) refl
 
   on_1 : at other_1 9 ≡ key_asked
   on_1 = at-put (new tight_limits) 9 key_asked 9
@@ -215,15 +239,21 @@ module _ (interface : Interface) where
 
   pub other_taken : ServerTakes interface tight_limits other_way (nothing_unread tight_limits.message) other_end
   other_taken =
-      let asked = hears interface (new tight_limits) tight_limits ids 0 key_big 9 (kept (event.Whole (heard.Locate key))) Nothing none key_asked
-      refl named.key_big (stands_none tight_limits ids) (omega arith) (omega arith) (none_at tight_limits 9) (whole (decoded interface).key_big) refl in
-      let stopped = hears interface other_1 tight_limits ids 0 cancel_little 9 (kept event.Cancel) Nothing key_asked cancelled
+      let asked = hears server_step is_closed is_gathering server_breaks (server_befalls interface) (new tight_limits) tight_limits ids 0 key_big 9
+      (kept (event.Whole (heard.Locate key))) Nothing none key_asked
+      refl named.key_big (stands_none (record {}) tight_limits ids) (omega arith) (omega arith) (none_at tight_limits 9)
+      (whole (decoded interface).key_big) refl in
+      let stopped = hears server_step is_closed is_gathering server_breaks (server_befalls interface) other_1 tight_limits ids 0 cancel_little 9
+      (kept event.Cancel) Nothing key_asked cancelled
       refl named.cancel_little t_1 (omega arith) (omega arith) on_1 refl refl in
-      let used = hears interface other_2 tight_limits ids 0 bad 9 (kept (event.Whole undecoded)) Nothing cancelled again
+      let used = hears server_step is_closed is_gathering server_breaks (server_befalls interface) other_2 tight_limits ids 0 bad 9
+      (kept (event.Whole undecoded)) Nothing cancelled again
       refl named.bad t_2 (omega arith) (omega arith) on_2 (whole (decoded interface).bad) refl in
-      let came = hears interface other_3 tight_limits ids 0 door_whole 7 (kept (event.Whole (heard.Locate door))) Nothing none door_asked
+      let came = hears server_step is_closed is_gathering server_breaks (server_befalls interface) other_3 tight_limits ids 0 door_whole 7
+      (kept (event.Whole (heard.Locate door))) Nothing none door_asked
       refl named.door_whole t_3 (omega arith) (omega arith) on_3 (whole (decoded interface).door_whole) refl in
-      let answered = done other_4 tight_limits ids 0 7 (record { event = event.AnswerLocate true; plan = Put (here_little ∷ []) }) Nothing
+      let answered = done server_step is_closed is_gathering other_4 tight_limits ids 0 7
+      (record { event = event.AnswerLocate true; plan = Put (here_little ∷ []) }) Nothing
       door_asked door_answered (record { answer = tt; message = Some here_little }) t_4 (omega arith) (omega arith) on_4 refl in (
         tight [],
         other_4,

@@ -1,63 +1,59 @@
--- One step of a server's end that has room.
+-- One step of an end that has room.
 use Rattle.std.proofs.Common.{◌≡◌, ℕ, ◌+◌, ◌<◌, ◌≤◌, ◌==◌, ◌&&◌, Bool, true, false, nat_lt, if◌then◌else◌, List, length, Option, Some, None, is_some, is_none, Ok, refl, sym, ap, subst, ◌∙◌, inr, arith}
 use Rattle.std.proofs.lemmas.Bool.Decides.{nat_tests}
 use Rattle.std.specs.FinMap as finite
-use Rattle.giop_types.specs.declared.json.interface.Interface.{Interface}
 use Rattle.giop_ids.specs.ById.{HasOnly, is_listed}
 use Rattle.giop_ids.specs.Runs.{Does}
 use Rattle.giop_ids.proofs.Lengths.{HasOnly-empty, HasOnly-put, len_within_ids}
 use Rattle.giop_ids.proofs.Puts.{eq_apart, get-put}
 use Rattle.giop_ids.proofs.Sums.{sum_empty, sum_put}
 use Rattle.giop_frag.specs.Gathered.{Pieces, octets_in, total_of}
+use Rattle.giop_mux.specs.declared.step.Step.{Step}
 use Rattle.giop_msg.specs.declared.msg.Msg.{Msg}
 use Rattle.giop_msg.specs.RequestId.{request_id_of}
 use Rattle.giop_calls.specs.declared.fault.CallFault.{CallFault}
-use Rattle.giop_calls.specs.declared.server.entry.ServerEntry.{ServerEntry}
-use Rattle.giop_calls.specs.declared.server.event.ServerEvent.{ServerEvent}
-use Rattle.giop_calls.specs.declared.server.rule.ServerRule.{ServerRule}
-use Rattle.giop_calls.specs.ServerTable.{server_step, is_closed, is_gathering}
 use Rattle.giop_session.specs.declared.limits.Limits.{Limits}
 use Rattle.giop_session.specs.declared.plan.Planned.{Planned}
 use Rattle.giop_session.specs.declared.sending.Sends.{Sends}
+use Rattle.giop_session.specs.declared.session_fault.SessionFault.{SessionFault}
 use Rattle.giop_session.specs.declared.slot.Slot.{Slot}
 use Rattle.giop_session.specs.declared.table_fault.TableFault.{TableFault}
 use Rattle.giop_session.specs.declared.table_fault.TableFault.TheVariants.{TooManyCalls, GatherFull}
 use Rattle.giop_session.specs.Begun.{no_calls}
-use Rattle.giop_session.specs.CallTable.{Answers, Brings, Call, First, Hears, Held, More, Nothing, at, calls_fault, gathers, octets_fault, put_call, room_fault, rules_of, step_of, turn}
+use Rattle.giop_session.specs.CallTable.{Act, Answers, Brings, Call, First, Hears, Held, More, Nothing, at, calls_fault, gathers, octets_fault, put_call, room_fault, rules_of, step_of, turn}
 use Rattle.giop_session.specs.Heard.{Befalls, IsHeardAs, heard_of, hears_by, in_call, silent}
-use Rattle.giop_session.specs.ServerHears.{server_befalls, server_breaks}
 
--- what is known of the calls of a server: how many there may be, and only these ids have any; how many
+-- what is known of the calls of an end: how many there may be, and only these ids have any; how many
 -- octets there may be, and how many there are
-pub record Stands (h : Held ServerRule ServerEntry) (limits : Limits) (ids : List ℕ) (count : ℕ) : Type 0 where
+pub record Stands {R E : Type 0} (h : Held R E) (limits : Limits) (ids : List ℕ) (count : ℕ) : Type 0 where
   pub calls : h.calls ≡ limits.calls
   pub room : h.room ≡ limits.gathered
   pub only : HasOnly h.table ids
   pub total : total_of h.gathered ≡ count
 
-pub stands_none : (limits : Limits) (ids : List ℕ) → Stands (no_calls (record {}) limits) limits ids 0
-stands_none limits ids = record { calls = refl; room = refl; only = HasOnly-empty _ ids; total = sum_empty _ }
+pub stands_none : {R E : Type 0} (rule : R) (limits : Limits) (ids : List ℕ) → Stands (no_calls {E = E} rule limits) limits ids 0
+stands_none rule limits ids = record { calls = refl; room = refl; only = HasOnly-empty _ ids; total = sum_empty _ }
 
 -- a call is put there, and so many octets are gathered then
-pub stands_more : (h : Held ServerRule ServerEntry) (limits : Limits) (ids : List ℕ) (total now : ℕ) (id : ℕ) (before call : Call ServerEntry)
+pub stands_more : {R E : Type 0} (h : Held R E) (limits : Limits) (ids : List ℕ) (total now : ℕ) (id : ℕ) (before call : Call E)
     → Stands h limits ids total → is_listed ids id ≡ true → at h id ≡ before → now + octets_in before.pieces ≡ total + octets_in call.pieces
     → Stands (put_call h id call) limits ids now
-stands_more h limits ids total now id before call stands listed was sums = record {
+stands_more {E = E} h limits ids total now id before call stands listed was sums = record {
   calls = stands.calls;
   room = stands.room;
   only = HasOnly-put h.table ids id call.slot stands.only listed;
   total =
       let put = sum_put (λ p. length p.octets) h.gathered id call.pieces in
-      let held : octets_in (finite.get h.gathered id) ≡ octets_in before.pieces = ap (λ (c : Call ServerEntry). octets_in c.pieces) was in
+      let held : octets_in (finite.get h.gathered id) ≡ octets_in before.pieces = ap (λ (c : Call E). octets_in c.pieces) was in
       omega (arith, put, held, sums, stands.total);
 }
 
 -- what stands under an id then
-pub at-put : (h : Held ServerRule ServerEntry) (id : ℕ) (call : Call ServerEntry) (q : ℕ)
+pub at-put : {R E : Type 0} (h : Held R E) (id : ℕ) (call : Call E) (q : ℕ)
     → at (put_call h id call) q ≡ (if q == id then call else at h q)
-at-put h id call q = by_test (q == id) (get-put h.table id call.slot q) (get-put h.gathered id call.pieces q)
+at-put {E = E} h id call q = by_test (q == id) (get-put h.table id call.slot q) (get-put h.gathered id call.pieces q)
   where
-    by_test : (b : Bool) {slot : Option (Slot ServerEntry)} {pieces : Option Pieces}
+    by_test : (b : Bool) {slot : Option (Slot E)} {pieces : Option Pieces}
         → slot ≡ (if b then call.slot else finite.get h.table q) → pieces ≡ (if b then call.pieces else finite.get h.gathered q)
         → record { slot = slot; pieces = pieces } ≡ (if b then call else at h q)
     by_test true e f i = record { slot = e i; pieces = f i }
@@ -76,7 +72,7 @@ brings_of (First order octets) = length octets
 brings_of (More octets) = length octets
 brings_of Nothing = 0
 
-small : (h : Held ServerRule ServerEntry) (n : ℕ) → total_of h.gathered + n ≤ h.room → octets_fault {F = CallFault} h n ≡ None
+small : {R E : Type 0} (h : Held R E) (n : ℕ) → total_of h.gathered + n ≤ h.room → octets_fault {F = CallFault} h n ≡ None
 small h n within =
     let over : nat_lt h.room (total_of h.gathered + n) ≡ false = grind (arith, nat_tests) in
     ap (λ b. if b then Some GatherFull else None) over
@@ -85,47 +81,49 @@ where_gathered : (b : Bool) {fault : Option (TableFault CallFault)} → fault �
 where_gathered true is = is
 where_gathered false is = refl
 
-small_brings : (h : Held ServerRule ServerEntry) (id : ℕ) (slot : Option (Slot ServerEntry)) (brings : Brings)
-    → total_of h.gathered + brings_of brings ≤ h.room → room_fault {F = CallFault} is_gathering h id slot brings ≡ None
-small_brings h id slot (First order octets) within = where_gathered (gathers is_gathering slot) (small h (length octets) within)
-small_brings h id slot (More octets) within = where_gathered (gathers is_gathering (finite.get h.table id)) (small h (length octets) within)
-small_brings h id slot Nothing within = refl
+module _ {R E V : Type 0} (next : Option E → V → Step E (Unit {0}) CallFault) (closed gathering : E → Bool) where
+  small_brings : (h : Held R E) (id : ℕ) (slot : Option (Slot E)) (brings : Brings)
+      → total_of h.gathered + brings_of brings ≤ h.room → room_fault {F = CallFault} gathering h id slot brings ≡ None
+  small_brings h id slot (First order octets) within = where_gathered (gathers gathering slot) (small h (length octets) within)
+  small_brings h id slot (More octets) within = where_gathered (gathers gathering (finite.get h.table id)) (small h (length octets) within)
+  small_brings h id slot Nothing within = refl
 
--- an event that a call accepts is done, where its id is one of few enough
-pub done : (h : Held ServerRule ServerEntry) (limits : Limits) (ids : List ℕ) (total : ℕ) (id : ℕ) (planned : Planned ServerEvent) (brings : Brings)
-    (before now : Call ServerEntry) (sends : Sends (Unit {0}))
-    → Stands h limits ids total → length ids < limits.calls → total + brings_of brings ≤ limits.gathered → at h id ≡ before
-    → turn server_step is_closed is_gathering before (Hears planned brings) ≡ Ok (record { now = now; answer = Answers sends })
-    → Does (rules_of server_step is_closed is_gathering) h (record { id = id; what = Hears planned brings }) (Ok (Answers sends)) (put_call h id now)
-done h limits ids total id planned brings before now sends stands few within was is =
-    let turned : turn server_step is_closed is_gathering (at h id) (Hears planned brings) ≡ Ok (record { now = now; answer = Answers sends }) =
-    ap (λ call. turn server_step is_closed is_gathering call (Hears planned brings)) was ∙ is in
-    let entry = (step_of server_step is_closed is_gathering (finite.get h.table id) planned).entry in
-    let less = len_within_ids ids h.table stands.only in
-    let apart : (finite.len h.table == h.calls) ≡ false = eq_apart (finite.len h.table) h.calls (λ same. absurd (omega (arith, less, few, stands.calls, same))) in
-    let calls : calls_fault {F = CallFault} h id entry ≡ None =
-    few_calls (is_none (finite.get h.table id)) (is_some entry) (finite.len h.table == h.calls) apart in
-    let octets = small_brings h id entry brings (omega (arith, stands.total, stands.room, within)) in
-    record { answer = rw calls (rw octets (rw turned refl)); refusal = tt; leaves = rw turned refl }
+  -- an event that a call accepts is done, where its id is one of few enough
+  pub done : (h : Held R E) (limits : Limits) (ids : List ℕ) (total : ℕ) (id : ℕ) (planned : Planned V) (brings : Brings)
+      (before now : Call E) (sends : Sends (Unit {0}))
+      → Stands h limits ids total → length ids < limits.calls → total + brings_of brings ≤ limits.gathered → at h id ≡ before
+      → turn next closed gathering before (Hears planned brings) ≡ Ok (record { now = now; answer = Answers sends })
+      → Does (rules_of next closed gathering) h (record { id = id; what = Hears planned brings }) (Ok (Answers sends)) (put_call h id now)
+  done h limits ids total id planned brings before now sends stands few within was is =
+      let turned : turn next closed gathering (at h id) (Hears planned brings) ≡ Ok (record { now = now; answer = Answers sends }) =
+      ap (λ call. turn next closed gathering call (Hears planned brings)) was ∙ is in
+      let entry = (step_of next closed gathering (finite.get h.table id) planned).entry in
+      let less = len_within_ids ids h.table stands.only in
+      let apart : (finite.len h.table == h.calls) ≡ false = eq_apart (finite.len h.table) h.calls
+      (λ same. absurd (omega (arith, less, few, stands.calls, same))) in
+      let calls : calls_fault {F = CallFault} h id entry ≡ None =
+      few_calls (is_none (finite.get h.table id)) (is_some entry) (finite.len h.table == h.calls) apart in
+      let octets = small_brings h id entry brings (omega (arith, stands.total, stands.room, within)) in
+      record { answer = rw calls (rw octets (rw turned refl)); refusal = tt; leaves = rw turned refl }
 
--- a message that a call accepts is heard
-pub heard : (interface : Interface) (h k : Held ServerRule ServerEntry) (m : Msg) (id : ℕ) (planned : Planned ServerEvent) (brings : Brings)
-    (before : Call ServerEntry) (sends : Sends (Unit {0}))
-    → server_breaks m ≡ None → request_id_of m ≡ Some (Ok id) → at h id ≡ before → server_befalls interface m before ≡ Hears planned brings
-    → Does (rules_of server_step is_closed is_gathering) h (record { id = id; what = Hears planned brings }) (Ok (Answers sends)) k
-    → hears_by (λ rule. server_step) (λ rule. is_closed) is_gathering in_call server_breaks (server_befalls interface) m h (Ok tt) k
-heard interface h k m id planned brings before sends breaks named was befalls does =
-    let is : heard_of server_breaks (server_befalls interface) h m ≡ Befalls id (Hears planned brings) =
-    rw breaks (rw named (ap (Befalls id) (ap (server_befalls interface m) was ∙ befalls))) in
-    inr (subst (λ what. IsHeardAs (rules_of server_step is_closed is_gathering) in_call what h (Ok tt) k) (sym is) (Ok sends, does, refl))
+  module _ (breaks : Msg → Option SessionFault) (befalls : Msg → Call E → Act V) where
+    -- a message that a call accepts is heard
+    pub heard : (h k : Held R E) (m : Msg) (id : ℕ) (planned : Planned V) (brings : Brings) (before : Call E) (sends : Sends (Unit {0}))
+        → breaks m ≡ None → request_id_of m ≡ Some (Ok id) → at h id ≡ before → befalls m before ≡ Hears planned brings
+        → Does (rules_of next closed gathering) h (record { id = id; what = Hears planned brings }) (Ok (Answers sends)) k
+        → hears_by (λ rule. next) (λ rule. closed) gathering in_call breaks befalls m h (Ok tt) k
+    heard h k m id planned brings before sends unbroken named was befalls_so does =
+        let is : heard_of breaks befalls h m ≡ Befalls id (Hears planned brings) =
+        rw unbroken (rw named (ap (Befalls id) (ap (befalls m) was ∙ befalls_so))) in
+        inr (subst (λ what. IsHeardAs (rules_of next closed gathering) in_call what h (Ok tt) k) (sym is) (Ok sends, does, refl))
 
--- and so is one that has room
-pub hears : (interface : Interface) (h : Held ServerRule ServerEntry) (limits : Limits) (ids : List ℕ) (total : ℕ) (m : Msg) (id : ℕ)
-    (planned : Planned ServerEvent) (brings : Brings) (before now : Call ServerEntry)
-    → server_breaks m ≡ None → request_id_of m ≡ Some (Ok id) → Stands h limits ids total → length ids < limits.calls
-    → total + brings_of brings ≤ limits.gathered → at h id ≡ before → server_befalls interface m before ≡ Hears planned brings
-    → turn server_step is_closed is_gathering before (Hears planned brings) ≡ Ok (record { now = now; answer = Answers silent })
-    → hears_by (λ rule. server_step) (λ rule. is_closed) is_gathering in_call server_breaks (server_befalls interface) m h (Ok tt) (put_call h id now)
-hears interface h limits ids total m id planned brings before now breaks named stands few within was befalls is =
-    heard interface h (put_call h id now) m id planned brings before silent breaks named was befalls
-    (done h limits ids total id planned brings before now silent stands few within was is)
+    -- and so is one that has room
+    pub hears : (h : Held R E) (limits : Limits) (ids : List ℕ) (total : ℕ) (m : Msg) (id : ℕ) (planned : Planned V) (brings : Brings)
+        (before now : Call E)
+        → breaks m ≡ None → request_id_of m ≡ Some (Ok id) → Stands h limits ids total → length ids < limits.calls
+        → total + brings_of brings ≤ limits.gathered → at h id ≡ before → befalls m before ≡ Hears planned brings
+        → turn next closed gathering before (Hears planned brings) ≡ Ok (record { now = now; answer = Answers silent })
+        → hears_by (λ rule. next) (λ rule. closed) gathering in_call breaks befalls m h (Ok tt) (put_call h id now)
+    hears h limits ids total m id planned brings before now unbroken named stands few within was befalls_so is =
+        heard h (put_call h id now) m id planned brings before silent unbroken named was befalls_so
+        (done h limits ids total id planned brings before now silent stands few within was is)

@@ -1,10 +1,13 @@
+pub mod Asking
 pub mod ClientCalls
 pub mod Described
 pub mod Doors
 pub mod Exchange
 pub mod Framed
 pub mod Gathering
+pub mod Heard
 pub mod Lanes
+pub mod Limited
 pub mod Locating
 pub mod Referred
 pub mod ServerCalls

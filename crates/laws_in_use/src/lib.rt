@@ -2,13 +2,17 @@
 //! concrete values.
 #![tactic(auto)]
 
+mod asking;
 mod calls;
 mod cdr;
 mod classes;
 mod described;
 mod doors;
+mod ends;
 mod gathering;
+mod heard;
 mod lanes;
+mod limited;
 mod locating;
 mod messages;
 mod referred;

@@ -1,0 +1,109 @@
+-- A client asks where two objects are, under the ids 7 and 9, and is answered in two ways: other
+-- reads, other pieces, another byte order, and the messages of the one id elsewhere between those
+-- of the other.
+use Rattle.std.specs.Prelude.{ℕ, true, false, ◌==◌, if◌then◌else◌, List, [], ◌∷◌, ◌++◌, take, drop}
+use Rattle.giop_cdr.specs.declared.order.Order.TheVariants.{Big, Little}
+use Rattle.giop_msg.specs.declared.kind.Kind.TheVariants.{Fragment, LocateReply}
+use Rattle.giop_msg.specs.declared.messages.locate_reply.LocateReply.{LocateReply as Told}
+use Rattle.giop_msg.specs.declared.msg.Msg.{Msg}
+use Rattle.giop_msg.specs.declared.version.Version.TheVariants.{V10, V12}
+use Rattle.giop_msg.specs.Cut.{message_of}
+use Rattle.giop_msg.specs.Msg.{message_octets}
+use Rattle.giop_mux.specs.Runs.{Hears}
+use Rattle.giop_calls.specs.declared.client.call.Call.TheVariants as asked
+use Rattle.giop_calls.specs.declared.client.event.ClientEvent.{ClientEvent}
+use Rattle.giop_calls.specs.declared.client.event.ClientEvent.TheVariants as event
+use Rattle.giop_calls.specs.declared.client.heard.HeardReply.TheVariants as heard
+use Rattle.giop_calls.specs.declared.kind.CallKind.TheVariants as kind
+use Rattle.giop_session.specs.declared.plan.Plan.TheVariants.{Next, Put}
+use Rattle.giop_session.specs.Carries.{Bad, Did, Got}
+use Rattle.giop_session.specs.ClientCarries.{ClientItem}
+use Rattle.giop_session.specs.Events.{Local}
+use Rattle.giop_session.specs.Inputs.{Does, Input, Reads}
+use Rattle.laws_in_use.specs.Locating.{cancel_big, cancel_little, door, door_begins, door_ends, here_little, key, key_big, key_little}
+
+-- the client asks where `door` is, in two messages, and sends the second
+abbrev pub asking : Local ClientEvent
+asking = Hears (record {
+  event = event.Call (asked.Locate door) 2;
+  plan = Put (door_begins ∷ door_ends ∷ []);
+})
+
+abbrev pub sending : Local ClientEvent
+sending = Hears (record { event = event.Send; plan = Next })
+
+-- and where `k` is, in one
+abbrev pub asking_key : Msg → Local ClientEvent
+asking_key m = Hears (record { event = event.Call (asked.Locate key) 1; plan = Put (m ∷ []) })
+
+-- it cancels that
+abbrev pub cancelling : Msg → Local ClientEvent
+cancelling m = Hears (record { event = event.Cancel; plan = Put (m ∷ []) })
+
+-- `door` is here: big-endian in two messages
+abbrev pub here_begins : Msg
+here_begins = message_of V12 LocateReply Big true (0 ∷ 0 ∷ 0 ∷ 7 ∷ [])
+
+abbrev pub here_ends : Msg
+here_ends = message_of V12 Fragment Big false (0 ∷ 0 ∷ 0 ∷ 7 ∷ 0 ∷ 0 ∷ 0 ∷ 1 ∷ [])
+
+-- `k` isn't: in either order; that comes behind the cancel
+abbrev pub unknown_big : Msg
+unknown_big = message_of V10 LocateReply Big false (0 ∷ 0 ∷ 0 ∷ 9 ∷ 0 ∷ 0 ∷ 0 ∷ 0 ∷ [])
+
+abbrev pub unknown_little : Msg
+unknown_little = message_of V10 LocateReply Little false (9 ∷ 0 ∷ 0 ∷ 0 ∷ 0 ∷ 0 ∷ 0 ∷ 0 ∷ [])
+
+-- the id is used again, and answered by octets that spell no LocateReply: the status lacks one
+abbrev pub short_octets : List ℕ
+short_octets = 0 ∷ 0 ∷ 0 ∷ 9 ∷ 0 ∷ 0 ∷ 0 ∷ []
+
+abbrev pub short : Msg
+short = message_of V10 LocateReply Big false short_octets
+
+-- the first way: a read ends within the first piece of the one answer and another within its
+-- second, and the late answer under the id 9 comes between them
+abbrev pub one_way : List (Input ClientEvent)
+one_way =
+    Does 7 asking
+    ∷ Does 9 (asking_key key_little)
+    ∷ Does 9 (cancelling cancel_big)
+    ∷ Reads (take 5 (message_octets here_begins))
+    ∷ Does 7 sending
+    ∷ Reads (drop 5 (message_octets here_begins) ++ message_octets unknown_little
+    ++ take 7 (message_octets here_ends))
+    ∷ Does 9 (asking_key key_big)
+    ∷ Reads (drop 7 (message_octets here_ends) ++ message_octets short)
+    ∷ []
+
+-- the other: all that is said under the id 9 comes first but for its last answer
+abbrev pub other_way : List (Input ClientEvent)
+other_way =
+    Does 9 (asking_key key_big)
+    ∷ Does 9 (cancelling cancel_little)
+    ∷ Reads (message_octets unknown_big)
+    ∷ Does 9 (asking_key key_little)
+    ∷ Does 7 asking
+    ∷ Does 7 sending
+    ∷ Reads (message_octets short ++ message_octets here_little)
+    ∷ []
+
+-- what is answered of 7 and of 9
+abbrev pub here : Told
+here = record { head = record { version = V12; id = 7; status = 1 }; rest = [] }
+
+abbrev pub unknown_key : Told
+unknown_key = record { head = record { version = V10; id = 9; status = 0 }; rest = [] }
+
+-- what both ways say of 7 and of 9, and of no other id
+abbrev pub told_of_seven : List ClientItem
+told_of_seven = Did (Hears (event.Call (asked.Locate door) 2)) ∷ Did (Hears event.Send)
+    ∷ Got (heard.Locate here) ∷ []
+
+abbrev pub told_of_nine : List ClientItem
+told_of_nine = Did (Hears (event.Call (asked.Locate key) 1)) ∷ Did (Hears event.Cancel)
+    ∷ Got (heard.Locate unknown_key) ∷ Did (Hears (event.Call (asked.Locate key) 1))
+    ∷ Bad kind.Locate V10 Big short_octets ∷ []
+
+abbrev pub told : ℕ → List ClientItem
+told id = if id == 7 then told_of_seven else if id == 9 then told_of_nine else []

@@ -1,0 +1,56 @@
+//! What a server's end hears of two ids in turn: each call is what its own messages make of it,
+//! whatever lies between them, in whatever reads and order they come.
+ghost use Rattle.std.specs.Prelude.{◌≡◌, ◌∷◌, [], ℕ, Ok};
+ghost use Rattle.std.specs.FinMap as finite;
+ghost use Rattle.giop_types.specs.declared.json.interface.Interface.{Interface};
+ghost use Rattle.giop_calls.specs.ServerTable.{is_closed, is_gathering, left_of, server_step};
+ghost use Rattle.giop_session.specs.CallTable.{at};
+ghost use Rattle.giop_session.specs.Events.{Comes, Meets};
+ghost use Rattle.giop_session.specs.Feeding.{Fed, Through};
+ghost use Rattle.giop_session.specs.Heard.{hears_by, in_call};
+ghost use Rattle.giop_session.specs.LeftToSend.{ArePlanned, IsLeft, ServerPlans};
+ghost use Rattle.giop_session.specs.ServerHears.{server_befalls, server_breaks};
+ghost use Rattle.laws_in_use.specs.Heard.{asked_and_begun, begun_and_asked, gathering, reads, unread};
+ghost use Rattle.laws_in_use.specs.Limited.{new_server};
+ghost use Rattle.laws_in_use.specs.Locating.{door_begins, limits};
+
+use giop_calls::ServerRule;
+use giop_session::laws::{
+    any_interleaving_of_messages, any_reads, own_messages_alone, what_is_left_is_unsent_at_server,
+};
+
+/// The first piece of a LocateRequest and a whole other one: 7 gathers what its own piece brought,
+/// and the same where the other one came first; in one read they are heard as in two; and nothing
+/// of either is unsent.
+pub fn two_messages_are_heard(rule: &ServerRule)
+    ensures heard { (interface : Interface) → (k : _)
+        × Through (hears_by (λ rule. server_step) (λ rule. is_closed) is_gathering in_call
+        server_breaks (server_befalls interface)) (new_server limits) begun_and_asked k }
+    ensures seven { (interface : Interface) (k : _)
+        → Through (hears_by (λ rule. server_step) (λ rule. is_closed) is_gathering in_call
+        server_breaks (server_befalls interface)) (new_server limits) begun_and_asked k
+        → at k 7 ≡ gathering }
+    ensures either { (interface : Interface) (k k' : _)
+        → Through (hears_by (λ rule. server_step) (λ rule. is_closed) is_gathering in_call
+        server_breaks (server_befalls interface)) (new_server limits) begun_and_asked k
+        → Through (hears_by (λ rule. server_step) (λ rule. is_closed) is_gathering in_call
+        server_breaks (server_befalls interface)) (new_server limits) asked_and_begun k'
+        → (id : ℕ) → at k id ≡ at k' id }
+    ensures in_one { (interface : Interface) → (k : _)
+        × Fed (hears_by (λ rule. server_step) (λ rule. is_closed) is_gathering in_call
+        server_breaks (server_befalls interface)) reads (new_server limits) (Ok tt)
+        unread k }
+    ensures came { (interface : Interface) → (k : _)
+        × Meets (λ rule. server_step) (λ rule. is_closed) is_gathering in_call server_breaks
+        (server_befalls interface) (new_server limits) (Comes door_begins ∷ []) k }
+    ensures planned { ArePlanned ServerPlans (Comes door_begins ∷ []) }
+    ensures left { (interface : Interface) (k : _)
+        → Meets (λ rule. server_step) (λ rule. is_closed) is_gathering in_call server_breaks
+        (server_befalls interface) (new_server limits) (Comes door_begins ∷ []) k
+        → (id : ℕ) → IsLeft left_of (finite.get k.table id) }
+{
+    own_messages_alone(rule);
+    any_interleaving_of_messages(rule);
+    any_reads(rule);
+    what_is_left_is_unsent_at_server();
+}

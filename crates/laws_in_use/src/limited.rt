@@ -1,0 +1,44 @@
+//! Limits in use: what is within them meets none in any order, and what meets one isn't within.
+ghost use Rattle.std.specs.Prelude.{◌≡◌, ◌≢◌, ◌∷◌, []};
+ghost use Rattle.giop_types.specs.declared.json.interface.Interface.{Interface};
+ghost use Rattle.giop_calls.specs.ServerTable.{is_closed, is_gathering, server_step};
+ghost use Rattle.giop_session.specs.declared.session_fault.SessionFault.TheVariants.{GatherFull, TooManyCalls, WrongDirection};
+ghost use Rattle.giop_session.specs.Events.{Comes, Meets};
+ghost use Rattle.giop_session.specs.Heard.{in_call};
+ghost use Rattle.giop_session.specs.Limits.{AreWithinAtClient, AreWithinAtServer, IsNext, Refuses};
+ghost use Rattle.giop_session.specs.ServerHears.{server_befalls, server_breaks};
+ghost use Rattle.laws_in_use.specs.Limited.{all, asked, new_server, one_call, two_calls};
+ghost use Rattle.laws_in_use.specs.Locating.{door_begins, door_whole, here_big, key_little, limits};
+
+use giop_session::laws::{limits_in_any_order_at_client, limits_in_any_order_at_server};
+
+/// Two calls and twelve octets are within limits: so the second of their messages is refused for
+/// none, and neither is any other in any order. Where one call may be open the second meets the
+/// limit, and the two messages aren't within it.
+pub fn a_limit_that_is_met()
+    ensures within { AreWithinAtServer limits all }
+    ensures next { IsNext all (Comes door_begins ∷ []) (Comes key_little) }
+    ensures came { (interface : Interface) → (h : _)
+        × Meets (λ rule. server_step) (λ rule. is_closed) is_gathering in_call server_breaks
+        (server_befalls interface) (new_server limits) (Comes door_begins ∷ []) h }
+    ensures refused { (interface : Interface) → Refuses (λ rule. server_step) (λ rule. is_closed)
+        is_gathering in_call server_breaks (server_befalls interface) (Comes here_big)
+        (new_server limits) WrongDirection }
+    ensures none { (interface : Interface) (h why : _)
+        → Meets (λ rule. server_step) (λ rule. is_closed) is_gathering in_call server_breaks
+        (server_befalls interface) (new_server limits) (Comes door_begins ∷ []) h
+        → Refuses (λ rule. server_step) (λ rule. is_closed) is_gathering in_call server_breaks
+        (server_befalls interface) (Comes key_little) h why
+        → (why ≢ TooManyCalls) × (why ≢ GatherFull) }
+    ensures met { (interface : Interface) (h : _)
+        → Meets (λ rule. server_step) (λ rule. is_closed) is_gathering in_call server_breaks
+        (server_befalls interface) (new_server one_call) (Comes key_little ∷ []) h
+        → Refuses (λ rule. server_step) (λ rule. is_closed) is_gathering in_call server_breaks
+        (server_befalls interface) (Comes door_whole) h TooManyCalls
+        → AreWithinAtServer one_call two_calls → ⊥ }
+    ensures few { AreWithinAtServer limits (Comes key_little ∷ []) }
+    ensures at_client { AreWithinAtClient limits asked }
+{
+    limits_in_any_order_at_server();
+    limits_in_any_order_at_client();
+}
