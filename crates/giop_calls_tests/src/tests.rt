@@ -1,4 +1,0 @@
-mod client_table;
-mod made;
-mod mux;
-mod server_table;
