@@ -53,15 +53,14 @@ pub fn run_all<S: Rowed>(
     let alloc = rt.alloc();
     let inputs = inputs::<S>(alloc, rows)?;
     let (mut end, answers) = S::ran(alloc, interface, within, inputs)?;
-    let mut next: usize = 0;
+    let mut answers = answers.iter();
     for row in rows {
         let words = split(alloc, row)?;
         let text = if words.is_empty() {
             row.to_string(alloc)?
         } else if is_question(words.as_slice()) {
             question(alloc, &mut end, words.as_slice())?
-        } else if let Some(answered) = answers.get(next) {
-            next += 1;
+        } else if let Some(answered) = answers.next() {
             told::<S>(alloc, answered)?
         } else {
             bail!("no answer");

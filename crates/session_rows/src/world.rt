@@ -21,15 +21,14 @@ pub fn run(
     let schedule = schedule(alloc, rows)?;
     let ours = defaults().limits;
     let (mut world, answers) = run_world(alloc, interface, ours, within.limits, schedule)?;
-    let mut next: usize = 0;
+    let mut answers = answers.iter();
     for row in rows {
         let words = split(alloc, row)?;
         let text = if words.is_empty() {
             row.to_string(alloc)?
         } else if is_asked(words.as_slice()) {
             asked(alloc, &mut world, words.as_slice())?
-        } else if let Some(answer) = answers.get(next) {
-            next += 1;
+        } else if let Some(answer) = answers.next() {
             refusal(alloc, *answer)?
         } else {
             bail!("no answer");
