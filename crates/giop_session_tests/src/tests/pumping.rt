@@ -1,6 +1,5 @@
 //! An end between readers and writers in memory, some of which fail: octets written by hand.
 use super::sessions::{interface, table};
-use giop_calls::CallFault;
 use giop_cdr::Order;
 use giop_session::{Limits, PumpFault, ServerEnd, SessionFault, pump, turn, write_out};
 use std::io;
@@ -219,15 +218,5 @@ fn a_write_of_no_octets_is_a_fault(rt: HostRuntime) -> Result<(), Fail> {
         Some(ErrorKind::WriteZero)
     );
     assert_eq!(rt; (end.outgoing(), writer.writes), (close.as_slice(), 1));
-    Ok(())
-}
-
-// A refusal of the end's own program has its number, and its name.
-#[test]
-fn a_fault_of_a_call_has_its_number(rt: HostRuntime) -> Result<(), Fail> {
-    let alloc = rt.alloc();
-    assert_eq!(rt; CallFault::NothingToSend.number(), 9);
-    let text = format!(in alloc; "{} {}", CallFault::UnknownOperation, CallFault::Stray)?;
-    assert_eq!(rt; text.as_str(), "UnknownOperation Stray");
     Ok(())
 }
