@@ -192,3 +192,5 @@ SUBJECTS = {
     'random_calls_gather_what_a_plain_table_does': random_calls,
     'lists_hold_all_octets_of_the_limit': limits,
 }
+
+PROGRAMS = ['gather_rows', 'session_rows']
