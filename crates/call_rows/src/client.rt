@@ -2,7 +2,7 @@
 
 use crate::made;
 use crate::ruled::Ruled;
-use crate::words::{is_first, kind, kind_word, number, version};
+use crate::words::{flags, is_first, kind, kind_word, number, version};
 use anyhow::{Result, bail};
 use giop_calls::{Call, CallKind, ClientEntry, ClientEvent, ClientRule, HeardReply, Late, Outcome};
 use giop_msg::{Reply, Version};
@@ -16,8 +16,8 @@ impl Ruled for ClientRule {
                 call: call(alloc, CallKind::Locate)?,
                 pieces: number(pieces)?,
             },
-            ["call", flags, pieces] => ClientEvent::Call {
-                call: Call::Request(made::request(alloc, number(flags)? as u8, Version::V12)?),
+            ["call", word, pieces] => ClientEvent::Call {
+                call: Call::Request(made::request(alloc, flags(word)?, Version::V12)?),
                 pieces: number(pieces)?,
             },
             ["send"] => ClientEvent::Send,

@@ -2,7 +2,7 @@
 
 use crate::made;
 use crate::ruled::Ruled;
-use crate::words::{is_first, kind, kind_word, number, version};
+use crate::words::{flags, is_first, kind, kind_word, number, version};
 use anyhow::{Result, bail};
 use giop_calls::{
     CallKind, HeardCall, Outcome, Question, ServerEntry, ServerEvent, ServerRule, UndecodedCall,
@@ -94,8 +94,8 @@ fn expects(word: &str) -> Result<Option<CallKind>> {
 // What comes: `request FLAGS VERSION`, `locate`, or `undecoded EXPECTS`.
 fn heard(alloc: Global, words: &[&str]) -> Result<HeardCall> {
     Ok(match words {
-        ["request", flags, of] => {
-            HeardCall::Request(made::request(alloc, number(flags)? as u8, version(of)?)?)
+        ["request", word, of] => {
+            HeardCall::Request(made::request(alloc, flags(word)?, version(of)?)?)
         }
         ["locate"] => HeardCall::Locate(made::locate_request(alloc, Version::V12)?),
         ["undecoded", word] => HeardCall::Undecoded(made::undecoded(expects(word)?)),

@@ -22,6 +22,14 @@ pub fn number(word: &str) -> Result<u32> {
     }
 }
 
+/// The flags of a Request, in decimal digits.
+pub fn flags(word: &str) -> Result<u8> {
+    match word.parse::<u8>() {
+        Ok(flags) => Ok(flags),
+        Err(_) => bail!("no flags: {word}"),
+    }
+}
+
 /// `1.0`, `1.1` or `1.2`.
 pub fn version(word: &str) -> Result<Version> {
     Ok(match word {

@@ -1,9 +1,9 @@
 //! Rows at a client's end and a server's, joined by what each puts out.
 
 use crate::first_line::{EndLimits, defaults};
-use crate::one_end::answered;
+use crate::one_end::{answered, write_off};
 use crate::shown::{is_question, question, told};
-use crate::side::Rowed;
+use crate::side::RowEnd;
 use crate::words::{number, split};
 use anyhow::{Result, bail};
 use giop_calls::{ClientRule, ServerRule};
@@ -21,8 +21,8 @@ pub fn run(
     rows: &[&str],
 ) -> Result<()> {
     let alloc = rt.alloc();
-    let mut client = ClientRule::begin(alloc, interface, defaults());
-    let mut server = ServerRule::begin(alloc, interface, within);
+    let mut client = End::<ClientRule>::new(alloc, interface, defaults().limits);
+    let mut server = End::<ServerRule>::new(alloc, interface, within.limits);
     for row in rows {
         let text = done(alloc, &mut client, &mut server, row)?;
         println!(rt; "{text}")?;
@@ -43,11 +43,11 @@ fn done(
         ["server", act @ ..] => done_at(alloc, server, act),
         ["to-server", n] => {
             let arrived = hand_over(client, server, number(n)? as usize);
-            told::<ServerRule>(alloc, &arrived)
+            told::<ServerEnd<'_>>(alloc, &arrived)
         }
         ["to-client", n] => {
             let arrived = hand_over(server, client, number(n)? as usize);
-            told::<ClientRule>(alloc, &arrived)
+            told::<ClientEnd<'_>>(alloc, &arrived)
         }
         [] => Ok(row.to_string(alloc)?),
         _ => bail!("no act: {row}"),
@@ -55,12 +55,12 @@ fn done(
 }
 
 // What one end is asked, or given.
-fn done_at<S: Rowed>(alloc: Global, end: &mut End<'_, S>, words: &[&str]) -> Result<String> {
+fn done_at<E: RowEnd>(alloc: Global, end: &mut E, words: &[&str]) -> Result<String> {
     if is_question(words) {
         return question(alloc, end, words);
     }
-    let answered = S::give(end, S::input(alloc, words)?, usize::MAX);
-    told::<S>(alloc, &answered)
+    let answered = end.give(E::input(alloc, words)?, usize::MAX);
+    told::<E>(alloc, &answered)
 }
 
 // Up to so many octets that one end put out come to the other, in one read.
@@ -71,6 +71,6 @@ fn hand_over<A: Hearing, B: Hearing>(
 ) -> Answered<B::Entry> {
     let n = n.min(from.outgoing().len());
     let arrived = answered(to.feed(&from.outgoing()[..n]));
-    from.wrote(n);
+    write_off(from, n);
     arrived
 }

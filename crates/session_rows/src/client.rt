@@ -1,54 +1,69 @@
 //! A client's end, for rows.
 
 use crate::acts::client_input;
-use crate::first_line::EndLimits;
-use crate::one_end::{answered, fed, taken};
-use crate::shown::{write_client_entry, write_outcome};
-use crate::side::{Ran, Rowed};
+use crate::one_end::{answered, fed, taken, write_off};
+use crate::shown::{write_client_entry, write_fault, write_outcome};
+use crate::side::RowEnd;
 use anyhow::Result;
 use giop_calls::{ClientEntry, ClientRule};
-use giop_session::laws::{Answered, ClientInput, run_client};
-use giop_session::{ClientEnd, End};
-use giop_types::Interface;
+use giop_session::End;
+use giop_session::laws::{Answered, ClientInput};
 use std::alloc::{AllocError, Global};
+use std::fmt::Write;
 
-impl Rowed for ClientRule {
+impl<'a> RowEnd for End<'a, ClientRule> {
     type Input = ClientInput;
 
-    fn begin(alloc: Global, interface: &Interface, within: EndLimits) -> ClientEnd<'_> {
-        End::<ClientRule>::new(alloc, interface, within.limits)
-    }
+    type Entry = ClientEntry;
 
     fn input(alloc: Global, words: &[&str]) -> Result<ClientInput> {
         client_input(alloc, words)
     }
 
-    fn give(end: &mut ClientEnd<'_>, input: ClientInput, read: usize) -> Answered<ClientEntry> {
+    fn give(&mut self, input: ClientInput, read: usize) -> Answered<ClientEntry> {
         match input {
-            ClientInput::Feed(octets) => fed(end, octets.as_slice(), read),
-            ClientInput::Call { request, form } => answered(end.call(request, form.form)),
-            ClientInput::Locate { request, form } => answered(end.locate(request, form.form)),
-            ClientInput::Cancel { id, order } => answered(end.cancel(id, order)),
-            ClientInput::Send(id) => answered(end.send(id)),
-            ClientInput::Take(id) => taken(end, id),
-            ClientInput::Close => answered(end.close()),
+            ClientInput::Feed(octets) => fed(self, octets.as_slice(), read),
+            ClientInput::Call { request, form } => answered(self.call(request, form.form)),
+            ClientInput::Locate { request, form } => answered(self.locate(request, form.form)),
+            ClientInput::Cancel { id, order } => answered(self.cancel(id, order)),
+            ClientInput::Send(id) => answered(self.send(id)),
+            ClientInput::Take(id) => taken(self, id),
+            ClientInput::Close => answered(self.close()),
         }
-    }
-
-    fn ran<'a>(
-        alloc: Global,
-        interface: &'a Interface,
-        within: EndLimits,
-        inputs: Vec<ClientInput>,
-    ) -> Result<Ran<'a, ClientRule>, AllocError> {
-        run_client(alloc, interface, within.limits, inputs)
     }
 
     fn write_entry(text: &mut String, entry: &ClientEntry) -> Result<(), AllocError> {
         write_client_entry(text, entry)
     }
 
-    fn write_outcome(text: &mut String, end: &ClientEnd<'_>, id: u32) -> Result<(), AllocError> {
-        write_outcome(text, end.outcome(id))
+    fn write_table(&self, alloc: Global, text: &mut String) -> Result<(), AllocError> {
+        for id in self.ids(alloc)? {
+            if let Some(entry) = self.entry(id) {
+                write!(text, "{id} ")?;
+                write_client_entry(text, entry)?;
+                text.push_str(", ")?;
+            }
+        }
+        write_fault(text, self.fault())
+    }
+
+    fn write_outcome(&self, text: &mut String, id: u32) -> Result<(), AllocError> {
+        write_outcome(text, self.outcome(id))
+    }
+
+    fn put_out(&self) -> &[u8] {
+        self.outgoing()
+    }
+
+    fn write_off(&mut self, n: usize) {
+        write_off(self, n);
+    }
+
+    fn counts(&self) -> (usize, usize) {
+        (self.blocks(), self.rest())
+    }
+
+    fn error(&self) -> Option<[u8; 12]> {
+        self.error_message()
     }
 }

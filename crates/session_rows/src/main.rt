@@ -20,6 +20,8 @@ mod world;
 use anyhow::{Context, Result, bail};
 use first_line::{Ends, ends_in};
 use giop_calls::{ClientRule, ServerRule};
+use giop_session::laws::{run_client, run_server};
+use giop_session::{ClientEnd, End, ServerEnd};
 use giop_types::Interface;
 use std::env;
 use std::io::Read;
@@ -43,12 +45,33 @@ fn run(rt: &HostRuntime, interface: &Interface, lines: &[&str]) -> Result<()> {
     };
     let rows = &lines[1..];
     println!(rt; "{first}")?;
-    match ends_in(rt.alloc(), first)? {
-        Ends::Server(steps) => one_end::run::<ServerRule>(rt, interface, steps, rows),
-        Ends::Client(steps) => one_end::run::<ClientRule>(rt, interface, steps, rows),
-        Ends::ServerInputs(limits) => one_end::run_all::<ServerRule>(rt, interface, limits, rows),
-        Ends::ClientInputs(limits) => one_end::run_all::<ClientRule>(rt, interface, limits, rows),
-        Ends::Ends(limits) => both_ends::run(rt, interface, limits, rows),
-        Ends::World(limits) => world::run(rt, interface, limits, rows),
+    let alloc = rt.alloc();
+    match ends_in(alloc, first)? {
+        Ends::Server(steps) => {
+            let end = End::<ServerRule>::new(alloc, interface, steps.within.limits);
+            one_end::run(rt, end, steps.read, rows)
+        }
+        Ends::Client(steps) => {
+            let end = End::<ClientRule>::new(alloc, interface, steps.within.limits);
+            one_end::run(rt, end, steps.read, rows)
+        }
+        Ends::ServerInputs(within) => {
+            let inputs = one_end::inputs::<ServerEnd<'_>>(alloc, rows)?;
+            one_end::show_all(
+                rt,
+                run_server(alloc, interface, within.limits, inputs)?,
+                rows,
+            )
+        }
+        Ends::ClientInputs(within) => {
+            let inputs = one_end::inputs::<ClientEnd<'_>>(alloc, rows)?;
+            one_end::show_all(
+                rt,
+                run_client(alloc, interface, within.limits, inputs)?,
+                rows,
+            )
+        }
+        Ends::Ends(within) => both_ends::run(rt, interface, within, rows),
+        Ends::World(within) => world::run(rt, interface, within, rows),
     }
 }

@@ -1,34 +1,26 @@
 //! Rows at one end.
 
-use crate::first_line::{EndLimits, Steps};
 use crate::shown::{is_question, question, table, told, written};
-use crate::side::Rowed;
+use crate::side::RowEnd;
 use crate::words::split;
 use anyhow::{Result, bail};
 use giop_session::laws::Answered;
 use giop_session::{End, Hearing, SessionFault};
-use giop_types::Interface;
 use std::alloc::Global;
 
-/// Does what each row says, one after the other. Behind an act its answer is printed, what it put
-/// out, which is written, and the table.
-pub fn run<S: Rowed>(
-    rt: &HostRuntime,
-    interface: &Interface,
-    steps: Steps,
-    rows: &[&str],
-) -> Result<()> {
-    let alloc = rt.alloc();
-    let mut end = S::begin(alloc, interface, steps.within);
+/// Does what each row says, one after the other, and hears octets in reads of so many at most.
+/// Behind an act its answer is printed, what it put out, which is written, and the table.
+pub fn run<E: RowEnd>(rt: &HostRuntime, end: E, read: usize, rows: &[&str]) -> Result<()> {
+    let mut end = end;
     for row in rows {
-        let text = done::<S>(alloc, &mut end, steps.read, row)?;
+        let text = done(rt.alloc(), &mut end, read, row)?;
         println!(rt; "{text}")?;
     }
     Ok(())
 }
 
 // The line of a row.
-fn done<S: Rowed>(alloc: Global, end: &mut End<'_, S>, read: usize, row: &str) -> Result<String> {
+fn done<E: RowEnd>(alloc: Global, end: &mut E, read: usize, row: &str) -> Result<String> {
     let words = split(alloc, row)?;
     if words.is_empty() {
         return Ok(row.to_string(alloc)?);
@@ -36,23 +28,21 @@ fn done<S: Rowed>(alloc: Global, end: &mut End<'_, S>, read: usize, row: &str) -
     if is_question(words.as_slice()) {
         return question(alloc, end, words.as_slice());
     }
-    let answered = S::give(end, S::input(alloc, words.as_slice())?, read);
-    let answer = told::<S>(alloc, &answered)?;
+    let answered = end.give(E::input(alloc, words.as_slice())?, read);
+    let answer = told::<E>(alloc, &answered)?;
     let out = written(alloc, end)?;
     let table = table(alloc, end)?;
     Ok(format!(in alloc; "{answer}; {out}{table}")?)
 }
 
-/// Gives an end all that the rows say in one list, and then prints for each row what was answered.
-pub fn run_all<S: Rowed>(
+/// Prints what an end that was given all that the rows say answered to each.
+pub fn show_all<E: RowEnd>(
     rt: &HostRuntime,
-    interface: &Interface,
-    within: EndLimits,
+    ran: (E, Vec<Answered<E::Entry>>),
     rows: &[&str],
 ) -> Result<()> {
     let alloc = rt.alloc();
-    let inputs = inputs::<S>(alloc, rows)?;
-    let (mut end, answers) = S::ran(alloc, interface, within, inputs)?;
+    let (mut end, answers) = ran;
     let mut answers = answers.iter();
     for row in rows {
         let words = split(alloc, row)?;
@@ -61,7 +51,7 @@ pub fn run_all<S: Rowed>(
         } else if is_question(words.as_slice()) {
             question(alloc, &mut end, words.as_slice())?
         } else if let Some(answered) = answers.next() {
-            told::<S>(alloc, answered)?
+            told::<E>(alloc, answered)?
         } else {
             bail!("no answer");
         };
@@ -70,12 +60,13 @@ pub fn run_all<S: Rowed>(
     Ok(())
 }
 
-fn inputs<S: Rowed>(alloc: Global, rows: &[&str]) -> Result<Vec<S::Input>> {
+/// All that the rows give an end.
+pub fn inputs<E: RowEnd>(alloc: Global, rows: &[&str]) -> Result<Vec<E::Input>> {
     let mut inputs = Vec::new(alloc);
     for row in rows {
         let words = split(alloc, row)?;
         if !words.is_empty() && !is_question(words.as_slice()) {
-            inputs.push(S::input(alloc, words.as_slice())?)?;
+            inputs.push(E::input(alloc, words.as_slice())?)?;
         }
     }
     Ok(inputs)
@@ -105,4 +96,10 @@ pub fn fed<S: Hearing>(end: &mut End<'_, S>, octets: &[u8], read: usize) -> Answ
         }
     }
     Answered::Done
+}
+
+/// Up to so many of the octets that are put out are written.
+pub fn write_off<S: Hearing>(end: &mut End<'_, S>, n: usize) {
+    let n = n.min(end.outgoing().len());
+    end.wrote(n);
 }

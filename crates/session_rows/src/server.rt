@@ -1,55 +1,70 @@
 //! A server's end, for rows.
 
 use crate::acts::server_input;
-use crate::first_line::EndLimits;
-use crate::one_end::{answered, fed, taken};
-use crate::shown::{write_outcome, write_server_entry};
-use crate::side::{Ran, Rowed};
+use crate::one_end::{answered, fed, taken, write_off};
+use crate::shown::{write_fault, write_outcome, write_server_entry};
+use crate::side::RowEnd;
 use anyhow::Result;
 use giop_calls::{ServerEntry, ServerRule};
-use giop_session::laws::{Answered, ServerInput, run_server};
-use giop_session::{End, ServerEnd};
-use giop_types::Interface;
+use giop_session::End;
+use giop_session::laws::{Answered, ServerInput};
 use std::alloc::{AllocError, Global};
+use std::fmt::Write;
 
-impl Rowed for ServerRule {
+impl<'a> RowEnd for End<'a, ServerRule> {
     type Input = ServerInput;
 
-    fn begin(alloc: Global, interface: &Interface, within: EndLimits) -> ServerEnd<'_> {
-        End::<ServerRule>::new(alloc, interface, within.limits)
-    }
+    type Entry = ServerEntry;
 
     fn input(alloc: Global, words: &[&str]) -> Result<ServerInput> {
         server_input(alloc, words)
     }
 
-    fn give(end: &mut ServerEnd<'_>, input: ServerInput, read: usize) -> Answered<ServerEntry> {
+    fn give(&mut self, input: ServerInput, read: usize) -> Answered<ServerEntry> {
         match input {
-            ServerInput::Feed(octets) => fed(end, octets.as_slice(), read),
-            ServerInput::Answer { reply, form } => answered(end.answer(reply, form.form)),
+            ServerInput::Feed(octets) => fed(self, octets.as_slice(), read),
+            ServerInput::Answer { reply, form } => answered(self.answer(reply, form.form)),
             ServerInput::AnswerLocate { id, here, order } => {
-                answered(end.answer_locate(id, here, order))
+                answered(self.answer_locate(id, here, order))
             }
-            ServerInput::Send(id) => answered(end.send(id)),
-            ServerInput::Take(id) => taken(end, id),
-            ServerInput::Close => answered(end.close()),
+            ServerInput::Send(id) => answered(self.send(id)),
+            ServerInput::Take(id) => taken(self, id),
+            ServerInput::Close => answered(self.close()),
         }
-    }
-
-    fn ran<'a>(
-        alloc: Global,
-        interface: &'a Interface,
-        within: EndLimits,
-        inputs: Vec<ServerInput>,
-    ) -> Result<Ran<'a, ServerRule>, AllocError> {
-        run_server(alloc, interface, within.limits, inputs)
     }
 
     fn write_entry(text: &mut String, entry: &ServerEntry) -> Result<(), AllocError> {
         write_server_entry(text, entry)
     }
 
-    fn write_outcome(text: &mut String, end: &ServerEnd<'_>, id: u32) -> Result<(), AllocError> {
-        write_outcome(text, end.outcome(id))
+    fn write_table(&self, alloc: Global, text: &mut String) -> Result<(), AllocError> {
+        for id in self.ids(alloc)? {
+            if let Some(entry) = self.entry(id) {
+                write!(text, "{id} ")?;
+                write_server_entry(text, entry)?;
+                text.push_str(", ")?;
+            }
+        }
+        write_fault(text, self.fault())
+    }
+
+    fn write_outcome(&self, text: &mut String, id: u32) -> Result<(), AllocError> {
+        write_outcome(text, self.outcome(id))
+    }
+
+    fn put_out(&self) -> &[u8] {
+        self.outgoing()
+    }
+
+    fn write_off(&mut self, n: usize) {
+        write_off(self, n);
+    }
+
+    fn counts(&self) -> (usize, usize) {
+        (self.blocks(), self.rest())
+    }
+
+    fn error(&self) -> Option<[u8; 12]> {
+        self.error_message()
     }
 }

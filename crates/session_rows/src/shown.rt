@@ -1,12 +1,12 @@
 //! What stands at an end, and what it answered, as texts.
 
-use crate::side::Rowed;
+use crate::side::RowEnd;
 use crate::words::number;
 use anyhow::{Result, bail};
 use giop_calls::{ClientEntry, Late, Outcome, Question, ServerEntry};
 use giop_msg::{Reply, ReplyBody, Request};
+use giop_session::SessionFault;
 use giop_session::laws::Answered;
-use giop_session::{End, Hearing, SessionFault};
 use giop_types::Value;
 use std::alloc::{AllocError, Global};
 use std::fmt::Write;
@@ -20,32 +20,30 @@ pub fn is_question(words: &[&str]) -> bool {
 }
 
 /// What an end is asked.
-pub fn question<S: Rowed>(alloc: Global, end: &mut End<'_, S>, words: &[&str]) -> Result<String> {
+pub fn question<E: RowEnd>(alloc: Global, end: &mut E, words: &[&str]) -> Result<String> {
     match words {
         ["table"] => Ok(table(alloc, end)?),
-        ["outgoing"] => Ok(hex::encode(alloc, end.outgoing())?),
-        ["blocks"] => Ok(format!(in alloc; "{}", end.blocks())?),
-        ["rest"] => Ok(format!(in alloc; "{}", end.rest())?),
-        ["error-message"] => Ok(error_message(alloc, end)?),
-        ["outcome", id] => outcome::<S>(alloc, end, number(id)?),
+        ["outgoing"] => Ok(hex::encode(alloc, end.put_out())?),
+        ["blocks"] => Ok(format!(in alloc; "{}", end.counts().0)?),
+        ["rest"] => Ok(format!(in alloc; "{}", end.counts().1)?),
+        ["error-message"] => Ok(error_message(alloc, end.error())?),
+        ["outcome", id] => outcome(alloc, end, number(id)?),
         ["wrote", n] => {
-            let n = number(n)? as usize;
-            let n = n.min(end.outgoing().len());
-            end.wrote(n);
+            end.write_off(number(n)? as usize);
             Ok("done".to_string(alloc)?)
         }
         _ => bail!("no question"),
     }
 }
 
-fn outcome<S: Rowed>(alloc: Global, end: &End<'_, S>, id: u32) -> Result<String> {
+fn outcome<E: RowEnd>(alloc: Global, end: &E, id: u32) -> Result<String> {
     let mut text = String::new(alloc);
-    S::write_outcome(&mut text, end, id)?;
+    end.write_outcome(&mut text, id)?;
     Ok(text)
 }
 
-fn error_message<S: Hearing>(alloc: Global, end: &End<'_, S>) -> Result<String, AllocError> {
-    match end.error_message() {
+fn error_message(alloc: Global, octets: Option<[u8; 12]>) -> Result<String, AllocError> {
+    match octets {
         Some(octets) => hex::encode(alloc, octets),
         None => "none".to_string(alloc),
     }
@@ -53,12 +51,12 @@ fn error_message<S: Hearing>(alloc: Global, end: &End<'_, S>) -> Result<String, 
 
 /// What was answered: `done`, the entry that was taken out, `nothing` where none stood there, or
 /// the fault.
-pub fn told<S: Rowed>(alloc: Global, answered: &Answered<S::Entry>) -> Result<String> {
+pub fn told<E: RowEnd>(alloc: Global, answered: &Answered<E::Entry>) -> Result<String> {
     let mut text = String::new(alloc);
     match answered {
         Answered::Done => text.push_str("done")?,
         Answered::Taken(None) => text.push_str("nothing")?,
-        Answered::Taken(Some(entry)) => S::write_entry(&mut text, entry)?,
+        Answered::Taken(Some(entry)) => E::write_entry(&mut text, entry)?,
         Answered::Refused(fault) => write!(text, "{fault}")?,
     }
     Ok(text)
@@ -74,32 +72,29 @@ pub fn refusal(alloc: Global, answer: Result<(), SessionFault>) -> Result<String
 
 /// What is outgoing, in hexadecimal digits, with a semicolon behind it; nothing where nothing is.
 /// It is written.
-pub fn written<S: Hearing>(alloc: Global, end: &mut End<'_, S>) -> Result<String> {
-    let n = end.outgoing().len();
-    if n == 0 {
+pub fn written<E: RowEnd>(alloc: Global, end: &mut E) -> Result<String> {
+    if end.put_out().is_empty() {
         return Ok(String::new(alloc));
     }
-    let mut text = hex::encode(alloc, end.outgoing())?;
+    let mut text = hex::encode(alloc, end.put_out())?;
     text.push_str("; ")?;
-    end.wrote(n);
+    end.write_off(usize::MAX);
     Ok(text)
 }
 
 /// The entries, ascending by their ids, and then the fault that stands, or `open`.
-pub fn table<S: Rowed>(alloc: Global, end: &End<'_, S>) -> Result<String> {
+pub fn table<E: RowEnd>(alloc: Global, end: &E) -> Result<String> {
     let mut text = String::new(alloc);
-    for id in end.ids(alloc)? {
-        if let Some(entry) = end.entry(id) {
-            write!(text, "{id} ")?;
-            S::write_entry(&mut text, entry)?;
-            text.push_str(", ")?;
-        }
-    }
-    match end.fault() {
-        Some(fault) => write!(text, "{fault}")?,
-        None => text.push_str("open")?,
-    }
+    end.write_table(alloc, &mut text)?;
     Ok(text)
+}
+
+/// The fault that stands, or `open`.
+pub fn write_fault(text: &mut String, fault: Option<SessionFault>) -> Result<(), AllocError> {
+    match fault {
+        Some(fault) => write!(text, "{fault}"),
+        None => text.push_str("open"),
+    }
 }
 
 fn write_values(text: &mut String, values: &[Value]) -> Result<(), AllocError> {

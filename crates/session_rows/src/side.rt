@@ -1,41 +1,41 @@
-//! What both sides of a connection have, for rows.
-ghost use Rattle.std.specs.Prelude.{◌≤◌, ◌^◌};
+//! What the ends of both sides have, for rows.
 
-use crate::first_line::EndLimits;
 use anyhow::Result;
 use giop_session::laws::Answered;
-use giop_session::{End, Hearing};
-use giop_types::Interface;
 use std::alloc::{AllocError, Global};
 
-/// An end that was given inputs, and what it answered to each.
-pub type Ran<'a, S: Rowed> = (End<'a, S>, Vec<Answered<S::Entry>>);
-
-/// A side of a connection whose ends are given what rows say.
-pub trait Rowed: Hearing + Drop {
-    /// What an end is given.
+/// An end that is given what rows say.
+pub trait RowEnd: Drop {
+    /// What it is given.
     type Input: Drop;
 
-    /// An end without calls.
-    fn begin(alloc: Global, interface: &Interface, within: EndLimits) -> End<'_, Self>;
+    /// What stands under an id.
+    type Entry: Drop;
 
     /// What the words of a row give.
     fn input(alloc: Global, words: &[&str]) -> Result<Self::Input>;
 
-    /// Gives an end something, octets in reads of so many at most.
-    fn give(end: &mut End<'_, Self>, input: Self::Input, read: usize) -> Answered<Self::Entry>;
-
-    /// An end that was given all of these.
-    fn ran<'a>(
-        alloc: Global,
-        interface: &'a Interface,
-        within: EndLimits,
-        inputs: Vec<Self::Input>,
-    ) -> Result<Ran<'a, Self>, AllocError>;
+    /// Gives the end something, octets in reads of so many at most.
+    fn give(&mut self, input: Self::Input, read: usize) -> Answered<Self::Entry>;
 
     /// An entry by its name, and what it holds.
     fn write_entry(text: &mut String, entry: &Self::Entry) -> Result<(), AllocError>;
 
+    /// The entries, ascending by their ids, and then the fault that stands, or `open`.
+    fn write_table(&self, alloc: Global, text: &mut String) -> Result<(), AllocError>;
+
     /// What the call of an id came to.
-    fn write_outcome(text: &mut String, end: &End<'_, Self>, id: u32) -> Result<(), AllocError>;
+    fn write_outcome(&self, text: &mut String, id: u32) -> Result<(), AllocError>;
+
+    /// The octets that are put out and not written.
+    fn put_out(&self) -> &[u8];
+
+    /// Up to so many of them are written.
+    fn write_off(&mut self, n: usize);
+
+    /// How many blocks are taken, and how many octets are unread.
+    fn counts(&self) -> (usize, usize);
+
+    /// What the peer is to be sent after a fault of its own.
+    fn error(&self) -> Option<[u8; 12]>;
 }
