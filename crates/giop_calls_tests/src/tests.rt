@@ -1,4 +1,12 @@
-mod client_table;
-mod made;
-mod mux;
-mod server_table;
+use giop_calls::CallFault;
+use std::test::Fail;
+
+// A refusal of an end's own program is the last in the list.
+#[test]
+fn a_fault_has_its_number_and_its_name(rt: HostRuntime) -> Result<(), Fail> {
+    let alloc = rt.alloc();
+    assert_eq!(rt; CallFault::NothingToSend.number(), 9);
+    let text = format!(in alloc; "{} {}", CallFault::UnknownOperation, CallFault::Stray)?;
+    assert_eq!(rt; text.as_str(), "UnknownOperation Stray");
+    Ok(())
+}

@@ -1,5 +1,5 @@
-//! What no clause of giop_frag says: gathering to each limit, beside a plain map at random, and
-//! without memory.
+//! What neither a clause of giop_frag nor a row says: a refused allocation within a call, and a
+//! message decoded where its pieces lie. Rows of a gatherer are data (tests/cases).
 #![tactic(auto)]
 
 #[cfg(test)]

@@ -1,6 +1,2 @@
-mod blocks;
-mod gathering;
-mod limits;
 mod memory;
 mod pieces;
-mod random;

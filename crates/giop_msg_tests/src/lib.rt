@@ -1,6 +1,6 @@
-//! What no clause of giop_msg says: octets that the standard's rules give, worked by hand; the
-//! printed names; and that each call succeeds with ample memory, and again after a refused
-//! allocation.
+//! What neither a clause of giop_msg nor a row says: that each call succeeds with ample memory, and
+//! again after a refused allocation; heads that are written; the printed names. Messages are rows
+//! (tests/cases).
 #![tactic(auto)]
 
 #[cfg(test)]

@@ -1,12 +1,9 @@
 mod cutting;
-mod early_bodies;
 mod framer;
 mod header;
 mod heads;
 mod memory_last;
 mod messages;
-mod replies;
 mod replies_written;
 mod request_head;
-mod request_id;
 mod streams;

@@ -1,4 +1,5 @@
-//! What no clause of giop_session says: worked octets, up to each limit.
+//! What neither a clause of giop_session nor a row says: a refused allocation within a call, and
+//! readers and writers that fail. Rows at ends are data (tests/cases).
 #![tactic(auto)]
 
 #[cfg(test)]

@@ -109,3 +109,19 @@ fn want_of_memory_changes_nothing(rt: HostRuntime) -> Result<(), Fail> {
     assert_eq!(rt; gather.total(), 0);
     Ok(())
 }
+
+#[test]
+fn a_refusal_is_told_by_its_number_and_its_name(rt: HostRuntime) -> Result<(), Fail> {
+    let cases: [(GatherFault, u8, &str); 4] = [
+        (GatherFault::Stray, 1, "Stray"),
+        (GatherFault::OrderDiffers, 2, "OrderDiffers"),
+        (GatherFault::GatherFull, 3, "GatherFull"),
+        (GatherFault::NoMemory, 4, "NoMemory"),
+    ];
+    for (fault, number, name) in cases {
+        assert_eq!(rt; fault.number(), number);
+        let told = format!(in rt.alloc(); "{fault}")?;
+        assert!(rt; told.as_bytes() == name.as_bytes());
+    }
+    Ok(())
+}

@@ -81,33 +81,3 @@ fn a_message_is_cut_into_pieces_of_a_size(rt: HostRuntime) -> Result<(), Fail> {
     }
     Ok(())
 }
-
-#[test]
-fn a_message_before_1_2_is_never_cut(rt: HostRuntime) -> Result<(), Fail> {
-    for version in [Version::V10, Version::V11] {
-        let messages = cut_again(rt.alloc(), version, Kind::Reply, &PING[12..], 24)?;
-        assert_eq!(rt; messages.len(), 1);
-        assert_eq!(rt; (messages[0].version, messages[0].more), (version, false));
-        assert_eq!(rt; messages[0].payload.as_slice(), &PING[12..]);
-    }
-    Ok(())
-}
-
-#[test]
-fn what_can_be_cut_is_told(rt: HostRuntime) {
-    let rows = [
-        (Kind::Request, 36, 24, true),
-        (Kind::Reply, 4, 32, true),
-        (Kind::LocateReply, 3, 24, false),
-        (Kind::LocateReply, 4, 16, false),
-        (Kind::LocateRequest, 4, 28, false),
-        (Kind::LocateRequest, 4, 24, true),
-        (Kind::CancelRequest, 4, 24, false),
-        (Kind::Fragment, 4, 24, false),
-        (Kind::CloseConnection, 4, 24, false),
-    ];
-    for (kind, octets, piece, want) in rows {
-        let told = can_cut(kind, &PING[12..12 + octets], piece);
-        assert_eq!(rt; told, want, "{kind} {octets} {piece}");
-    }
-}

@@ -22,14 +22,6 @@ const EARLY_ADD: &[u8] = &[
     0, 0, 0, 0, 0, 0, 0, 2, 0, 0, 0, 5,
 ];
 
-// Request 1: `ping` with a context (9, AA), whose head ends at 57; seven octets of padding, and one
-// more.
-const PADDED_PING: &[u8] = &[
-    0, 0, 0, 1, 3, 0, 0, 0, 0, 0, 0, 0, 0, 0, 0, 1, 0x6B, 0, 0, 0, 0, 0, 0, 5, 0x70, 0x69, 0x6E,
-    0x67, 0, 0, 0, 0, 0, 0, 0, 1, 0, 0, 0, 9, 0, 0, 0, 1, 0xAA, 0xFF, 0xFF, 0xFF, 0xFF, 0xFF, 0xFF,
-    0xFF, 0xFF,
-];
-
 // Reads the interface, again where memory was wanting.
 pub fn interface(alloc: Global) -> Result<Interface, FormFault> {
     match Interface::from_json(alloc, J) {
@@ -122,27 +114,6 @@ fn a_request_of_each_version_is_decoded_and_encoded(rt: HostRuntime) -> Result<(
             .ok()
             .ok_or("not encoded")?;
         assert_eq!(rt; again.as_slice(), octets);
-    }
-    Ok(())
-}
-
-#[test]
-fn an_empty_body_may_have_a_part_of_its_padding(rt: HostRuntime) -> Result<(), Fail> {
-    let interface = interface(rt.alloc())?;
-    for pads in 0..8 {
-        let request = decode(
-            rt.alloc(),
-            &interface,
-            &PADDED_PING[..45 + pads],
-            Version::V12,
-        )
-        .ok()
-        .ok_or("no request")?;
-        assert_eq!(rt; (request.head.id, request.body.len()), (1, 0));
-        let again = encode(rt.alloc(), &interface, &request, Order::Big)
-            .ok()
-            .ok_or("not encoded")?;
-        assert_eq!(rt; again.as_slice(), &PADDED_PING[..45]);
     }
     Ok(())
 }

@@ -1,19 +1,19 @@
-//! A server's end fed with octets, and its table as text.
-use giop_calls::ServerEntry;
-use giop_session::{Limits, ServerEnd};
-use giop_types::Interface;
+//! The interface of the tests, and the table of an end as text.
+use giop_calls::{ClientEntry, ServerEntry};
+use giop_session::{ClientEnd, ServerEnd};
+use giop_types::{FormFault, Interface};
 use std::alloc::Global;
 use std::fmt::Write;
 use std::test::Fail;
 
 const J: &[u8] =
-    b"{\"operations\":{\"ping\":{},\"add\":{\"ins\":[[\"a\",\"long\"],[\"b\",\"long\"]],\"outs\":[[\"sum\",\"long\"]]},\"list\":{\"ins\":[[\"items\",{\"sequence\":\"long\"}]]},\"tell\":{\"oneway\":true,\"ins\":[[\"t\",\"string\"]]}}}";
+    b"{\"operations\":{\"ping\":{},\"add\":{\"ins\":[[\"a\",\"long\"],[\"b\",\"long\"]],\"outs\":[[\"sum\",\"long\"]]}}}";
 
-pub fn interface(alloc: Global) -> Result<Interface, Fail> {
-    Ok(Interface::from_json(alloc, J)?)
+pub fn interface(alloc: Global) -> Result<Interface, FormFault> {
+    Interface::from_json(alloc, J)
 }
 
-fn name(entry: &ServerEntry) -> &'static str {
+fn server_name(entry: &ServerEntry) -> &'static str {
     match entry {
         ServerEntry::Gathering { .. } => "Gathering",
         ServerEntry::Asked { .. } => "Asked",
@@ -26,12 +26,47 @@ fn name(entry: &ServerEntry) -> &'static str {
     }
 }
 
-/// The table of an end, each entry by its name, and then its rest or its fault.
+fn client_name(entry: &ClientEntry) -> &'static str {
+    match entry {
+        ClientEntry::Sending { .. } => "Sending",
+        ClientEntry::Waiting { .. } => "Waiting",
+        ClientEntry::Gathering { .. } => "Gathering",
+        ClientEntry::Done { .. } => "Done",
+        ClientEntry::LocateDone { .. } => "LocateDone",
+        ClientEntry::Undecoded { .. } => "Undecoded",
+        ClientEntry::OnewaySent { .. } => "OnewaySent",
+        ClientEntry::Cancelled { .. } => "Cancelled",
+    }
+}
+
+/// The entries of a server, each by its name, and how many pieces it has left.
+pub fn server_entries(alloc: Global, end: &ServerEnd<'_>) -> Option<String> {
+    let mut text = String::new(alloc);
+    for id in end.ids(alloc).ok()? {
+        if let Some(entry) = end.entry(id) {
+            write!(text, "{id} {} {}, ", server_name(entry), entry.left()).ok()?;
+        }
+    }
+    Some(text)
+}
+
+/// The entries of a client likewise.
+pub fn client_entries(alloc: Global, end: &ClientEnd<'_>) -> Option<String> {
+    let mut text = String::new(alloc);
+    for id in end.ids(alloc).ok()? {
+        if let Some(entry) = end.entry(id) {
+            write!(text, "{id} {} {}, ", client_name(entry), entry.left()).ok()?;
+        }
+    }
+    Some(text)
+}
+
+/// The table of a server, each entry by its name, and then its rest or its fault.
 pub fn table(alloc: Global, end: &ServerEnd<'_>) -> Result<String, Fail> {
     let mut text = String::new(alloc);
     for id in end.ids(alloc)? {
         if let Some(entry) = end.entry(id) {
-            write!(text, "{id} {}, ", name(entry))?;
+            write!(text, "{id} {}, ", server_name(entry))?;
         }
     }
     match end.fault() {
@@ -39,18 +74,4 @@ pub fn table(alloc: Global, end: &ServerEnd<'_>) -> Result<String, Fail> {
         None => write!(text, "rest {}", end.rest())?,
     }
     Ok(text)
-}
-
-/// The same of an end that was fed these octets, each piece in hexadecimal digits.
-pub fn fed(alloc: Global, limits: Limits, pieces: &[&str]) -> Result<String, Fail> {
-    let interface = interface(alloc)?;
-    let gathered = limits.gathered.min(1 << 40);
-    let mut end = ServerEnd::new(alloc, &interface, Limits { gathered, ..limits });
-    for piece in pieces {
-        let octets = hex::decode(alloc, piece)?;
-        if end.feed(&octets).is_err() {
-            break;
-        }
-    }
-    table(alloc, &end)
 }

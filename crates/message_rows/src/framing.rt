@@ -1,0 +1,93 @@
+//! Messages of a stream, messages that are cut, and request ids.
+
+use crate::words::{kind, octets, order, version};
+use anyhow::Result;
+use giop_cdr::{OctetList, Order};
+use giop_msg::{Framer, Msg, can_cut, cut};
+use std::alloc::{AllocError, Global};
+use std::fmt::Write;
+
+/// The next message of a framer, `none`, or the fault. Its memory serves the one behind it.
+pub fn next(alloc: Global, framer: &mut Framer) -> Result<String> {
+    match framer.next() {
+        Ok(Some(message)) => {
+            let text = message_text(alloc, &message)?;
+            framer.reuse(message);
+            Ok(text)
+        }
+        Ok(None) => Ok("none".to_string(alloc)?),
+        Err(fault) => Ok(format!(in alloc; "{fault}")?),
+    }
+}
+
+// `KIND MINOR ORDER more ID PAYLOAD`.
+fn message_text(alloc: Global, message: &Msg) -> Result<String> {
+    let mut text = String::new(alloc);
+    write!(text, "{} 1.{}", message.kind, message.version.minor())?;
+    text.push_str(match message.order {
+        Order::Big => " big",
+        Order::Little => " little",
+    })?;
+    if message.more {
+        text.push_str(" more")?;
+    }
+    let id = id_text(alloc, message)?;
+    write!(text, " id {id}; ")?;
+    match message.payload.is_empty() {
+        true => text.push_str("-")?,
+        false => text.push_str(hex::encode(alloc, message.payload.as_slice())?.as_str())?,
+    }
+    Ok(text)
+}
+
+fn id_text(alloc: Global, message: &Msg) -> Result<String, AllocError> {
+    if message.payload.len() > 1 << 30 {
+        return "large".to_string(alloc);
+    }
+    match message.request_id() {
+        None => "none".to_string(alloc),
+        Some(Ok(id)) => format!(in alloc; "{id}"),
+        Some(Err(fault)) => format!(in alloc; "{fault}"),
+    }
+}
+
+/// The messages that a message is cut into, with spaces between them; `none` where it can't be.
+pub fn cut_octets(alloc: Global, of: [&str; 3], piece: u32, digits: &str) -> Result<String> {
+    let [of_version, of_kind, of_order] = of;
+    let joined = octets(alloc, digits)?;
+    let of_kind = kind(of_kind)?;
+    if !can_cut(of_kind, joined.as_slice(), piece) {
+        return Ok("none".to_string(alloc)?);
+    }
+    let messages = cut(
+        alloc,
+        version(of_version)?,
+        of_kind,
+        order(of_order)?,
+        joined.as_slice(),
+        piece,
+    )?;
+    let mut text = String::new(alloc);
+    for message in &messages {
+        if message.payload.len() < 1 << 32 {
+            let header = message.header().octets();
+            let payload = hex::encode(alloc, message.payload.as_slice())?;
+            text.push_str(if text.is_empty() { "" } else { " " })?;
+            write!(text, "{}{payload}", hex::encode(alloc, header)?)?;
+        }
+    }
+    Ok(text)
+}
+
+/// The request id of a message by the octets behind its header, big-endian; `none` where it has
+/// none, or the fault.
+pub fn id(alloc: Global, of_version: &str, of_kind: &str, digits: &str) -> Result<String> {
+    let message = Msg {
+        version: version(of_version)?,
+        order: Order::Big,
+        more: false,
+        kind: kind(of_kind)?,
+        payload: OctetList::from(octets(alloc, digits)?),
+    };
+    Ok(id_text(alloc, &message)?)
+}
