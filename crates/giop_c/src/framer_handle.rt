@@ -1,3 +1,5 @@
+//! The struct that C holds for a framer: a pointer, and what contracts know of it. Its layout is
+//! that of `giop_framer` in `include/giop.h`.
 ghost use Rattle.std.specs.Prelude.{◌≡◌, ◌++◌, Option, Some, None};
 ghost use Rattle.std.specs.Option.{MatchOption};
 ghost use Rattle.giop_c.specs.declared.reader.Reader.{Reader};
@@ -64,12 +66,14 @@ impl FramerHandle {
         }
     }
 
+    /// An open handle that owns what the box held. It takes no memory.
     pub fn of(boxed: Box<Reader>) -> FramerHandle
         ensures { result.value ≡ Some boxed.value }
     {
         FramerHandle::of_raw(RawBox::of(boxed))
     }
 
+    /// What the handle held, or `None` for a closed one. It takes no memory.
     pub fn into_box(self) -> Option<Box<Reader>>
         ensures { MatchOption result (self.value ≡ None) (λ b. self.value ≡ Some b.value) }
     {
@@ -79,6 +83,7 @@ impl FramerHandle {
         }
     }
 
+    /// What the handle held, or `None` for a closed one. It is left closed.
     pub fn take(&mut self, alloc: Global) -> Option<Box<Reader>>
         ensures held { MatchOption result (self.old.value ≡ None)
             (λ b. self.old.value ≡ Some b.value) }

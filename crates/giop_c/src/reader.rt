@@ -1,3 +1,4 @@
+//! What a framer's handle holds, and its calls as C sees them.
 ghost use Rattle.std.specs.Prelude.{◌≡◌, [], None};
 ghost use Rattle.giop_c.specs.Calls.{Copies, Feeds, Takes, refusal};
 

@@ -1,3 +1,4 @@
+//! The structs that cross to C by value. `include/giop.h` declares them too: change both.
 ghost use Rattle.std.specs.Prelude.{◌≡◌, ◌<◌, ◌^◌, length};
 ghost use Rattle.giop_c.specs.Heads.{c_cdr_fault};
 ghost use Rattle.giop_c.specs.Records.{c_fault, c_message};

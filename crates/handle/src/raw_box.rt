@@ -1,3 +1,4 @@
+//! A box taken apart into its pointer and its allocator, and made a box again.
 ghost use Rattle.std.specs.Prelude.{◌≡◌};
 ghost use Rattle.std_alloc.specs.Box.Ownership.{box_owns};
 
