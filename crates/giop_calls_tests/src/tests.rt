@@ -1,3 +1,4 @@
+//! What neither a clause of giop_calls nor a row of tests/cases says.
 use giop_calls::CallFault;
 use std::test::Fail;
 

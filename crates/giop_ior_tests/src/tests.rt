@@ -1,3 +1,4 @@
+//! The tests of giop_ior, a subject a file.
 mod corbaloc;
 mod ior;
 mod ior_text;

@@ -1,3 +1,4 @@
+//! The tests of giop_msg, a subject a file; `streams` is what they share.
 mod cutting;
 mod framer;
 mod header;

@@ -1,3 +1,4 @@
+//! The tests of giop_types, a subject a file.
 mod check;
 mod decoding;
 mod encoding;

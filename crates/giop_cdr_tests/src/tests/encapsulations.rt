@@ -1,3 +1,5 @@
+//! Encapsulations (CORBA 3.3 Part 2, 9.3.3): their own byte order and alignment, one inside
+//! another.
 use giop_cdr::{CdrFault, CdrIn, CdrKind, CdrOut, Order, SliceOctets};
 use std::test::Fail;
 

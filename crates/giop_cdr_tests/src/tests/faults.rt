@@ -1,3 +1,4 @@
+//! The number and the name of each refusal, as `docs/PROFILE.md` lists them.
 use giop_cdr::{CdrFault, CdrKind, EncodeFault};
 use std::test::Fail;
 

@@ -1,3 +1,4 @@
+//! Refused allocations: a write, a beginning or a read that is out of memory changes nothing.
 use giop_cdr::{CdrIn, CdrOut, OctetList, Order, SliceOctets};
 use std::alloc::{AllocError, Global};
 use std::process::Abort;

@@ -1,3 +1,4 @@
+//! Primitives, strings, sequences of octets and counts, read from octets worked by hand.
 ghost use Rattle.std.specs.Prelude.{◌≤◌, ◌^◌, length};
 
 use super::two_parts::TwoParts;

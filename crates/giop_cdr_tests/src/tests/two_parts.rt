@@ -1,3 +1,4 @@
+//! A store of octets in two parts, so that a value may lie across a border.
 ghost use Rattle.std.specs.Prelude.{◌≡◌, ◌+◌, ◌<◌, ◌^◌, ◌++◌, List, ℕ, length};
 
 use giop_cdr::Octets;

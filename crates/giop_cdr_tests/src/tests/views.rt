@@ -1,3 +1,4 @@
+//! Strings, octets and tagged lists viewed where they lie, from one slice and from two parts.
 ghost use Rattle.std.specs.Prelude.{◌≤◌, ◌^◌, length};
 
 use super::two_parts::TwoParts;

@@ -1,3 +1,4 @@
+//! Primitives and strings, written and compared with octets worked by hand.
 use giop_cdr::{CdrOut, Order};
 use std::alloc::AllocError;
 use std::test::Fail;

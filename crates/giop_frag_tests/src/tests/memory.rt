@@ -1,3 +1,5 @@
+//! Refused allocations: a gatherer that is out of memory is as it was, and the same call succeeds
+//! later.
 use giop_cdr::{OctetList, Octets, Order};
 use giop_frag::{Gather, GatherFault};
 use std::process::Abort;

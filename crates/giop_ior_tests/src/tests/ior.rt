@@ -1,3 +1,4 @@
+//! References and IIOP profiles (CORBA 3.3 Part 2, 7.6.2 and 9.7.2), read and written.
 use giop_cdr::{CdrFault, CdrIn, CdrKind, CdrOut, EncodeFault, OctetList, Order, SliceOctets};
 use giop_ior::{
     IiopProfile, Ior, Sequence, TaggedComponent, TaggedProfile, corbaloc_from_text, iiop_profile,

@@ -1,3 +1,4 @@
+//! A reference that omniORB printed, read.
 use giop_ior::{TaggedComponent, iiop_view, ior_from_text};
 use std::test::Fail;
 

@@ -1,3 +1,4 @@
+//! Messages cut into fragments (CORBA 3.3 Part 2, 9.4.9), also where memory is refused.
 use super::streams::{LIMIT, PING, feed, next};
 use giop_cdr::Order;
 use giop_msg::{Framer, Kind, Msg, Version, can_cut, cut};

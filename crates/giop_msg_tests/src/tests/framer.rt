@@ -1,3 +1,4 @@
+//! A stream split into its messages, wherever it is cut, and where memory is refused.
 use super::streams::{CLOSE, LIMIT, NO_MEMORY, PING, feed, next};
 use giop_cdr::Order;
 use giop_msg::{Framer, Header, Kind, Msg, Version, WireFault, WireKind, read_pieces};

@@ -1,4 +1,4 @@
-// Faults that stand behind what takes memory: they are told whether memory is there or not.
+//! Faults that stand behind what takes memory: they are told whether memory is there or not.
 use giop_cdr::{CdrFault, CdrKind, Order, SliceOctets};
 use giop_msg::{Reply, Request, RequestFault, Version};
 use giop_types::{FormFault, Interface};

@@ -1,3 +1,4 @@
+//! The head of a Request (CORBA 3.3 Part 2, 9.4.2), viewed, decoded and written.
 ghost use Rattle.std.specs.Prelude.{◌≤◌, ◌^◌, length};
 
 use super::streams::PING;

@@ -1,4 +1,4 @@
-// Two messages, and a framer that is fed and asked again where memory was refused.
+//! Two messages, and a framer that is fed and asked again where memory was refused.
 use giop_msg::{Framer, Msg, WireFault, WireKind};
 use std::process::Abort;
 use std::test::Fail;

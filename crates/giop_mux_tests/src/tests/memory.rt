@@ -1,3 +1,5 @@
+//! Refused allocations: a table that is out of memory is as it was, and the same event succeeds
+//! later.
 use super::notes::{Answer, Event, Notes, has_closed, has_open, text};
 use giop_mux::{Addressed, Mux, Refusal};
 use std::alloc::{AllocError, Global};

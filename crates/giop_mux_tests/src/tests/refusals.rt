@@ -1,3 +1,4 @@
+//! Each refusal of a table, with its place, and what it leaves.
 use super::notes::{Answer, Event, NotOpen, Note, Notes, has_closed, has_open, text};
 use giop_mux::{Mux, Refusal, StillOpen};
 use std::process::Abort;

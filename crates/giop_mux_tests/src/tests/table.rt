@@ -1,3 +1,4 @@
+//! Tables of calls by id: their order and size, and runs of events of several ids.
 use super::notes::{Answer, Event, NotOpen, Note, Notes, has_closed, has_open, text};
 use giop_mux::{Addressed, Mux, Refusal};
 use std::alloc::{AllocError, Global};

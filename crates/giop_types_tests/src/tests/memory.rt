@@ -1,3 +1,5 @@
+//! Refused allocations: a value that is out of memory is left unread, and faults are still
+//! reported.
 use super::samples::{checked, items, named, reference, union};
 use giop_cdr::{CdrFault, CdrIn, CdrKind, Order, SliceOctets};
 use giop_types::{Desc, decode};

@@ -1,4 +1,4 @@
-// Descriptions that the tests share.
+//! Descriptions that the tests share.
 use giop_cdr::OctetList;
 use giop_types::{CaseDesc, CheckedDesc, Desc, NamedDesc};
 use std::alloc::{AllocError, Global};

@@ -1,3 +1,4 @@
+//! Lists of values, and values written and read again at every offset.
 use super::samples::{checked, pair};
 use giop_cdr::{EncodeFault, Order};
 use giop_types::laws::encoded_and_decoded;
