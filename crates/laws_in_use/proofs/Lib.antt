@@ -18,6 +18,7 @@ mod OwnLaneRuns
 mod PingPlans
 mod PutOutKinds
 mod Closings
+mod WorldRuns
 mod AskingMessages
 mod AskingReads
 mod AskingRuns

@@ -17,3 +17,4 @@ pub mod Referred
 pub mod Runs
 pub mod Sent
 pub mod ServerCalls
+pub mod Worlds

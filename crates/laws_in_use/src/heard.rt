@@ -2,21 +2,23 @@
 //! whatever lies between them, in whatever reads and order they come.
 ghost use Rattle.std.specs.Prelude.{◌≡◌, ◌∷◌, [], ℕ, Ok};
 ghost use Rattle.std.specs.FinMap as finite;
+ghost use Rattle.giop_ids.specs.Runs.{addressed, MeetsNoLimit, own, Runs};
 ghost use Rattle.giop_types.specs.declared.json.interface.Interface.{Interface};
 ghost use Rattle.giop_calls.specs.ServerTable.{is_closed, is_gathering, left_of, server_step};
-ghost use Rattle.giop_session.specs.CallTable.{at};
+ghost use Rattle.giop_session.specs.CallTable.{at, is_of_call, rules_of};
 ghost use Rattle.giop_session.specs.Events.{Comes, Meets};
 ghost use Rattle.giop_session.specs.Feeding.{Fed, Through};
 ghost use Rattle.giop_session.specs.Heard.{hears_by, in_call};
 ghost use Rattle.giop_session.specs.LeftToSend.{ArePlanned, IsLeft, ServerPlans};
 ghost use Rattle.giop_session.specs.ServerHears.{server_befalls, server_breaks};
-ghost use Rattle.laws_in_use.specs.Heard.{asked_and_begun, begun_and_asked, gathering, reads, unread};
+ghost use Rattle.laws_in_use.specs.Heard.{asked_and_begun, asks, begins, begun_and_asked, gathering, reads, silence, unread};
 ghost use Rattle.laws_in_use.specs.Limited.{new_server};
-ghost use Rattle.laws_in_use.specs.Locating.{door_begins, limits};
+ghost use Rattle.laws_in_use.specs.Locating.{door_begins, key_little, limits};
 
 use giop_calls::ServerRule;
 use giop_session::laws::{
-    any_interleaving_of_messages, any_reads, own_messages_alone, what_is_left_is_unsent_at_server,
+    any_interleaving, any_interleaving_of_messages, any_reads, each_call_alone, each_call_of_a_run,
+    own_messages_alone, what_is_left_is_unsent_at_server,
 };
 
 /// The first piece of a LocateRequest and a whole other one: 7 gathers what its own piece brought,
@@ -53,4 +55,38 @@ pub fn two_messages_are_heard(rule: &ServerRule)
     any_interleaving_of_messages(rule);
     any_reads(rule);
     what_is_left_is_unsent_at_server();
+}
+
+/// The same two as acts on calls by id: 7 gathers what its own act brought, is answered for it
+/// alone, and in the other order it has the same. So it is where the messages are met as events.
+pub fn two_acts_in_two_orders(rule: &ServerRule)
+    ensures run { (interface : Interface) → (k : _)
+        × Runs (rules_of server_step is_closed is_gathering) (new_server limits)
+        (begins ∷ asks ∷ []) (silence ∷ silence ∷ []) k }
+    ensures free { (id : ℕ)
+        → MeetsNoLimit is_of_call id (begins ∷ asks ∷ []) (silence ∷ silence ∷ []) }
+    ensures seven { (k : _) → Runs (rules_of server_step is_closed is_gathering)
+        (new_server limits) (begins ∷ asks ∷ []) (silence ∷ silence ∷ []) k
+        → at k 7 ≡ gathering }
+    ensures told { (k results : _) → Runs (rules_of server_step is_closed is_gathering)
+        (new_server limits) (begins ∷ asks ∷ []) results k
+        → MeetsNoLimit is_of_call 7 (begins ∷ asks ∷ []) results
+        → own 7 (addressed (begins ∷ asks ∷ []) results) ≡ silence ∷ [] }
+    ensures either { (k k' results results' : _)
+        → Runs (rules_of server_step is_closed is_gathering) (new_server limits)
+        (begins ∷ asks ∷ []) results k
+        → Runs (rules_of server_step is_closed is_gathering) (new_server limits)
+        (asks ∷ begins ∷ []) results' k'
+        → ((id : ℕ) → MeetsNoLimit is_of_call id (begins ∷ asks ∷ []) results)
+        → ((id : ℕ) → MeetsNoLimit is_of_call id (asks ∷ begins ∷ []) results')
+        → (id : ℕ) → at k id ≡ at k' id }
+    ensures met { (interface : Interface) (k : _)
+        → Meets (λ rule. server_step) (λ rule. is_closed) is_gathering in_call server_breaks
+        (server_befalls interface) (new_server limits)
+        (Comes door_begins ∷ Comes key_little ∷ []) k
+        → at k 7 ≡ gathering }
+{
+    each_call_alone(rule);
+    any_interleaving(rule);
+    each_call_of_a_run(rule);
 }

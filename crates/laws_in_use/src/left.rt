@@ -1,5 +1,5 @@
 //! What an end's own acts leave in use: as many messages as the event says are planned, and those
-//! that are unsent then.
+//! that are unsent then; an act that is accepted, and one that is refused.
 ghost use Rattle.std.specs.Prelude.{◌≡◌, ◌≢◌, ◌++◌, ◌∷◌, [], ℕ, Err, List, Ok, Some, length, true};
 ghost use Rattle.std.specs.FinMap as finite;
 ghost use Rattle.giop_cdr.specs.declared.order.Order.TheVariants.{Big, Little};
@@ -31,7 +31,10 @@ ghost use Rattle.laws_in_use.specs.Left.{form, new_client, ping_sent, pong_sent,
 ghost use Rattle.laws_in_use.specs.Limited.{new_server};
 ghost use Rattle.laws_in_use.specs.Locating.{cancel_little, door, door_begins, door_ends, here_big, limits};
 
-use giop_session::laws::{what_is_left_is_unsent_at_client, what_is_left_is_unsent_at_server};
+use giop_calls::ServerRule;
+use giop_session::laws::{
+    what_an_own_act_leaves, what_is_left_is_unsent_at_client, what_is_left_is_unsent_at_server,
+};
 
 /// A client plans a Request of 1.0 in one message, a LocateRequest in two and a CancelRequest: the
 /// event says as many, whatever it is planned as. Behind the second one message is unsent, as the
@@ -77,4 +80,32 @@ pub fn what_a_server_plans()
         (sends (at_server.AnswerLocate true) messages) → length messages ≡ 1 }
 {
     what_is_left_is_unsent_at_server();
+}
+
+/// A server's answer to a LocateRequest is accepted: then it is answered, each other id has what it
+/// had, and the message is outgoing behind what was. An answer under an id without an entry is
+/// refused, and leaves all.
+pub fn an_answer_is_accepted_or_refused(rule: &ServerRule)
+    ensures accepted { (interface : Interface) (out : List ℕ)
+        → (h k : Held ServerRule ServerEntry)
+        × (entry_of (finite.get h.table 7) ≡ Some (entry.LocateAsked door))
+        × Befell (rules_of server.server_step server.is_closed server.is_gathering) in_call 7
+        (sends (at_server.AnswerLocate true) (here_big ∷ [])) h out (Ok tt) k
+        (out ++ message_octets here_big) }
+    ensures answered { (h k : Held ServerRule ServerEntry) (out out' : List ℕ)
+        → entry_of (finite.get h.table 7) ≡ Some (entry.LocateAsked door)
+        → Befell (rules_of server.server_step server.is_closed server.is_gathering) in_call 7
+        (sends (at_server.AnswerLocate true) (here_big ∷ [])) h out (Ok tt) k out'
+        → (entry_of (finite.get k.table 7) ≡ Some (entry.LocateAnswered (Some door.target) true))
+        × (out' ≡ out ++ message_octets here_big)
+        × ((id : ℕ) → id ≢ 7 → finite.get k.table id ≡ finite.get h.table id) }
+    ensures refused { Befell (rules_of server.server_step server.is_closed server.is_gathering)
+        in_call 7 (sends (at_server.AnswerLocate true) (here_big ∷ [])) (new_server limits) []
+        (Err (InCall 7 NotOpen)) (new_server limits) [] }
+    ensures kept { (h k : Held ServerRule ServerEntry) (out out' : List ℕ)
+        → Befell (rules_of server.server_step server.is_closed server.is_gathering) in_call 7
+        (sends (at_server.AnswerLocate true) (here_big ∷ [])) h out (Err (InCall 7 NotOpen)) k
+        out' → (k ≡ h) × (out' ≡ out) }
+{
+    what_an_own_act_leaves(rule);
 }

@@ -26,3 +26,4 @@ mod runs;
 mod sent;
 mod sides;
 mod tables;
+mod worlds;

@@ -1,0 +1,28 @@
+use Rattle.std.proofs.Common.{[], ◌∷◌}
+use Rattle.giop_session.specs.Heard.{in_call}
+use Rattle.laws_in_use.specs.Left.{new_client}
+use Rattle.laws_in_use.specs.Limited.{new_server}
+use Rattle.laws_in_use.specs.Locating.{key_little, limits}
+use Rattle.laws_in_use.proofs.PutOutKinds.{client_puts_none}
+use Rattle.laws_in_use.proofs.WorldRuns.{asked_stands_by, unasked_told_by}
+use Rattle.laws_in_use.proofs.worlds.a_world_of_two_ends.Goals as goal
+
+pub returns-clause-refused : goal.returns-clause-refused
+returns-clause-refused c = λ given. unasked_told_by c.args.interface.now c.args.schedule.items _ _ c.in_ok-run_world.ensures.value given
+
+pub returns-clause-asked : goal.returns-clause-asked
+returns-clause-asked c = λ forms given told.
+    asked_stands_by c.args.interface.now
+    (λ planned k out befell. c.what_an_own_act_leaves.ensures.accepted in_call 9 planned (new_client limits) k [] out befell)
+    c.one_split.ensures
+    (λ k through. c.own_messages_alone.ensures c.args.interface.now (new_server limits) k (key_little ∷ []) 9 through)
+    forms c.args.schedule.items _ _ c.in_ok-run_world.ensures.value given told
+
+pub returns-clause-same : goal.returns-clause-same
+returns-clause-same c = (c.in_ok-run_world.ensures.same.client_within, c.in_ok-run_world.ensures.same.server_within)
+
+pub returns-clause-joined : goal.returns-clause-joined
+returns-clause-joined c = (
+  c.in_ok-run_world.ensures.joined.server_inputs,
+  λ more. client_puts_none _ more c.in_ok-run_world.ensures.joined.asked,
+)
