@@ -41,4 +41,5 @@ mod ClientHeadline
 mod PutOutLemmas
 mod SidesPutOut
 mod WorldLemmas
+mod NextHeard
 mod AnswerLemmas

@@ -35,5 +35,6 @@ pub mod ServerHears
 pub mod ServerRuns
 pub mod SessionFaults
 pub mod Sides
+pub mod Tracks
 pub mod Unsent
 pub mod World
