@@ -43,3 +43,5 @@ mod SidesPutOut
 mod WorldLemmas
 mod NextHeard
 mod AnswerLemmas
+mod HearsNext
+mod ServerHearsNext
