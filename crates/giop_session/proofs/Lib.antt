@@ -45,3 +45,5 @@ mod NextHeard
 mod AnswerLemmas
 mod HearsNext
 mod ServerHearsNext
+mod ClientHearsNext
+mod LaneActLemmas

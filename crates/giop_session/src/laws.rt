@@ -17,6 +17,7 @@ mod acting;
 mod coding;
 mod headline;
 mod inputs;
+mod lane_acts;
 mod lane_events;
 mod left;
 mod limits;
@@ -36,6 +37,7 @@ pub use headline::{
     what_is_cut_is_carried,
 };
 pub use inputs::{Answered, CheckedForm, ClientInput, ServerInput, WorldEvent};
+pub use lane_acts::{clients_do_the_lanes_act, servers_do_the_lanes_act};
 pub use lane_events::{clients_hear_the_lanes_event, servers_hear_the_lanes_event};
 pub use left::{what_is_left_is_unsent_at_client, what_is_left_is_unsent_at_server};
 pub use limits::{limits_in_any_order_at_client, limits_in_any_order_at_server};
