@@ -1,4 +1,5 @@
 pub mod Acting
+pub mod Agreement
 pub mod Alone
 pub mod Begun
 pub mod CallTable

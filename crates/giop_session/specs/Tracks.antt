@@ -36,8 +36,8 @@ IsToServer id m = IsFor server_breaks id m
 abbrev pub IsToClient : ℕ → Msg → Type 0
 IsToClient id m = IsFor client_breaks id m
 
--- what a server's end has stored for an id is what stands at the server of this lane: its entry, the
--- messages that are unsent, and the pieces where it gathers
+-- what a server's end has stored for an id is what stands at the server of this lane: its entry,
+-- the messages that are unsent, and the pieces where it gathers
 pub record ServerShows (id : ℕ) (call : Call ServerEntry) (lane : Lane) : Type 0 where
   pub entry : entry_of call.slot ≡ lane.server.entry
   pub each : AllByRecursion (IsToClient id) (unsent_of call.slot)
@@ -54,8 +54,8 @@ pub record ClientShows (id : ℕ) (call : Call ClientEntry) (lane : Lane) : Type
   pub gathered : (q : Asked) → lane.client.entry ≡ Some (client.Gathering q)
       → (cut : Cut) × (lane.client.pieces ≡ pieces_of cut) × (call.pieces ≡ gathered_in cut)
 
--- some acts of a lane lead to what both ends have stored for its id, and to its messages among those
--- that are on their way
+-- some acts of a lane lead to what both ends have stored for its id, and to its messages among
+-- those that are on their way
 pub record Shows (interface : Interface) (id : ℕ) (at_client : Call ClientEntry)
     (at_server : Call ServerEntry) (asked answered : List Msg) : Type 0 where
   pub acts : List Act

@@ -14,6 +14,7 @@ ghost use Rattle.giop_session.specs.Heard.{hears_by};
 ghost use Rattle.giop_session.specs.CallTable.{at, Held, is_of_call, rules_of, turn};
 
 mod acting;
+mod agreement;
 mod coding;
 mod headline;
 mod inputs;
@@ -27,6 +28,7 @@ mod world;
 
 use crate::{Hearing, Side};
 pub use acting::what_an_own_act_leaves;
+pub use agreement::two_ends_agree;
 pub use coding::{
     clients_read_as_coding, own_ends_of_one_lane_agree, own_lanes_come_to_replies,
     pieces_are_gathered_as_they_come, servers_read_as_coding, what_is_sent_is_a_lanes,
