@@ -18,15 +18,13 @@ use Rattle.giop_session.specs.declared.sending.Sends.{Sends}
 use Rattle.giop_session.specs.declared.session_fault.SessionFault.{SessionFault}
 use Rattle.giop_session.specs.declared.table_fault.TableFault.{TableFault}
 use Rattle.giop_session.specs.Acting.{IsAccepted}
-use Rattle.giop_session.specs.Agreement.{IsMet}
 use Rattle.giop_session.specs.Alone.{own_messages}
 use Rattle.giop_session.specs.CallTable.{Call, Held, Hears, Nothing, at, event_reply, rules_of, turn}
 use Rattle.giop_session.specs.ClientHears.{client_breaks}
 use Rattle.giop_session.specs.Coding.{coding}
-use Rattle.giop_session.specs.Driven.{EndState}
 use Rattle.giop_session.specs.LaneAtEnds.{seen}
 use Rattle.giop_session.specs.OnTheWay.{Names}
-use Rattle.giop_session.specs.Putting.{Befell, Puts, octets_of}
+use Rattle.giop_session.specs.Putting.{Puts, octets_of}
 use Rattle.giop_session.specs.ServerHears.{server_breaks}
 use Rattle.giop_session.specs.Tracks.{ClientShows, IsToClient, IsToServer, ServerShows, Shows}
 use Rattle.giop_session.specs.World.{WorldState}
@@ -34,7 +32,7 @@ use Rattle.giop_ids.specs.Runs.{left}
 use Rattle.giop_session.proofs.ActingLemmas.{accepted, refused}
 use Rattle.giop_session.proofs.NextHeard.{IsBeside}
 use Rattle.giop_session.proofs.OwnMessages.{own_left, own_sent}
-use Rattle.giop_session.proofs.WorldTracks.{IsAnswered, IsAsked, IsWithin, Tracks, all_named, at_each, each_more, each_of_some, more_on_the_way, put_beside, runs_more, same_beside}
+use Rattle.giop_session.proofs.WorldTracks.{IsAnswered, IsAsked, Tracks, all_named, at_each, each_more, each_of_some, more_on_the_way, put_beside, runs_more, same_beside}
 
 -- ---- what an act of an end's own comes to
 

@@ -1,42 +1,30 @@
 -- A world that began is tracked, each event keeps it so, and the ends of a tracked world agree and fail at their limits alone.
-use Rattle.std.proofs.Common.{◌≡◌, ℕ, ◌-◌, ◌^◌, ◌<◌, length, if◌then◌else◌, Bool, List, [], ◌∷◌, ◌++◌, map, Option, Some, None, refl, sym, ap, subst, ◌∙◌, arith, length-append}
+use Rattle.std.proofs.Common.{◌≡◌, ℕ, length, List, [], ◌∷◌, map, None, refl, sym, ap, subst, ◌∙◌, arith, length-append}
 use Rattle.std.specs.FinMap as finite
 use Rattle.std.specs.List.{AllByRecursion}
 use Rattle.std.specs.Option.{option_map}
 use Rattle.std.specs.Ordering.{nat_cmp}
 use Rattle.giop_types.specs.declared.json.interface.Interface.{Interface}
-use Rattle.giop_msg.specs.Locate.{AnyLocateRequest}
-use Rattle.giop_msg.specs.Stream.{BeginsWithFault, BeginsWithMessage, Unread, Waits}
+use Rattle.giop_msg.specs.Stream.{Unread, Waits}
 use Rattle.giop_msg.specs.Msg.{message_octets}
-use Rattle.giop_msg.specs.declared.fault.WireFault.{WireFault}
-use Rattle.giop_msg.specs.declared.messages.locate_reply.LocateReply.{LocateReply}
-use Rattle.giop_msg.specs.declared.messages.reply.Reply.{Reply}
-use Rattle.giop_msg.specs.declared.messages.request.Request.{Request}
-use Rattle.giop_msg.specs.declared.msg.Msg.{Msg}
 use Rattle.giop_msg.proofs.StreamLemmas.{length-message_octets}
 use Rattle.giop_calls.specs.ClientTable as client_table
 use Rattle.giop_calls.specs.Lane.{Agrees, Codec, IsRight, IsRightLocate, IsSound, Lane, new}
 use Rattle.giop_calls.specs.ServerTable as server_table
 use Rattle.giop_calls.specs.declared.client.entry.ClientEntry.{ClientEntry}
-use Rattle.giop_calls.specs.declared.client.entry.ClientEntry.TheVariants.{Done, LocateDone}
 use Rattle.giop_calls.specs.declared.server.entry.ServerEntry.{ServerEntry}
-use Rattle.giop_calls.specs.declared.server.entry.ServerEntry.TheVariants.{Answered, LocateAnswered}
-use Rattle.giop_calls.specs.declared.server.question.Question.TheVariants as question
-use Rattle.giop_session.specs.declared.laws.inputs.ClientInput.TheVariants as client
 use Rattle.giop_session.specs.declared.laws.inputs.WorldEvent.{WorldEvent}
 use Rattle.giop_session.specs.declared.laws.inputs.WorldEvent.TheVariants as event
 use Rattle.giop_session.specs.declared.limits.Limits.{Limits}
-use Rattle.giop_session.specs.Agreement.{Agreed, AreInRange, FailsByLimits, IsInRange, client_outcome, server_outcome}
+use Rattle.giop_session.specs.Agreement.{Agreed, AreInRange, FailsByLimits, IsInRange}
 use Rattle.giop_session.specs.CallTable.{Call}
-use Rattle.giop_session.specs.ClientRuns.{client_entry}
 use Rattle.giop_session.specs.Coding.{coding}
 use Rattle.giop_session.specs.Driven.{InTurn}
 use Rattle.giop_session.specs.LaneAtEnds.{seen}
 use Rattle.giop_session.specs.OnTheWay.{OnTheWay}
 use Rattle.giop_session.specs.Sending.{entry_of, unsent_of}
 use Rattle.giop_session.specs.Alone.{own_messages}
-use Rattle.giop_session.specs.ServerRuns.{server_entry}
-use Rattle.giop_session.specs.Tracks.{ClientShows, IsToClient, IsToServer, ServerShows, Shows}
+use Rattle.giop_session.specs.Tracks.{ClientShows, IsToClient, IsToServer, ServerShows}
 use Rattle.giop_session.specs.World.{Happens, Told, WorldRuns, WorldState, new_world}
 use Rattle.giop_session.proofs.Arriving.{at_client, at_server}
 use Rattle.giop_session.proofs.ClientActing.{client_calls, client_cancels, client_locates, client_sends}

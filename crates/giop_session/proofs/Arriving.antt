@@ -1,17 +1,14 @@
 -- Octets that arrive at an end of a world are acts of the lanes that their messages are on, and then a limit is met, if one is.
 use Rattle.std.proofs.Common.{◌≡◌, ◌≢◌, ℕ, List, [], ◌∷◌, ◌++◌, map, take, drop, Option, Some, None, Result, Ok, Err, refl, sym, ap, subst, ◌∙◌}
 use Rattle.std.proofs.lemmas.List.{take-append-drop}
-use Rattle.std.specs.List.{AllByRecursion}
 use Rattle.std.specs.Option.{option_map}
 use Rattle.giop_types.specs.declared.json.interface.Interface.{Interface}
-use Rattle.giop_msg.specs.Stream.{Unread}
 use Rattle.giop_msg.specs.declared.msg.Msg.{Msg}
 use Rattle.giop_calls.specs.ClientTable as client_table
 use Rattle.giop_calls.specs.Lane.{Codec, Lane, Message, Standing, ToClient, ToServer, later, step}
 use Rattle.giop_calls.specs.Lane as lanes
 use Rattle.giop_calls.specs.ServerTable as server_table
 use Rattle.giop_calls.specs.declared.client.entry.ClientEntry.{ClientEntry}
-use Rattle.giop_calls.specs.declared.client.event.ClientEvent.{ClientEvent}
 use Rattle.giop_calls.specs.declared.client.rule.ClientRule.{ClientRule}
 use Rattle.giop_calls.specs.declared.server.entry.ServerEntry.{ServerEntry}
 use Rattle.giop_calls.specs.declared.server.rule.ServerRule.{ServerRule}
@@ -24,17 +21,17 @@ use Rattle.giop_session.specs.Alone.{own_messages}
 use Rattle.giop_session.specs.CallTable.{Held, at}
 use Rattle.giop_session.specs.ClientHears.{client_befalls, client_breaks}
 use Rattle.giop_session.specs.Coding.{coding}
-use Rattle.giop_session.specs.Driven.{EndState, Feeds, IsDoneBy, IsGivenBy}
+use Rattle.giop_session.specs.Driven.{Feeds, IsDoneBy, IsGivenBy}
 use Rattle.giop_session.specs.Feeding.{Fed, standing, with_octets}
 use Rattle.giop_session.specs.Heard.{in_call}
 use Rattle.giop_session.specs.LaneAtEnds.{seen}
 use Rattle.giop_session.specs.OnTheWay.{IsFramed}
 use Rattle.giop_session.specs.ServerHears.{server_befalls, server_breaks}
-use Rattle.giop_session.specs.Tracks.{ClientShows, IsToClient, IsToServer, ServerShows, Shows}
+use Rattle.giop_session.specs.Tracks.{ClientShows, ServerShows, Shows}
 use Rattle.giop_session.specs.World.{ArriveAtClient, ArriveAtServer, Told, WorldState}
 use Rattle.giop_session.proofs.Acted.{client_shows_as, server_shows_as}
 use Rattle.giop_session.proofs.ClientHearsNext.{client_hears_next}
-use Rattle.giop_session.proofs.Feeds.{Arrived, GoesBy, fed}
+use Rattle.giop_session.proofs.Feeds.{GoesBy, fed}
 use Rattle.giop_session.proofs.NextHeard.{ClientHearsIt, IsFull, ServerHearsIt}
 use Rattle.giop_session.proofs.OwnMessages.{own_first, own_passed}
 use Rattle.giop_session.proofs.ServerHearsNext.{server_hears_next}

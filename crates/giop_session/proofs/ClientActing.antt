@@ -1,5 +1,5 @@
 -- What a client's own program does in a world is an act of the lane of its id.
-use Rattle.std.proofs.Common.{◌≡◌, ◌≢◌, ℕ, ◌+◌, ◌-◌, ◌==◌, ◌^◌, ◌<◌, Bool, true, false, if◌then◌else◌, List, [], ◌∷◌, ◌++◌, map, Option, Some, None, Result, Ok, Err, IsOk, refl, sym, ap, subst, ◌∙◌, ◌⊎◌, inl, inr}
+use Rattle.std.proofs.Common.{◌≡◌, ℕ, ◌+◌, ◌-◌, ◌==◌, ◌^◌, ◌<◌, Bool, true, false, if◌then◌else◌, List, [], ◌∷◌, ◌++◌, map, Option, Some, None, Result, Ok, Err, IsOk, refl, sym, ap, subst, ◌∙◌, ◌⊎◌, inl, inr}
 use Rattle.std.specs.FinMap as finite
 use Rattle.std.specs.List.{AllByRecursion, flat_map}
 use Rattle.giop_cdr.specs.declared.order.Order.{Order}
@@ -27,7 +27,6 @@ use Rattle.giop_calls.specs.declared.fault.CallFault.TheVariants.{IdInUse}
 use Rattle.giop_session.specs.declared.laws.inputs.Answered.{Answered}
 use Rattle.giop_session.specs.declared.laws.inputs.Answered.TheVariants as answer
 use Rattle.giop_session.specs.declared.laws.inputs.CheckedForm.{CheckedForm}
-use Rattle.giop_session.specs.declared.laws.inputs.ClientInput.{ClientInput}
 use Rattle.giop_session.specs.declared.laws.inputs.ClientInput.TheVariants as given
 use Rattle.giop_session.specs.declared.laws.inputs.WorldEvent.TheVariants as event
 use Rattle.giop_session.specs.declared.limits.Limits.{Limits}
@@ -51,7 +50,7 @@ use Rattle.giop_session.specs.Sent.{cancel_request, sends_one}
 use Rattle.giop_session.specs.Tracks.{ClientShows, IsToServer}
 use Rattle.giop_session.specs.Unsent.{first_of}
 use Rattle.giop_session.specs.World.{AtClient, Told, WorldState}
-use Rattle.giop_session.proofs.Acted.{Acted, ClientActs, client_after, client_goes_on, comes_to, listed, octets_listed}
+use Rattle.giop_session.proofs.Acted.{Acted, ClientActs, client_goes_on, comes_to, listed, octets_listed}
 use Rattle.giop_session.proofs.CodingLemmas.{call_read, own_suits}
 use Rattle.giop_session.proofs.LaneAtEndsLemmas.{call_seen}
 use Rattle.giop_session.proofs.SentMessages.{call_for, cancel_for}

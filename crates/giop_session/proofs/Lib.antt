@@ -50,7 +50,9 @@ mod ClientActing
 mod ServerActing
 mod Feeds
 mod HearsNext
+mod ServerSteps
 mod ServerHearsNext
+mod ClientSteps
 mod ClientHearsNext
 mod LaneActLemmas
 mod Arriving

@@ -1,5 +1,5 @@
 -- Each message that an end plans to send is one of its call, to the other end.
-use Rattle.std.proofs.Common.{◌≡◌, ℕ, ◌-◌, ◌<◌, ◌^◌, Bool, true, List, [], ◌∷◌, Option, Some, None, is_none, refl, ap, subst}
+use Rattle.std.proofs.Common.{◌≡◌, ℕ, ◌-◌, ◌<◌, ◌^◌, Bool, true, List, [], ◌∷◌, Option, Some, None, is_none, refl, subst}
 use Rattle.std.specs.List.{All, AllByRecursion}
 use Rattle.giop_cdr.specs.declared.order.Order.{Order}
 use Rattle.giop_types.specs.declared.json.interface.Interface.{Interface}

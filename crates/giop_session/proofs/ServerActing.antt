@@ -1,5 +1,5 @@
 -- What a server's own program does in a world is an act of the lane of its id.
-use Rattle.std.proofs.Common.{◌≡◌, ◌≢◌, ℕ, ◌+◌, ◌-◌, ◌==◌, ◌^◌, ◌<◌, ◌&&◌, Bool, true, false, not, if◌then◌else◌, List, [], ◌∷◌, ◌++◌, length, map, Option, Some, None, is_none, is_some, Result, Ok, Err, IsOk, refl, sym, ap, subst, ◌∙◌, ◌⊎◌, inl, inr}
+use Rattle.std.proofs.Common.{◌≡◌, ℕ, ◌-◌, ◌==◌, ◌^◌, ◌<◌, ◌&&◌, Bool, true, false, if◌then◌else◌, List, [], ◌∷◌, ◌++◌, length, map, Option, Some, None, Result, Ok, Err, IsOk, refl, sym, ap, subst, ◌∙◌, ◌⊎◌, inl, inr}
 use Rattle.std.specs.FinMap as finite
 use Rattle.std.specs.List.{AllByRecursion, flat_map}
 use Rattle.giop_cdr.specs.declared.order.Order.{Order}
@@ -10,15 +10,13 @@ use Rattle.giop_msg.specs.Msg.{message_octets}
 use Rattle.giop_msg.specs.declared.messages.reply.Reply.{Reply}
 use Rattle.giop_msg.specs.declared.messages.request.Request.{Request}
 use Rattle.giop_msg.specs.declared.msg.Msg.{Msg}
-use Rattle.giop_msg.specs.declared.version.Version.{Version}
 use Rattle.giop_calls.specs.Lane.{Codec, Cut, Lane, Runs, count, fragments, is_last, later, new, next, pieces_of}
 use Rattle.giop_calls.specs.Lane as lanes
-use Rattle.giop_calls.specs.Messages.{is_same_version, is_system_exception}
+use Rattle.giop_calls.specs.Messages.{is_same_version}
 use Rattle.giop_calls.specs.ServerTable.{becomes_if, is_closed, is_gathering, server_step}
 use Rattle.giop_calls.specs.ServerTable as server_table
 use Rattle.giop_calls.specs.declared.fault.CallFault.{CallFault}
 use Rattle.giop_calls.specs.declared.fault.CallFault.TheVariants.{NothingToSend, Unfit}
-use Rattle.giop_calls.specs.declared.kind.CallKind.{CallKind}
 use Rattle.giop_calls.specs.declared.kind.CallKind.TheVariants as kind
 use Rattle.giop_calls.specs.declared.server.entry.ServerEntry.{ServerEntry}
 use Rattle.giop_calls.specs.declared.server.entry.ServerEntry.TheVariants as entries
@@ -50,12 +48,12 @@ use Rattle.giop_session.specs.Putting.{Puts}
 use Rattle.giop_session.specs.Refused.{unfit_unless}
 use Rattle.giop_session.specs.Sending.{entry_of, message_of, slot_of, unsent_after, unsent_of}
 use Rattle.giop_session.specs.Sent.{sends_one}
-use Rattle.giop_session.specs.ServerAnswers.{IsAnswer, IsLocateAnswer, answer_fault, is_reply_sendable, locate_of, located, question_of, reply_octets}
+use Rattle.giop_session.specs.ServerAnswers.{IsAnswer, IsLocateAnswer, answer_fault, locate_of, located, question_of, reply_octets}
 use Rattle.giop_session.specs.ServerHears.{server_befalls, server_breaks}
 use Rattle.giop_session.specs.ServerRuns.{server_entry}
 use Rattle.giop_session.specs.Tracks.{IsToClient, ServerShows}
 use Rattle.giop_session.specs.World.{AtServer, Told, WorldState}
-use Rattle.giop_session.proofs.Acted.{Acted, ServerActs, comes_to, listed, octets_listed, server_after, server_goes_on}
+use Rattle.giop_session.proofs.Acted.{Acted, ServerActs, comes_to, listed, octets_listed, server_goes_on}
 use Rattle.giop_session.proofs.ClientActing.{first_is, first_seen, others_are, others_seen, tried_so}
 use Rattle.giop_session.proofs.CodingLemmas.{own_suits, reply_read}
 use Rattle.giop_session.proofs.LaneAtEndsLemmas.{located_seen, reply_seen}

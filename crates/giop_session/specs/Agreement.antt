@@ -1,6 +1,6 @@
 -- What two ends that hear one another agree on, call by call, and why one of them may fail (CORBA
 -- 3.3 Part 2, 9.4).
-use Rattle.std.specs.Prelude.{◌≡◌, ℕ, ◌+◌, ◌<◌, ◌^◌, true, if◌then◌else◌, Bool, List, [], Option, Some, None}
+use Rattle.std.specs.Prelude.{◌≡◌, ℕ, ◌+◌, ◌<◌, ◌^◌, true, if◌then◌else◌, Bool, List, [], Option, Some}
 use Rattle.std.specs.FinMap as finite
 use Rattle.std.specs.List.{AllByRecursion}
 use Rattle.std.specs.Option.{option_map}
