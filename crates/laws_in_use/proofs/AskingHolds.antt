@@ -1,6 +1,5 @@
 -- Both ways of being answered hold the same calls.
-use Rattle.std.proofs.Common.{◌≡◌, ℕ, ◌==◌, Bool, true, false, if◌then◌else◌, List, [], ◌∷◌, map, take, Some, refl, sym, subst, arith}
-use Rattle.std.proofs.lemmas.Bool.Decides.{nat_tests}
+use Rattle.std.proofs.Common.{◌≡◌, ℕ, ◌==◌, Bool, true, false, List, [], ◌∷◌, ◌++◌, map, take, Some, refl}
 use Rattle.giop_types.specs.declared.json.interface.Interface.{Interface}
 use Rattle.giop_cdr.specs.Layout.{number, chosen}
 use Rattle.giop_cdr.specs.Reading.Values.{field_at, number_at}
@@ -9,37 +8,55 @@ use Rattle.giop_msg.specs.Joined.{joined_from}
 use Rattle.giop_msg.specs.Messages.Laws.{IsWhole}
 use Rattle.giop_msg.specs.Messages.LocateReply.{locate_reply}
 use Rattle.giop_msg.specs.RequestId.{request_id_layout}
+use Rattle.giop_msg.specs.Stream.{Unread}
 use Rattle.giop_msg.specs.declared.version.Version.{Version}
 use Rattle.giop_msg.specs.declared.version.Version.TheVariants.{V10, V12}
+use Rattle.giop_mux.specs.Runs.{Hears}
 use Rattle.giop_calls.specs.declared.client.call.Call.TheVariants as asked
 use Rattle.giop_calls.specs.declared.client.event.ClientEvent.{ClientEvent}
+use Rattle.giop_calls.specs.declared.client.event.ClientEvent.TheVariants as event
 use Rattle.giop_calls.specs.declared.client.heard.HeardReply.{HeardReply}
 use Rattle.giop_calls.specs.declared.client.heard.HeardReply.TheVariants as heard
 use Rattle.giop_calls.specs.declared.kind.CallKind.TheVariants as kind
-use Rattle.giop_session.specs.Carries.{Carries, CarriesItem, Got, behind_all}
+use Rattle.giop_session.specs.Carries.{Carries, CarriesItem, Got, behind_all, done_by}
 use Rattle.giop_session.specs.ClientCarries.{ClientItem, Known, SpellsReply, client_telling, unknown}
 use Rattle.giop_session.specs.Events.{Comes, Event, own_events}
 use Rattle.giop_session.specs.Events.{Does as DoesTo}
-use Rattle.giop_session.specs.Inputs.{AreEvents, Holds, nothing_unread}
-use Rattle.laws_in_use.specs.Asking.{asking, asking_key, cancelling, here, here_begins, here_ends, one_way, other_way, sending, short, short_octets, told, told_of_nine, told_of_seven, unknown_big, unknown_key, unknown_little}
+use Rattle.giop_session.specs.Inputs.{AreEvents, Holds, Input, nothing_unread}
+use Rattle.laws_in_use.specs.Asking.{Acts, asking, asking_key, cancelling, here, here_begins, here_ends, one_way, one_way_by, other_way, own_acts, sending, short, short_octets, told, told_of_nine, told_of_seven, unknown_big, unknown_key, unknown_little}
 use Rattle.laws_in_use.specs.Locating.{cancel_big, cancel_little, door, here_little, key, key_big, key_little, limits, tight_limits}
 use Rattle.laws_in_use.proofs.AskingMessages as message
 use Rattle.laws_in_use.proofs.AskingReads as read
+use Rattle.laws_in_use.proofs.ByIds.{by_id, if_is}
 use Rattle.laws_in_use.proofs.LocatingReads.{tight, wide}
 
+-- these acts are what is told of them
+pub record AreTold (acts : Acts) : Type 0 where
+  pub asks : done_by acts.asks ≡ Hears (event.Call (asked.Locate door) 2)
+  pub asks_key : done_by acts.asks_key ≡ Hears (event.Call (asked.Locate key) 1)
+  pub cancels : done_by acts.cancels ≡ Hears event.Cancel
+  pub sends : done_by acts.sends ≡ Hears event.Send
+  pub asks_again : done_by acts.asks_again ≡ Hears (event.Call (asked.Locate key) 1)
+
+pub own_told : AreTold own_acts
+own_told = record { asks = refl; asks_key = refl; cancels = refl; sends = refl; asks_again = refl }
+
 -- the events of both ways
-abbrev pub one_events : List (Event ClientEvent)
-one_events =
-    DoesTo 7 asking ∷ DoesTo 9 (asking_key key_little) ∷ DoesTo 9 (cancelling cancel_big) ∷ DoesTo 7 sending ∷ Comes here_begins
-    ∷ Comes unknown_little ∷ DoesTo 9 (asking_key key_big) ∷ Comes here_ends ∷ Comes short ∷ []
+abbrev pub one_events_by : Acts → List (Event ClientEvent)
+one_events_by acts =
+    DoesTo 7 acts.asks ∷ DoesTo 9 acts.asks_key ∷ DoesTo 9 acts.cancels ∷ DoesTo 7 acts.sends ∷ Comes here_begins ∷ Comes unknown_little
+    ∷ DoesTo 9 acts.asks_again ∷ Comes here_ends ∷ Comes short ∷ []
 
 abbrev pub other_events : List (Event ClientEvent)
 other_events =
-    DoesTo 9 (asking_key key_big) ∷ DoesTo 9 (cancelling cancel_little) ∷ Comes unknown_big ∷ DoesTo 9 (asking_key key_little)
+    DoesTo 9 (asking_key key_big) ∷ DoesTo 9 (cancelling cancel_big) ∷ Comes unknown_big ∷ DoesTo 9 (asking_key key_little)
     ∷ DoesTo 7 asking ∷ DoesTo 7 sending ∷ Comes short ∷ Comes here_little ∷ []
 
-pub one_are : AreEvents (nothing_unread limits.message) one_way one_events (wide [])
-one_are = (
+-- the first, and more behind it
+pub one_are_then : (acts : Acts) (behind : List (Input ClientEvent)) (events : List (Event ClientEvent)) (left : Unread)
+    → AreEvents (wide []) behind events left
+    → AreEvents (nothing_unread limits.message) (one_way_by acts ++ behind) (one_events_by acts ++ events) left
+one_are_then acts behind events left more = (
   _,
   refl,
   (
@@ -68,7 +85,7 @@ one_are = (
             (
               _,
               refl,
-              (here_ends ∷ short ∷ [], _, [], read.third.takes, read.third.waits, refl, (refl, refl)),
+              (here_ends ∷ short ∷ [], _, events, read.third.takes, read.third.waits, refl, more),
             ),
           ),
         ),
@@ -109,24 +126,22 @@ other_are = (
 )
 
 -- those of an id, where it is 7, or 9
-abbrev if_is : Bool → Event ClientEvent → List (Event ClientEvent) → List (Event ClientEvent)
-if_is is e events = if is then e ∷ events else events
-
-abbrev one_by : Bool → Bool → List (Event ClientEvent)
-one_by seven nine =
-    if_is seven (DoesTo 7 asking) (if_is nine (DoesTo 9 (asking_key key_little)) (if_is nine (DoesTo 9 (cancelling cancel_big))
-    (if_is seven (DoesTo 7 sending) (if_is seven (Comes here_begins) (if_is nine (Comes unknown_little)
-    (if_is nine (DoesTo 9 (asking_key key_big)) (if_is seven (Comes here_ends) (if_is nine (Comes short) []))))))))
+abbrev pub one_by : Acts → List (Event ClientEvent) → Bool → Bool → List (Event ClientEvent)
+one_by acts behind seven nine =
+    if_is seven (DoesTo 7 acts.asks) (if_is nine (DoesTo 9 acts.asks_key) (if_is nine (DoesTo 9 acts.cancels)
+    (if_is seven (DoesTo 7 acts.sends) (if_is seven (Comes here_begins) (if_is nine (Comes unknown_little)
+    (if_is nine (DoesTo 9 acts.asks_again) (if_is seven (Comes here_ends) (if_is nine (Comes short) behind))))))))
 
 abbrev other_by : Bool → Bool → List (Event ClientEvent)
 other_by seven nine =
-    if_is nine (DoesTo 9 (asking_key key_big)) (if_is nine (DoesTo 9 (cancelling cancel_little)) (if_is nine (Comes unknown_big)
+    if_is nine (DoesTo 9 (asking_key key_big)) (if_is nine (DoesTo 9 (cancelling cancel_big)) (if_is nine (Comes unknown_big)
     (if_is nine (DoesTo 9 (asking_key key_little)) (if_is seven (DoesTo 7 asking) (if_is seven (DoesTo 7 sending)
     (if_is nine (Comes short) (if_is seven (Comes here_little) [])))))))
 
-one_own : (id : ℕ) → own_events id one_events ≡ one_by (id == 7) (id == 9)
+pub one_own : (acts : Acts) (behind : List (Event ClientEvent)) (id : ℕ)
+    → own_events id (one_events_by acts ++ behind) ≡ one_by acts (own_events id behind) (id == 7) (id == 9)
 unfolding request_id_layout chosen number number_at field_at
-one_own id = refl
+one_own acts behind id = refl
 
 other_own : (id : ℕ) → own_events id other_events ≡ other_by (id == 7) (id == 9)
 unfolding request_id_layout chosen number number_at field_at
@@ -144,56 +159,76 @@ short_spells_none interface old (heard.Undecoded fault) spelled = spelled
 short_spells_none interface old heard.Unread spelled = spelled
 
 module _ (interface : Interface) (old : IsWhole (locate_reply V10)) (table : IsWhole (locate_reply V12)) where
-  abbrev CarriesTold : List ClientItem → List (Event ClientEvent) → Type 0
+  abbrev pub CarriesTold : List ClientItem → List (Event ClientEvent) → Type 0
   CarriesTold items events = Carries (client_telling interface) unknown items events
 
-  one_seven : CarriesTold told_of_seven (one_by true false)
-  one_seven = (
-    DoesTo 7 asking ∷ [],
-    _,
-    refl,
-    (7, asking, refl, refl),
-    (
-      DoesTo 7 sending ∷ [],
+  module _ (acts : Acts) (are : AreTold acts) where
+    pub one_seven : CarriesTold told_of_seven (one_by acts [] true false)
+    one_seven = (
+      DoesTo 7 acts.asks ∷ [],
       _,
       refl,
-      (7, sending, refl, refl),
+      (7, acts.asks, are.asks, refl),
       (
-        Comes here_begins ∷ Comes here_ends ∷ [],
-        [],
-        refl,
-        (kind.Locate, V12, Big, here_begins ∷ here_ends ∷ [], refl, (refl, refl), (table.exact (joined_from Big _)).found here message.read.here_joined),
-        refl,
-      ),
-    ),
-  )
-
-  one_nine : CarriesTold told_of_nine (one_by false true)
-  one_nine = (
-    DoesTo 9 (asking_key key_little) ∷ [],
-    _,
-    refl,
-    (9, asking_key key_little, refl, refl),
-    (
-      DoesTo 9 (cancelling cancel_big) ∷ [],
-      _,
-      refl,
-      (9, cancelling cancel_big, refl, refl),
-      (
-        Comes unknown_little ∷ [],
+        DoesTo 7 acts.sends ∷ [],
         _,
         refl,
-        (kind.Locate, V10, Little, unknown_little ∷ [], refl, refl, (old.exact (joined_from Little _)).found unknown_key message.read.unknown_little),
+        (7, acts.sends, are.sends, refl),
         (
-          DoesTo 9 (asking_key key_big) ∷ [],
-          _,
+          Comes here_begins ∷ Comes here_ends ∷ [],
+          [],
           refl,
-          (9, asking_key key_big, refl, refl),
-          (Comes short ∷ [], [], refl, (short ∷ [], refl, refl, refl, short_spells_none interface old), refl),
+          (
+            kind.Locate,
+            V12,
+            Big,
+            here_begins ∷ here_ends ∷ [],
+            refl,
+            (refl, refl),
+            (table.exact (joined_from Big _)).found here message.read.here_joined,
+          ),
+          refl,
         ),
       ),
-    ),
-  )
+    )
+
+    -- what is told of 9, and what more is told behind it
+    pub one_nine_then : (items : List ClientItem) (behind : List (Event ClientEvent))
+        → Carries (client_telling interface) (behind_all (client_telling interface) unknown told_of_nine) items behind
+        → CarriesTold (told_of_nine ++ items) (one_by acts behind false true)
+    one_nine_then items behind more = (
+      DoesTo 9 acts.asks_key ∷ [],
+      _,
+      refl,
+      (9, acts.asks_key, are.asks_key, refl),
+      (
+        DoesTo 9 acts.cancels ∷ [],
+        _,
+        refl,
+        (9, acts.cancels, are.cancels, refl),
+        (
+          Comes unknown_little ∷ [],
+          _,
+          refl,
+          (
+            kind.Locate,
+            V10,
+            Little,
+            unknown_little ∷ [],
+            refl,
+            refl,
+            (old.exact (joined_from Little _)).found unknown_key message.read.unknown_little,
+          ),
+          (
+            DoesTo 9 acts.asks_again ∷ [],
+            _,
+            refl,
+            (9, acts.asks_again, are.asks_again, refl),
+            (Comes short ∷ [], behind, refl, (short ∷ [], refl, refl, refl, short_spells_none interface old), more),
+          ),
+        ),
+      ),
+    )
 
   other_nine : CarriesTold told_of_nine (other_by false true)
   other_nine = (
@@ -202,10 +237,10 @@ module _ (interface : Interface) (old : IsWhole (locate_reply V10)) (table : IsW
     refl,
     (9, asking_key key_big, refl, refl),
     (
-      DoesTo 9 (cancelling cancel_little) ∷ [],
+      DoesTo 9 (cancelling cancel_big) ∷ [],
       _,
       refl,
-      (9, cancelling cancel_little, refl, refl),
+      (9, cancelling cancel_big, refl, refl),
       (
         Comes unknown_big ∷ [],
         _,
@@ -222,25 +257,13 @@ module _ (interface : Interface) (old : IsWhole (locate_reply V10)) (table : IsW
     ),
   )
 
-  -- no id is both
-  apart : (id : ℕ) → (id == 7) ≡ true → (id == 9) ≡ true → ⊥
-  apart id seven nine = grind (arith, nat_tests)
-
-  by_id : (events : Bool → Bool → List (Event ClientEvent)) → CarriesTold told_of_seven (events true false)
-      → CarriesTold told_of_nine (events false true) → events false false ≡ [] → (seven nine : Bool) → (seven ≡ true → nine ≡ true → ⊥)
-      → CarriesTold (if seven then told_of_seven else if nine then told_of_nine else []) (events seven nine)
-  by_id events of_seven of_nine of_none true true not_both = absurd (not_both refl refl)
-  by_id events of_seven of_nine of_none true false not_both = of_seven
-  by_id events of_seven of_nine of_none false true not_both = of_nine
-  by_id events of_seven of_nine of_none false false not_both = of_none
-
   pub one_holds : Holds (client_telling interface) unknown limits.message one_way told
   one_holds = (
-    one_events,
+    one_events_by own_acts,
     wide [],
-    one_are,
-    λ id. subst (CarriesTold (told id)) (sym (one_own id))
-        (by_id one_by one_seven one_nine refl (id == 7) (id == 9) (apart id)),
+    one_are_then own_acts [] [] (wide []) (refl, refl),
+    by_id CarriesTold told_of_seven told_of_nine (one_by own_acts []) (one_seven own_acts own_told) (one_nine_then own_acts own_told [] [] refl) refl
+        (λ id. own_events id (one_events_by own_acts)) (one_own own_acts []),
   )
 
   -- what is known where the answer under 7 comes
@@ -268,6 +291,5 @@ module _ (interface : Interface) (old : IsWhole (locate_reply V10)) (table : IsW
       other_events,
       tight [],
       other_are,
-      λ id. subst (CarriesTold (told id)) (sym (other_own id))
-          (by_id other_by other_seven other_nine refl (id == 7) (id == 9) (apart id)),
+      by_id CarriesTold told_of_seven told_of_nine other_by other_seven other_nine refl (λ id. own_events id other_events) other_own,
     )

@@ -19,14 +19,16 @@ use Rattle.giop_calls.specs.declared.client.late.Late.TheVariants as late
 use Rattle.giop_calls.specs.declared.client.rule.ClientRule.{ClientRule}
 use Rattle.giop_calls.specs.declared.kind.CallKind.TheVariants as kind
 use Rattle.giop_calls.specs.ClientTable.{client_step, is_closed, is_gathering}
+use Rattle.giop_ids.specs.Runs.{Does}
 use Rattle.giop_session.specs.Begun.{no_calls}
-use Rattle.giop_session.specs.CallTable.{Act, Answers, Call, First, Hears, Held, More, Nothing, at, put_call}
+use Rattle.giop_session.specs.CallTable.{Act, Answers, Call, First, Hears, Held, More, Nothing, at, put_call, rules_of}
 use Rattle.giop_session.specs.ClientHears.{client_befalls, client_breaks}
 use Rattle.giop_session.specs.EndRuns.{ClientTakes}
-use Rattle.giop_session.specs.Heard.{kept}
+use Rattle.giop_session.specs.Heard.{hears_by, in_call, kept}
 use Rattle.giop_session.specs.Inputs.{nothing_unread}
 use Rattle.giop_session.specs.declared.limits.Limits.{Limits}
 use Rattle.giop_session.specs.declared.plan.Plan.TheVariants.{Next, Put}
+use Rattle.giop_session.specs.declared.plan.Planned.{Planned}
 use Rattle.laws_in_use.specs.Asking.{here, here_begins, here_ends, one_way, other_way, short, unknown_big, unknown_little}
 use Rattle.laws_in_use.specs.Locating.{cancel_big, cancel_little, door, door_begins, door_ends, here_little, key, key_big, key_little, limits, tight_limits}
 use Rattle.laws_in_use.proofs.AskingMessages.{decoded, named}
@@ -39,7 +41,7 @@ use Rattle.laws_in_use.proofs.Taking.{Stands, at-put, done, hears, stands_more, 
 abbrev call_of : ClientEntry → Call ClientEntry
 call_of entry = record { slot = Some (record { entry = entry; unsent = [] }); pieces = None }
 
-abbrev none : Call ClientEntry
+abbrev pub none : Call ClientEntry
 none = record { slot = None; pieces = None }
 
 abbrev sending : Call ClientEntry
@@ -57,7 +59,7 @@ gathering = record {
 abbrev located : Call ClientEntry
 located = call_of (LocateDone door here)
 
-abbrev key_waiting : Call ClientEntry
+abbrev pub key_waiting : Call ClientEntry
 key_waiting = call_of (Waiting (asked.Locate key))
 
 abbrev cancelled : Call ClientEntry
@@ -66,17 +68,17 @@ cancelled = call_of (Cancelled late.None)
 abbrev seen : Call ClientEntry
 seen = call_of (Cancelled late.Seen)
 
-abbrev undecoded : Call ClientEntry
+abbrev pub undecoded : Call ClientEntry
 undecoded = call_of (Undecoded (asked.Locate key) (record { at = 16; kind = Short }))
 
 abbrev ids : List ℕ
 ids = 7 ∷ 9 ∷ []
 
 -- the ends, as they become
-abbrev End : Type 0
+abbrev pub End : Type 0
 End = Held ClientRule ClientEntry
 
-abbrev new : Limits → End
+abbrev pub new : Limits → End
 new given = no_calls (record {}) given
 
 none_at : (given : Limits) (id : ℕ) → at (new given) id ≡ none
@@ -92,28 +94,28 @@ whole_old : {told known : HeardReply} → told ≡ known
 whole_old is = ap (λ told. Hears (kept (event.Whole kind.Locate V10 told)) Nothing) is
 
 module _ (interface : Interface) where
-  abbrev one_1 : End
+  abbrev pub one_1 : End
   one_1 = put_call (new limits) 7 sending
 
-  abbrev one_2 : End
+  abbrev pub one_2 : End
   one_2 = put_call one_1 9 key_waiting
 
-  abbrev one_3 : End
+  abbrev pub one_3 : End
   one_3 = put_call one_2 9 cancelled
 
-  abbrev one_4 : End
+  abbrev pub one_4 : End
   one_4 = put_call one_3 7 waiting
 
-  abbrev one_5 : End
+  abbrev pub one_5 : End
   one_5 = put_call one_4 7 gathering
 
-  abbrev one_6 : End
+  abbrev pub one_6 : End
   one_6 = put_call one_5 9 seen
 
-  abbrev one_7 : End
+  abbrev pub one_7 : End
   one_7 = put_call one_6 9 key_waiting
 
-  abbrev one_8 : End
+  abbrev pub one_8 : End
   one_8 = put_call one_7 7 located
 
   abbrev pub one_9 : End
@@ -134,7 +136,7 @@ module _ (interface : Interface) where
   one_s_2 : Stands one_2 limits ids 0
   one_s_2 = stands_more one_1 limits ids 0 0 9 none key_waiting one_s_1 refl one_at_1 refl
 
-  one_at_2 : at one_2 9 ≡ key_waiting
+  pub one_at_2 : at one_2 9 ≡ key_waiting
   one_at_2 = at-put one_1 9 key_waiting 9
 
   one_s_3 : Stands one_3 limits ids 0
@@ -173,64 +175,103 @@ module _ (interface : Interface) where
   one_at_8 : at one_8 9 ≡ key_waiting
   one_at_8 = at-put one_7 7 located 9 ∙ at-put one_6 9 key_waiting 9
 
-  pub one_taken : ClientTakes interface limits one_way (nothing_unread limits.message) one_9
-  one_taken =
-      let asks = done client_step is_closed is_gathering (new limits) limits ids 0 7
+  -- what the client does itself
+  abbrev Does_it : ℕ → Planned ClientEvent → Msg → End → End → Type 0
+  Does_it id planned m h k =
+      Does (rules_of client_step is_closed is_gathering) h (record { id = id; what = Hears planned Nothing })
+      (Ok (Answers (record { answer = tt; message = Some m }))) k
+
+  pub one_asks : Does_it 7 (record { event = event.Call (asked.Locate door) 2; plan = Put (door_begins ∷ door_ends ∷ []) }) door_begins (new limits) one_1
+  one_asks =
+      done client_step is_closed is_gathering (new limits) limits ids 0 7
       (record { event = event.Call (asked.Locate door) 2; plan = Put (door_begins ∷ door_ends ∷ []) }) Nothing none sending
-      (record { answer = tt; message = Some door_begins }) one_s_0 (omega arith) (omega arith) one_at_0 refl in
-      let asks_key = done client_step is_closed is_gathering one_1 limits ids 0 9
+      (record { answer = tt; message = Some door_begins }) one_s_0 (omega arith) (omega arith) one_at_0 refl
+
+  pub one_asks_key : Does_it 9 (record { event = event.Call (asked.Locate key) 1; plan = Put (key_little ∷ []) }) key_little one_1 one_2
+  one_asks_key =
+      done client_step is_closed is_gathering one_1 limits ids 0 9
       (record { event = event.Call (asked.Locate key) 1; plan = Put (key_little ∷ []) }) Nothing none key_waiting
-      (record { answer = tt; message = Some key_little }) one_s_1 (omega arith) (omega arith) one_at_1 refl in
-      let cancels = done client_step is_closed is_gathering one_2 limits ids 0 9 (record { event = event.Cancel; plan = Put (cancel_big ∷ []) })
-      Nothing key_waiting cancelled (record { answer = tt; message = Some cancel_big }) one_s_2 (omega arith) (omega arith) one_at_2 refl in
-      let sends = done client_step is_closed is_gathering one_3 limits ids 0 7 (record { event = event.Send; plan = Next }) Nothing sending waiting
-      (record { answer = tt; message = Some door_ends }) one_s_3 (omega arith) (omega arith) one_at_3 refl in
-      let begins = hears client_step is_closed is_gathering client_breaks (client_befalls interface) one_4 limits ids 0 here_begins 7
-      (kept (event.First kind.Locate V12)) (First Big here_begins.payload) waiting gathering refl named.here_begins one_s_4 (omega arith)
-      (omega arith) one_at_4 refl refl in
-      let late = hears client_step is_closed is_gathering client_breaks (client_befalls interface) one_5 limits ids 4 unknown_little 9
-      (kept (event.Whole kind.Locate V10 heard.Unread)) Nothing cancelled seen refl named.unknown_little one_s_5 (omega arith) (omega arith)
-      one_at_5 refl refl in
-      let again = done client_step is_closed is_gathering one_6 limits ids 4 9
+      (record { answer = tt; message = Some key_little }) one_s_1 (omega arith) (omega arith) one_at_1 refl
+
+  pub one_cancels : Does_it 9 (record { event = event.Cancel; plan = Put (cancel_little ∷ []) }) cancel_little one_2 one_3
+  one_cancels =
+      done client_step is_closed is_gathering one_2 limits ids 0 9
+      (record { event = event.Cancel; plan = Put (cancel_little ∷ []) }) Nothing key_waiting cancelled
+      (record { answer = tt; message = Some cancel_little }) one_s_2 (omega arith) (omega arith) one_at_2 refl
+
+  pub one_sends : Does_it 7 (record { event = event.Send; plan = Next }) door_ends one_3 one_4
+  one_sends =
+      done client_step is_closed is_gathering one_3 limits ids 0 7
+      (record { event = event.Send; plan = Next }) Nothing sending waiting
+      (record { answer = tt; message = Some door_ends }) one_s_3 (omega arith) (omega arith) one_at_3 refl
+
+  pub one_asks_again : Does_it 9 (record { event = event.Call (asked.Locate key) 1; plan = Put (key_big ∷ []) }) key_big one_6 one_7
+  one_asks_again =
+      done client_step is_closed is_gathering one_6 limits ids 4 9
       (record { event = event.Call (asked.Locate key) 1; plan = Put (key_big ∷ []) }) Nothing seen key_waiting
-      (record { answer = tt; message = Some key_big }) one_s_6 (omega arith) (omega arith) one_at_6 refl in
-      let ends = hears client_step is_closed is_gathering client_breaks (client_befalls interface) one_7 limits ids 4 here_ends 7
+      (record { answer = tt; message = Some key_big }) one_s_6 (omega arith) (omega arith) one_at_6 refl
+
+  -- and what it hears
+  abbrev Hears_it : Msg → End → End → Type 0
+  Hears_it m h k = hears_by (λ rule. client_step) (λ rule. is_closed) is_gathering in_call client_breaks (client_befalls interface) m h (Ok tt) k
+
+  pub one_begins : Hears_it here_begins one_4 one_5
+  one_begins =
+      hears client_step is_closed is_gathering client_breaks (client_befalls interface) one_4 limits ids 0 here_begins 7
+      (kept (event.First kind.Locate V12)) (First Big here_begins.payload) waiting gathering refl named.here_begins one_s_4 (omega arith)
+      (omega arith) one_at_4 refl refl
+
+  pub one_late : Hears_it unknown_little one_5 one_6
+  one_late =
+      hears client_step is_closed is_gathering client_breaks (client_befalls interface) one_5 limits ids 4 unknown_little 9
+      (kept (event.Whole kind.Locate V10 heard.Unread)) Nothing cancelled seen refl named.unknown_little one_s_5 (omega arith) (omega arith)
+      one_at_5 refl refl
+
+  pub one_ends : Hears_it here_ends one_7 one_8
+  one_ends =
+      hears client_step is_closed is_gathering client_breaks (client_befalls interface) one_7 limits ids 4 here_ends 7
       (kept (event.Last true (heard.Locate here))) (More (drop 4 here_ends.payload)) gathering located refl named.here_ends one_s_7 (omega arith)
       (omega arith) one_at_7 (ap (λ told. Hears (kept (event.Last true told)) (More (drop 4 here_ends.payload))) (decoded interface).here_joined)
-      refl in
-      let bad = hears client_step is_closed is_gathering client_breaks (client_befalls interface) one_8 limits ids 0 short 9
+      refl
+
+  pub one_bad : Hears_it short one_8 one_9
+  one_bad =
+      hears client_step is_closed is_gathering client_breaks (client_befalls interface) one_8 limits ids 0 short 9
       (kept (event.Whole kind.Locate V10 (heard.Undecoded (record { at = 16; kind = Short })))) Nothing key_waiting undecoded refl named.short
-      one_s_8 (omega arith) (omega arith) one_at_8 (whole_old (decoded interface).short) refl in (
-        one_1,
-        (Answers (record { answer = tt; message = Some door_begins }), asks),
+      one_s_8 (omega arith) (omega arith) one_at_8 (whole_old (decoded interface).short) refl
+
+  pub one_taken : ClientTakes interface limits one_way (nothing_unread limits.message) one_9
+  one_taken = (
+    one_1,
+    (_, one_asks),
+    (
+      one_2,
+      (_, one_asks_key),
+      (
+        one_3,
+        (_, one_cancels),
         (
-          one_2,
-          (Answers (record { answer = tt; message = Some key_little }), asks_key),
+          wide (take 5 (message_octets here_begins)),
+          one_3,
+          fed read.first refl,
           (
-            one_3,
-            (Answers (record { answer = tt; message = Some cancel_big }), cancels),
+            one_4,
+            (_, one_sends),
             (
-              wide (take 5 (message_octets here_begins)),
-              one_3,
-              fed read.first refl,
+              wide (take 7 (message_octets here_ends)),
+              one_6,
+              fed read.second (one_5, one_begins, (one_6, one_late, refl)),
               (
-                one_4,
-                (Answers (record { answer = tt; message = Some door_ends }), sends),
-                (
-                  wide (take 7 (message_octets here_ends)),
-                  one_6,
-                  fed read.second (one_5, begins, (one_6, late, refl)),
-                  (
-                    one_7,
-                    (Answers (record { answer = tt; message = Some key_big }), again),
-                    (wide [], one_9, fed read.third (one_8, ends, (one_9, bad, refl)), (refl, refl)),
-                  ),
-                ),
+                one_7,
+                (_, one_asks_again),
+                (wide [], one_9, fed read.third (one_8, one_ends, (one_9, one_bad, refl)), (refl, refl)),
               ),
             ),
           ),
         ),
-      )
+      ),
+    ),
+  )
 
   -- the other way
   abbrev other_1 : End
@@ -312,8 +353,8 @@ module _ (interface : Interface) where
       (record { event = event.Call (asked.Locate key) 1; plan = Put (key_big ∷ []) }) Nothing none key_waiting
       (record { answer = tt; message = Some key_big }) other_s_0 (omega arith) (omega arith) other_at_0 refl in
       let cancels = done client_step is_closed is_gathering other_1 tight_limits ids 0 9
-      (record { event = event.Cancel; plan = Put (cancel_little ∷ []) }) Nothing key_waiting cancelled
-      (record { answer = tt; message = Some cancel_little }) other_s_1 (omega arith) (omega arith) other_at_1 refl in
+      (record { event = event.Cancel; plan = Put (cancel_big ∷ []) }) Nothing key_waiting cancelled
+      (record { answer = tt; message = Some cancel_big }) other_s_1 (omega arith) (omega arith) other_at_1 refl in
       let late = hears client_step is_closed is_gathering client_breaks (client_befalls interface) other_2 tight_limits ids 0 unknown_big 9
       (kept (event.Whole kind.Locate V10 heard.Unread)) Nothing cancelled seen refl named.unknown_big other_s_2 (omega arith) (omega arith)
       other_at_2 refl refl in
@@ -335,7 +376,7 @@ module _ (interface : Interface) where
         (Answers (record { answer = tt; message = Some key_big }), asks_key),
         (
           other_2,
-          (Answers (record { answer = tt; message = Some cancel_little }), cancels),
+          (Answers (record { answer = tt; message = Some cancel_big }), cancels),
           (
             tight [],
             other_3,

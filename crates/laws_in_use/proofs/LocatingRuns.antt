@@ -21,7 +21,7 @@ use Rattle.giop_ids.specs.Runs.{Does}
 use Rattle.giop_session.specs.CallTable.{Act, Answers, Call, First, Hears, Held, More, Nothing, Reply, at, put_call, rules_of}
 use Rattle.giop_session.specs.EndRuns.{ServerTakes}
 use Rattle.giop_session.specs.Feeding.{Fed, Through}
-use Rattle.giop_session.specs.Heard.{hears_by, in_call, kept}
+use Rattle.giop_session.specs.Heard.{hears_by, in_call, kept, silent}
 use Rattle.giop_session.specs.Inputs.{nothing_unread}
 use Rattle.giop_session.specs.ServerHears.{server_befalls, server_breaks}
 use Rattle.giop_session.specs.declared.session_fault.SessionFault.{SessionFault}
@@ -153,6 +153,20 @@ module _ (interface : Interface) where
   asked = hears server_step is_closed is_gathering server_breaks (server_befalls interface) one_1 limits ids 12 key_little 9
       (kept (event.Whole (heard.Locate key))) Nothing none
       key_asked refl named.key_little s_1 (omega arith) (omega arith) at_1 (whole (decoded interface).key_little) refl
+
+  -- both as acts on calls by id
+  abbrev Acts_on : ℕ → Act ServerEvent → End → End → Type 0
+  Acts_on id what h k = Does (rules_of server_step is_closed is_gathering) h (record { id = id; what = what }) (Ok (Answers silent)) k
+
+  pub begun_act : Acts_on 7 (Hears (kept (event.First kind.Locate)) (First Big door_begins.payload)) (new limits) one_1
+  begun_act =
+      done server_step is_closed is_gathering (new limits) limits ids 0 7 (kept (event.First kind.Locate)) (First Big door_begins.payload)
+      none gathering silent s_0 (omega arith) (omega arith) (none_at limits 7) refl
+
+  pub asked_act : Acts_on 9 (Hears (kept (event.Whole (heard.Locate key))) Nothing) one_1 one_2
+  asked_act =
+      done server_step is_closed is_gathering one_1 limits ids 12 9 (kept (event.Whole (heard.Locate key))) Nothing none key_asked silent s_1
+      (omega arith) (omega arith) at_1 refl
 
   pub ended : Hears_it door_ends one_2 one_3
   ended = hears server_step is_closed is_gathering server_breaks (server_befalls interface) one_2 limits ids 12 door_ends 7

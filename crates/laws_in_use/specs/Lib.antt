@@ -6,8 +6,14 @@ pub mod Exchange
 pub mod Framed
 pub mod Gathering
 pub mod Heard
+pub mod Hearing
 pub mod Lanes
+pub mod Left
 pub mod Limited
 pub mod Locating
+pub mod OwnLanes
+pub mod Pinged
 pub mod Referred
+pub mod Runs
+pub mod Sent
 pub mod ServerCalls

@@ -83,16 +83,20 @@ abbrev pub tight_limits : Limits
 tight_limits = record { calls = 3; message = 16; gathered = 0 }
 
 -- the first way: `door` is cut, a read ends within its header and another within its Fragment, and
--- what the id 9 asks comes between its pieces
-abbrev pub one_way : List (Input ServerEvent)
-one_way =
+-- what the id 9 asks comes between its pieces; this answers it
+abbrev pub one_way_by : Local ServerEvent → List (Input ServerEvent)
+one_way_by act =
     Reads (take 5 (message_octets door_begins))
     ∷ Reads (drop 5 (message_octets door_begins) ++ message_octets key_little
     ++ take 7 (message_octets door_ends))
     ∷ Reads (drop 7 (message_octets door_ends) ++ message_octets cancel_big)
-    ∷ Does 7 (answering here_big)
+    ∷ Does 7 act
     ∷ Reads (message_octets bad)
     ∷ []
+
+-- by the answer that the object is here
+abbrev pub one_way : List (Input ServerEvent)
+one_way = one_way_by (answering here_big)
 
 -- the other: all that the id 9 asks comes first, in one read
 abbrev pub other_way : List (Input ServerEvent)

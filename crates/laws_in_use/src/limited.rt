@@ -1,12 +1,16 @@
 //! Limits in use: what is within them meets none in any order, and what meets one isn't within.
 ghost use Rattle.std.specs.Prelude.{◌≡◌, ◌≢◌, ◌∷◌, []};
 ghost use Rattle.giop_types.specs.declared.json.interface.Interface.{Interface};
+ghost use Rattle.giop_calls.specs.ClientTable as client;
 ghost use Rattle.giop_calls.specs.ServerTable.{is_closed, is_gathering, server_step};
 ghost use Rattle.giop_session.specs.declared.session_fault.SessionFault.TheVariants.{GatherFull, TooManyCalls, WrongDirection};
-ghost use Rattle.giop_session.specs.Events.{Comes, Meets};
+ghost use Rattle.giop_session.specs.ClientHears.{client_befalls, client_breaks};
+ghost use Rattle.giop_session.specs.Events.{Comes, Does, Meets};
 ghost use Rattle.giop_session.specs.Heard.{in_call};
 ghost use Rattle.giop_session.specs.Limits.{AreWithinAtClient, AreWithinAtServer, IsNext, Refuses};
 ghost use Rattle.giop_session.specs.ServerHears.{server_befalls, server_breaks};
+ghost use Rattle.laws_in_use.specs.Asking.{asking, sending};
+ghost use Rattle.laws_in_use.specs.Left.{new_client};
 ghost use Rattle.laws_in_use.specs.Limited.{all, asked, new_server, one_call, two_calls};
 ghost use Rattle.laws_in_use.specs.Locating.{door_begins, door_whole, here_big, key_little, limits};
 
@@ -40,5 +44,21 @@ pub fn a_limit_that_is_met()
     ensures at_client { AreWithinAtClient limits asked }
 {
     limits_in_any_order_at_server();
+    limits_in_any_order_at_client();
+}
+
+/// A client that asks in two messages and is answered is within its limits: so the second of its
+/// acts is refused for none, and neither is any other in any order.
+pub fn limits_at_a_client()
+    ensures within { AreWithinAtClient limits asked }
+    ensures next { IsNext asked (Does 7 asking ∷ []) (Does 7 sending) }
+    ensures none { (interface : Interface) (h why : _)
+        → Meets (λ rule. client.client_step) (λ rule. client.is_closed) client.is_gathering
+        in_call client_breaks (client_befalls interface) (new_client limits)
+        (Does 7 asking ∷ []) h
+        → Refuses (λ rule. client.client_step) (λ rule. client.is_closed) client.is_gathering
+        in_call client_breaks (client_befalls interface) (Does 7 sending) h why
+        → (why ≢ TooManyCalls) × (why ≢ GatherFull) }
+{
     limits_in_any_order_at_client();
 }

@@ -1,0 +1,60 @@
+-- What a run of a client's end is given holds the calls that are told, by whatever it sends.
+use Rattle.std.proofs.Common.{◌≡◌, ℕ, List, [], ◌∷◌, ◌++◌, refl, sym, subst}
+use Rattle.giop_types.specs.declared.json.interface.Interface.{Interface}
+use Rattle.giop_msg.specs.Messages.Laws.{IsWhole}
+use Rattle.giop_msg.specs.Messages.LocateReply.{locate_reply}
+use Rattle.giop_msg.specs.Stream.{Unread}
+use Rattle.giop_msg.specs.declared.version.Version.TheVariants.{V10, V12}
+use Rattle.giop_mux.specs.Runs.{IsTaken}
+use Rattle.giop_calls.specs.declared.client.entry.ClientEntry.{ClientEntry}
+use Rattle.giop_calls.specs.declared.client.event.ClientEvent.{ClientEvent}
+use Rattle.giop_calls.specs.declared.client.rule.ClientRule.{ClientRule}
+use Rattle.giop_session.specs.declared.laws.inputs.Answered.{Answered}
+use Rattle.giop_session.specs.declared.laws.inputs.ClientInput.{ClientInput}
+use Rattle.giop_session.specs.Begun.{no_calls}
+use Rattle.giop_session.specs.CallTable.{Held}
+use Rattle.giop_session.specs.Carries.{Did}
+use Rattle.giop_session.specs.ClientCarries.{client_telling, unknown}
+use Rattle.giop_session.specs.ClientRuns.{ClientHolds, ClientTakesAs}
+use Rattle.giop_session.specs.Events.{Event, own_events}
+use Rattle.giop_session.specs.Events.{Does as DoesTo}
+use Rattle.giop_session.specs.Inputs.{Does, Holds, Input, nothing_unread}
+use Rattle.laws_in_use.specs.Asking.{Acts, told_of_seven}
+use Rattle.laws_in_use.specs.Locating.{limits}
+use Rattle.laws_in_use.specs.Runs.{Forms, client_given, client_told, told_and_taken}
+use Rattle.laws_in_use.proofs.AskingHolds.{AreTold, CarriesTold, one_are_then, one_by, one_events_by, one_nine_then, one_own, one_seven}
+use Rattle.laws_in_use.proofs.ByIds.{by_id, if_is}
+use Rattle.laws_in_use.proofs.ClientRunActs.{AreActed, are_acted, of_run, run_acts}
+use Rattle.laws_in_use.proofs.LocatingReads.{wide}
+
+abbrev takes : List (Event ClientEvent)
+takes = DoesTo 9 IsTaken ∷ []
+
+module _ (interface : Interface) (old : IsWhole (locate_reply V10)) (table : IsWhole (locate_reply V12)) where
+  -- an entry is taken out at the end
+  pub run_holds : (acts : Acts) → AreTold acts → Holds (client_telling interface) unknown limits.message (run_acts acts) client_told
+  run_holds acts are = (
+    one_events_by acts ++ takes,
+    wide [],
+    one_are_then acts (Does 9 IsTaken ∷ []) takes (wide []) ([], refl, (refl, refl)),
+    by_id (CarriesTold interface old table) told_of_seven told_and_taken (λ seven nine. one_by acts (if_is nine (DoesTo 9 IsTaken) []) seven nine)
+        (one_seven interface old table acts are)
+        (one_nine_then interface old table acts are (Did IsTaken ∷ []) takes (takes, [], refl, (9, IsTaken, refl, refl), refl))
+        refl (λ id. own_events id (one_events_by acts ++ takes)) (one_own acts takes),
+  )
+
+  -- so do the acts as which any end takes that
+  pub holds_of_run : (forms : Forms) (inputs : List ClientInput) (answers : List (Answered ClientEntry)) (left : Unread)
+      (k : Held ClientRule ClientEntry) → inputs ≡ client_given forms
+      → ((acts : List (Input ClientEvent)) × ClientTakesAs interface limits inputs answers acts left k)
+      → ClientHolds interface limits inputs answers left k client_told
+  holds_of_run forms inputs answers left k given taken =
+      let acted = are_acted interface limits (nothing_unread limits.message) left (no_calls (record {}) limits) k inputs answers taken.0 taken.1 in
+      let of = of_run forms taken.0 (subst (λ (inputs : List ClientInput). AreActed inputs taken.0) given acted) in
+      record {
+        acts = taken.0;
+        taken = taken.1;
+        holds =
+            subst (λ (acts : List (Input ClientEvent)). Holds (client_telling interface) unknown limits.message acts client_told) (sym of.are)
+            (run_holds of.own of.told);
+      }

@@ -1,0 +1,29 @@
+use Rattle.giop_msg.specs.declared.version.Version.TheVariants.{V10, V12}
+use Rattle.laws_in_use.specs.Asking.{own_acts}
+use Rattle.laws_in_use.proofs.AskingHolds.{own_told}
+use Rattle.laws_in_use.proofs.ClientRunActs.{run_acts}
+use Rattle.laws_in_use.proofs.ClientRunHolds.{run_holds}
+use Rattle.laws_in_use.proofs.ClientRunTaken.{run_taken}
+use Rattle.laws_in_use.proofs.ClientRunWithin as within
+use Rattle.laws_in_use.proofs.runs.what_a_client_is_given.Goals as goal
+
+pub returns-clause-forms : goal.returns-clause-forms
+returns-clause-forms c = within.forms
+
+pub returns-clause-holds : goal.returns-clause-holds
+returns-clause-holds c = λ interface forms. (
+  _,
+  _,
+  record {
+    acts = run_acts own_acts;
+    taken = run_taken interface forms;
+    holds =
+        run_holds interface (c.locate_replies_are_spelled.ensures V10) (c.locate_replies_are_spelled.ensures V12) own_acts own_told;
+  },
+)
+
+pub returns-clause-none : goal.returns-clause-none
+returns-clause-none c = tt
+
+pub returns-clause-within : goal.returns-clause-within
+returns-clause-within c = λ forms. within.run_within forms

@@ -1,0 +1,29 @@
+use Rattle.std.proofs.Common.{[], ◌∷◌, None, refl}
+use Rattle.giop_cdr.specs.declared.order.Order.TheVariants.{Big}
+use Rattle.giop_msg.specs.declared.version.Version.TheVariants.{V10, V12}
+use Rattle.laws_in_use.specs.Locating.{answering, door, door_begins, door_ends, here_big}
+use Rattle.laws_in_use.proofs.LocatingSpelled.{door_cut}
+use Rattle.laws_in_use.proofs.ServerRunActs.{run_acts}
+use Rattle.laws_in_use.proofs.ServerRunHolds.{run_holds}
+use Rattle.laws_in_use.proofs.ServerRunTaken.{run_taken}
+use Rattle.laws_in_use.proofs.ServerRunWithin.{run_within}
+use Rattle.laws_in_use.proofs.runs.what_a_server_is_given.Goals as goal
+
+pub returns-clause-holds : goal.returns-clause-holds
+returns-clause-holds c = λ interface. (
+  _,
+  _,
+  record {
+    acts = run_acts (answering here_big);
+    taken = run_taken interface;
+    holds =
+        run_holds interface (c.locate_requests_are_spelled.ensures V10) (c.locate_requests_are_spelled.ensures V12)
+        (c.what_is_cut_is_carried.ensures.locate interface V12 Big door 24 (door_begins ∷ door_ends ∷ []) None door_cut) (answering here_big) refl;
+  },
+)
+
+pub returns-clause-none : goal.returns-clause-none
+returns-clause-none c = tt
+
+pub returns-clause-within : goal.returns-clause-within
+returns-clause-within c = run_within

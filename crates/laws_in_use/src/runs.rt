@@ -1,0 +1,153 @@
+//! Whole runs in use: a server's end and a client's are given octets and acts of their own.
+ghost use Rattle.std.specs.Prelude.{◌≡◌, ◌≢◌, ◌++◌, ◌∷◌, [], ℕ, IfOk, List, None, Some};
+ghost use Rattle.giop_cdr.specs.declared.fault.CdrKind.TheVariants.{BadCount};
+ghost use Rattle.giop_cdr.specs.declared.order.Order.TheVariants.{Big};
+ghost use Rattle.giop_types.specs.declared.json.interface.Interface.{Interface as Described};
+ghost use Rattle.giop_msg.specs.Msg.{message_octets};
+ghost use Rattle.giop_msg.specs.declared.messages.request_fault.RequestFault.TheVariants.{Header};
+ghost use Rattle.giop_msg.specs.declared.version.Version.TheVariants.{V10};
+ghost use Rattle.giop_calls.specs.declared.kind.CallKind.TheVariants as kind;
+ghost use Rattle.giop_calls.specs.declared.client.entry.ClientEntry.TheVariants.{LocateDone};
+ghost use Rattle.giop_calls.specs.declared.server.entry.ServerEntry.TheVariants.{Undecoded};
+ghost use Rattle.giop_session.specs.declared.laws.inputs.Answered.TheVariants.{Done};
+ghost use Rattle.giop_session.specs.declared.laws.inputs.ClientInput.TheVariants as client;
+ghost use Rattle.giop_session.specs.declared.laws.inputs.ServerInput.TheVariants as server;
+ghost use Rattle.giop_session.specs.declared.session_fault.SessionFault.TheVariants.{Closed};
+ghost use Rattle.giop_session.specs.ClientRuns.{client_entry, client_named, ClientHolds};
+ghost use Rattle.giop_session.specs.Driven.{NoneRefused, own_answers};
+ghost use Rattle.giop_session.specs.RunLimits.{ClientIsGivenWithin, NoneForALimit, ServerIsGivenWithin};
+ghost use Rattle.giop_session.specs.Sent.{close_connection};
+ghost use Rattle.giop_session.specs.ServerRuns.{server_entry, server_named, ServerHolds};
+ghost use Rattle.laws_in_use.specs.Asking.{here};
+ghost use Rattle.laws_in_use.specs.Locating as locating;
+ghost use Rattle.laws_in_use.specs.Runs.{client_answers, client_given, client_told, door_taken, Forms, key_taken, server_answers, server_given, server_said};
+
+use giop_calls::{ClientEntry, ServerEntry};
+use giop_msg::laws::{locate_replies_are_spelled, locate_requests_are_spelled};
+use giop_session::laws::{
+    Answered, ClientInput, ServerInput, run_client, run_server, what_is_cut_is_carried,
+};
+use giop_session::{ClientEnd, Limits, ServerEnd};
+use giop_types::Interface;
+use std::alloc::{AllocError, Global};
+
+/// A server's end may be given the octets of two LocateRequests in four reads, one of them in two
+/// messages with the other between, then a cancel, and octets that spell nothing under the id of
+/// that; it answers the first one, and takes its entry out. It takes all of it and gives these
+/// answers, none of which refuses, and it holds these calls. All of it is within its limits.
+pub fn what_a_server_is_given()
+    ensures holds { (interface : Described) → (left : _) × (k : _)
+        × ServerHolds interface locating.limits server_given server_answers left k server_said }
+    ensures none { NoneRefused server_answers }
+    ensures within { ServerIsGivenWithin locating.limits server_given }
+{
+    locate_requests_are_spelled();
+    what_is_cut_is_carried();
+}
+
+/// Whatever end is made and given that, where nothing is refused: the id 7 has no entry then, and
+/// was answered with the one that was taken out; the id 9 has what couldn't be decoded; and no
+/// other id has any. In no case is anything refused for a limit. Closed at once, an end has put out
+/// its CloseConnection; and whatever it was given, it never puts out a LocateRequest first.
+pub fn a_run_of_a_server<'a>(
+    alloc: Global,
+    interface: &'a Interface,
+    inputs: Vec<ServerInput>,
+) -> Result<(ServerEnd<'a>, Vec<Answered<ServerEntry>>), AllocError>
+    ensures holds { inputs.items ≡ server_given → IfOk result (λ run.
+        NoneRefused run.1.items → run.0.fault ≡ None
+        → ServerHolds interface.now locating.limits inputs.items run.1.items run.0.framer
+        run.0.calls server_said) }
+    ensures seven { inputs.items ≡ server_given → IfOk result (λ run.
+        NoneRefused run.1.items → run.0.fault ≡ None → server_entry run.0.calls 7 ≡ None) }
+    ensures told { inputs.items ≡ server_given → IfOk result (λ run.
+        NoneRefused run.1.items → run.0.fault ≡ None
+        → own_answers server_named 7 inputs.items run.1.items ≡ Done ∷ door_taken ∷ []) }
+    ensures nine { inputs.items ≡ server_given → IfOk result (λ run.
+        NoneRefused run.1.items → run.0.fault ≡ None
+        → server_entry run.0.calls 9 ≡ Some (Undecoded (record {
+          version = V10;
+          expects = Some kind.Locate;
+          fault = Header (record { at = 16; kind = BadCount });
+        }))) }
+    ensures others { inputs.items ≡ server_given → IfOk result (λ run.
+        NoneRefused run.1.items → run.0.fault ≡ None
+        → (id : ℕ) → id ≢ 7 → id ≢ 9 → server_entry run.0.calls id ≡ None) }
+    ensures free { inputs.items ≡ server_given → IfOk result (λ run.
+        NoneForALimit run.1.items) }
+    ensures same { IfOk result (λ run. run.0.limits ≡ locating.limits) }
+    ensures closed { inputs.items ≡ server.Close ∷ [] → IfOk result (λ run.
+        (run.1.items ≡ Done ∷ []) × (run.0.fault ≡ Some Closed)
+        × (run.0.outgoing ≡ message_octets (close_connection Big))) }
+    ensures put_out { IfOk result (λ run. (octets : List ℕ)
+        → run.0.outgoing ≢ message_octets locating.key_little ++ octets) }
+{
+    locate_requests_are_spelled();
+    what_is_cut_is_carried();
+    let limits = Limits {
+        calls: 3,
+        message: 64,
+        gathered: 20,
+    };
+    Ok(run_server(alloc, interface, limits, inputs)?)
+}
+
+/// A client's end may be given a LocateRequest that it sends in two messages, another one, which it
+/// cancels and asks again, and octets in three reads: the answer to the first in two messages, with
+/// the late one to the second between, and octets that spell nothing; it takes that entry out. It
+/// takes all of it and gives these answers, none of which refuses, and it holds these calls. All of
+/// it is within its limits.
+pub fn what_a_client_is_given()
+    ensures forms { Forms }
+    ensures holds { (interface : Described) (forms : Forms) → (left : _) × (k : _)
+        × ClientHolds interface locating.limits (client_given forms) client_answers left k
+        client_told }
+    ensures none { NoneRefused client_answers }
+    ensures within { (forms : Forms)
+        → ClientIsGivenWithin locating.limits (client_given forms) }
+{
+    locate_replies_are_spelled();
+}
+
+/// Whatever end is made and given that, where nothing is refused: the id 7 has the LocateReply; the
+/// id 9 has no entry then, and was answered with the one that was taken out; and no other id has
+/// any. In no case is anything refused for a limit. Closed at once, an end has put out its
+/// CloseConnection; and whatever it was given, it never puts out a LocateReply first.
+pub fn a_run_of_a_client<'a>(
+    alloc: Global,
+    interface: &'a Interface,
+    inputs: Vec<ClientInput>,
+) -> Result<(ClientEnd<'a>, Vec<Answered<ClientEntry>>), AllocError>
+    ensures holds { (forms : Forms) → inputs.items ≡ client_given forms → IfOk result (λ run.
+        NoneRefused run.1.items → run.0.fault ≡ None
+        → ClientHolds interface.now locating.limits inputs.items run.1.items run.0.framer
+        run.0.calls client_told) }
+    ensures seven { (forms : Forms) → inputs.items ≡ client_given forms → IfOk result (λ run.
+        NoneRefused run.1.items → run.0.fault ≡ None
+        → client_entry run.0.calls 7 ≡ Some (LocateDone locating.door here)) }
+    ensures nine { (forms : Forms) → inputs.items ≡ client_given forms → IfOk result (λ run.
+        NoneRefused run.1.items → run.0.fault ≡ None → client_entry run.0.calls 9 ≡ None) }
+    ensures told { (forms : Forms) → inputs.items ≡ client_given forms → IfOk result (λ run.
+        NoneRefused run.1.items → run.0.fault ≡ None
+        → own_answers client_named 9 inputs.items run.1.items
+        ≡ Done ∷ Done ∷ Done ∷ key_taken ∷ []) }
+    ensures others { (forms : Forms) → inputs.items ≡ client_given forms → IfOk result (λ run.
+        NoneRefused run.1.items → run.0.fault ≡ None
+        → (id : ℕ) → id ≢ 7 → id ≢ 9 → client_entry run.0.calls id ≡ None) }
+    ensures free { (forms : Forms) → inputs.items ≡ client_given forms → IfOk result (λ run.
+        NoneForALimit run.1.items) }
+    ensures same { IfOk result (λ run. run.0.limits ≡ locating.limits) }
+    ensures closed { inputs.items ≡ client.Close ∷ [] → IfOk result (λ run.
+        (run.1.items ≡ Done ∷ []) × (run.0.fault ≡ Some Closed)
+        × (run.0.outgoing ≡ message_octets (close_connection Big))) }
+    ensures put_out { IfOk result (λ run. (octets : List ℕ)
+        → run.0.outgoing ≢ message_octets locating.here_big ++ octets) }
+{
+    locate_replies_are_spelled();
+    let limits = Limits {
+        calls: 3,
+        message: 64,
+        gathered: 20,
+    };
+    Ok(run_client(alloc, interface, limits, inputs)?)
+}
