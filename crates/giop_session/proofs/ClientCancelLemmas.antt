@@ -54,7 +54,7 @@ module _ (interface : Interface) where
   abbrev pub ended : Bool → Late → Option ClientEntry
   ended ends l = if ends then (client_step (Some (Cancelled l)) (event.Last false heard_as.Unread)).entry else Some (Cancelled l)
 
-  fragment_act : (m : Msg) (call : Call ClientEntry) (l : Late) (ends : Bool) → IsCancelled l call → m.kind ≡ message.Fragment → m.more ≡ not ends
+  pub fragment_act : (m : Msg) (call : Call ClientEntry) (l : Late) (ends : Bool) → IsCancelled l call → m.kind ≡ message.Fragment → m.more ≡ not ends
       → client_befalls interface m call ≡ Hears (kept (if ends then event.Last false heard_as.Unread else event.More false)) Nothing
   fragment_act m call l ends is fragment more = by_slot call.slot is
     where

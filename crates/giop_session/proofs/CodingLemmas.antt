@@ -367,7 +367,7 @@ first_or m (n ∷ messages) = n
 pub same_piece : {V : Type 0} (event : V) (one other : Msg) → sends_one event one ≡ sends_one event other → other ≡ one
 same_piece event one other same = sym (ap (λ (p : Planned _). first_or one (put_of p.plan)) same)
 
-own_suits : (interface : Interface) (lane : Lane) (act : Act) → IsOwn interface lane act → Suits (coding interface) lane act
+pub own_suits : (interface : Interface) (lane : Lane) (act : Act) → IsOwn interface lane act → Suits (coding interface) lane act
 own_suits interface lane (acts.Calls call cut) own =
     let event = at_client.Call call in
     let r = call_read interface lane.client.entry call (sends_cut event cut) own in

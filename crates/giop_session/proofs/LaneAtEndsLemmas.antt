@@ -66,11 +66,11 @@ same_is : (order : Order) → same_order order order ≡ true
 same_is Big = refl
 same_is Little = refl
 
-not_more : {A : Type 0} (more : Bool) (one other : A) → more ≡ false → (if more then one else other) ≡ other
+pub not_more : {A : Type 0} (more : Bool) (one other : A) → more ≡ false → (if more then one else other) ≡ other
 not_more true one other is = absurd cc
 not_more false one other is = refl
 
-more_is : {A : Type 0} (more : Bool) (one other : A) → more ≡ true → (if more then one else other) ≡ one
+pub more_is : {A : Type 0} (more : Bool) (one other : A) → more ≡ true → (if more then one else other) ≡ one
 more_is true one other is = refl
 more_is false one other is = absurd cc
 
@@ -130,7 +130,7 @@ last_call interface k cut m unsent is fragment more order =
 
 -- ---- a client's end
 
-answer_act : (interface : Interface) (k : CallKind) (m : Msg) (call : Call ClientEntry)
+pub answer_act : (interface : Interface) (k : CallKind) (m : Msg) (call : Call ClientEntry)
     → client.befalls_by interface m call (replies k) ≡ client.comes interface k m (awaited k m.version call.slot)
 answer_act interface kind.Request m call = refl
 answer_act interface kind.Locate m call = refl

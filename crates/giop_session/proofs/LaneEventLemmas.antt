@@ -39,13 +39,13 @@ replies_seen : (k : CallKind) (version : Version) (more : Bool) (m : Msg) → se
 replies_seen kind.Request version more m = refl
 replies_seen kind.Locate version more m = refl
 
-asked_seen : (k : CallKind) (m : Msg) (more : Bool) → m.kind ≡ asks k → m.more ≡ more → seen m ≡ Opens k m.version (not more) m
+pub asked_seen : (k : CallKind) (m : Msg) (more : Bool) → m.kind ≡ asks k → m.more ≡ more → seen m ≡ Opens k m.version (not more) m
 asked_seen k m more is there = (λ i. seen_as (is i) m.version (there i) m) ∙ asks_seen k m.version more m
 
-replied_seen : (k : CallKind) (m : Msg) (more : Bool) → m.kind ≡ replies k → m.more ≡ more → seen m ≡ Opens k m.version (not more) m
+pub replied_seen : (k : CallKind) (m : Msg) (more : Bool) → m.kind ≡ replies k → m.more ≡ more → seen m ≡ Opens k m.version (not more) m
 replied_seen k m more is there = (λ i. seen_as (is i) m.version (there i) m) ∙ replies_seen k m.version more m
 
-fragment_seen : (m : Msg) (more : Bool) → m.kind ≡ message.Fragment → m.more ≡ more → seen m ≡ Continues (not more) m
+pub fragment_seen : (m : Msg) (more : Bool) → m.kind ≡ message.Fragment → m.more ≡ more → seen m ≡ Continues (not more) m
 fragment_seen m more is there = λ i. seen_as (is i) m.version (there i) m
 
 own_order : (order : Order) → is_same_order order order ≡ true

@@ -6,7 +6,7 @@ use Rattle.std.specs.List.{All, flat_map}
 use Rattle.giop_msg.specs.Fault.{Test, fault, first_failing}
 use Rattle.giop_msg.specs.Header.{fault_of, field_tests, header_fault, header_octets, is_1_0}
 use Rattle.giop_msg.specs.Kind.{is_fragment}
-use Rattle.giop_msg.specs.Msg.{head_of, message_octets}
+use Rattle.giop_msg.specs.Msg.{IsMessage, head_of, message_octets}
 use Rattle.giop_msg.specs.Version.{has_fragments}
 use Rattle.giop_msg.specs.Stream.{BeginsWithFault, BeginsWithMessage, Msgs, Unread}
 use Rattle.giop_msg.specs.declared.fault.WireFault.{WireFault}
@@ -67,6 +67,35 @@ front_here limit m more is = ap (header_fault limit) (take-message_octets m more
 
 less : (n m : ℕ) → nat_lt n m ≡ true → n < m
 less n m is = grind (arith, nat_tests)
+
+no_less : (n m : ℕ) → m ≤ n → nat_lt n m ≡ false
+no_less n m is = grind (arith, nat_tests)
+
+not_over : (n m : ℕ) → nat_lt n m ≡ false → m ≤ n
+not_over n m is = grind (arith, nat_tests)
+
+-- a message within some limit is one that a framer of the largest limit reads
+pub framed_by : (limit : ℕ) (m : Msg) → IsMessage limit m → IsFramed m
+framed_by limit m is =
+    let h = head_of m in
+    let sound : fault_of limit h ≡ None = sym (header_fault-header_octets limit h is.sized) ∙ is.sound in record {
+      sized = is.sized;
+      sound = header_fault-header_octets (2 ^ 32 - 1) h is.sized
+          ∙ third_alone (h.more && is_1_0 h.version) (is_fragment h.kind && not (has_fragments h.version)) (nat_lt limit (length m.payload))
+          (nat_lt (2 ^ 32 - 1) (length m.payload)) (fault 6 ReservedFlags) (fault 7 BadKind) (fault 8 TooLarge)
+          (first_failing (others_of (field_tests (2 ^ 32 - 1) h))) sound
+          ∙ ap (λ large. cond large (Some (fault 8 TooLarge)) None) (no_less (2 ^ 32 - 1) (length m.payload) (omega (arith, is.sized)));
+    }
+
+none_large : (large : Bool) (e : WireFault) → cond large (Some e) None ≡ None → large ≡ false
+none_large true e none = absurd cc
+none_large false e none = refl
+
+-- and no larger than that limit
+pub within_limit : (limit : ℕ) (m : Msg) → IsMessage limit m → length m.payload ≤ limit
+within_limit limit m is =
+    not_over limit (length m.payload)
+    (none_large (nat_lt limit (length m.payload)) (fault 8 TooLarge) (sym (header_here limit m (framed_by limit m is)) ∙ is.sound))
 
 -- what a test leaves a fault of
 by_size : (large : Bool) (g e : WireFault) → cond large (Some g) None ≡ Some e → (large ≡ true) × (e ≡ g)

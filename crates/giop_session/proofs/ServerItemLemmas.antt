@@ -56,7 +56,7 @@ abbrev standing : Option ServerEntry → List Msg → Option Pieces → Call Ser
 standing = call_of server_step is_closed is_gathering
 
 -- where a message begins its entry stands
-begun : (entry : Option ServerEntry) (now : ServerEntry) → IsOk (begins entry now).outcome → (begins entry now).entry ≡ Some now
+pub begun : (entry : Option ServerEntry) (now : ServerEntry) → IsOk (begins entry now).outcome → (begins entry now).entry ≡ Some now
 begun entry now ok = by_test (is_free entry) ok
   where
     by_test : (free : Bool) → IsOk (cond free (becomes now) (refused entry IdInUse)).outcome
@@ -181,7 +181,7 @@ spelled interface kind.Locate version order octets (heard_as.Undecoded call) spe
 
 -- Fragments behind a cancel change nothing
 module _ (interface : Interface) (answered : Bool) (left_over : ℕ) where
-  fragment_act : (m : Msg) (unsent : List Msg) (pieces : Option Pieces) → m.kind ≡ message.Fragment
+  pub fragment_act : (m : Msg) (unsent : List Msg) (pieces : Option Pieces) → m.kind ≡ message.Fragment
       → server_befalls interface m (record { slot = Some (record { entry = Cancelled answered left_over; unsent = unsent }); pieces = pieces })
       ≡ Hears (kept (event.More false)) Nothing
   fragment_act m unsent pieces is = rw is refl
@@ -219,7 +219,7 @@ module _ (interface : Interface) (answered : Bool) (left_over : ℕ) where
       ignored (n ∷ messages) ends (behind call (server_befalls interface m call)) after (ignored_one m call is are.0 follows.0) are.2 follows.1
 
 -- a cancel is the rule's event
-cancel_act : (interface : Interface) (m : Msg) (call : Call ServerEntry) → m.kind ≡ message.CancelRequest
+pub cancel_act : (interface : Interface) (m : Msg) (call : Call ServerEntry) → m.kind ≡ message.CancelRequest
     → server_befalls interface m call ≡ Hears (kept event.Cancel) Nothing
 cancel_act interface m call is = rw is refl
 

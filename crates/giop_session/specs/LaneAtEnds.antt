@@ -1,7 +1,8 @@
 -- What an end hears, as messages of a lane, and the pieces that a call has gathered at an end
 -- (CORBA 3.3 Part 2, 9.4.1 and 9.4.9).
-use Rattle.std.specs.Prelude.{Bool, not, List, ◌∷◌, Option, Some}
-use Rattle.giop_frag.specs.Gathered.{Pieces}
+use Rattle.std.specs.Prelude.{◌≡◌, ◌⊎◌, ◌+◌, ◌<◌, Bool, not, List, ◌∷◌, length, Option, Some}
+use Rattle.std.specs.FinMap as finite
+use Rattle.giop_frag.specs.Gathered.{Pieces, total_of}
 use Rattle.giop_msg.specs.Cut.{joined}
 use Rattle.giop_msg.specs.declared.kind.Kind.{Kind}
 use Rattle.giop_msg.specs.declared.kind.Kind.TheVariants as message
@@ -10,7 +11,9 @@ use Rattle.giop_msg.specs.declared.version.Version.{Version}
 use Rattle.giop_calls.specs.Lane.{Continues, Cut, Message, Opens, Stops, fragments, is_last, pieces_of}
 use Rattle.giop_calls.specs.declared.kind.CallKind.{CallKind}
 use Rattle.giop_calls.specs.declared.kind.CallKind.TheVariants as kind
-use Rattle.giop_session.specs.CallTable.{Call}
+use Rattle.giop_session.specs.declared.session_fault.SessionFault.{SessionFault}
+use Rattle.giop_session.specs.declared.session_fault.SessionFault.TheVariants.{GatherFull, NoMemory, TooManyCalls}
+use Rattle.giop_session.specs.CallTable.{Call, Held}
 
 -- a message of this type and version, of which more is announced or not; the two that name no id
 -- are on no lane
@@ -41,3 +44,11 @@ gathers entry unsent cut = record {
   slot = Some (record { entry = entry; unsent = unsent });
   pieces = gathered_in cut;
 }
+
+-- why an end refuses a message that its rule doesn't: it has as many calls as it may have; the
+-- octets of the message would be too many to be gathered; or it is out of memory
+abbrev pub IsOfLimit : {R E : Type 0} → Msg → Held R E → SessionFault → Type 0
+IsOfLimit m h why =
+    ((why ≡ TooManyCalls) × (finite.len h.table ≡ h.calls))
+    ⊎ (((why ≡ GatherFull) × (h.room < total_of h.gathered + length m.payload))
+    ⊎ (why ≡ NoMemory))

@@ -1,4 +1,5 @@
 pub mod Acting
+pub mod Agreement
 pub mod Alone
 pub mod Begun
 pub mod CallTable
@@ -35,5 +36,6 @@ pub mod ServerHears
 pub mod ServerRuns
 pub mod SessionFaults
 pub mod Sides
+pub mod Tracks
 pub mod Unsent
 pub mod World

@@ -14,9 +14,11 @@ ghost use Rattle.giop_session.specs.Heard.{hears_by};
 ghost use Rattle.giop_session.specs.CallTable.{at, Held, is_of_call, rules_of, turn};
 
 mod acting;
+mod agreement;
 mod coding;
 mod headline;
 mod inputs;
+mod lane_acts;
 mod lane_events;
 mod left;
 mod limits;
@@ -26,6 +28,7 @@ mod world;
 
 use crate::{Hearing, Side};
 pub use acting::what_an_own_act_leaves;
+pub use agreement::two_ends_agree;
 pub use coding::{
     clients_read_as_coding, own_ends_of_one_lane_agree, own_lanes_come_to_replies,
     pieces_are_gathered_as_they_come, servers_read_as_coding, what_is_sent_is_a_lanes,
@@ -36,6 +39,7 @@ pub use headline::{
     what_is_cut_is_carried,
 };
 pub use inputs::{Answered, CheckedForm, ClientInput, ServerInput, WorldEvent};
+pub use lane_acts::{clients_do_the_lanes_act, servers_do_the_lanes_act};
 pub use lane_events::{clients_hear_the_lanes_event, servers_hear_the_lanes_event};
 pub use left::{what_is_left_is_unsent_at_client, what_is_left_is_unsent_at_server};
 pub use limits::{limits_in_any_order_at_client, limits_in_any_order_at_server};

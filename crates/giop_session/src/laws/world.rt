@@ -1,11 +1,13 @@
 //! A client's end and a server's end that hear one another, and what happens between them
-//! (`run_world`). Its meaning is `WorldRuns`, `GoesBy` and `AreJoined` in specs/World.antt: change
-//! both.
-ghost use Rattle.std.specs.Prelude.{◌≡◌, ◌≤◌, ◌^◌, IfOk, length, take, drop};
+//! (`run_world`). Its meaning is `WorldRuns`, `GoesBy` and `AreJoined` in specs/World.antt, and
+//! `Agreed` and `FailsByLimits` in specs/Agreement.antt: change both.
+ghost use Rattle.std.specs.Prelude.{◌≡◌, ◌≤◌, ◌^◌, IfOk, length, None, take, drop};
 ghost use Rattle.giop_types.specs.declared.json.interface.Interface.{Interface};
+ghost use Rattle.giop_session.specs.Agreement.{Agreed, AreInRange, FailsByLimits};
 ghost use Rattle.giop_session.specs.World.{AreJoined, ArriveAtClient, ArriveAtServer, AtClient, AtServer};
 ghost use Rattle.giop_session.specs.World.{ends_of, GoesBy, told_of_answer, WorldRuns};
 
+use super::agreement::two_ends_agree;
 use super::inputs::{Answered, ClientInput, ServerInput, WorldEvent};
 use super::running::{Driven, feed_to, take_all};
 use crate::end::{ClientEnd, End, ServerEnd};
@@ -33,6 +35,12 @@ pub struct World<'a> {
 /// say of an end holds of it. What the one put out is what the other was fed, octet for octet, and
 /// behind it what is still on its way: whole messages, of kinds that its side sends.
 ///
+/// The ends agree, where neither failed. Once nothing is outgoing, each id has the same outcome at
+/// both. At any time, a Reply that the client has is the one that the server gave to that very
+/// Request, and a LocateReply likewise. And an end fails for its own limits alone: at a message
+/// that is too large, for want of a free id or of room to gather. Both hold of a schedule whose
+/// numbers are in the ranges of their types, as each one that a program hands in is.
+///
 /// `alloc` gives the memory of the ends and of what is returned for the events. Where it is out of
 /// memory, AllocError is returned in place of both.
 pub fn run_world<'a>(
@@ -50,7 +58,13 @@ pub fn run_world<'a>(
         GoesBy interface.now client_limits server_limits run.0) }
     ensures joined { IfOk result (λ run.
         AreJoined interface.now client_limits server_limits (ends_of run.0)) }
+    ensures agreed { IfOk result (λ run. AreInRange interface.now schedule.items
+        → (ends_of run.0).client.fault ≡ None → (ends_of run.0).server.fault ≡ None
+        → Agreed (ends_of run.0)) }
+    ensures fails { IfOk result (λ run. AreInRange interface.now schedule.items
+        → FailsByLimits client_limits server_limits (ends_of run.0)) }
 {
+    two_ends_agree();
     let mut world = World {
         client: End::<ClientRule>::new(alloc, interface, client_limits),
         server: End::<ServerRule>::new(alloc, interface, server_limits),

@@ -45,3 +45,13 @@ pub returns-clause-joined : goal.returns-clause-joined
 returns-clause-joined c =
     ends_are_joined c.args.interface.now c.args.client_limits c.args.server_limits (ends_of c.take_all.new.driven)
     c.args.schedule.items c.in_ok-told.told.items (seen c).1
+
+pub returns-clause-agreed : goal.returns-clause-agreed
+returns-clause-agreed c =
+    c.two_ends_agree.ensures.agreed c.args.interface.now c.args.client_limits c.args.server_limits c.args.schedule.items c.in_ok-told.told.items
+    (ends_of c.take_all.new.driven) (seen c).1
+
+pub returns-clause-fails : goal.returns-clause-fails
+returns-clause-fails c =
+    c.two_ends_agree.ensures.fails c.args.interface.now c.args.client_limits c.args.server_limits c.args.schedule.items c.in_ok-told.told.items
+    (ends_of c.take_all.new.driven) (seen c).1

@@ -1,0 +1,32 @@
+//! Two ends that hear one another agree on each call. The function's contract is a law, and no
+//! program calls it; docs/AGREEMENT.md reads it aloud.
+ghost use Rattle.std.specs.Prelude.{◌≡◌, List, None};
+ghost use Rattle.giop_types.specs.declared.json.interface.Interface.{Interface};
+ghost use Rattle.giop_session.specs.Agreement.{Agreed, AreInRange, FailsByLimits};
+ghost use Rattle.giop_session.specs.World.{WorldRuns, WorldState};
+ghost use Rattle.giop_session.specs.declared.laws.inputs.WorldEvent.{WorldEvent};
+ghost use Rattle.giop_session.specs.declared.limits.Limits.{Limits};
+
+use super::coding::own_ends_of_one_lane_agree;
+
+/// After any schedule, where neither end has failed, both agree: once nothing is outgoing, each id
+/// has the same outcome at both. At any time, a Reply that the client has is the one that the
+/// server gave to that very Request, and a LocateReply likewise.
+///
+/// And an end fails for its own limits alone: at a message that is too large, for want of room for
+/// one more call, or of room to gather.
+///
+/// Both hold of a schedule whose numbers are in the ranges of their types.
+pub fn two_ends_agree()
+    ensures agreed { (interface : Interface) (client_limits server_limits : Limits)
+        (schedule : List WorldEvent) (told : _) (w : WorldState)
+        → WorldRuns interface client_limits server_limits schedule told w
+        → AreInRange interface schedule → w.client.fault ≡ None → w.server.fault ≡ None
+        → Agreed w }
+    ensures fails { (interface : Interface) (client_limits server_limits : Limits)
+        (schedule : List WorldEvent) (told : _) (w : WorldState)
+        → WorldRuns interface client_limits server_limits schedule told w
+        → AreInRange interface schedule → FailsByLimits client_limits server_limits w }
+{
+    own_ends_of_one_lane_agree();
+}
