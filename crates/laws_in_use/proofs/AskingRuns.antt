@@ -56,7 +56,7 @@ gathering = record {
   pieces = Some (record { order = Big; octets = here_begins.payload });
 }
 
-abbrev located : Call ClientEntry
+abbrev pub located : Call ClientEntry
 located = call_of (LocateDone door here)
 
 abbrev pub key_waiting : Call ClientEntry

@@ -15,10 +15,12 @@ mod ServerRunTaken
 mod ServerRunWithin
 mod SentPlans
 mod OwnLaneRuns
+mod LaneActsShown
 mod PingPlans
 mod PutOutKinds
 mod Closings
 mod WorldRuns
+mod AgreementRuns
 mod AskingMessages
 mod AskingReads
 mod AskingRuns

@@ -147,7 +147,7 @@ own_again interface = (
   ),
 )
 
-door_is_read : (interface : Interface) → CutsCall (coding interface) (asked.Locate door) (pieces_of door_cut)
+pub door_is_read : (interface : Interface) → CutsCall (coding interface) (asked.Locate door) (pieces_of door_cut)
 unfolding whole_of_joined locate_request located object_key meaning target_layout target_by disposition key_target
     number signed octets such field gives reserved chosen count_at field_at number_at octets_at signed_at such_at
 door_is_read interface = record { order = Big; one_order = (refl, (refl, tt)); read = refl }
@@ -156,7 +156,7 @@ here_is_read : (interface : Interface) → CutsLocated (coding interface) door t
 unfolding locate_reply locate_reply_head locate_status leads made_of remainder number such field gives field_at number_at such_at
 here_is_read interface = record { read = refl; status = refl; no_rest = refl }
 
-suits : (interface : Interface) (q : AnyLocateRequest) → ◌≡◌ {A = Option ServerEntry} (Some (LocateAsked door)) (Some (LocateAsked q))
+pub suits : (interface : Interface) (q : AnyLocateRequest) → ◌≡◌ {A = Option ServerEntry} (Some (LocateAsked door)) (Some (LocateAsked q))
     → (told : LocateReply) × CutsLocated (coding interface) q true here_big told
 suits interface q is =
     let same : door ≡ q = cc in

@@ -7,6 +7,7 @@ pub mod Framed
 pub mod Gathering
 pub mod Heard
 pub mod Hearing
+pub mod LaneActs
 pub mod Lanes
 pub mod Left
 pub mod Limited

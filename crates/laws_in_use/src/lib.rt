@@ -2,6 +2,7 @@
 //! concrete values.
 #![tactic(auto)]
 
+mod agreement;
 mod asking;
 mod calls;
 mod cdr;
@@ -12,6 +13,7 @@ mod ends;
 mod gathering;
 mod heard;
 mod hearing;
+mod lane_acts;
 mod lanes;
 mod left;
 mod limited;

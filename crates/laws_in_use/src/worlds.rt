@@ -1,13 +1,17 @@
 //! Worlds in use: a client that cancels what it never called, and a LocateRequest that one end
 //! sends and that stands at the other.
-ghost use Rattle.std.specs.Prelude.{◌≡◌, ◌≢◌, ◌++◌, ◌∷◌, [], Err, IfOk, List, Ok, Some};
+ghost use Rattle.std.specs.Prelude.{◌≡◌, ◌≢◌, ◌++◌, ◌∷◌, [], Err, IfOk, List, None, Ok, Some};
+ghost use Rattle.std.specs.Option.{option_map};
+ghost use Rattle.giop_calls.specs.ClientTable.{outcome};
 ghost use Rattle.giop_calls.specs.declared.fault.CallFault.TheVariants.{NotOpen};
+ghost use Rattle.giop_calls.specs.declared.outcome.Outcome.TheVariants.{Pending};
 ghost use Rattle.giop_calls.specs.declared.server.entry.ServerEntry.TheVariants.{LocateAsked};
 ghost use Rattle.giop_msg.specs.Msg.{message_octets};
 ghost use Rattle.giop_session.specs.declared.laws.inputs.ServerInput.{ServerInput};
 ghost use Rattle.giop_session.specs.declared.session_fault.SessionFault.TheVariants.{Call as InCall};
+ghost use Rattle.giop_session.specs.ClientRuns.{client_entry};
 ghost use Rattle.giop_session.specs.ServerRuns.{server_entry};
-ghost use Rattle.giop_session.specs.World.{fed_to_server};
+ghost use Rattle.giop_session.specs.World.{ends_of, fed_to_server};
 ghost use Rattle.laws_in_use.specs.Locating as locating;
 ghost use Rattle.laws_in_use.specs.Runs.{Forms};
 ghost use Rattle.laws_in_use.specs.Worlds.{asked_for, unasked};
@@ -21,9 +25,10 @@ use giop_session::{Limits, SessionFault};
 use giop_types::Interface;
 use std::alloc::{AllocError, Global};
 
-/// A cancel of what was never called is refused. Where a LocateRequest is sent and all of it
-/// arrives, it stands at the server. And whatever happens, what the client put out never begins
-/// with a LocateReply: what the server was fed and what is on its way are messages of a client.
+/// A cancel of what was never called is refused, and fails no end. Where a LocateRequest is sent
+/// and all of it arrives, it stands at the server; and where nothing is on its way then, it is
+/// pending at the client. Whatever happens, what the client put out never begins with a
+/// LocateReply: what the server was fed and what is on its way are messages of a client.
 pub fn a_world_of_two_ends<'a>(
     alloc: Global,
     interface: &'a Interface,
@@ -39,6 +44,13 @@ pub fn a_world_of_two_ends<'a>(
     ensures joined { IfOk result (λ run. (inputs : List ServerInput) × ((more : List _)
         → fed_to_server inputs ++ run.0.client.outgoing
         ≢ message_octets locating.here_big ++ more)) }
+    ensures agreed { (forms : Forms) → schedule.items ≡ asked_for forms → IfOk result (λ run.
+        (ends_of run.0).client.fault ≡ None → (ends_of run.0).server.fault ≡ None
+        → run.0.client.outgoing ≡ [] → run.0.server.outgoing ≡ []
+        → server_entry run.0.server.calls 9 ≡ Some (LocateAsked locating.key)
+        → option_map outcome (client_entry run.0.client.calls 9) ≡ Some Pending) }
+    ensures stands { schedule.items ≡ unasked → IfOk result (λ run.
+        (ends_of run.0).client.fault ≢ Some (InCall 9 NotOpen)) }
 {
     one_split();
     own_messages_alone(&ServerRule);

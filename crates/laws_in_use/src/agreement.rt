@@ -1,0 +1,55 @@
+//! What two ends that hear one another agree on, in use: an answer that the client has, a call that
+//! stands open at both, and for what an end fails.
+ghost use Rattle.std.specs.Prelude.{◌≡◌, ◌≢◌, ◌∷◌, [], Err, List, None, Some, true};
+ghost use Rattle.std.specs.FinMap as finite;
+ghost use Rattle.std.specs.Option.{option_map};
+ghost use Rattle.giop_types.specs.declared.json.interface.Interface.{Interface};
+ghost use Rattle.giop_calls.specs.declared.client.entry.ClientEntry.TheVariants.{LocateDone};
+ghost use Rattle.giop_calls.specs.declared.fault.CallFault.TheVariants.{NotOpen};
+ghost use Rattle.giop_calls.specs.declared.outcome.Outcome.TheVariants.{Pending};
+ghost use Rattle.giop_calls.specs.declared.server.entry.ServerEntry.TheVariants.{LocateAnswered, LocateAsked};
+ghost use Rattle.giop_calls.specs.ClientTable as client_table;
+ghost use Rattle.giop_session.specs.declared.laws.inputs.WorldEvent.{WorldEvent};
+ghost use Rattle.giop_session.specs.declared.session_fault.SessionFault.TheVariants.{Call as InCall, TooManyCalls};
+ghost use Rattle.giop_session.specs.Agreement.{AreInRange};
+ghost use Rattle.giop_session.specs.ClientRuns.{client_entry};
+ghost use Rattle.giop_session.specs.ServerRuns.{server_entry};
+ghost use Rattle.giop_session.specs.World.{new_world, WorldRuns, WorldState};
+ghost use Rattle.laws_in_use.specs.Asking.{here};
+ghost use Rattle.laws_in_use.specs.Locating.{door, key, limits};
+ghost use Rattle.laws_in_use.specs.Runs.{Forms};
+ghost use Rattle.laws_in_use.specs.Worlds.{asked_for, unasked};
+
+use giop_session::laws::two_ends_agree;
+
+/// A world runs by a schedule whose numbers are in range. Where the client has the answer that
+/// `door` is here, its server gave that; where `k` is asked for and stands at the server, and
+/// nothing is on its way, it is pending at the client too. The cancel of what was never called is
+/// refused, and fails no end; and a server that has too many calls has as many as it may have.
+pub fn what_two_ends_agree_on()
+    ensures runs { (interface : Interface) → WorldRuns interface limits limits unasked
+        (Err (InCall 9 NotOpen) ∷ []) (new_world limits limits) }
+    ensures in_range { (interface : Interface) → AreInRange interface unasked }
+    ensures asked_in_range { (interface : Interface) (forms : Forms)
+        → AreInRange interface (asked_for forms) }
+    ensures located { (interface : Interface) (schedule : List WorldEvent) (told : _)
+        (w : WorldState) → WorldRuns interface limits limits schedule told w
+        → AreInRange interface schedule → w.client.fault ≡ None → w.server.fault ≡ None
+        → client_entry w.client.calls 7 ≡ Some (LocateDone door here)
+        → server_entry w.server.calls 7 ≡ Some (LocateAnswered (Some door.target) true) }
+    ensures pending { (interface : Interface) (forms : Forms) (told : _) (w : WorldState)
+        → WorldRuns interface limits limits (asked_for forms) told w
+        → w.client.fault ≡ None → w.server.fault ≡ None
+        → w.client.outgoing ≡ [] → w.server.outgoing ≡ []
+        → server_entry w.server.calls 9 ≡ Some (LocateAsked key)
+        → option_map client_table.outcome (client_entry w.client.calls 9) ≡ Some Pending }
+    ensures kept { (interface : Interface) (told : _) (w : WorldState)
+        → WorldRuns interface limits limits unasked told w
+        → w.client.fault ≢ Some (InCall 9 NotOpen) }
+    ensures full { (interface : Interface) (schedule : List WorldEvent) (told : _)
+        (w : WorldState) → WorldRuns interface limits limits schedule told w
+        → AreInRange interface schedule → w.server.fault ≡ Some TooManyCalls
+        → finite.len w.server.calls.table ≡ 3 }
+{
+    two_ends_agree();
+}
