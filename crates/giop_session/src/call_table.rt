@@ -1,6 +1,6 @@
 //! The table of an end's calls: for each request id its entry, its messages that are still to be
 //! sent, and the pieces gathered for it (CORBA 3.3 Part 2, 9.4.9). What an act does to one call,
-//! and what the whole refuses, is `rules_of` in specs/CallTable.antt: change both.
+//! and what the whole refuses, is `rules_of` in specs/Calls/CallTable.antt: change both.
 ghost use Rattle.std.specs.Prelude.{◌≡◌, ◌==◌, ◌&&◌, ◌≤◌, ◌^◌, ◌+◌, ◌/◌, not, is_some, true, false, if◌then◌else◌, Ok, None, length, is_none, IfNone, IfErr, IfOk, IfSome, IsOk, OnErr, IsSome, option_copied};
 ghost use Rattle.std.specs.FinMap as finite;
 ghost use Rattle.std.specs.Option.{option_map};
@@ -8,8 +8,8 @@ ghost use Rattle.giop_frag.specs.Gathered.{is_over, octets_in, order_fault};
 ghost use Rattle.giop_ids.specs.ById.{put};
 ghost use Rattle.giop_ids.specs.Runs.{Does};
 ghost use Rattle.giop_mux.specs.Calls.{is_one_too_many, judged};
-ghost use Rattle.giop_session.specs.Sending.{sending_step};
-ghost use Rattle.giop_session.specs.CallTable.{answered, event_reply, First, gathers, Hears, IsTaken, More, Nothing, rules_of, Stays, take_reply};
+ghost use Rattle.giop_session.specs.Calls.Sending.{sending_step};
+ghost use Rattle.giop_session.specs.Calls.CallTable.{answered, event_reply, First, gathers, Hears, IsTaken, More, Nothing, rules_of, Stays, take_reply};
 
 use crate::plan::Planned;
 use crate::sending::{Sending, Sends};
@@ -33,8 +33,8 @@ pub struct CallTable<R: Side> {
 }
 
 impl<R: Side> Model for CallTable<R> {
-    ghost use Rattle.giop_session.specs.CallTable.{Held, IsTable, held_code};
-    ghost use Rattle.giop_session.specs.Codes.{slot_code};
+    ghost use Rattle.giop_session.specs.Calls.CallTable.{Held, IsTable, held_code};
+    ghost use Rattle.giop_session.specs.Calls.Codes.{slot_code};
 
     ghost Value = { Held R R.Entry };
 

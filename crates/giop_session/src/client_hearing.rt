@@ -1,14 +1,14 @@
 //! What a message of the server does at a client (CORBA 3.3 Part 2, 9.4), a function for each kind.
-//! Its meaning is `client_breaks` and `client_befalls` in specs/ClientHears.antt: change both.
+//! Its meaning is `client_breaks` and `client_befalls` in specs/Hearing/ClientHears.antt: change both.
 ghost use Rattle.std.specs.Prelude.{◌≡◌, ◌≤◌, ◌^◌, ◌+◌, ◌++◌, length, option_copied, is_some, true, Some, IfSome};
 ghost use Rattle.std.specs.FinMap as finite;
 ghost use Rattle.giop_frag.specs.Gathered.{octets_in, order_fault};
 ghost use Rattle.giop_msg.specs.RequestId.{request_id_of};
 ghost use Rattle.giop_calls.specs.declared.client.event.ClientEvent.TheVariants as event;
 ghost use Rattle.giop_calls.specs.declared.client.heard.HeardReply.TheVariants as heard;
-ghost use Rattle.giop_session.specs.CallTable.{First, Hears, More, Nothing, at};
-ghost use Rattle.giop_session.specs.ClientHears.{AtClient, awaited, awaited_in, comes, continued, continues, gathered_call, gathered_in, heard_reply};
-ghost use Rattle.giop_session.specs.Heard.{Befalls, behind_id, kept, named};
+ghost use Rattle.giop_session.specs.Calls.CallTable.{First, Hears, More, Nothing, at};
+ghost use Rattle.giop_session.specs.Hearing.ClientHears.{AtClient, awaited, awaited_in, comes, continued, continues, gathered_call, gathered_in, heard_reply};
+ghost use Rattle.giop_session.specs.Hearing.Heard.{Befalls, behind_id, kept, named};
 
 use crate::call_table::CallTable;
 use crate::heard::{behind_id, kept, named, told};
@@ -25,8 +25,8 @@ use std::alloc::Global;
 type Calls = CallTable<ClientRule>;
 
 impl Hearing for ClientRule {
-    ghost use Rattle.giop_session.specs.Heard.{in_call};
-    ghost use Rattle.giop_session.specs.ClientHears.{client_befalls, client_breaks};
+    ghost use Rattle.giop_session.specs.Hearing.Heard.{in_call};
+    ghost use Rattle.giop_session.specs.Hearing.ClientHears.{client_befalls, client_breaks};
 
     ghost breaks = { client_breaks };
 

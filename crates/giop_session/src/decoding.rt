@@ -1,11 +1,11 @@
 //! What a message of a client comes to, once its last piece is there: a Request or a LocateRequest
 //! (CORBA 3.3 Part 2, 9.4.2 and 9.4.5), or why it can't be decoded. Its meaning is `heard_call` in
-//! specs/Decoding.antt: change both.
+//! specs/Hearing/Decoding.antt: change both.
 ghost use Rattle.std.specs.Prelude.{◌≡◌, ◌≤◌, ◌^◌, length, IfSome, true, false};
 ghost use Rattle.giop_msg.specs.Joined.{whole_of_joined};
 ghost use Rattle.giop_msg.specs.Locate.{locate_request};
 ghost use Rattle.giop_msg.specs.Messages.RequestAnswer.{IsWant, request_of_joined};
-ghost use Rattle.giop_session.specs.Decoding.{expected, heard_call, heard_locate_by, heard_request_by, undecoded};
+ghost use Rattle.giop_session.specs.Hearing.Decoding.{expected, heard_call, heard_locate_by, heard_request_by, undecoded};
 
 use giop_calls::{Aside, CallKind, HeardCall, UndecodedCall, with_target_aside};
 use giop_cdr::{CdrKind, Octets, Order};

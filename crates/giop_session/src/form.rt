@@ -1,7 +1,7 @@
 //! The form in which an end sends a message: its byte order, and the size of its pieces (CORBA 3.3
-//! Part 2, 9.4.9). Which forms are valid is `IsForm` in specs/Form.antt: change both.
+//! Part 2, 9.4.9). Which forms are valid is `IsForm` in specs/Acts/Form.antt: change both.
 ghost use Rattle.std.specs.Prelude.{◌≡◌, ◌↔◌, IsTrue};
-ghost use Rattle.giop_session.specs.Form.{IsForm};
+ghost use Rattle.giop_session.specs.Acts.Form.{IsForm};
 
 use giop_cdr::Order;
 

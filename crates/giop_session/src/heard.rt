@@ -1,9 +1,9 @@
 //! What hearing a message (CORBA 3.3 Part 2, 9.4) has in common at a client and at a server: the id
 //! that it names, the octets of a Fragment, and what the end returns. Its meaning is
-//! specs/Heard.antt: change both.
+//! specs/Hearing/Heard.antt: change both.
 ghost use Rattle.std.specs.Prelude.{◌≡◌, ◌≤◌, ◌^◌, length};
 ghost use Rattle.giop_msg.specs.RequestId.{request_id_of};
-ghost use Rattle.giop_session.specs.Heard.{behind_id, id_named, in_call, kept, told_of};
+ghost use Rattle.giop_session.specs.Hearing.Heard.{behind_id, id_named, in_call, kept, told_of};
 
 use crate::plan::{Plan, Planned};
 use crate::sending::Sends;

@@ -1,12 +1,12 @@
 //! What the calls of an end's own program have in common at a client and at a server: joined octets
 //! are cut into messages, and what the table of calls answered becomes what the end returns. Why a
-//! call is refused is specs/Refused.antt.
+//! call is refused is specs/Calls/Refused.antt.
 ghost use Rattle.std.specs.Prelude.{◌≡◌, ◌⊎◌, ◌<◌, ◌^◌, true, length, IfErr, IfNone, IfOk, IfSome, IsOk, Err};
 ghost use Rattle.giop_msg.specs.Cut.{IsCut, is_continued};
 ghost use Rattle.giop_calls.specs.declared.fault.CallFault.TheVariants.{Unfit};
-ghost use Rattle.giop_session.specs.Form.{is_sendable, IsForm};
-ghost use Rattle.giop_session.specs.Heard.{in_call, told_of};
-ghost use Rattle.giop_session.specs.Refused.{IsNotSent};
+ghost use Rattle.giop_session.specs.Acts.Form.{is_sendable, IsForm};
+ghost use Rattle.giop_session.specs.Hearing.Heard.{in_call, told_of};
+ghost use Rattle.giop_session.specs.Calls.Refused.{IsNotSent};
 ghost use Rattle.giop_session.specs.declared.session_fault.SessionFault.TheVariants.{NoMemory};
 
 use crate::form::Form;

@@ -1,6 +1,6 @@
 //! The messages that one event sends: the first is put out at once, the others are sent later.
 ghost use Rattle.std.specs.Prelude.{◌≡◌, ◌<◌, ◌^◌, [], ◌∷◌, Some, length};
-ghost use Rattle.giop_session.specs.Unsent.{AreSized, first_of};
+ghost use Rattle.giop_session.specs.Calls.Unsent.{AreSized, first_of};
 
 use crate::unsent::Unsent;
 use giop_msg::Msg;

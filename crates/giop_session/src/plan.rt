@@ -1,10 +1,10 @@
 //! What an event does to the messages of its call that are not put out yet. Its meaning is
-//! `unsent_after` and `message_of` in specs/Sending.antt: change both.
+//! `unsent_after` and `message_of` in specs/Calls/Sending.antt: change both.
 ghost use Rattle.std.specs.Prelude.{◌≡◌};
 ghost use Rattle.std.specs.FinMap as finite;
 ghost use Rattle.std.specs.Option.{option_copied};
-ghost use Rattle.giop_session.specs.Sending.{message_of, unsent_of};
-ghost use Rattle.giop_session.specs.Unsent.{IsSized};
+ghost use Rattle.giop_session.specs.Calls.Sending.{message_of, unsent_of};
+ghost use Rattle.giop_session.specs.Calls.Unsent.{IsSized};
 
 use crate::call_table::CallTable;
 use crate::messages::Messages;

@@ -1,11 +1,11 @@
 //! What an end puts out: the message of an event, once the event is accepted. Its meaning is
-//! specs/Putting.antt.
+//! specs/Acts/Putting.antt.
 ghost use Rattle.std.specs.Prelude.{◌≡◌, ◌++◌, false, IfNone, IfSome, OnErr, OnOk};
 ghost use Rattle.std.specs.FinMap as finite;
 ghost use Rattle.giop_ids.specs.Runs.{Does};
-ghost use Rattle.giop_session.specs.CallTable.{event_reply, gathers, Hears, Nothing, rules_of};
-ghost use Rattle.giop_session.specs.Putting.{octets_of, put_out};
-ghost use Rattle.giop_session.specs.Sending.{message_of, sending_step, unsent_of};
+ghost use Rattle.giop_session.specs.Calls.CallTable.{event_reply, gathers, Hears, Nothing, rules_of};
+ghost use Rattle.giop_session.specs.Acts.Putting.{octets_of, put_out};
+ghost use Rattle.giop_session.specs.Calls.Sending.{message_of, sending_step, unsent_of};
 
 use crate::call_table::CallTable;
 use crate::outgoing::Outgoing;

@@ -1,11 +1,11 @@
 //! What a message of a server comes to, once its last piece is there: a Reply or a LocateReply
 //! (CORBA 3.3 Part 2, 9.4.3 and 9.4.6), or why it can't be decoded. Its meaning is `heard_reply` in
-//! specs/ClientHears.antt: change both.
+//! specs/Hearing/ClientHears.antt: change both.
 ghost use Rattle.std.specs.Prelude.{◌≡◌, ◌≤◌, ◌^◌, length, IfSome, Some};
 ghost use Rattle.giop_msg.specs.Joined.{joined_from};
 ghost use Rattle.giop_msg.specs.Messages.LocateReply.{locate_reply};
 ghost use Rattle.giop_msg.specs.Messages.Reply.{reply};
-ghost use Rattle.giop_session.specs.ClientHears.{heard_located_by, heard_reply, heard_reply_by};
+ghost use Rattle.giop_session.specs.Hearing.ClientHears.{heard_located_by, heard_reply, heard_reply_by};
 
 use giop_calls::{Aside, Call, HeardReply};
 use giop_cdr::{CdrKind, Octets, Order};

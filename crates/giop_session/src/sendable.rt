@@ -1,9 +1,9 @@
 //! The messages that an end sends joined octets in: one, or one and its Fragments (CORBA 3.3 Part
 //! 2, 9.4.9), within the limits of the end. Which octets are sent is `is_sendable` in
-//! specs/Form.antt: change both.
+//! specs/Acts/Form.antt: change both.
 ghost use Rattle.std.specs.Prelude.{◌≡◌, ◌<◌, ◌≤◌, ◌^◌, [], ◌∷◌, false, true, length, IfNone, IfOk, IfSome};
 ghost use Rattle.giop_msg.specs.Cut.{IsCut, is_continued, message_of};
-ghost use Rattle.giop_session.specs.Form.{is_fragmented, is_sendable, largest, IsForm};
+ghost use Rattle.giop_session.specs.Acts.Form.{is_fragmented, is_sendable, largest, IsForm};
 
 use crate::form::Form;
 use crate::limits::Limits;
@@ -16,7 +16,7 @@ use std::alloc::{AllocError, Global};
 /// the end doesn't send them: they are fewer than 4 or not fewer than 2^32, they are more than it
 /// gathers itself, or one of the messages is larger than it takes itself. AllocError where it is
 /// out of memory.
-#[tactic(auto, using(crate::proofs::CutLemmas::cut_sized, crate::proofs::CutLemmas::cut_few))]
+#[tactic(auto, using(crate::proofs::OnCalls::CutLemmas::cut_sized, crate::proofs::OnCalls::CutLemmas::cut_few))]
 #[inline(always)]
 pub fn messages(
     alloc: Global,

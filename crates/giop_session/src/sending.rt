@@ -1,8 +1,8 @@
 //! The rule of a call's slot: the rule of its entry, and beside it what each event does to the
 //! messages of the call that are still to be sent. Its meaning is `sending_step` in
-//! specs/Sending.antt: change both.
+//! specs/Calls/Sending.antt: change both.
 ghost use Rattle.std.specs.Prelude.{◌≡◌, Option, Some};
-ghost use Rattle.giop_session.specs.Sending.{entry_of, message_of, sending_step, settled_by, slot_of, unsent_after, unsent_of};
+ghost use Rattle.giop_session.specs.Calls.Sending.{entry_of, message_of, sending_step, settled_by, slot_of, unsent_after, unsent_of};
 ghost use Rattle.giop_session.specs.declared.slot.Slot.{Slot};
 
 use crate::plan::{Plan, Planned};
@@ -33,7 +33,7 @@ pub struct Sends<A> {
 }
 
 impl<R: Side> CallRule for Sending<R> {
-    ghost use Rattle.giop_session.specs.Sending.{entry_of, keeps_by, sending_step};
+    ghost use Rattle.giop_session.specs.Calls.Sending.{entry_of, keeps_by, sending_step};
 
     type Entry = Slot<R::Entry>;
 

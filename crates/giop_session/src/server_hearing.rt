@@ -1,5 +1,5 @@
 //! What a message of the client does at a server (CORBA 3.3 Part 2, 9.4), a function for each kind.
-//! Its meaning is `server_breaks` and `server_befalls` in specs/ServerHears.antt: change both.
+//! Its meaning is `server_breaks` and `server_befalls` in specs/Hearing/ServerHears.antt: change both.
 ghost use Rattle.std.specs.Prelude.{◌≡◌, ℕ, ◌≤◌, ◌^◌, ◌+◌, ◌++◌, length, Ok, Err, None, Some, true, false, IfOk, IfErr, IfSome, IfNone};
 ghost use Rattle.std.specs.FinMap as finite;
 ghost use Rattle.giop_frag.specs.Gathered.{octets_in, order_fault};
@@ -8,11 +8,11 @@ ghost use Rattle.giop_calls.specs.declared.server.event.ServerEvent.TheVariants 
 ghost use Rattle.giop_calls.specs.declared.server.entry.ServerEntry.{ServerEntry};
 ghost use Rattle.giop_calls.specs.ServerTable.{is_free};
 ghost use Rattle.giop_calls.specs.declared.server.event.ServerEvent.{ServerEvent};
-ghost use Rattle.giop_session.specs.CallTable.{Act, First, Hears, More, Nothing, at, event_reply};
-ghost use Rattle.giop_session.specs.Decoding.{heard_call};
-ghost use Rattle.giop_session.specs.Heard.{Befalls, behind_id, kept, named};
-ghost use Rattle.giop_session.specs.Sending.{entry_of};
-ghost use Rattle.giop_session.specs.ServerHears.{AtServer, comes, continued, continues, gathered_kind, kind_in};
+ghost use Rattle.giop_session.specs.Calls.CallTable.{Act, First, Hears, More, Nothing, at, event_reply};
+ghost use Rattle.giop_session.specs.Hearing.Decoding.{heard_call};
+ghost use Rattle.giop_session.specs.Hearing.Heard.{Befalls, behind_id, kept, named};
+ghost use Rattle.giop_session.specs.Calls.Sending.{entry_of};
+ghost use Rattle.giop_session.specs.Hearing.ServerHears.{AtServer, comes, continued, continues, gathered_kind, kind_in};
 
 use crate::call_table::CallTable;
 use crate::decoding::heard_call;
@@ -30,8 +30,8 @@ use std::alloc::Global;
 type Calls = CallTable<ServerRule>;
 
 impl Hearing for ServerRule {
-    ghost use Rattle.giop_session.specs.Heard.{in_call};
-    ghost use Rattle.giop_session.specs.ServerHears.{server_befalls, server_breaks};
+    ghost use Rattle.giop_session.specs.Hearing.Heard.{in_call};
+    ghost use Rattle.giop_session.specs.Hearing.ServerHears.{server_befalls, server_breaks};
 
     ghost breaks = { server_breaks };
 

@@ -1,5 +1,5 @@
 //! The two sides of a connection, client and server, as rules of calls of which some entries gather
-//! pieces. That none of a call that is over gathers is proved in specs/Sides.antt.
+//! pieces. That none of a call that is over gathers is proved in specs/Calls/Sides.antt.
 use crate::side::Side;
 use giop_calls::{
     CallFault, ClientEntry, ClientEvent, ClientRule, ServerEntry, ServerEvent, ServerRule,
@@ -7,7 +7,7 @@ use giop_calls::{
 
 impl Side for ServerRule {
     ghost use Rattle.giop_calls.specs.ServerTable.{is_gathering};
-    ghost use Rattle.giop_session.specs.Sides.{server_gathering_is_open};
+    ghost use Rattle.giop_session.specs.Calls.Sides.{server_gathering_is_open};
 
     ghost gathering = { is_gathering };
 
@@ -25,7 +25,7 @@ impl Side for ServerRule {
 
 impl Side for ClientRule {
     ghost use Rattle.giop_calls.specs.ClientTable.{is_gathering};
-    ghost use Rattle.giop_session.specs.Sides.{client_gathering_is_open};
+    ghost use Rattle.giop_session.specs.Calls.Sides.{client_gathering_is_open};
 
     ghost gathering = { is_gathering };
 

@@ -20,7 +20,7 @@ pub enum TableFault<F> {
 }
 
 impl<F> From<Refusal<F>> for TableFault<F> {
-    ghost use Rattle.giop_session.specs.CallTable.{fault_of};
+    ghost use Rattle.giop_session.specs.Calls.CallTable.{fault_of};
 
     ghost from_gives = { λ refusal fault. fault ≡ fault_of refusal };
 
@@ -36,7 +36,7 @@ impl<F> From<Refusal<F>> for TableFault<F> {
 /// A gatherer's refusal of a piece in the byte order of its message, whose pieces are gathered or
 /// begin with it: GatherFull, or NoMemory.
 impl<F> From<GatherFault> for TableFault<F> {
-    ghost use Rattle.giop_session.specs.CallTable.{gather_fault};
+    ghost use Rattle.giop_session.specs.Calls.CallTable.{gather_fault};
 
     ghost from_gives = { λ fault given. given ≡ gather_fault fault };
 

@@ -1,7 +1,7 @@
 //! The messages of one call that are still to be sent, as a queue.
 ghost use Rattle.std.specs.Prelude.{◌≡◌, ◌==◌, [], length, drop};
 ghost use Rattle.std.specs.Option.{option_copied};
-ghost use Rattle.giop_session.specs.Unsent.{AreSized, IsSized, first_of};
+ghost use Rattle.giop_session.specs.Calls.Unsent.{AreSized, IsSized, first_of};
 
 use giop_msg::Msg;
 use std::alloc::Global;
@@ -19,7 +19,7 @@ pub struct Unsent {
 impl Model for Unsent {
     ghost use Rattle.std.specs.Prelude.{List};
     ghost use Rattle.giop_msg.specs.declared.msg.Msg.{Msg};
-    ghost use Rattle.giop_session.specs.Unsent.{AreSized};
+    ghost use Rattle.giop_session.specs.Calls.Unsent.{AreSized};
 
     ghost Value = { List Msg };
 
@@ -59,7 +59,7 @@ impl Unsent {
     }
 
     /// Takes the next message out. It takes no memory.
-    #[tactic(auto, using(crate::proofs::UnsentLemmas::rest_sized))]
+    #[tactic(auto, using(crate::proofs::OnCalls::UnsentLemmas::rest_sized))]
     #[inline(always)]
     pub fn take_first(&mut self) -> Option<Msg>
         ensures value { result ≡ first_of self.old }

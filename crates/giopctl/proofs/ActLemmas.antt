@@ -6,8 +6,8 @@ use Rattle.giop_session.specs.declared.plan.Planned.{Planned}
 use Rattle.giop_session.specs.declared.session_fault.SessionFault.{SessionFault}
 use Rattle.giop_session.specs.declared.session_fault.SessionFault.TheVariants.{NoMemory}
 use Rattle.giop_session.specs.declared.table_fault.TableFault.{TableFault}
-use Rattle.giop_session.specs.CallTable.{Act, Call, Held, Reply}
-use Rattle.giop_session.specs.Putting.{Puts}
+use Rattle.giop_session.specs.Calls.CallTable.{Act, Call, Held, Reply}
+use Rattle.giop_session.specs.Acts.Putting.{Puts}
 use Rattle.giopctl.specs.declared.failure.Failure.{Failure}
 use Rattle.giopctl.specs.Check.{answer_of}
 use Rattle.giopctl.specs.Acts.{Acts, ActsOrTells, Outbox, most}

@@ -9,10 +9,10 @@ use Rattle.giop_session.specs.declared.plan.Planned.{Planned}
 use Rattle.giop_session.specs.declared.session_fault.SessionFault.{SessionFault}
 use Rattle.giop_session.specs.declared.session_fault.SessionFault.TheVariants.{NoMemory}
 use Rattle.giop_session.specs.declared.table_fault.TableFault.{TableFault}
-use Rattle.giop_session.specs.CallTable.{Act, Call, Held, Reply, rules_of}
-use Rattle.giop_session.specs.LeftToSend.{left_in}
-use Rattle.giop_session.specs.Putting.{Puts}
-use Rattle.giop_session.specs.Sending.{entry_of}
+use Rattle.giop_session.specs.Calls.CallTable.{Act, Call, Held, Reply, rules_of}
+use Rattle.giop_session.specs.Runs.LeftToSend.{left_in}
+use Rattle.giop_session.specs.Acts.Putting.{Puts}
+use Rattle.giop_session.specs.Calls.Sending.{entry_of}
 use Rattle.giopctl.specs.Check.{answer_of}
 use Rattle.giopctl.specs.Steps.{Times, Upto}
 

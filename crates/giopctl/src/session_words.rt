@@ -1,7 +1,7 @@
 //! The words of `call` and `serve`: their arguments and their help. A change here is one in
 //! docs/giopctl.md and tests/program too.
 ghost use Rattle.std.specs.Prelude.{IfOk};
-ghost use Rattle.giop_session.specs.Form.{IsForm};
+ghost use Rattle.giop_session.specs.Acts.Form.{IsForm};
 ghost use Rattle.giopctl.specs.Check.{AreLimits};
 
 use crate::limit_words::{limited, limits_of};

@@ -32,13 +32,13 @@ use Rattle.giop_session.specs.declared.laws.inputs.ClientInput.TheVariants as in
 use Rattle.giop_session.specs.declared.limits.Limits.{Limits}
 use Rattle.giop_session.specs.declared.plan.Plan.TheVariants.{Put}
 use Rattle.giop_session.specs.declared.plan.Planned.{Planned}
-use Rattle.giop_session.specs.CallTable.{Held}
-use Rattle.giop_session.specs.ClientCalls.{IsCancel, IsLocate, locate_octets, open_version}
-use Rattle.giop_session.specs.ClientHears.{client_befalls, client_breaks}
-use Rattle.giop_session.specs.ClientRuns.{client_deed, client_entry}
-use Rattle.giop_session.specs.Driven.{IsAct, TakesAs}
-use Rattle.giop_session.specs.Heard.{in_call}
-use Rattle.giop_session.specs.Inputs.{Does, Input, Reads}
+use Rattle.giop_session.specs.Calls.CallTable.{Held}
+use Rattle.giop_session.specs.Acts.ClientCalls.{IsCancel, IsLocate, locate_octets, open_version}
+use Rattle.giop_session.specs.Hearing.ClientHears.{client_befalls, client_breaks}
+use Rattle.giop_session.specs.Runs.ClientRuns.{client_deed, client_entry}
+use Rattle.giop_session.specs.Runs.Driven.{IsAct, TakesAs}
+use Rattle.giop_session.specs.Hearing.Heard.{in_call}
+use Rattle.giop_session.specs.Runs.Inputs.{Does, Input, Reads}
 use Rattle.laws_in_use.specs.Asking.{Acts, one_way_by}
 use Rattle.laws_in_use.specs.Locating.{door, door_begins, door_ends, key, key_big, key_little}
 use Rattle.laws_in_use.specs.Runs.{Forms, client_given}

@@ -13,10 +13,10 @@ use Rattle.giop_session.specs.declared.form.Form.{Form}
 use Rattle.giop_session.specs.declared.limits.Limits.{Limits}
 use Rattle.giop_session.specs.declared.plan.Plan.TheVariants.{Put}
 use Rattle.giop_session.specs.declared.plan.Planned.{Planned}
-use Rattle.giop_session.specs.Begun.{no_calls}
-use Rattle.giop_session.specs.CallTable.{Held}
-use Rattle.giop_session.specs.ClientCalls.{request_octets}
-use Rattle.giop_session.specs.ServerAnswers.{reply_octets}
+use Rattle.giop_session.specs.Calls.Begun.{no_calls}
+use Rattle.giop_session.specs.Calls.CallTable.{Held}
+use Rattle.giop_session.specs.Acts.ClientCalls.{request_octets}
+use Rattle.giop_session.specs.Acts.ServerAnswers.{reply_octets}
 use Rattle.laws_in_use.specs.Exchange.{ping, pong}
 
 -- in pieces of 24 octets, big-endian

@@ -1,5 +1,5 @@
 //! What `call` takes beside its calls.
-ghost use Rattle.giop_session.specs.Form.{IsForm};
+ghost use Rattle.giop_session.specs.Acts.Form.{IsForm};
 ghost use Rattle.giopctl.specs.Check.{AreLimits};
 
 use giop_msg::Version;

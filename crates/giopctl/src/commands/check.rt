@@ -2,7 +2,7 @@
 ghost use Rattle.std.specs.Prelude.{◌≡◌, ◌≢◌, [], IfOk, OnOk, Some, None, length};
 ghost use Rattle.std.specs.Io.KnownBytes.{Appends, IsAtEnd};
 ghost use Rattle.giop_session.specs.declared.session_fault.SessionFault.TheVariants.{NoMemory};
-ghost use Rattle.giop_session.specs.Heard.{hears_by};
+ghost use Rattle.giop_session.specs.Hearing.Heard.{hears_by};
 ghost use Rattle.giopctl.specs.Check.{AreLimits, Checks, ChecksKnown, HeardKnown, default_limits, fault_status, last_status};
 ghost use Rattle.giopctl.specs.Dump.{ended};
 ghost use Rattle.giopctl.specs.SessionLines.{last_line, session_fault_line};

@@ -1,5 +1,5 @@
 //! What `serve` takes beside a connection.
-ghost use Rattle.giop_session.specs.Form.{IsForm};
+ghost use Rattle.giop_session.specs.Acts.Form.{IsForm};
 ghost use Rattle.giopctl.specs.Check.{AreLimits};
 
 use crate::answers::Answers;

@@ -1,7 +1,7 @@
 use Rattle.std.proofs.Common.{cond, None, sym, ap, ◌∙◌}
 use Rattle.std.specs.FinMap as finite
 use Rattle.giop_ids.specs.ById.{put}
-use Rattle.giop_session.proofs.TableLemmas.{put_itself}
+use Rattle.giop_session.proofs.OnCalls.TableLemmas.{put_itself}
 use Rattle.giop_session.proofs.call_table.keep_if.Goals as goal
 
 pub returns-in-true : goal.returns-in-true

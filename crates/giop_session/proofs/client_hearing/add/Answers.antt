@@ -4,11 +4,11 @@ use Rattle.giop_ids.specs.Runs.{Does}
 use Rattle.giop_calls.specs.declared.fault.CallFault.{CallFault}
 use Rattle.giop_calls.specs.declared.client.event.ClientEvent.TheVariants as event
 use Rattle.giop_calls.specs.ClientTable.{client_step, is_closed, is_gathering}
-use Rattle.giop_session.specs.CallTable.{Answers, Hears, More, answered, event_reply, rules_of}
-use Rattle.giop_session.specs.ClientHears.{gathered_call}
-use Rattle.giop_session.specs.Heard.{kept, silent}
+use Rattle.giop_session.specs.Calls.CallTable.{Answers, Hears, More, answered, event_reply, rules_of}
+use Rattle.giop_session.specs.Hearing.ClientHears.{gathered_call}
+use Rattle.giop_session.specs.Hearing.Heard.{kept, silent}
 use Rattle.giop_session.specs.declared.table_fault.TableFault.{TableFault}
-use Rattle.giop_session.proofs.ClientLemmas.{continued_is, more_stays}
+use Rattle.giop_session.proofs.OnHearing.ClientLemmas.{continued_is, more_stays}
 use Rattle.giop_session.proofs.client_hearing.add.Goals as goal
 
 pub returns-in-Ok : goal.returns-in-Ok

@@ -2,12 +2,12 @@ use Rattle.std.proofs.Common.{◌≡◌, length, sym, ap, subst, ◌∙◌, ◌+
 use Rattle.std.specs.FinMap as finite
 use Rattle.giop_frag.specs.Gathered.{is_over}
 use Rattle.giop_calls.specs.ClientTable.{client_step, is_gathering}
-use Rattle.giop_session.specs.Heard.{behind_id}
-use Rattle.giop_session.specs.CallTable.{gathers}
-use Rattle.giop_session.specs.ClientHears.{gathered_call}
-use Rattle.giop_session.specs.Sending.{sending_step}
-use Rattle.giop_session.proofs.ClientLemmas.{complete_refused, continued_is, last_settles}
-use Rattle.giop_session.proofs.ServerLemmas.{is_full}
+use Rattle.giop_session.specs.Hearing.Heard.{behind_id}
+use Rattle.giop_session.specs.Calls.CallTable.{gathers}
+use Rattle.giop_session.specs.Hearing.ClientHears.{gathered_call}
+use Rattle.giop_session.specs.Calls.Sending.{sending_step}
+use Rattle.giop_session.proofs.OnHearing.ClientLemmas.{complete_refused, continued_is, last_settles}
+use Rattle.giop_session.proofs.OnHearing.ServerLemmas.{is_full}
 use Rattle.giop_session.proofs.client_hearing.complete.Goals as goal
 
 pub returns-then-not-has_room : goal.returns-then-not-has_room

@@ -1,8 +1,8 @@
 use Rattle.std.proofs.Common.{sym, ap, subst, ◌∙◌}
 use Rattle.std.specs.FinMap as finite
-use Rattle.giop_session.specs.ClientHears.{AtClient, continued, continues, gathered_call}
-use Rattle.giop_session.specs.Heard.{Befalls, befalls_named}
-use Rattle.giop_session.proofs.ClientLemmas.{continued_is, continues_last}
+use Rattle.giop_session.specs.Hearing.ClientHears.{AtClient, continued, continues, gathered_call}
+use Rattle.giop_session.specs.Hearing.Heard.{Befalls, befalls_named}
+use Rattle.giop_session.proofs.OnHearing.ClientLemmas.{continued_is, continues_last}
 use Rattle.giop_session.proofs.client_hearing.go_on.Goals as goal
 
 pub returns-in-true-false : goal.returns-in-true-false

@@ -4,10 +4,10 @@ use Rattle.giop_ids.specs.Runs.{Does}
 use Rattle.giop_calls.specs.declared.fault.CallFault.{CallFault}
 use Rattle.giop_calls.specs.declared.server.event.ServerEvent.TheVariants as event
 use Rattle.giop_calls.specs.ServerTable.{server_step, is_closed, is_gathering}
-use Rattle.giop_session.specs.CallTable.{Answers, Hears, More, answered, event_reply, rules_of}
-use Rattle.giop_session.specs.Heard.{kept, silent}
+use Rattle.giop_session.specs.Calls.CallTable.{Answers, Hears, More, answered, event_reply, rules_of}
+use Rattle.giop_session.specs.Hearing.Heard.{kept, silent}
 use Rattle.giop_session.specs.declared.table_fault.TableFault.{TableFault}
-use Rattle.giop_session.proofs.ServerLemmas.{more_stays}
+use Rattle.giop_session.proofs.OnHearing.ServerLemmas.{more_stays}
 use Rattle.giop_session.proofs.server_hearing.add.Goals as goal
 
 pub returns-in-Ok : goal.returns-in-Ok

@@ -1,10 +1,10 @@
 use Rattle.std.proofs.Common.{subst, sym, ◌∙◌}
-use Rattle.giop_session.specs.CallTable.{First, Hears}
-use Rattle.giop_session.specs.Heard.{Befalls}
-use Rattle.giop_session.specs.ServerHears.{AtServer}
-use Rattle.giop_session.specs.Heard.{kept}
+use Rattle.giop_session.specs.Calls.CallTable.{First, Hears}
+use Rattle.giop_session.specs.Hearing.Heard.{Befalls}
+use Rattle.giop_session.specs.Hearing.ServerHears.{AtServer}
+use Rattle.giop_session.specs.Hearing.Heard.{kept}
 use Rattle.giop_calls.specs.declared.server.event.ServerEvent.TheVariants as event
-use Rattle.giop_session.proofs.ServerLemmas.{begin_refused}
+use Rattle.giop_session.proofs.OnHearing.ServerLemmas.{begin_refused}
 use Rattle.giop_session.proofs.server_hearing.begin.Goals as goal
 
 pub returns-then-not-is_free : goal.returns-then-not-is_free

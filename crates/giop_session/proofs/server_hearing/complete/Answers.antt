@@ -1,8 +1,8 @@
 use Rattle.std.proofs.Common.{length, sym, ap, ◌∙◌, ◌++◌}
 use Rattle.giop_frag.specs.Gathered.{is_over}
-use Rattle.giop_session.specs.Heard.{behind_id}
-use Rattle.giop_session.specs.Decoding.{heard_call}
-use Rattle.giop_session.proofs.ServerLemmas.{complete_refused, is_full}
+use Rattle.giop_session.specs.Hearing.Heard.{behind_id}
+use Rattle.giop_session.specs.Hearing.Decoding.{heard_call}
+use Rattle.giop_session.proofs.OnHearing.ServerLemmas.{complete_refused, is_full}
 use Rattle.giop_session.proofs.server_hearing.complete.Goals as goal
 
 pub returns-then-not-has_room : goal.returns-then-not-has_room

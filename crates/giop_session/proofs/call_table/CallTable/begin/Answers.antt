@@ -1,10 +1,10 @@
 use Rattle.std.proofs.Common.{◌≡◌, true, Some, sym, ap, subst, ◌∙◌, refl, inr, length}
 use Rattle.std.specs.FinMap as finite
 use Rattle.giop_frag.specs.Gathered.{is_over}
-use Rattle.giop_session.specs.Sending.{sending_step}
+use Rattle.giop_session.specs.Calls.Sending.{sending_step}
 use Rattle.giop_session.specs.declared.table_fault.TableFault.TheVariants.{NoMemory}
-use Rattle.giop_session.specs.CallTable.{Held, gathers, First}
-use Rattle.giop_session.proofs.TableLemmas.{tied_after, put_itself, begins, enough_blocks, refused_piece, no_pieces, dropped, none_wanting, many_is, does_over, not_over}
+use Rattle.giop_session.specs.Calls.CallTable.{Held, gathers, First}
+use Rattle.giop_session.proofs.OnCalls.TableLemmas.{tied_after, put_itself, begins, enough_blocks, refused_piece, no_pieces, dropped, none_wanting, many_is, does_over, not_over}
 use Rattle.giop_session.proofs.call_table.CallTable.begin.Goals as goal
 
 pub invariant_of-self : goal.invariant_of-self

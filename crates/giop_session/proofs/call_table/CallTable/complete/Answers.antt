@@ -1,8 +1,8 @@
 use Rattle.std.proofs.Common.{◌≡◌, false, None, sym, ap, subst}
 use Rattle.std.specs.FinMap as finite
-use Rattle.giop_session.specs.Sending.{sending_step}
-use Rattle.giop_session.specs.CallTable.{Held, gathers}
-use Rattle.giop_session.proofs.TableLemmas.{tied_after, as_many_blocks}
+use Rattle.giop_session.specs.Calls.Sending.{sending_step}
+use Rattle.giop_session.specs.Calls.CallTable.{Held, gathers}
+use Rattle.giop_session.proofs.OnCalls.TableLemmas.{tied_after, as_many_blocks}
 use Rattle.giop_session.proofs.call_table.CallTable.complete.Goals as goal
 
 pub invariant_of-self : goal.invariant_of-self

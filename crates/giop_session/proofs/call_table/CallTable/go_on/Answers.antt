@@ -5,8 +5,8 @@ use Rattle.giop_frag.specs.declared.fault.GatherFault.TheVariants.{NoMemory}
 use Rattle.giop_ids.specs.ById.{put}
 use Rattle.giop_ids.specs.Runs.{RefusedAs}
 use Rattle.giop_frag.specs.Gathered.{first_fault, grown, is_over, order_fault, room_fault}
-use Rattle.giop_session.specs.CallTable.{Held, gathers}
-use Rattle.giop_session.proofs.TableLemmas.{does_stay, put_itself, tied_after, still_some, goes_on, enough_blocks, refused_piece}
+use Rattle.giop_session.specs.Calls.CallTable.{Held, gathers}
+use Rattle.giop_session.proofs.OnCalls.TableLemmas.{does_stay, put_itself, tied_after, still_some, goes_on, enough_blocks, refused_piece}
 use Rattle.giop_session.proofs.call_table.CallTable.go_on.Goals as goal
 
 -- there was room, where the gatherer found no fault

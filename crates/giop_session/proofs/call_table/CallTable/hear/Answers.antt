@@ -3,9 +3,9 @@ use Rattle.std.specs.FinMap as finite
 use Rattle.giop_ids.specs.ById.{put}
 use Rattle.giop_ids.specs.Runs.{Does}
 use Rattle.giop_ids.proofs.Puts.{get-put_same}
-use Rattle.giop_session.specs.Sending.{sending_step}
-use Rattle.giop_session.specs.CallTable.{Held, gathers, rules_of, Hears, Nothing, Answers}
-use Rattle.giop_session.proofs.TableLemmas.{held, tied_after, as_many_blocks, kept, has_pieces, does_heard}
+use Rattle.giop_session.specs.Calls.Sending.{sending_step}
+use Rattle.giop_session.specs.Calls.CallTable.{Held, gathers, rules_of, Hears, Nothing, Answers}
+use Rattle.giop_session.proofs.OnCalls.TableLemmas.{held, tied_after, as_many_blocks, kept, has_pieces, does_heard}
 use Rattle.giop_session.proofs.call_table.CallTable.hear.Goals as goal
 
 pub invariant_of-self-2 : goal.invariant_of-self-2

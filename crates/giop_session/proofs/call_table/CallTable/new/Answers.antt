@@ -2,7 +2,7 @@ use Rattle.std.proofs.Common.{is_some, ap, ◌∙◌, sym, arith}
 use Rattle.std.specs.Ordering.{nat_cmp}
 use Rattle.std.specs.FinMap as finite
 use Rattle.std.specs.FinMap.{get-empty, len-empty}
-use Rattle.giop_session.specs.CallTable.{gathers}
+use Rattle.giop_session.specs.Calls.CallTable.{gathers}
 use Rattle.giop_session.proofs.call_table.CallTable.new.Goals as goal
 
 pub invariant_of-result : goal.invariant_of-result

@@ -1,8 +1,8 @@
 use Rattle.std.proofs.Common.{None, Ok, refl, ap, subst, ◌∙◌}
 use Rattle.std.specs.FinMap as finite
 use Rattle.giop_ids.specs.Runs.{Does}
-use Rattle.giop_session.specs.CallTable.{Held, rules_of, IsTaken, Gives}
-use Rattle.giop_session.proofs.TableLemmas.{held, tied_after, as_many_blocks, put_itself, does_take, over_is_away}
+use Rattle.giop_session.specs.Calls.CallTable.{Held, rules_of, IsTaken, Gives}
+use Rattle.giop_session.proofs.OnCalls.TableLemmas.{held, tied_after, as_many_blocks, put_itself, does_take, over_is_away}
 use Rattle.giop_session.proofs.call_table.CallTable.take.Goals as goal
 
 pub invariant_of-self-2 : goal.invariant_of-self-2
