@@ -22,12 +22,12 @@ mod answering;
 mod calling;
 mod writing;
 
-use crate::call_table::CallTable;
+use crate::acts::outgoing::Outgoing;
+use crate::calls::call_table::CallTable;
+use crate::calls::slot::Slot;
 use crate::hearing::Hearing;
 use crate::limits::Limits;
-use crate::outgoing::Outgoing;
 use crate::session_fault::SessionFault;
-use crate::slot::Slot;
 use giop_calls::{ClientRule, ServerRule};
 use giop_cdr::{OctetList, Order};
 use giop_msg::{Framer, Kind, Msg, Version};

@@ -1,11 +1,18 @@
-//! The trait of a side that hears messages: `client_hearing.rt` and `server_hearing.rt` implement
-//! it, and `End::feed` uses it for either side.
+//! The trait of a side that hears messages: `client` and `server` implement it, and `End::feed` uses it
+//! for either side.
 ghost use Rattle.std.specs.Prelude.{◌≤◌, ◌^◌, length};
 ghost use Rattle.giop_session.specs.Hearing.Heard.{hears_by};
 
-use crate::call_table::CallTable;
+pub mod client;
+pub mod decoding;
+pub mod heard;
+pub mod reply_decoding;
+pub mod server;
+pub mod with_last;
+
+use crate::calls::call_table::CallTable;
+use crate::calls::side::Side;
 use crate::session_fault::SessionFault;
-use crate::side::Side;
 use giop_msg::Msg;
 use giop_mux::CallRule;
 use giop_types::Interface;

@@ -12,7 +12,7 @@ use Rattle.giop_calls.specs.declared.client.entry.ClientEntry.{ClientEntry}
 use Rattle.giop_calls.specs.declared.client.event.ClientEvent.TheVariants as event
 use Rattle.giop_calls.specs.declared.client.rule.ClientRule.{ClientRule}
 use Rattle.giop_calls.specs.ClientTable.{client_step, is_closed, is_gathering, left_of}
-use Rattle.giop_session.specs.declared.form.Form.{Form}
+use Rattle.giop_session.specs.declared.acts.form.Form.{Form}
 use Rattle.giop_session.specs.declared.limits.Limits.{Limits}
 use Rattle.giop_session.specs.declared.session_fault.SessionFault.{SessionFault}
 use Rattle.giop_session.specs.Calls.Begun.{no_calls}

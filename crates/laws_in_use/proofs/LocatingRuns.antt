@@ -28,7 +28,7 @@ use Rattle.giop_session.specs.declared.session_fault.SessionFault.{SessionFault}
 use Rattle.giop_session.specs.declared.limits.Limits.{Limits}
 use Rattle.laws_in_use.specs.Locating.{bad, cancel_big, cancel_little, door, door_begins, door_ends, door_whole, here_big, here_little, key, key_big, key_little, limits, one_way, other_way, tight_limits}
 use Rattle.laws_in_use.proofs.LocatingMessages.{decoded, messages, named, undecoded}
-use Rattle.giop_session.specs.declared.plan.Plan.TheVariants.{Put}
+use Rattle.giop_session.specs.declared.calls.plan.Plan.TheVariants.{Put}
 use Rattle.laws_in_use.proofs.LocatingReads.{Brings, first, last, only, second, third, tight, wide}
 use Rattle.laws_in_use.proofs.Taking.{Stands, at-put, done, hears, stands_more, stands_none}
 

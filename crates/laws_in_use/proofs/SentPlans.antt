@@ -17,7 +17,7 @@ use Rattle.giop_calls.specs.declared.client.call.Call.TheVariants as asked
 use Rattle.giop_calls.specs.declared.client.entry.ClientEntry.{ClientEntry}
 use Rattle.giop_calls.specs.declared.client.event.ClientEvent.{ClientEvent}
 use Rattle.giop_calls.specs.declared.client.event.ClientEvent.TheVariants as at_client
-use Rattle.giop_session.specs.declared.plan.Planned.{Planned}
+use Rattle.giop_session.specs.declared.calls.plan.Planned.{Planned}
 use Rattle.giop_session.specs.Acts.ClientCalls.{IsCancel}
 use Rattle.giop_session.specs.Worlds.OwnLane.{PlansCall, PlansLocated, sends_cut}
 use Rattle.giop_session.specs.Acts.ServerAnswers.{IsLocateAnswer}

@@ -16,11 +16,11 @@ use Rattle.giop_msg.specs.declared.messages.reply.Reply.{Reply as Answer}
 use Rattle.giop_msg.specs.declared.messages.request.Request.{Request}
 use Rattle.giop_calls.specs.declared.server.event.ServerEvent.{ServerEvent}
 use Rattle.giop_calls.specs.declared.server.event.ServerEvent.TheVariants as event
-use Rattle.giop_session.specs.declared.form.Form.{Form}
-use Rattle.giop_session.specs.declared.plan.Plan.TheVariants as plan
+use Rattle.giop_session.specs.declared.acts.form.Form.{Form}
+use Rattle.giop_session.specs.declared.calls.plan.Plan.TheVariants as plan
 use Rattle.giop_session.specs.declared.limits.Limits.{Limits}
-use Rattle.giop_session.specs.declared.plan.Planned.{Planned}
-use Rattle.giop_session.specs.declared.table_fault.TableFault.{TableFault}
+use Rattle.giop_session.specs.declared.calls.plan.Planned.{Planned}
+use Rattle.giop_session.specs.declared.calls.table_fault.TableFault.{TableFault}
 use Rattle.giop_session.specs.Calls.CallTable.{Act, Call, Held, Reply}
 use Rattle.giop_session.specs.Hearing.Heard.{in_call, kept}
 use Rattle.giop_session.specs.Acts.Putting.{Befell, Puts}

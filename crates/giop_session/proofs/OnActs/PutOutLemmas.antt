@@ -21,13 +21,13 @@ use Rattle.giop_msg.specs.RequestId.{request_id_of}
 use Rattle.giop_mux.specs.declared.step.Step.{Step}
 use Rattle.giop_session.specs.declared.laws.inputs.Answered.{Answered}
 use Rattle.giop_session.specs.declared.laws.inputs.Answered.TheVariants as answer
-use Rattle.giop_session.specs.declared.plan.Plan.{Plan}
-use Rattle.giop_session.specs.declared.plan.Plan.TheVariants.{Put, Next, Keep}
-use Rattle.giop_session.specs.declared.plan.Planned.{Planned}
-use Rattle.giop_session.specs.declared.sending.Sends.{Sends}
+use Rattle.giop_session.specs.declared.calls.plan.Plan.{Plan}
+use Rattle.giop_session.specs.declared.calls.plan.Plan.TheVariants.{Put, Next, Keep}
+use Rattle.giop_session.specs.declared.calls.plan.Planned.{Planned}
+use Rattle.giop_session.specs.declared.calls.sending.Sends.{Sends}
 use Rattle.giop_session.specs.declared.session_fault.SessionFault.{SessionFault}
-use Rattle.giop_session.specs.declared.slot.Slot.{Slot}
-use Rattle.giop_session.specs.declared.table_fault.TableFault.{TableFault}
+use Rattle.giop_session.specs.declared.calls.slot.Slot.{Slot}
+use Rattle.giop_session.specs.declared.calls.table_fault.TableFault.{TableFault}
 use Rattle.giop_session.specs.Calls.CallTable.{Act, Answers, Call, Held, Hears, IsTaken, Nothing, Reply, at}
 use Rattle.giop_session.specs.Calls.CallTable.{brought, event_reply, put_call, rules_of, taken, turn, turned}
 use Rattle.giop_session.specs.Runs.Driven.{Closes, Deed, EndRuns, EndState, Feeds, IsDoneBy, IsGivenBy, PutsOut, TakesOut}

@@ -16,11 +16,11 @@ use Rattle.giop_frag.specs.Gathered.{Gathered, Pieces, Lists, grown, is_over, oc
 use Rattle.giop_frag.proofs.TotalLemmas.{total_put, blocks_kept, octets_in-grown}
 use Rattle.giop_frag.specs.declared.fault.GatherFault.{GatherFault}
 use Rattle.giop_frag.specs.declared.fault.GatherFault.TheVariants as gathering
-use Rattle.giop_session.specs.declared.slot.Slot.{Slot}
-use Rattle.giop_session.specs.declared.plan.Planned.{Planned}
-use Rattle.giop_session.specs.declared.sending.Sends.{Sends}
-use Rattle.giop_session.specs.declared.table_fault.TableFault.{TableFault}
-use Rattle.giop_session.specs.declared.table_fault.TableFault.TheVariants.{Rule, TooManyCalls, GatherFull, NoMemory}
+use Rattle.giop_session.specs.declared.calls.slot.Slot.{Slot}
+use Rattle.giop_session.specs.declared.calls.plan.Planned.{Planned}
+use Rattle.giop_session.specs.declared.calls.sending.Sends.{Sends}
+use Rattle.giop_session.specs.declared.calls.table_fault.TableFault.{TableFault}
+use Rattle.giop_session.specs.declared.calls.table_fault.TableFault.TheVariants.{Rule, TooManyCalls, GatherFull, NoMemory}
 use Rattle.giop_session.specs.Calls.Sending.{sending_step}
 use Rattle.giop_session.specs.Calls.CallTable.{Held, Call, at, put_call, Brings, First, More, Nothing, Act, Hears, IsTaken, Answers, Gives, brought, fault_of, gather_fault, Turned, taken, gathers, IsTied, IsTable, turned, turn, room_fault, calls_fault, limit, rules_of, Stays, is_of_call}
 

@@ -14,8 +14,8 @@ use Rattle.giop_calls.specs.declared.client.late.Late.{Late}
 use Rattle.giop_calls.specs.declared.client.late.Late.TheVariants as late
 use Rattle.giop_calls.specs.declared.fault.CallFault.{CallFault}
 use Rattle.giop_calls.specs.ClientTable.{client_step, is_closed, is_gathering}
-use Rattle.giop_session.specs.declared.plan.Planned.{Planned}
-use Rattle.giop_session.specs.declared.slot.Slot.{Slot}
+use Rattle.giop_session.specs.declared.calls.plan.Planned.{Planned}
+use Rattle.giop_session.specs.declared.calls.slot.Slot.{Slot}
 use Rattle.giop_session.specs.Calls.CallTable.{Act, Call, Hears, Nothing, Turned, turn}
 use Rattle.giop_session.specs.Items.Carries.{AreFragments}
 use Rattle.giop_session.specs.Hearing.ClientHears.{client_befalls}

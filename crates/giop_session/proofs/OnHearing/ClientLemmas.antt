@@ -20,8 +20,8 @@ use Rattle.giop_calls.specs.declared.client.event.ClientEvent.TheVariants as eve
 use Rattle.giop_calls.specs.declared.client.heard.HeardReply.{HeardReply}
 use Rattle.giop_calls.specs.ClientTable.{client_step, is_closed, is_gathering}
 use Rattle.giop_session.specs.declared.session_fault.SessionFault.TheVariants.{GatherFull}
-use Rattle.giop_session.specs.declared.slot.Slot.{Slot}
-use Rattle.giop_session.specs.declared.table_fault.TableFault.TheVariants as table
+use Rattle.giop_session.specs.declared.calls.slot.Slot.{Slot}
+use Rattle.giop_session.specs.declared.calls.table_fault.TableFault.TheVariants as table
 use Rattle.giop_session.specs.Calls.CallTable.{Held, More, Hears, Stays, gathers, limit}
 use Rattle.giop_session.specs.Hearing.ClientHears.{AtClient, continued, continues, gathered_call, heard_located_by, heard_reply, heard_reply_by}
 use Rattle.giop_session.specs.Hearing.Heard.{Befalls, behind_id, kept, silent}

@@ -26,7 +26,7 @@ use Rattle.giop_calls.specs.declared.fault.CallFault.TheVariants.{WrongKind}
 use Rattle.giop_calls.specs.declared.kind.CallKind.{CallKind}
 use Rattle.giop_calls.specs.declared.kind.CallKind.TheVariants as kind
 use Rattle.giop_calls.specs.ClientTable.{answers, becomes, client_step, is_closed, is_gathering, refused, settles}
-use Rattle.giop_session.specs.declared.slot.Slot.{Slot}
+use Rattle.giop_session.specs.declared.calls.slot.Slot.{Slot}
 use Rattle.giop_session.specs.Calls.CallTable.{Call, First, Hears, More, Nothing}
 use Rattle.giop_session.specs.Items.Carries.{AreFragments, IsSeries}
 use Rattle.giop_session.specs.Items.ClientCarries.{SpellsReply, answered, begun, received, replies, unspelled}

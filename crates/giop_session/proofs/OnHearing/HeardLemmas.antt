@@ -8,7 +8,7 @@ use Rattle.giop_msg.specs.RequestId.{request_id_of}
 use Rattle.giop_ids.specs.Runs.{Rules, left}
 use Rattle.giop_mux.specs.declared.step.Step.{Step}
 use Rattle.giop_session.specs.declared.session_fault.SessionFault.{SessionFault}
-use Rattle.giop_session.specs.declared.table_fault.TableFault.{TableFault}
+use Rattle.giop_session.specs.declared.calls.table_fault.TableFault.{TableFault}
 use Rattle.giop_session.specs.Runs.Alone.{alone_heard, call_after, names, names_by, own_messages}
 use Rattle.giop_session.specs.Calls.CallTable.{Act, Call, Held, Reply, at, rules_of, turn}
 use Rattle.giop_session.specs.Hearing.Feeding.{Through}

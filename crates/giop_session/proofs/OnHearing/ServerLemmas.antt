@@ -12,8 +12,8 @@ use Rattle.giop_calls.specs.declared.server.entry.ServerEntry.TheVariants.{Gathe
 use Rattle.giop_calls.specs.declared.server.event.ServerEvent.TheVariants as event
 use Rattle.giop_calls.specs.ServerTable.{server_step, is_closed, is_free, is_gathering}
 use Rattle.giop_session.specs.declared.session_fault.SessionFault.TheVariants.{Call as InCall, GatherFull}
-use Rattle.giop_session.specs.declared.slot.Slot.{Slot}
-use Rattle.giop_session.specs.declared.table_fault.TableFault.TheVariants as table
+use Rattle.giop_session.specs.declared.calls.slot.Slot.{Slot}
+use Rattle.giop_session.specs.declared.calls.table_fault.TableFault.TheVariants as table
 use Rattle.giop_session.specs.Calls.CallTable.{Held, First, More, Hears, Stays, limit}
 use Rattle.giop_session.specs.Hearing.Heard.{Befalls}
 use Rattle.giop_session.specs.Calls.Sending.{entry_of, sending_step}

@@ -27,7 +27,7 @@ use Rattle.giop_calls.specs.declared.server.event.ServerEvent.TheVariants as eve
 use Rattle.giop_calls.specs.declared.server.heard.HeardCall.{HeardCall}
 use Rattle.giop_calls.specs.declared.server.heard.HeardCall.TheVariants as heard_as
 use Rattle.giop_calls.specs.ServerTable.{arrived, becomes, begins, is_closed, is_free, is_gathering, refused, server_step}
-use Rattle.giop_session.specs.declared.slot.Slot.{Slot}
+use Rattle.giop_session.specs.declared.calls.slot.Slot.{Slot}
 use Rattle.giop_session.specs.Calls.CallTable.{Act, Call, First, Hears, More, Nothing, Turned, turn}
 use Rattle.giop_session.specs.Items.Carries.{AreFragments, Got, Bad, Begun, Rest, Cancel, Did, IsSeries, done_by}
 use Rattle.giop_session.specs.Hearing.Decoding.{heard_call}

@@ -16,7 +16,7 @@ use Rattle.giop_calls.specs.declared.client.event.ClientEvent.{ClientEvent}
 use Rattle.giop_calls.specs.declared.client.rule.ClientRule.{ClientRule}
 use Rattle.giop_session.specs.declared.session_fault.SessionFault.{SessionFault}
 use Rattle.giop_session.specs.declared.session_fault.SessionFault.TheVariants.{NoMemory}
-use Rattle.giop_session.specs.declared.slot.Slot.{Slot}
+use Rattle.giop_session.specs.declared.calls.slot.Slot.{Slot}
 use Rattle.giop_session.specs.Calls.CallTable.{Call, Held, at, brought}
 use Rattle.giop_session.specs.Calls.CallTable as table
 use Rattle.giop_session.specs.Hearing.ClientHears.{client_befalls, client_breaks}

@@ -21,7 +21,7 @@ use Rattle.giop_calls.specs.declared.client.late.Late.TheVariants as late
 use Rattle.giop_calls.specs.declared.fault.CallFault.TheVariants.{OrderDiffers, WrongKind}
 use Rattle.giop_calls.specs.declared.kind.CallKind.{CallKind}
 use Rattle.giop_calls.specs.declared.kind.CallKind.TheVariants as kind
-use Rattle.giop_session.specs.declared.slot.Slot.{Slot}
+use Rattle.giop_session.specs.declared.calls.slot.Slot.{Slot}
 use Rattle.giop_session.specs.Calls.CallTable.{Brings, Call, First, Hears, More, Nothing, brought}
 use Rattle.giop_session.specs.Items.ClientCarries.{replies}
 use Rattle.giop_session.specs.Hearing.ClientHears.{awaited, breaks_by, client_befalls, client_breaks, comes}

@@ -15,12 +15,12 @@ use Rattle.giop_mux.specs.declared.step.Step.{Step}
 use Rattle.giop_calls.specs.Lane.{taken}
 use Rattle.giop_calls.specs.Messages.{is_same_order}
 use Rattle.giop_calls.specs.declared.fault.CallFault.{CallFault}
-use Rattle.giop_session.specs.declared.plan.Planned.{Planned}
+use Rattle.giop_session.specs.declared.calls.plan.Planned.{Planned}
 use Rattle.giop_session.specs.declared.session_fault.SessionFault.{SessionFault}
 use Rattle.giop_session.specs.declared.session_fault.SessionFault.TheVariants as session
-use Rattle.giop_session.specs.declared.slot.Slot.{Slot}
-use Rattle.giop_session.specs.declared.table_fault.TableFault.{TableFault}
-use Rattle.giop_session.specs.declared.table_fault.TableFault.TheVariants.{TooManyCalls, GatherFull, NoMemory}
+use Rattle.giop_session.specs.declared.calls.slot.Slot.{Slot}
+use Rattle.giop_session.specs.declared.calls.table_fault.TableFault.{TableFault}
+use Rattle.giop_session.specs.declared.calls.table_fault.TableFault.TheVariants.{TooManyCalls, GatherFull, NoMemory}
 use Rattle.giop_session.specs.Calls.CallTable.{Act, Brings, Call, First, Hears, Held, More, Nothing, Reply, Turned, at, brought, calls_fault, gathers, limit, octets_fault, put_call, room_fault, rules_of, turn, turned}
 use Rattle.giop_session.specs.Hearing.Heard.{Befalls, IsHeard, heard_by, heard_of, hears_by, kept}
 use Rattle.giop_session.specs.Worlds.OnTheWay.{Names}

@@ -18,8 +18,8 @@ use Rattle.giop_calls.specs.declared.server.undecoded.UndecodedCall.{UndecodedCa
 use Rattle.giop_calls.specs.ClientTable as client_table
 use Rattle.giop_calls.specs.ServerTable as server_table
 use Rattle.giop_calls.specs.Messages.{is_oneway, is_same_version, is_system_exception}
-use Rattle.giop_session.specs.declared.plan.Plan.{Plan}
-use Rattle.giop_session.specs.declared.slot.Slot.{Slot}
+use Rattle.giop_session.specs.declared.calls.plan.Plan.{Plan}
+use Rattle.giop_session.specs.declared.calls.slot.Slot.{Slot}
 use Rattle.giop_session.specs.Calls.CallTable.{gathers}
 use Rattle.giop_session.specs.Calls.Sending.{sending_step, settled_by}
 

@@ -10,12 +10,12 @@ use Rattle.giop_calls.specs.ServerTable.{is_closed, is_gathering, server_step}
 use Rattle.giop_calls.specs.declared.server.entry.ServerEntry.{ServerEntry}
 use Rattle.giop_calls.specs.declared.server.event.ServerEvent.{ServerEvent}
 use Rattle.giop_calls.specs.declared.server.rule.ServerRule.{ServerRule}
-use Rattle.giop_session.specs.declared.form.Form.{Form}
+use Rattle.giop_session.specs.declared.acts.form.Form.{Form}
 use Rattle.giop_session.specs.declared.laws.inputs.Answered.{Answered}
 use Rattle.giop_session.specs.declared.laws.inputs.ServerInput.{ServerInput}
 use Rattle.giop_session.specs.declared.laws.inputs.ServerInput.TheVariants as input
 use Rattle.giop_session.specs.declared.limits.Limits.{Limits}
-use Rattle.giop_session.specs.declared.plan.Planned.{Planned}
+use Rattle.giop_session.specs.declared.calls.plan.Planned.{Planned}
 use Rattle.giop_session.specs.Calls.CallTable.{Held}
 use Rattle.giop_session.specs.Runs.Driven.{EndState}
 use Rattle.giop_session.specs.Hearing.Heard.{in_call}

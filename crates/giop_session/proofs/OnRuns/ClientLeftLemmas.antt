@@ -22,10 +22,10 @@ use Rattle.giop_calls.specs.declared.client.heard.HeardReply.TheVariants as hear
 use Rattle.giop_calls.specs.declared.client.late.Late.TheVariants as late
 use Rattle.giop_calls.specs.Messages.{is_oneway}
 use Rattle.giop_calls.specs.ClientTable.{ClientStep, answers, becomes, begins, cancel, client_step, first, is_closed, is_free, is_gathering, last, left_of, more, refused, send, sending, sent, settles, whole}
-use Rattle.giop_session.specs.declared.plan.Plan.{Plan}
-use Rattle.giop_session.specs.declared.plan.Plan.TheVariants.{Put, Next, Keep}
-use Rattle.giop_session.specs.declared.plan.Planned.{Planned}
-use Rattle.giop_session.specs.declared.slot.Slot.{Slot}
+use Rattle.giop_session.specs.declared.calls.plan.Plan.{Plan}
+use Rattle.giop_session.specs.declared.calls.plan.Plan.TheVariants.{Put, Next, Keep}
+use Rattle.giop_session.specs.declared.calls.plan.Planned.{Planned}
+use Rattle.giop_session.specs.declared.calls.slot.Slot.{Slot}
 use Rattle.giop_session.specs.Calls.CallTable.{Act, Brings, Call, First, More, Nothing, Hears, turn}
 use Rattle.giop_session.specs.Hearing.ClientHears.{awaited, befalls_by, breaks_by, client_befalls, client_breaks, comes, continued, continues, gathered_call, heard_reply}
 use Rattle.giop_session.specs.Hearing.Heard.{behind_id, kept}

@@ -21,10 +21,10 @@ use Rattle.giop_calls.specs.declared.server.question.Question.TheVariants as que
 use Rattle.giop_calls.specs.declared.server.undecoded.UndecodedCall.{UndecodedCall}
 use Rattle.giop_calls.specs.Messages.{is_oneway, is_same_version, is_system_exception}
 use Rattle.giop_calls.specs.ServerTable.{ServerStep, server_step, is_closed, is_free, is_gathering, left_of, arrived, begins, becomes, becomes_if, refused, more, last, cancel, answer, answer_undecoded, answer_locate, answer_locate_undecoded, send}
-use Rattle.giop_session.specs.declared.plan.Plan.{Plan}
-use Rattle.giop_session.specs.declared.plan.Plan.TheVariants.{Put, Next, Keep}
-use Rattle.giop_session.specs.declared.plan.Planned.{Planned}
-use Rattle.giop_session.specs.declared.slot.Slot.{Slot}
+use Rattle.giop_session.specs.declared.calls.plan.Plan.{Plan}
+use Rattle.giop_session.specs.declared.calls.plan.Plan.TheVariants.{Put, Next, Keep}
+use Rattle.giop_session.specs.declared.calls.plan.Planned.{Planned}
+use Rattle.giop_session.specs.declared.calls.slot.Slot.{Slot}
 use Rattle.giop_session.specs.Calls.CallTable.{Act, Brings, Call, First, More, Nothing, Hears, turn}
 use Rattle.giop_session.specs.Hearing.Decoding.{heard_call}
 use Rattle.giop_session.specs.Hearing.Heard.{behind_id, kept}

@@ -30,8 +30,8 @@ use Rattle.giop_session.specs.declared.laws.inputs.CheckedForm.{CheckedForm}
 use Rattle.giop_session.specs.declared.laws.inputs.ClientInput.TheVariants as given
 use Rattle.giop_session.specs.declared.laws.inputs.WorldEvent.TheVariants as event
 use Rattle.giop_session.specs.declared.limits.Limits.{Limits}
-use Rattle.giop_session.specs.declared.plan.Plan.TheVariants.{Next}
-use Rattle.giop_session.specs.declared.plan.Planned.{Planned}
+use Rattle.giop_session.specs.declared.calls.plan.Plan.TheVariants.{Next}
+use Rattle.giop_session.specs.declared.calls.plan.Planned.{Planned}
 use Rattle.giop_session.specs.declared.session_fault.SessionFault.{SessionFault}
 use Rattle.giop_session.specs.Acts.Acting.{IsAccepted}
 use Rattle.giop_session.specs.Worlds.Agreement.{IsInRange}

@@ -25,15 +25,15 @@ use Rattle.giop_calls.specs.declared.server.event.ServerEvent.TheVariants as at_
 use Rattle.giop_calls.specs.declared.server.question.Question.TheVariants as question
 use Rattle.giop_calls.specs.declared.server.rule.ServerRule.{ServerRule}
 use Rattle.giop_calls.specs.declared.server.undecoded.UndecodedCall.{UndecodedCall}
-use Rattle.giop_session.specs.declared.form.Form.{Form}
+use Rattle.giop_session.specs.declared.acts.form.Form.{Form}
 use Rattle.giop_session.specs.declared.laws.inputs.Answered.{Answered}
 use Rattle.giop_session.specs.declared.laws.inputs.Answered.TheVariants as answer
 use Rattle.giop_session.specs.declared.laws.inputs.CheckedForm.{CheckedForm}
 use Rattle.giop_session.specs.declared.laws.inputs.ServerInput.TheVariants as given
 use Rattle.giop_session.specs.declared.laws.inputs.WorldEvent.TheVariants as event
 use Rattle.giop_session.specs.declared.limits.Limits.{Limits}
-use Rattle.giop_session.specs.declared.plan.Plan.TheVariants.{Next}
-use Rattle.giop_session.specs.declared.plan.Planned.{Planned}
+use Rattle.giop_session.specs.declared.calls.plan.Plan.TheVariants.{Next}
+use Rattle.giop_session.specs.declared.calls.plan.Planned.{Planned}
 use Rattle.giop_session.specs.declared.session_fault.SessionFault.{SessionFault}
 use Rattle.giop_session.specs.Acts.Acting.{IsAccepted}
 use Rattle.giop_session.specs.Worlds.Agreement.{IsInRange}

@@ -23,10 +23,10 @@ use Rattle.giop_session.specs.declared.laws.inputs.ServerInput.TheVariants as se
 use Rattle.giop_session.specs.declared.laws.inputs.WorldEvent.{WorldEvent}
 use Rattle.giop_session.specs.declared.laws.inputs.WorldEvent.TheVariants as event
 use Rattle.giop_session.specs.declared.limits.Limits.{Limits}
-use Rattle.giop_session.specs.declared.plan.Planned.{Planned}
+use Rattle.giop_session.specs.declared.calls.plan.Planned.{Planned}
 use Rattle.giop_session.specs.declared.session_fault.SessionFault.{SessionFault}
 use Rattle.giop_session.specs.declared.session_fault.SessionFault.TheVariants.{Closed}
-use Rattle.giop_session.specs.declared.table_fault.TableFault.{TableFault}
+use Rattle.giop_session.specs.declared.calls.table_fault.TableFault.{TableFault}
 use Rattle.giop_session.specs.Calls.CallTable.{Act, Call, Held, Reply}
 use Rattle.giop_session.specs.Hearing.ClientHears.{client_befalls, client_breaks}
 use Rattle.giop_session.specs.Runs.ClientRuns.{ClientIsGiven, ClientRunsFrom, client_deed}

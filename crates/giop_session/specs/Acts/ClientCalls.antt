@@ -18,9 +18,9 @@ use Rattle.giop_calls.specs.declared.client.event.ClientEvent.TheVariants as eve
 use Rattle.giop_calls.specs.declared.fault.CallFault.{CallFault}
 use Rattle.giop_calls.specs.declared.fault.CallFault.TheVariants.{IdInUse, NotOpen, UnknownOperation}
 use Rattle.giop_calls.specs.ClientTable.{is_free}
-use Rattle.giop_session.specs.declared.form.Form.{Form}
+use Rattle.giop_session.specs.declared.acts.form.Form.{Form}
 use Rattle.giop_session.specs.declared.limits.Limits.{Limits}
-use Rattle.giop_session.specs.declared.plan.Planned.{Planned}
+use Rattle.giop_session.specs.declared.calls.plan.Planned.{Planned}
 use Rattle.giop_session.specs.Acts.Form.{is_sendable}
 use Rattle.giop_session.specs.Calls.Refused.{unfit_unless}
 use Rattle.giop_session.specs.Acts.Sent.{IsSent, cancel_request, sends_one}

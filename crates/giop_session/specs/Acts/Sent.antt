@@ -8,9 +8,9 @@ use Rattle.giop_msg.specs.declared.version.Version.{Version}
 use Rattle.giop_msg.specs.declared.version.Version.TheVariants.{V12}
 use Rattle.giop_msg.specs.Cut.{IsCut, message_of}
 use Rattle.giop_msg.specs.Header.{ulong_octets}
-use Rattle.giop_session.specs.declared.form.Form.{Form}
-use Rattle.giop_session.specs.declared.plan.Planned.{Planned}
-use Rattle.giop_session.specs.declared.plan.Plan.TheVariants.{Put}
+use Rattle.giop_session.specs.declared.acts.form.Form.{Form}
+use Rattle.giop_session.specs.declared.calls.plan.Planned.{Planned}
+use Rattle.giop_session.specs.declared.calls.plan.Plan.TheVariants.{Put}
 
 -- an event is planned to send these joined octets, as messages of a kind; it says how many
 abbrev pub IsSent : {V : Type 0} → Version → Kind → Form → List ℕ → (ℕ → V) → Planned V → Type 0

@@ -9,7 +9,7 @@ use Rattle.giop_msg.specs.declared.version.Version.TheVariants.{V10, V11, V12}
 use Rattle.giop_msg.specs.Kind.{kind_number}
 use Rattle.giop_msg.specs.Version.{minor_of, version_of}
 use Rattle.giop_frag.specs.Gathered.{is_little, order_of, order_of-is_little}
-use Rattle.giop_session.specs.declared.slot.Slot.{Slot}
+use Rattle.giop_session.specs.declared.calls.slot.Slot.{Slot}
 
 -- the kind of a message type
 abbrev pub kind_of : ℕ → Kind

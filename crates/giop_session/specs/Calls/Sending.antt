@@ -4,11 +4,11 @@ use Rattle.giop_mux.specs.Faults.{no_fault}
 use Rattle.giop_mux.specs.declared.step.Step.{Step}
 use Rattle.giop_msg.specs.declared.msg.Msg.{Msg}
 use Rattle.giop_session.specs.Calls.Unsent.{first_of}
-use Rattle.giop_session.specs.declared.slot.Slot.{Slot}
-use Rattle.giop_session.specs.declared.plan.Plan.{Plan}
-use Rattle.giop_session.specs.declared.plan.Plan.TheVariants.{Put, Next, Keep}
-use Rattle.giop_session.specs.declared.plan.Planned.{Planned}
-use Rattle.giop_session.specs.declared.sending.Sends.{Sends}
+use Rattle.giop_session.specs.declared.calls.slot.Slot.{Slot}
+use Rattle.giop_session.specs.declared.calls.plan.Plan.{Plan}
+use Rattle.giop_session.specs.declared.calls.plan.Plan.TheVariants.{Put, Next, Keep}
+use Rattle.giop_session.specs.declared.calls.plan.Planned.{Planned}
+use Rattle.giop_session.specs.declared.calls.sending.Sends.{Sends}
 
 -- the entry in a slot, if there is one
 abbrev pub entry_of : {E : Type 0} → Option (Slot E) → Option E

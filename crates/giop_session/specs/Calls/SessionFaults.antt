@@ -5,8 +5,8 @@ use Rattle.giop_msg.specs.declared.fault.WireKind.{WireKind}
 use Rattle.giop_msg.specs.declared.fault.WireKind.TheVariants as wire
 use Rattle.giop_session.specs.declared.session_fault.SessionFault.{SessionFault}
 use Rattle.giop_session.specs.declared.session_fault.SessionFault.TheVariants.{Wire, Call, WrongDirection, TooManyCalls, GatherFull, PeerError, Closed, NoMemory, StillOpen, NoId}
-use Rattle.giop_session.specs.declared.table_fault.TableFault.{TableFault}
-use Rattle.giop_session.specs.declared.table_fault.TableFault.TheVariants as table
+use Rattle.giop_session.specs.declared.calls.table_fault.TableFault.{TableFault}
+use Rattle.giop_session.specs.declared.calls.table_fault.TableFault.TheVariants as table
 
 -- the number of a fault
 abbrev pub session_fault_number : SessionFault → ℕ

@@ -14,7 +14,7 @@ use Rattle.giop_calls.specs.declared.server.event.ServerEvent.{ServerEvent}
 use Rattle.giop_calls.specs.declared.server.event.ServerEvent.TheVariants as event
 use Rattle.giop_session.specs.declared.session_fault.SessionFault.{SessionFault}
 use Rattle.giop_session.specs.declared.session_fault.SessionFault.TheVariants.{WrongDirection, PeerError, Closed}
-use Rattle.giop_session.specs.declared.slot.Slot.{Slot}
+use Rattle.giop_session.specs.declared.calls.slot.Slot.{Slot}
 use Rattle.giop_calls.specs.ServerTable.{server_step, is_closed, is_gathering}
 use Rattle.giop_session.specs.Calls.CallTable.{Act, Call, Hears, First, More, Nothing, Held, rules_of}
 use Rattle.giop_session.specs.Hearing.Decoding.{heard_call}

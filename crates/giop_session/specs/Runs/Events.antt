@@ -7,7 +7,7 @@ use Rattle.giop_msg.specs.declared.msg.Msg.{Msg}
 use Rattle.giop_mux.specs.Runs.{Happening}
 use Rattle.giop_mux.specs.Runs.{Hears as IsTold, IsTaken as TakesOut}
 use Rattle.giop_mux.specs.declared.step.Step.{Step}
-use Rattle.giop_session.specs.declared.plan.Planned.{Planned}
+use Rattle.giop_session.specs.declared.calls.plan.Planned.{Planned}
 use Rattle.giop_session.specs.declared.session_fault.SessionFault.{SessionFault}
 use Rattle.giop_session.specs.Runs.Alone.{names}
 use Rattle.giop_session.specs.Calls.CallTable.{Act, Call, Held, Hears, IsTaken, Nothing, Reply, Turned, rules_of}

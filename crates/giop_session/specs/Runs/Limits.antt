@@ -16,7 +16,7 @@ use Rattle.giop_calls.specs.declared.server.event.ServerEvent.{ServerEvent}
 use Rattle.giop_calls.specs.declared.server.event.ServerEvent.TheVariants as server
 use Rattle.giop_session.specs.declared.limits.Limits.{Limits}
 use Rattle.giop_session.specs.declared.session_fault.SessionFault.{SessionFault}
-use Rattle.giop_session.specs.declared.table_fault.TableFault.{TableFault}
+use Rattle.giop_session.specs.declared.calls.table_fault.TableFault.{TableFault}
 use Rattle.giop_session.specs.Runs.Alone.{names}
 use Rattle.giop_session.specs.Calls.CallTable.{Act, Call, Held, rules_of}
 use Rattle.giop_session.specs.Runs.Events.{Event, Comes, Does, act_of}

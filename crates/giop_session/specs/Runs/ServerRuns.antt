@@ -13,7 +13,7 @@ use Rattle.giop_session.specs.declared.laws.inputs.Answered.{Answered}
 use Rattle.giop_session.specs.declared.laws.inputs.ServerInput.{ServerInput}
 use Rattle.giop_session.specs.declared.laws.inputs.ServerInput.TheVariants as input
 use Rattle.giop_session.specs.declared.limits.Limits.{Limits}
-use Rattle.giop_session.specs.declared.plan.Plan.TheVariants.{Next}
+use Rattle.giop_session.specs.declared.calls.plan.Plan.TheVariants.{Next}
 use Rattle.giop_session.specs.Calls.CallTable.{Held}
 use Rattle.giop_session.specs.Runs.Driven.{Closes, Deed, EndRuns, EndState, Feeds, IsGiven, PutsOut, TakesAs, TakesOut, new_end}
 use Rattle.giop_session.specs.Hearing.Heard.{in_call}

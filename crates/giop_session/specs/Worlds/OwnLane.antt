@@ -20,10 +20,10 @@ use Rattle.giop_calls.specs.declared.fault.CallFault.{CallFault}
 use Rattle.giop_calls.specs.declared.server.entry.ServerEntry.TheVariants.{Asked, LocateAsked}
 use Rattle.giop_calls.specs.declared.server.event.ServerEvent.{ServerEvent}
 use Rattle.giop_calls.specs.declared.server.event.ServerEvent.TheVariants as at_server
-use Rattle.giop_session.specs.declared.form.Form.{Form}
+use Rattle.giop_session.specs.declared.acts.form.Form.{Form}
 use Rattle.giop_session.specs.declared.limits.Limits.{Limits}
-use Rattle.giop_session.specs.declared.plan.Plan.TheVariants.{Put}
-use Rattle.giop_session.specs.declared.plan.Planned.{Planned}
+use Rattle.giop_session.specs.declared.calls.plan.Plan.TheVariants.{Put}
+use Rattle.giop_session.specs.declared.calls.plan.Planned.{Planned}
 use Rattle.giop_session.specs.Acts.ClientCalls.{IsCall, IsLocate, call_fault, locate_fault}
 use Rattle.giop_session.specs.Worlds.Coding.{coding}
 use Rattle.giop_session.specs.Acts.Form.{IsForm}

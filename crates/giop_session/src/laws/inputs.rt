@@ -5,7 +5,7 @@
 ghost use Rattle.std.specs.Prelude.{◌≡◌, ◌↔◌, IfSome, IsSome};
 ghost use Rattle.giop_session.specs.Acts.Form.{IsForm};
 
-use crate::form::Form;
+use crate::acts::form::Form;
 use crate::session_fault::SessionFault;
 use giop_cdr::{OctetList, Order};
 use giop_msg::{LocateRequest, Reply, Request};
