@@ -22,8 +22,8 @@ use Rattle.giop_session.specs.Hearing.ClientHears.{client_befalls, client_breaks
 use Rattle.giop_session.specs.Hearing.Heard.{hears_by, in_call}
 use Rattle.giop_session.specs.Pumping.{Between, between}
 use Rattle.giop_session.specs.Calls.Sending.{entry_of}
-use Rattle.giopctl.specs.declared.calls.CallLine.{CallLine}
-use Rattle.giopctl.specs.declared.commands.calling.Calling.{Calling}
+use Rattle.giopctl.specs.declared.commands.call.calls.CallLine.{CallLine}
+use Rattle.giopctl.specs.declared.commands.call.given.Calling.{Calling}
 use Rattle.giopctl.specs.Acts.{ActsOrTells, Outbox, SendsAll, outbox}
 use Rattle.giopctl.specs.Check.{nothing_read}
 use Rattle.giopctl.specs.Steps.{AndThen, Upto}

@@ -19,9 +19,9 @@ use Rattle.giop_session.specs.Hearing.Heard.{in_call}
 use Rattle.giop_session.specs.Pumping.{Between, between}
 use Rattle.giop_session.specs.Calls.Sending.{entry_of}
 use Rattle.giop_session.specs.Acts.ServerAnswers.{IsAnswer, IsLocateAnswer, answer_fault, locate_in, question_in}
-use Rattle.giopctl.specs.declared.commands.answering.Due.{Due}
-use Rattle.giopctl.specs.declared.commands.answering.Due.TheVariants.{Nothing, Locate, Reply}
-use Rattle.giopctl.specs.declared.commands.serving.Serving.{Serving}
+use Rattle.giopctl.specs.declared.commands.serve.answering.Due.{Due}
+use Rattle.giopctl.specs.declared.commands.serve.answering.Due.TheVariants.{Nothing, Locate, Reply}
+use Rattle.giopctl.specs.declared.commands.serve.given.Serving.{Serving}
 use Rattle.giopctl.specs.Acts.{ActsOrTells, Outbox, SendsAll, outbox}
 use Rattle.giopctl.specs.Answering.{due_to, reply_of}
 use Rattle.giopctl.specs.Check.{nothing_read, server_hears}

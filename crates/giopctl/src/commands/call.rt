@@ -15,9 +15,14 @@ ghost use Rattle.giopctl.specs.Steps.{Upto};
 ghost use Rattle.giopctl.specs.Table.{client_entry_line};
 ghost use Rattle.giopctl.specs.Turns.{Waits};
 
-use crate::calls::CallLine;
-use crate::commands::calling::Calling;
-use crate::commands::sending::send_all;
+pub mod calls;
+pub mod files;
+pub mod given;
+pub mod table;
+
+use crate::commands::call::calls::CallLine;
+use crate::commands::call::given::Calling;
+use crate::commands::session::sending::send_all;
 use crate::commands::session::{TURNS, goes_on, told, told_of, write_all_out, write_session};
 use crate::failure::Failure;
 use crate::status::Status;

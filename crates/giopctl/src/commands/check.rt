@@ -7,9 +7,12 @@ ghost use Rattle.giopctl.specs.Check.{AreLimits, Checks, ChecksKnown, HeardKnown
 ghost use Rattle.giopctl.specs.Dump.{ended};
 ghost use Rattle.giopctl.specs.SessionLines.{last_line, session_fault_line};
 
+pub mod files;
+pub mod text;
+
 use crate::commands::dump::BehindFault;
-use crate::commands::dump_messages::write_rest;
-use crate::commands::table::write_table;
+use crate::commands::dump::messages::write_rest;
+use crate::commands::session::table::write_table;
 use crate::failure::Failure;
 use crate::lines::SessionFaultLine;
 use crate::pieces::{PieceBuffer, drain};

@@ -13,10 +13,16 @@ ghost use Rattle.giopctl.specs.Sessions.{IsServed, Serves, connection_line, serv
 ghost use Rattle.giopctl.specs.Steps.{Upto};
 ghost use Rattle.giopctl.specs.Table.{server_entry_line};
 
-use crate::answers::Answers;
-use crate::commands::answering::{Due, due_to, reply_to};
-use crate::commands::sending::send_all;
-use crate::commands::serving::Serving;
+pub mod answering;
+pub mod answers;
+pub mod files;
+pub mod given;
+pub mod table;
+
+use crate::commands::serve::answering::{Due, due_to, reply_to};
+use crate::commands::serve::answers::Answers;
+use crate::commands::serve::given::Serving;
+use crate::commands::session::sending::send_all;
 use crate::commands::session::{TURNS, goes_on, told, told_of, write_session};
 use crate::failure::Failure;
 use crate::status::Status;

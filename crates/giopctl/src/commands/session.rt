@@ -12,7 +12,15 @@ ghost use Rattle.giopctl.specs.Check.{answer_of};
 ghost use Rattle.giopctl.specs.Sessions.{fault_text, session_text, told};
 ghost use Rattle.giopctl.specs.Turns.{GoesOn, IsOfConnection, peer_octets};
 
-use crate::commands::table::{Tabled, write_table};
+pub mod bodies;
+pub mod files;
+pub mod json;
+pub mod sending;
+pub mod table;
+pub mod target;
+pub mod words;
+
+use crate::commands::session::table::{Tabled, write_table};
 use crate::failure::Failure;
 use crate::lines::SessionFaultLine;
 use giop_session::{End, Hearing, PumpFault, SessionFault, turn, write_out};
