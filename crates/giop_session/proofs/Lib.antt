@@ -1,60 +1,9 @@
-mod TableLemmas
-mod ServerLemmas
-pub mod FeedingLemmas
-mod HeardLemmas
-mod EventLemmas
-mod InputLemmas
-mod ItemLemmas
-mod CutItemLemmas
-mod CodingLemmas
-mod LaneAtEndsLemmas
-mod OnTheWayLemmas
-mod SentLemmas
-mod IdLemmas
-mod OwnRunLemmas
-mod ActingLemmas
-mod LaneEventLemmas
-mod ServerItemLemmas
-mod ClientCancelLemmas
-mod ClientReplyLemmas
-mod ClientItemLemmas
-mod ClientLemmas
-mod UnsentLemmas
-mod CutLemmas
-mod LocalLemmas
-mod QuietLemmas
-mod LocatedLemmas
-mod LeftLemmas
-mod FollowedLemmas
-mod ClientLeftLemmas
-mod LimitLemmas
-mod FewLemmas
-mod ServerLimitLemmas
-mod ClientLimitLemmas
+pub mod OnCalls
+pub mod OnHearing
+pub mod OnRuns
+pub mod OnItems
+pub mod OnLanes
+pub mod OnActs
+pub mod OnLimits
 mod PumpingLemmas
-mod DrivenLemmas
-mod RunLimitLemmas
-mod ServerRunLimitLemmas
-mod ClientRunLimitLemmas
-mod ServerHeadline
-mod ClientHeadline
-mod PutOutLemmas
-mod SidesPutOut
-mod WorldLemmas
-mod NextHeard
-mod OwnMessages
-mod SentMessages
-mod WorldTracks
-mod Acted
-mod ClientActing
-mod ServerActing
-mod Feeds
-mod HearsNext
-mod ServerSteps
-mod ServerHearsNext
-mod ClientSteps
-mod ClientHearsNext
-mod LaneActLemmas
-mod Arriving
-mod AgreementLemmas
-mod AnswerLemmas
+pub mod OnWorlds

@@ -8,7 +8,7 @@ use Rattle.giop_msg.specs.Stream.{Unread}
 use Rattle.giop_session.specs.declared.pump_fault.PumpFault.{PumpFault}
 use Rattle.giop_session.specs.declared.pump_fault.PumpFault.TheVariants.{Read, Write, Session, TurnsSpent}
 use Rattle.giop_session.specs.declared.session_fault.SessionFault.{SessionFault}
-use Rattle.giop_session.specs.Feeding.{Fed, standing, with_octets}
+use Rattle.giop_session.specs.Hearing.Feeding.{Fed, standing, with_octets}
 
 -- the number of a fault
 abbrev pub pump_fault_number : PumpFault → ℕ

@@ -1,7 +1,7 @@
 //! One end of a connection (CORBA 3.3 Part 2, 9.4): it is made, fed with octets of the peer, looked
 //! at and closed. What its own program answers is end/answering.rt, what it calls is
 //! end/calling.rt, and end/writing.rt writes what is outgoing. What feeding does is `Fed` in
-//! specs/Feeding.antt.
+//! specs/Hearing/Feeding.antt.
 ghost use Rattle.std.specs.Prelude.{◌≡◌, ◌≤◌, ◌^◌, ◌+◌, ◌/◌, ◌++◌, [], drop, false, None, Some, Err, Ok, length, option_copied, IfErr, IfOk, OnErr, OnOk};
 ghost use Rattle.std.specs.FinMap as finite;
 ghost use Rattle.std.specs.Option.{option_map};
@@ -10,24 +10,26 @@ ghost use Rattle.giop_ids.specs.ById.{put};
 ghost use Rattle.giop_ids.specs.Runs.{Does};
 ghost use Rattle.giop_msg.specs.Msg.{message_octets};
 ghost use Rattle.giop_session.specs.declared.session_fault.SessionFault.TheVariants.{Closed, NoMemory, StillOpen};
-ghost use Rattle.giop_session.specs.Begun.{no_calls};
-ghost use Rattle.giop_session.specs.CallTable.{Gives, IsTaken, rules_of};
-ghost use Rattle.giop_session.specs.Feeding.{Fed, standing, with_octets};
-ghost use Rattle.giop_session.specs.Heard.{hears_by};
-ghost use Rattle.giop_session.specs.Sending.{entry_of};
-ghost use Rattle.giop_session.specs.Sent.{close_connection};
-ghost use Rattle.giop_session.specs.SessionFaults.{error_message_of};
+ghost use Rattle.giop_session.specs.Calls.Begun.{no_calls};
+ghost use Rattle.giop_session.specs.Calls.CallTable.{Gives, IsTaken, rules_of};
+ghost use Rattle.giop_session.specs.Hearing.Feeding.{Fed, standing, with_octets};
+ghost use Rattle.giop_session.specs.Hearing.Heard.{hears_by};
+ghost use Rattle.giop_session.specs.Calls.Sending.{entry_of};
+ghost use Rattle.giop_session.specs.Acts.Sent.{close_connection};
+ghost use Rattle.giop_session.specs.Calls.SessionFaults.{error_message_of};
 
 mod answering;
 mod calling;
+mod detached;
 mod writing;
 
-use crate::call_table::CallTable;
+use crate::acts::outgoing::Outgoing;
+use crate::calls::call_table::CallTable;
+use crate::calls::slot::Slot;
 use crate::hearing::Hearing;
 use crate::limits::Limits;
-use crate::outgoing::Outgoing;
 use crate::session_fault::SessionFault;
-use crate::slot::Slot;
+pub use detached::Detached;
 use giop_calls::{ClientRule, ServerRule};
 use giop_cdr::{OctetList, Order};
 use giop_msg::{Framer, Kind, Msg, Version};

@@ -1,11 +1,18 @@
-//! The trait of a side that hears messages: `client_hearing.rt` and `server_hearing.rt` implement
-//! it, and `End::feed` uses it for either side.
+//! The trait of a side that hears messages: `client` and `server` implement it, and `End::feed` uses it
+//! for either side.
 ghost use Rattle.std.specs.Prelude.{◌≤◌, ◌^◌, length};
-ghost use Rattle.giop_session.specs.Heard.{hears_by};
+ghost use Rattle.giop_session.specs.Hearing.Heard.{hears_by};
 
-use crate::call_table::CallTable;
+pub mod client;
+pub mod decoding;
+pub mod heard;
+pub mod reply_decoding;
+pub mod server;
+pub mod with_last;
+
+use crate::calls::call_table::CallTable;
+use crate::calls::side::Side;
 use crate::session_fault::SessionFault;
-use crate::side::Side;
 use giop_msg::Msg;
 use giop_mux::CallRule;
 use giop_types::Interface;
@@ -17,7 +24,7 @@ pub trait Hearing: Side {
     ghost use Rattle.std.specs.Prelude.{ℕ, Option};
     ghost use Rattle.giop_types.specs.declared.json.interface.Interface.{Interface};
     ghost use Rattle.giop_msg.specs.declared.msg.Msg.{Msg};
-    ghost use Rattle.giop_session.specs.CallTable.{Act, Call};
+    ghost use Rattle.giop_session.specs.Calls.CallTable.{Act, Call};
     ghost use Rattle.giop_session.specs.declared.session_fault.SessionFault.{SessionFault};
 
     ghost breaks: { Msg → Option SessionFault };

@@ -8,10 +8,10 @@ ghost use Rattle.giop_ids.specs.Runs.{own, alone, told_alone, Runs, addressed, M
 ghost use Rattle.giop_types.specs.declared.json.interface.Interface.{Interface};
 ghost use Rattle.giop_msg.specs.declared.msg.Msg.{Msg};
 ghost use Rattle.giop_msg.specs.Stream.{Unread};
-ghost use Rattle.giop_session.specs.Alone.{alone_heard, own_messages};
-ghost use Rattle.giop_session.specs.Feeding.{Fed, Through, with_octets};
-ghost use Rattle.giop_session.specs.Heard.{hears_by};
-ghost use Rattle.giop_session.specs.CallTable.{at, Held, is_of_call, rules_of, turn};
+ghost use Rattle.giop_session.specs.Runs.Alone.{alone_heard, own_messages};
+ghost use Rattle.giop_session.specs.Hearing.Feeding.{Fed, Through, with_octets};
+ghost use Rattle.giop_session.specs.Hearing.Heard.{hears_by};
+ghost use Rattle.giop_session.specs.Calls.CallTable.{at, Held, is_of_call, rules_of, turn};
 
 mod acting;
 mod agreement;

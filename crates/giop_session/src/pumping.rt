@@ -1,7 +1,7 @@
 //! An end between a reader and a writer: it writes what is outgoing and hears what is read, turn
 //! after turn. Its meaning is `Turned` and `Pumped` in specs/Pumping.antt: change both.
 ghost use Rattle.std.specs.Prelude.{◌≡◌};
-ghost use Rattle.giop_session.specs.Heard.{hears_by};
+ghost use Rattle.giop_session.specs.Hearing.Heard.{hears_by};
 ghost use Rattle.giop_session.specs.Pumping.{Pumped, Turned, Writes, between};
 
 use crate::end::{End, write_out};

@@ -1,5 +1,5 @@
 //! Why an end fails, or refuses a call of its own program. The numbers are `session_fault_number`
-//! in specs/SessionFaults.antt, and docs/PROFILE.md lists them: change all three.
+//! in specs/Calls/SessionFaults.antt, and docs/PROFILE.md lists them: change all three.
 ghost use Rattle.std.specs.Prelude.{◌≡◌};
 
 use giop_calls::CallFault;
@@ -45,7 +45,7 @@ pub enum SessionFault {
 }
 
 impl SessionFault {
-    ghost use Rattle.giop_session.specs.SessionFaults.{session_fault_number};
+    ghost use Rattle.giop_session.specs.Calls.SessionFaults.{session_fault_number};
 
     /// The number of the fault, 1 to 10.
     pub fn number(self) -> u8
@@ -68,7 +68,7 @@ impl SessionFault {
 
 /// A framer's refusal. Where the framer is out of memory, the end is too (`NoMemory`).
 impl From<WireFault> for SessionFault {
-    ghost use Rattle.giop_session.specs.SessionFaults.{of_wire};
+    ghost use Rattle.giop_session.specs.Calls.SessionFaults.{of_wire};
 
     ghost from_gives = { λ fault given. given ≡ of_wire fault };
 

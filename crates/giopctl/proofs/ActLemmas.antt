@@ -2,12 +2,12 @@
 use Rattle.std.proofs.Common.{◌≡◌, ◌≢◌, ℕ, max, List, [], ◌∷◌, ◌++◌, Option, Some, None, Result, Ok, Err, IfOk, sym, ap, subst, ◌∙◌, arith}
 use Rattle.giop_ids.specs.Runs.{Rules}
 use Rattle.giop_session.specs.declared.end.End.{End}
-use Rattle.giop_session.specs.declared.plan.Planned.{Planned}
+use Rattle.giop_session.specs.declared.calls.plan.Planned.{Planned}
 use Rattle.giop_session.specs.declared.session_fault.SessionFault.{SessionFault}
 use Rattle.giop_session.specs.declared.session_fault.SessionFault.TheVariants.{NoMemory}
-use Rattle.giop_session.specs.declared.table_fault.TableFault.{TableFault}
-use Rattle.giop_session.specs.CallTable.{Act, Call, Held, Reply}
-use Rattle.giop_session.specs.Putting.{Puts}
+use Rattle.giop_session.specs.declared.calls.table_fault.TableFault.{TableFault}
+use Rattle.giop_session.specs.Calls.CallTable.{Act, Call, Held, Reply}
+use Rattle.giop_session.specs.Acts.Putting.{Puts}
 use Rattle.giopctl.specs.declared.failure.Failure.{Failure}
 use Rattle.giopctl.specs.Check.{answer_of}
 use Rattle.giopctl.specs.Acts.{Acts, ActsOrTells, Outbox, most}

@@ -10,12 +10,12 @@ use Rattle.giop_msg.proofs.StreamLemmas.{fault_stands, length-message_octets}
 use Rattle.giop_types.specs.declared.json.interface.Interface.{Interface}
 use Rattle.giop_session.specs.declared.limits.Limits.{Limits}
 use Rattle.giop_session.specs.declared.session_fault.SessionFault.{SessionFault}
-use Rattle.giop_session.specs.Feeding.{Fed, Stops, with_octets}
-use Rattle.giop_session.proofs.FeedingLemmas.{fed_in_turn}
+use Rattle.giop_session.specs.Hearing.Feeding.{Fed, Stops, with_octets}
+use Rattle.giop_session.proofs.OnHearing.FeedingLemmas.{fed_in_turn}
 use Rattle.giop_calls.specs.declared.server.entry.ServerEntry.{ServerEntry}
 use Rattle.giop_calls.specs.declared.server.rule.ServerRule.{ServerRule}
-use Rattle.giop_session.specs.Begun.{no_calls}
-use Rattle.giop_session.specs.CallTable.{Held}
+use Rattle.giop_session.specs.Calls.Begun.{no_calls}
+use Rattle.giop_session.specs.Calls.CallTable.{Held}
 use Rattle.giopctl.specs.declared.failure.Failure.{Failure}
 use Rattle.giopctl.specs.declared.status.Status.{Status}
 use Rattle.giopctl.specs.declared.status.Status.TheVariants.{Done, Refused, Usage, InputOutput, Memory}

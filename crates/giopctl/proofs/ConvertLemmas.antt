@@ -29,7 +29,7 @@ use Rattle.giop_types.specs.Values.Fits.{are_octets, fits, is_unsigned}
 use Rattle.giop_types.specs.Values.Tree.{Tree}
 use Rattle.giop_types.proofs.Coding.SpelledFits.{shape_fits}
 use Rattle.giop_types.proofs.Values.FitLemmas.{all_octets}
-use Rattle.giopctl.specs.declared.commands.described.Way.{Way}
+use Rattle.giopctl.specs.declared.commands.convert.described.Way.{Way}
 use Rattle.giopctl.specs.Convert.{unended, Tells, line_of_profile, profile_lines, ior_refusal, ConvertsIor, RefusedForm, ConvertsEncode, ConvertsValue, reader_of}
 use Rattle.giopctl.specs.Dump.{ended}
 use Rattle.giopctl.proofs.DumpLemmas.{Appends-append}

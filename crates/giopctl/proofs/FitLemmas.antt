@@ -8,7 +8,7 @@ use Rattle.serde_json.specs.declared.value.Value.{Value as Json}
 use Rattle.giop_types.specs.declared.json.interface.Interface.{Interface}
 use Rattle.giop_types.specs.declared.json.parameters.Parameter.{Parameter}
 use Rattle.giop_types.specs.Values.Tree.{Tree}
-use Rattle.giopctl.specs.declared.calls.CallLine.{CallLine}
+use Rattle.giopctl.specs.declared.commands.call.calls.CallLine.{CallLine}
 use Rattle.giopctl.specs.CallForms.{made_of, form_of, each_value, each_call}
 
 -- one part and those behind it

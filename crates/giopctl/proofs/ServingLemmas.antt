@@ -5,8 +5,8 @@ use Rattle.giop_calls.specs.declared.server.entry.ServerEntry.{ServerEntry}
 use Rattle.giop_session.specs.declared.limits.Limits.{Limits}
 use Rattle.giop_session.specs.declared.session_fault.SessionFault.{SessionFault}
 use Rattle.giop_session.specs.Pumping.{Between}
-use Rattle.giop_session.specs.Sending.{entry_of}
-use Rattle.giopctl.specs.declared.commands.answering.Due.{Due}
+use Rattle.giop_session.specs.Calls.Sending.{entry_of}
+use Rattle.giopctl.specs.declared.commands.serve.answering.Due.{Due}
 use Rattle.giopctl.specs.declared.failure.Failure.{Failure}
 use Rattle.giopctl.specs.Acts.{Outbox}
 use Rattle.giopctl.specs.Answering.{due_to}

@@ -2,7 +2,7 @@
 use Rattle.std.proofs.Common.{◌≡◌, ◌≢◌, ◌⊎◌, ℕ, Bool, false, List, Option, None, Result, Ok, Err, IfOk, IfErr, refl, sym, subst, inl, inr}
 use Rattle.std.specs.Io.KnownBytes.{Appends}
 use Rattle.giop_session.specs.declared.session_fault.SessionFault.TheVariants.{NoMemory}
-use Rattle.giop_session.specs.SessionFaults.{error_message_of}
+use Rattle.giop_session.specs.Calls.SessionFaults.{error_message_of}
 use Rattle.giop_msg.specs.declared.msg.Msg.{Msg}
 use Rattle.giop_session.specs.declared.pump_fault.PumpFault.TheVariants as turn
 use Rattle.giop_session.specs.declared.session_fault.SessionFault.{SessionFault}

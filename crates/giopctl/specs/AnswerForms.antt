@@ -16,8 +16,8 @@ use Rattle.giop_types.specs.declared.json.parameters.Parameters.{Parameters}
 use Rattle.giop_types.specs.JsonForms.DescFromJson.{by_key, json_in}
 use Rattle.giop_types.specs.JsonForms.FromJson.{in_object}
 use Rattle.giop_types.specs.JsonForms.JsonText.{text_of}
-use Rattle.giopctl.specs.declared.answers.AnswerGiven.{AnswerGiven}
-use Rattle.giopctl.specs.declared.answers.AnswerGiven.TheVariants.{Ok as result, User}
+use Rattle.giopctl.specs.declared.commands.serve.answers.AnswerGiven.{AnswerGiven}
+use Rattle.giopctl.specs.declared.commands.serve.answers.AnswerGiven.TheVariants.{Ok as result, User}
 use Rattle.giopctl.specs.CallForms.{octets_in, values_in}
 use Rattle.giop_msg.specs.Messages.Reply.{exception_of}
 use Rattle.giop_msg.specs.Messages.Request.{operation_of}

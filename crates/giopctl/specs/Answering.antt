@@ -18,12 +18,12 @@ use Rattle.giop_calls.specs.declared.kind.CallKind.TheVariants as kind
 use Rattle.giop_calls.specs.declared.server.entry.ServerEntry.{ServerEntry}
 use Rattle.giop_calls.specs.declared.server.entry.ServerEntry.TheVariants.{Asked, Undecoded, LocateAsked}
 use Rattle.giop_calls.specs.declared.server.undecoded.UndecodedCall.{UndecodedCall}
-use Rattle.giopctl.specs.declared.answers.AnswerGiven.{AnswerGiven}
-use Rattle.giopctl.specs.declared.answers.AnswerGiven.TheVariants.{Ok as ok, User}
-use Rattle.giopctl.specs.declared.commands.answering.Answer.{Answer}
-use Rattle.giopctl.specs.declared.commands.answering.Answer.TheVariants.{Given, NoObject, BadOperation, Marshal, Addressing}
-use Rattle.giopctl.specs.declared.commands.answering.Due.{Due}
-use Rattle.giopctl.specs.declared.commands.answering.Due.TheVariants.{Nothing, Locate, Reply}
+use Rattle.giopctl.specs.declared.commands.serve.answers.AnswerGiven.{AnswerGiven}
+use Rattle.giopctl.specs.declared.commands.serve.answers.AnswerGiven.TheVariants.{Ok as ok, User}
+use Rattle.giopctl.specs.declared.commands.serve.answering.Answer.{Answer}
+use Rattle.giopctl.specs.declared.commands.serve.answering.Answer.TheVariants.{Given, NoObject, BadOperation, Marshal, Addressing}
+use Rattle.giopctl.specs.declared.commands.serve.answering.Due.{Due}
+use Rattle.giopctl.specs.declared.commands.serve.answering.Due.TheVariants.{Nothing, Locate, Reply}
 use Rattle.giopctl.specs.AnswerForms.{given_in}
 
 -- whether a target is the object of a key

@@ -17,7 +17,7 @@ use Rattle.giop_types.specs.Descriptions.Shape.{Shape, text, ulong}
 use Rattle.giop_types.specs.JsonForms.DescFromJson.{json_in}
 use Rattle.giop_types.specs.JsonForms.FromJson.{from_data, in_object}
 use Rattle.giop_types.specs.Values.Tree.{Tree, text_of, ulong_of}
-use Rattle.giopctl.specs.declared.calls.CallLine.{CallLine}
+use Rattle.giopctl.specs.declared.commands.call.calls.CallLine.{CallLine}
 use Rattle.giop_msg.specs.Messages.Request.{operation_of}
 
 -- ---- parts

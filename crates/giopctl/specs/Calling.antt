@@ -12,18 +12,18 @@ use Rattle.giop_calls.specs.declared.client.entry.ClientEntry.{ClientEntry}
 use Rattle.giop_calls.specs.declared.client.event.ClientEvent.TheVariants as event
 use Rattle.giop_calls.specs.declared.client.rule.ClientRule.{ClientRule}
 use Rattle.giop_calls.specs.ClientTable.{client_step, is_closed, is_gathering, left_of}
-use Rattle.giop_session.specs.declared.form.Form.{Form}
+use Rattle.giop_session.specs.declared.acts.form.Form.{Form}
 use Rattle.giop_session.specs.declared.limits.Limits.{Limits}
 use Rattle.giop_session.specs.declared.session_fault.SessionFault.{SessionFault}
-use Rattle.giop_session.specs.Begun.{no_calls}
-use Rattle.giop_session.specs.CallTable.{Held, rules_of}
-use Rattle.giop_session.specs.ClientCalls.{IsCall, call_fault}
-use Rattle.giop_session.specs.ClientHears.{client_befalls, client_breaks}
-use Rattle.giop_session.specs.Heard.{hears_by, in_call}
+use Rattle.giop_session.specs.Calls.Begun.{no_calls}
+use Rattle.giop_session.specs.Calls.CallTable.{Held, rules_of}
+use Rattle.giop_session.specs.Acts.ClientCalls.{IsCall, call_fault}
+use Rattle.giop_session.specs.Hearing.ClientHears.{client_befalls, client_breaks}
+use Rattle.giop_session.specs.Hearing.Heard.{hears_by, in_call}
 use Rattle.giop_session.specs.Pumping.{Between, between}
-use Rattle.giop_session.specs.Sending.{entry_of}
-use Rattle.giopctl.specs.declared.calls.CallLine.{CallLine}
-use Rattle.giopctl.specs.declared.commands.calling.Calling.{Calling}
+use Rattle.giop_session.specs.Calls.Sending.{entry_of}
+use Rattle.giopctl.specs.declared.commands.call.calls.CallLine.{CallLine}
+use Rattle.giopctl.specs.declared.commands.call.given.Calling.{Calling}
 use Rattle.giopctl.specs.Acts.{ActsOrTells, Outbox, SendsAll, outbox}
 use Rattle.giopctl.specs.Check.{nothing_read}
 use Rattle.giopctl.specs.Steps.{AndThen, Upto}

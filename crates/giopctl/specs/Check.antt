@@ -13,11 +13,11 @@ use Rattle.giop_calls.specs.ServerTable.{server_step, is_closed, is_gathering}
 use Rattle.giop_session.specs.declared.limits.Limits.{Limits}
 use Rattle.giop_session.specs.declared.session_fault.SessionFault.{SessionFault}
 use Rattle.giop_session.specs.declared.session_fault.SessionFault.TheVariants.{Closed}
-use Rattle.giop_session.specs.Begun.{no_calls}
-use Rattle.giop_session.specs.CallTable.{Held}
-use Rattle.giop_session.specs.Feeding.{Fed, with_octets}
-use Rattle.giop_session.specs.Heard.{hears_by, in_call}
-use Rattle.giop_session.specs.ServerHears.{server_befalls, server_breaks}
+use Rattle.giop_session.specs.Calls.Begun.{no_calls}
+use Rattle.giop_session.specs.Calls.CallTable.{Held}
+use Rattle.giop_session.specs.Hearing.Feeding.{Fed, with_octets}
+use Rattle.giop_session.specs.Hearing.Heard.{hears_by, in_call}
+use Rattle.giop_session.specs.Hearing.ServerHears.{server_befalls, server_breaks}
 use Rattle.giopctl.specs.declared.status.Status.{Status}
 use Rattle.giopctl.specs.declared.status.Status.TheVariants.{Done, Refused, InputOutput, Memory}
 use Rattle.giopctl.specs.declared.lines.refusal.RefusalLine.TheVariants.{Form}

@@ -37,8 +37,8 @@ use Rattle.giop_types.specs.Values.Tree.{Tree}
 use Rattle.giop_types.specs.Coding.Written.{value_out}
 use Rattle.giopctl.specs.declared.lines.refusal.RefusalLine.{RefusalLine}
 use Rattle.giopctl.specs.declared.lines.refusal.RefusalLine.TheVariants as refusal
-use Rattle.giopctl.specs.declared.commands.described.Way.{Way}
-use Rattle.giopctl.specs.declared.commands.described.Way.TheVariants.{Encode, Decode}
+use Rattle.giopctl.specs.declared.commands.convert.described.Way.{Way}
+use Rattle.giopctl.specs.declared.commands.convert.described.Way.TheVariants.{Encode, Decode}
 use Rattle.giopctl.specs.declared.status.Status.{Status}
 use Rattle.giopctl.specs.declared.status.Status.TheVariants.{Done, Refused}
 use Rattle.giopctl.specs.ConvertLines.{refusal_line, type_line, iiop_line, profile_line}

@@ -10,18 +10,18 @@ use Rattle.giop_calls.specs.declared.server.entry.ServerEntry.{ServerEntry}
 use Rattle.giop_calls.specs.declared.server.event.ServerEvent.TheVariants as event
 use Rattle.giop_calls.specs.declared.server.rule.ServerRule.{ServerRule}
 use Rattle.giop_calls.specs.ServerTable.{server_step, is_closed, is_gathering, left_of}
-use Rattle.giop_session.specs.declared.form.Form.{Form}
+use Rattle.giop_session.specs.declared.acts.form.Form.{Form}
 use Rattle.giop_session.specs.declared.limits.Limits.{Limits}
 use Rattle.giop_session.specs.declared.session_fault.SessionFault.{SessionFault}
-use Rattle.giop_session.specs.Begun.{no_calls}
-use Rattle.giop_session.specs.CallTable.{Held, rules_of}
-use Rattle.giop_session.specs.Heard.{in_call}
+use Rattle.giop_session.specs.Calls.Begun.{no_calls}
+use Rattle.giop_session.specs.Calls.CallTable.{Held, rules_of}
+use Rattle.giop_session.specs.Hearing.Heard.{in_call}
 use Rattle.giop_session.specs.Pumping.{Between, between}
-use Rattle.giop_session.specs.Sending.{entry_of}
-use Rattle.giop_session.specs.ServerAnswers.{IsAnswer, IsLocateAnswer, answer_fault, locate_in, question_in}
-use Rattle.giopctl.specs.declared.commands.answering.Due.{Due}
-use Rattle.giopctl.specs.declared.commands.answering.Due.TheVariants.{Nothing, Locate, Reply}
-use Rattle.giopctl.specs.declared.commands.serving.Serving.{Serving}
+use Rattle.giop_session.specs.Calls.Sending.{entry_of}
+use Rattle.giop_session.specs.Acts.ServerAnswers.{IsAnswer, IsLocateAnswer, answer_fault, locate_in, question_in}
+use Rattle.giopctl.specs.declared.commands.serve.answering.Due.{Due}
+use Rattle.giopctl.specs.declared.commands.serve.answering.Due.TheVariants.{Nothing, Locate, Reply}
+use Rattle.giopctl.specs.declared.commands.serve.given.Serving.{Serving}
 use Rattle.giopctl.specs.Acts.{ActsOrTells, Outbox, SendsAll, outbox}
 use Rattle.giopctl.specs.Answering.{due_to, reply_of}
 use Rattle.giopctl.specs.Check.{nothing_read, server_hears}

@@ -15,9 +15,9 @@ use Rattle.giop_ior.specs.Ior.{Reference, ior_layout}
 use Rattle.giop_msg.specs.Version.{version_of}
 use Rattle.giop_types.specs.declared.ior_text_fault.IorTextFault.{IorTextFault}
 use Rattle.giop_types.specs.IorText.{ior_text_of}
-use Rattle.giopctl.specs.declared.commands.target.Endpoint.{Endpoint}
-use Rattle.giopctl.specs.declared.commands.target.Targeted.{Targeted}
-use Rattle.giopctl.specs.declared.commands.target.Targeted.TheVariants as targeted
+use Rattle.giopctl.specs.declared.commands.session.target.Endpoint.{Endpoint}
+use Rattle.giopctl.specs.declared.commands.session.target.Targeted.{Targeted}
+use Rattle.giopctl.specs.declared.commands.session.target.Targeted.TheVariants as targeted
 use Rattle.giopctl.specs.declared.lines.refusal.RefusalLine.{RefusalLine}
 use Rattle.giopctl.specs.declared.lines.refusal.RefusalLine.TheVariants.{Corbaloc as BadCorbaloc, NoIiopProfile}
 use Rattle.giopctl.specs.Convert.{ior_refusal}

@@ -10,7 +10,7 @@ use Rattle.giop_session.specs.declared.pump_fault.PumpFault.TheVariants as turn
 use Rattle.giop_session.specs.declared.session_fault.SessionFault.{SessionFault}
 use Rattle.giop_session.specs.declared.session_fault.SessionFault.TheVariants.{NoMemory}
 use Rattle.giop_session.specs.Pumping.{Between, Turned, Writes}
-use Rattle.giop_session.specs.SessionFaults.{error_message_of}
+use Rattle.giop_session.specs.Calls.SessionFaults.{error_message_of}
 use Rattle.giopctl.specs.declared.failure.Failure.{Failure}
 use Rattle.giopctl.specs.declared.failure.Failure.TheVariants.{Memory, Connection, TurnsSpent}
 use Rattle.giopctl.specs.Steps.{Each}

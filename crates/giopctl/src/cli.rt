@@ -4,9 +4,9 @@
 ghost use Rattle.giopctl.specs.Check.{AreLimits};
 
 use crate::commands::Way;
+use crate::commands::session::words::{call, call_words, serve, serve_words};
+pub use crate::commands::session::words::{CallWords, ServeWords};
 use crate::limit_words::{limited, limits_of, message_limit, message_limit_of};
-use crate::session_words::{call, call_words, serve, serve_words};
-pub use crate::session_words::{CallWords, ServeWords};
 use clap::error::ErrorKind;
 use clap::{Arg, ArgAction, ArgMatches, Command, Error};
 use giop_cdr::Order;

@@ -2,23 +2,14 @@
 //! references and values in another form, and calls and serves objects.
 #![tactic(auto)]
 
-mod answers;
-mod calling;
-mod calls;
-mod checking;
 mod cli;
 mod commands;
-mod converting;
 mod failure;
 mod files;
-mod json;
 mod limit_words;
 mod lines;
 mod pieces;
 mod report;
-mod serving;
-mod session_files;
-mod session_words;
 mod status;
 #[cfg(test)]
 mod tests;
@@ -43,10 +34,10 @@ fn run(rt: &HostRuntime) -> Status {
     };
     match cli::task_of(rt.alloc(), words.as_slice()) {
         Ok(Some(Task::Dump { file, limit })) => report::answer(rt, file, dump(rt, file, limit)),
-        Ok(Some(Task::Check(words))) => checking::check(rt, words),
-        Ok(Some(Task::Convert { file, kind })) => converting::convert(rt, file, kind),
-        Ok(Some(Task::Call(words))) => calling::call(rt, words),
-        Ok(Some(Task::Serve(words))) => serving::serve(rt, words),
+        Ok(Some(Task::Check(words))) => commands::check::files::check(rt, words),
+        Ok(Some(Task::Convert { file, kind })) => commands::convert::files::convert(rt, file, kind),
+        Ok(Some(Task::Call(words))) => commands::call::files::call(rt, words),
+        Ok(Some(Task::Serve(words))) => commands::serve::files::serve(rt, words),
         Ok(None) => Status::Usage,
         Err(error) => report::usage(rt, &error),
     }

@@ -21,16 +21,16 @@ use Rattle.giop_session.specs.declared.laws.inputs.Answered.TheVariants as answe
 use Rattle.giop_session.specs.declared.laws.inputs.ClientInput.TheVariants as client_input
 use Rattle.giop_session.specs.declared.session_fault.SessionFault.TheVariants.{Call as InCall, NoMemory}
 use Rattle.giop_session.specs.declared.slot.Slot.{Slot}
-use Rattle.giop_session.specs.Agreement.{AreInRange}
-use Rattle.giop_session.specs.CallTable.{rules_of}
-use Rattle.giop_session.specs.ClientCalls.{IsCancel, cancel_fault, open_version}
-use Rattle.giop_session.specs.ClientRuns.{ClientIsGiven, client_entry}
-use Rattle.giop_session.specs.Driven.{new_end}
-use Rattle.giop_session.specs.Heard.{in_call}
-use Rattle.giop_session.specs.OwnLane.{InRange}
-use Rattle.giop_session.specs.Putting.{Puts}
-use Rattle.giop_session.specs.Sending.{entry_of}
-use Rattle.giop_session.specs.World.{WorldRuns, new_world}
+use Rattle.giop_session.specs.Worlds.Agreement.{AreInRange}
+use Rattle.giop_session.specs.Calls.CallTable.{rules_of}
+use Rattle.giop_session.specs.Acts.ClientCalls.{IsCancel, cancel_fault, open_version}
+use Rattle.giop_session.specs.Runs.ClientRuns.{ClientIsGiven, client_entry}
+use Rattle.giop_session.specs.Runs.Driven.{new_end}
+use Rattle.giop_session.specs.Hearing.Heard.{in_call}
+use Rattle.giop_session.specs.Worlds.OwnLane.{InRange}
+use Rattle.giop_session.specs.Acts.Putting.{Puts}
+use Rattle.giop_session.specs.Calls.Sending.{entry_of}
+use Rattle.giop_session.specs.Worlds.World.{WorldRuns, new_world}
 use Rattle.laws_in_use.specs.Left.{new_client}
 use Rattle.laws_in_use.specs.Locating.{key, limits}
 use Rattle.laws_in_use.specs.Runs.{Forms}

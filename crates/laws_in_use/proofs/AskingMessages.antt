@@ -15,7 +15,7 @@ use Rattle.giop_msg.specs.RequestId.{request_id_layout, request_id_of}
 use Rattle.giop_msg.specs.declared.version.Version.TheVariants.{V10, V12}
 use Rattle.giop_calls.specs.declared.client.call.Call.TheVariants as asked
 use Rattle.giop_calls.specs.declared.client.heard.HeardReply.TheVariants as heard
-use Rattle.giop_session.specs.ClientHears.{heard_reply}
+use Rattle.giop_session.specs.Hearing.ClientHears.{heard_reply}
 use Rattle.laws_in_use.specs.Asking.{here, here_begins, here_ends, short, short_octets, unknown_big, unknown_key, unknown_little}
 use Rattle.laws_in_use.specs.Locating.{door, here_little, key}
 

@@ -25,20 +25,20 @@ use Rattle.giop_calls.specs.declared.client.event.ClientEvent.{ClientEvent}
 use Rattle.giop_calls.specs.declared.client.event.ClientEvent.TheVariants as event
 use Rattle.giop_calls.specs.declared.client.rule.ClientRule.{ClientRule}
 use Rattle.giop_calls.specs.ClientTable.{client_step, is_closed, is_gathering}
-use Rattle.giop_session.specs.declared.form.Form.{Form}
+use Rattle.giop_session.specs.declared.acts.form.Form.{Form}
 use Rattle.giop_session.specs.declared.laws.inputs.Answered.{Answered}
 use Rattle.giop_session.specs.declared.laws.inputs.ClientInput.{ClientInput}
 use Rattle.giop_session.specs.declared.laws.inputs.ClientInput.TheVariants as input
 use Rattle.giop_session.specs.declared.limits.Limits.{Limits}
-use Rattle.giop_session.specs.declared.plan.Plan.TheVariants.{Put}
-use Rattle.giop_session.specs.declared.plan.Planned.{Planned}
-use Rattle.giop_session.specs.CallTable.{Held}
-use Rattle.giop_session.specs.ClientCalls.{IsCancel, IsLocate, locate_octets, open_version}
-use Rattle.giop_session.specs.ClientHears.{client_befalls, client_breaks}
-use Rattle.giop_session.specs.ClientRuns.{client_deed, client_entry}
-use Rattle.giop_session.specs.Driven.{IsAct, TakesAs}
-use Rattle.giop_session.specs.Heard.{in_call}
-use Rattle.giop_session.specs.Inputs.{Does, Input, Reads}
+use Rattle.giop_session.specs.declared.calls.plan.Plan.TheVariants.{Put}
+use Rattle.giop_session.specs.declared.calls.plan.Planned.{Planned}
+use Rattle.giop_session.specs.Calls.CallTable.{Held}
+use Rattle.giop_session.specs.Acts.ClientCalls.{IsCancel, IsLocate, locate_octets, open_version}
+use Rattle.giop_session.specs.Hearing.ClientHears.{client_befalls, client_breaks}
+use Rattle.giop_session.specs.Runs.ClientRuns.{client_deed, client_entry}
+use Rattle.giop_session.specs.Runs.Driven.{IsAct, TakesAs}
+use Rattle.giop_session.specs.Hearing.Heard.{in_call}
+use Rattle.giop_session.specs.Runs.Inputs.{Does, Input, Reads}
 use Rattle.laws_in_use.specs.Asking.{Acts, one_way_by}
 use Rattle.laws_in_use.specs.Locating.{door, door_begins, door_ends, key, key_big, key_little}
 use Rattle.laws_in_use.specs.Runs.{Forms, client_given}

@@ -11,14 +11,14 @@ use Rattle.giop_calls.specs.declared.client.event.ClientEvent.{ClientEvent}
 use Rattle.giop_calls.specs.declared.client.rule.ClientRule.{ClientRule}
 use Rattle.giop_session.specs.declared.laws.inputs.Answered.{Answered}
 use Rattle.giop_session.specs.declared.laws.inputs.ClientInput.{ClientInput}
-use Rattle.giop_session.specs.Begun.{no_calls}
-use Rattle.giop_session.specs.CallTable.{Held}
-use Rattle.giop_session.specs.Carries.{Did}
-use Rattle.giop_session.specs.ClientCarries.{client_telling, unknown}
-use Rattle.giop_session.specs.ClientRuns.{ClientHolds, ClientTakesAs}
-use Rattle.giop_session.specs.Events.{Event, own_events}
-use Rattle.giop_session.specs.Events.{Does as DoesTo}
-use Rattle.giop_session.specs.Inputs.{Does, Holds, Input, nothing_unread}
+use Rattle.giop_session.specs.Calls.Begun.{no_calls}
+use Rattle.giop_session.specs.Calls.CallTable.{Held}
+use Rattle.giop_session.specs.Items.Carries.{Did}
+use Rattle.giop_session.specs.Items.ClientCarries.{client_telling, unknown}
+use Rattle.giop_session.specs.Runs.ClientRuns.{ClientHolds, ClientTakesAs}
+use Rattle.giop_session.specs.Runs.Events.{Event, own_events}
+use Rattle.giop_session.specs.Runs.Events.{Does as DoesTo}
+use Rattle.giop_session.specs.Runs.Inputs.{Does, Holds, Input, nothing_unread}
 use Rattle.laws_in_use.specs.Asking.{Acts, told_of_seven}
 use Rattle.laws_in_use.specs.Locating.{limits}
 use Rattle.laws_in_use.specs.Runs.{Forms, client_given, client_told, told_and_taken}

@@ -12,12 +12,12 @@ use Rattle.giop_calls.specs.declared.client.entry.ClientEntry.TheVariants.{Undec
 use Rattle.giop_calls.specs.declared.client.event.ClientEvent.TheVariants as event
 use Rattle.giop_calls.specs.ClientTable.{client_step, is_closed, is_gathering}
 use Rattle.giop_session.specs.declared.laws.inputs.Answered.TheVariants as answer
-use Rattle.giop_session.specs.CallTable.{Call, Gives, IsTaken, at, put_call, rules_of, turn}
-use Rattle.giop_session.specs.ClientCalls.{IsCancel, open_version}
-use Rattle.giop_session.specs.ClientRuns.{ClientTakesAs, client_entry}
-use Rattle.giop_session.specs.Inputs.{nothing_unread}
-use Rattle.giop_session.specs.Sending.{entry_of}
-use Rattle.giop_session.specs.Sent.{cancel_request, sends_one}
+use Rattle.giop_session.specs.Calls.CallTable.{Call, Gives, IsTaken, at, put_call, rules_of, turn}
+use Rattle.giop_session.specs.Acts.ClientCalls.{IsCancel, open_version}
+use Rattle.giop_session.specs.Runs.ClientRuns.{ClientTakesAs, client_entry}
+use Rattle.giop_session.specs.Runs.Inputs.{nothing_unread}
+use Rattle.giop_session.specs.Calls.Sending.{entry_of}
+use Rattle.giop_session.specs.Acts.Sent.{cancel_request, sends_one}
 use Rattle.laws_in_use.specs.Asking.{here_begins, here_ends, own_acts}
 use Rattle.laws_in_use.specs.Locating.{cancel_little, key, limits}
 use Rattle.laws_in_use.specs.Runs.{Forms, client_answers, client_given}

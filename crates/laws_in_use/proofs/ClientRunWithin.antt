@@ -9,7 +9,7 @@ use Rattle.giop_msg.specs.Header.{header_octets}
 use Rattle.giop_msg.specs.Msg.{IsMessage}
 use Rattle.giop_msg.specs.declared.msg.Msg.{Msg}
 use Rattle.giop_msg.proofs.FramerLemmas.{waits_for_header}
-use Rattle.giop_session.specs.RunLimits.{ClientIsGivenWithin, calls_under}
+use Rattle.giop_session.specs.Runs.RunLimits.{ClientIsGivenWithin, calls_under}
 use Rattle.laws_in_use.specs.Asking.{here_begins, here_ends, short, unknown_little}
 use Rattle.laws_in_use.specs.Locating.{limits}
 use Rattle.laws_in_use.specs.Runs.{Forms, client_given}

@@ -15,11 +15,11 @@ use Rattle.giop_session.specs.declared.laws.inputs.ServerInput.{ServerInput}
 use Rattle.giop_session.specs.declared.laws.inputs.ServerInput.TheVariants as server
 use Rattle.giop_session.specs.declared.limits.Limits.{Limits}
 use Rattle.giop_session.specs.declared.session_fault.SessionFault.TheVariants.{Closed}
-use Rattle.giop_session.specs.CallTable.{Held}
-use Rattle.giop_session.specs.ClientRuns.{ClientRuns}
-use Rattle.giop_session.specs.Driven.{EndState}
-use Rattle.giop_session.specs.Sent.{close_connection}
-use Rattle.giop_session.specs.ServerRuns.{ServerRuns}
+use Rattle.giop_session.specs.Calls.CallTable.{Held}
+use Rattle.giop_session.specs.Runs.ClientRuns.{ClientRuns}
+use Rattle.giop_session.specs.Runs.Driven.{EndState}
+use Rattle.giop_session.specs.Acts.Sent.{close_connection}
+use Rattle.giop_session.specs.Runs.ServerRuns.{ServerRuns}
 
 -- an end has answered so, and is closed
 abbrev pub IsClosed : {H E : Type 0} → List (Answered E) → EndState H → Type 0

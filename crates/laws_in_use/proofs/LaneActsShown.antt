@@ -27,12 +27,12 @@ use Rattle.giop_calls.specs.declared.server.entry.ServerEntry.{ServerEntry}
 use Rattle.giop_calls.specs.declared.server.entry.ServerEntry.TheVariants.{Gathering}
 use Rattle.giop_session.specs.declared.session_fault.SessionFault.{SessionFault}
 use Rattle.giop_session.specs.declared.session_fault.SessionFault.TheVariants.{NoMemory}
-use Rattle.giop_session.specs.CallTable.{Act, Call, Hears, Nothing, at, put_call}
-use Rattle.giop_session.specs.ClientHears.{client_befalls, client_breaks}
-use Rattle.giop_session.specs.Coding.{coding}
-use Rattle.giop_session.specs.Heard.{hears_by, in_call, kept}
-use Rattle.giop_session.specs.LaneAtEnds.{IsOfLimit}
-use Rattle.giop_session.specs.Tracks.{ClientShows, IsToClient, IsToServer, ServerShows}
+use Rattle.giop_session.specs.Calls.CallTable.{Act, Call, Hears, Nothing, at, put_call}
+use Rattle.giop_session.specs.Hearing.ClientHears.{client_befalls, client_breaks}
+use Rattle.giop_session.specs.Worlds.Coding.{coding}
+use Rattle.giop_session.specs.Hearing.Heard.{hears_by, in_call, kept}
+use Rattle.giop_session.specs.Worlds.LaneAtEnds.{IsOfLimit}
+use Rattle.giop_session.specs.Worlds.Tracks.{ClientShows, IsToClient, IsToServer, ServerShows}
 use Rattle.laws_in_use.specs.Asking.{here}
 use Rattle.laws_in_use.specs.Hearing.{waits}
 use Rattle.laws_in_use.specs.LaneActs.{answered_acts, answered_lane, asked_acts, asked_lane, awaiting}

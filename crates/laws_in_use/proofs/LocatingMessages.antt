@@ -17,7 +17,7 @@ use Rattle.giop_msg.specs.declared.version.Version.TheVariants.{V10, V12}
 use Rattle.giop_calls.specs.declared.kind.CallKind.TheVariants as kind
 use Rattle.giop_calls.specs.declared.server.heard.HeardCall.{HeardCall}
 use Rattle.giop_calls.specs.declared.server.heard.HeardCall.TheVariants as heard
-use Rattle.giop_session.specs.Decoding.{heard_call}
+use Rattle.giop_session.specs.Hearing.Decoding.{heard_call}
 use Rattle.laws_in_use.specs.Locating.{bad, bad_octets, cancel_big, cancel_little, door, door_begins, door_ends, door_whole, key, key_big, key_little}
 
 -- the messages are messages, each within the limit of its end

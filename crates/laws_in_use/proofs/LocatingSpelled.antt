@@ -20,8 +20,8 @@ use Rattle.giop_msg.specs.declared.version.Version.TheVariants.{V10, V12}
 use Rattle.giop_calls.specs.declared.kind.CallKind.TheVariants as kind
 use Rattle.giop_calls.specs.declared.server.heard.HeardCall.{HeardCall}
 use Rattle.giop_calls.specs.declared.server.heard.HeardCall.TheVariants as heard
-use Rattle.giop_session.specs.Carries.{IsWrittenAs}
-use Rattle.giop_session.specs.ServerCarries.{SpellsCall}
+use Rattle.giop_session.specs.Items.Carries.{IsWrittenAs}
+use Rattle.giop_session.specs.Items.ServerCarries.{SpellsCall}
 use Rattle.laws_in_use.specs.Locating.{bad_octets, door, door_begins, door_ends, door_whole, key, key_big, key_little}
 
 -- what reading these answers

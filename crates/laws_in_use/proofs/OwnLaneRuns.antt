@@ -20,9 +20,9 @@ use Rattle.giop_calls.specs.declared.client.late.Late.TheVariants as late
 use Rattle.giop_calls.specs.declared.server.entry.ServerEntry.{ServerEntry}
 use Rattle.giop_calls.specs.declared.server.entry.ServerEntry.TheVariants.{LocateAsked}
 use Rattle.giop_calls.specs.declared.server.event.ServerEvent.TheVariants as at_server
-use Rattle.giop_session.specs.Coding.{coding}
-use Rattle.giop_session.specs.OwnLane.{OwnRuns, PlansCall, PlansLocated, alone, sends_cut}
-use Rattle.giop_session.specs.Sent.{sends_one}
+use Rattle.giop_session.specs.Worlds.Coding.{coding}
+use Rattle.giop_session.specs.Worlds.OwnLane.{OwnRuns, PlansCall, PlansLocated, alone, sends_cut}
+use Rattle.giop_session.specs.Acts.Sent.{sends_one}
 use Rattle.laws_in_use.specs.Asking.{here}
 use Rattle.laws_in_use.specs.Locating.{door, here_big, limits}
 use Rattle.laws_in_use.specs.OwnLanes.{again, answered, crossed, crossing, door_big}

@@ -7,7 +7,7 @@ use Rattle.giop_msg.specs.Msg.{message_octets}
 use Rattle.giop_msg.specs.declared.kind.Kind.{Kind}
 use Rattle.giop_msg.specs.declared.kind.Kind.TheVariants as kind
 use Rattle.giop_msg.specs.declared.msg.Msg.{Msg}
-use Rattle.giop_session.specs.PutOut.{AreOf, ArePutOut, is_of_client, is_of_server}
+use Rattle.giop_session.specs.Acts.PutOut.{AreOf, ArePutOut, is_of_client, is_of_server}
 use Rattle.laws_in_use.specs.Locating.{here_big, key_little}
 
 server_sends_other : (k : Kind) → is_of_server k ≡ true → kind_number k ≡ 3 → ⊥

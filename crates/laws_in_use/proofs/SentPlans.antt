@@ -17,10 +17,10 @@ use Rattle.giop_calls.specs.declared.client.call.Call.TheVariants as asked
 use Rattle.giop_calls.specs.declared.client.entry.ClientEntry.{ClientEntry}
 use Rattle.giop_calls.specs.declared.client.event.ClientEvent.{ClientEvent}
 use Rattle.giop_calls.specs.declared.client.event.ClientEvent.TheVariants as at_client
-use Rattle.giop_session.specs.declared.plan.Planned.{Planned}
-use Rattle.giop_session.specs.ClientCalls.{IsCancel}
-use Rattle.giop_session.specs.OwnLane.{PlansCall, PlansLocated, sends_cut}
-use Rattle.giop_session.specs.ServerAnswers.{IsLocateAnswer}
+use Rattle.giop_session.specs.declared.calls.plan.Planned.{Planned}
+use Rattle.giop_session.specs.Acts.ClientCalls.{IsCancel}
+use Rattle.giop_session.specs.Worlds.OwnLane.{PlansCall, PlansLocated, sends_cut}
+use Rattle.giop_session.specs.Acts.ServerAnswers.{IsLocateAnswer}
 use Rattle.laws_in_use.specs.Locating.{door, door_begins, door_ends, key, key_big, limits}
 use Rattle.laws_in_use.specs.Sent.{answers_key, asks_door, asks_key, cancels_key}
 

@@ -14,16 +14,16 @@ use Rattle.giop_session.specs.declared.laws.inputs.Answered.{Answered}
 use Rattle.giop_session.specs.declared.laws.inputs.ServerInput.{ServerInput}
 use Rattle.giop_session.specs.declared.laws.inputs.ServerInput.TheVariants as input
 use Rattle.giop_session.specs.declared.limits.Limits.{Limits}
-use Rattle.giop_session.specs.declared.plan.Planned.{Planned}
-use Rattle.giop_session.specs.CallTable.{Held}
-use Rattle.giop_session.specs.Carries.{done_by}
-use Rattle.giop_session.specs.Driven.{IsAct, TakesAs}
-use Rattle.giop_session.specs.Events.{Local}
-use Rattle.giop_session.specs.Heard.{in_call}
-use Rattle.giop_session.specs.Inputs.{Does, Input, Reads}
-use Rattle.giop_session.specs.ServerAnswers.{IsLocateAnswer, locate_of}
-use Rattle.giop_session.specs.ServerHears.{server_befalls, server_breaks}
-use Rattle.giop_session.specs.ServerRuns.{server_deed, server_entry}
+use Rattle.giop_session.specs.declared.calls.plan.Planned.{Planned}
+use Rattle.giop_session.specs.Calls.CallTable.{Held}
+use Rattle.giop_session.specs.Items.Carries.{done_by}
+use Rattle.giop_session.specs.Runs.Driven.{IsAct, TakesAs}
+use Rattle.giop_session.specs.Runs.Events.{Local}
+use Rattle.giop_session.specs.Hearing.Heard.{in_call}
+use Rattle.giop_session.specs.Runs.Inputs.{Does, Input, Reads}
+use Rattle.giop_session.specs.Acts.ServerAnswers.{IsLocateAnswer, locate_of}
+use Rattle.giop_session.specs.Hearing.ServerHears.{server_befalls, server_breaks}
+use Rattle.giop_session.specs.Runs.ServerRuns.{server_deed, server_entry}
 use Rattle.laws_in_use.specs.Locating.{one_way_by}
 use Rattle.laws_in_use.specs.Runs.{server_given}
 

@@ -13,14 +13,14 @@ use Rattle.giop_calls.specs.declared.server.heard.HeardCall.TheVariants as heard
 use Rattle.giop_calls.specs.declared.server.rule.ServerRule.{ServerRule}
 use Rattle.giop_session.specs.declared.laws.inputs.Answered.{Answered}
 use Rattle.giop_session.specs.declared.laws.inputs.ServerInput.{ServerInput}
-use Rattle.giop_session.specs.Begun.{no_calls}
-use Rattle.giop_session.specs.CallTable.{Held}
-use Rattle.giop_session.specs.Carries.{CarriesItem, Did, Got, done_by}
-use Rattle.giop_session.specs.Events.{Comes, Event, Local, own_events}
-use Rattle.giop_session.specs.Events.{Does as DoesTo}
-use Rattle.giop_session.specs.Inputs.{Does, Holds, Input, nothing_unread}
-use Rattle.giop_session.specs.ServerCarries.{server_telling}
-use Rattle.giop_session.specs.ServerRuns.{ServerHolds, ServerTakesAs}
+use Rattle.giop_session.specs.Calls.Begun.{no_calls}
+use Rattle.giop_session.specs.Calls.CallTable.{Held}
+use Rattle.giop_session.specs.Items.Carries.{CarriesItem, Did, Got, done_by}
+use Rattle.giop_session.specs.Runs.Events.{Comes, Event, Local, own_events}
+use Rattle.giop_session.specs.Runs.Events.{Does as DoesTo}
+use Rattle.giop_session.specs.Runs.Inputs.{Does, Holds, Input, nothing_unread}
+use Rattle.giop_session.specs.Items.ServerCarries.{server_telling}
+use Rattle.giop_session.specs.Runs.ServerRuns.{ServerHolds, ServerTakesAs}
 use Rattle.laws_in_use.specs.Locating.{door, door_begins, door_ends, limits, said_of_nine}
 use Rattle.laws_in_use.specs.Runs.{said_and_taken, server_given, server_said}
 use Rattle.laws_in_use.proofs.ByIds.{by_id, if_is}

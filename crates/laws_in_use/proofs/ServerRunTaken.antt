@@ -15,12 +15,12 @@ use Rattle.giop_calls.specs.declared.server.entry.ServerEntry.TheVariants.{Locat
 use Rattle.giop_calls.specs.declared.server.event.ServerEvent.TheVariants.{AnswerLocate}
 use Rattle.giop_calls.specs.ServerTable.{is_closed, is_gathering, server_step}
 use Rattle.giop_session.specs.declared.laws.inputs.Answered.TheVariants as answer
-use Rattle.giop_session.specs.CallTable.{Call, Gives, IsTaken, at, put_call, rules_of, turn}
-use Rattle.giop_session.specs.Inputs.{nothing_unread}
-use Rattle.giop_session.specs.Sending.{entry_of}
-use Rattle.giop_session.specs.Sent.{sends_one}
-use Rattle.giop_session.specs.ServerAnswers.{IsLocateAnswer, locate_of, located}
-use Rattle.giop_session.specs.ServerRuns.{ServerTakesAs, server_entry}
+use Rattle.giop_session.specs.Calls.CallTable.{Call, Gives, IsTaken, at, put_call, rules_of, turn}
+use Rattle.giop_session.specs.Runs.Inputs.{nothing_unread}
+use Rattle.giop_session.specs.Calls.Sending.{entry_of}
+use Rattle.giop_session.specs.Acts.Sent.{sends_one}
+use Rattle.giop_session.specs.Acts.ServerAnswers.{IsLocateAnswer, locate_of, located}
+use Rattle.giop_session.specs.Runs.ServerRuns.{ServerTakesAs, server_entry}
 use Rattle.laws_in_use.specs.Locating.{answering, door, door_begins, door_ends, here_big, limits}
 use Rattle.laws_in_use.specs.Runs.{server_answers, server_given}
 use Rattle.laws_in_use.proofs.LocatingReads.{first, last, second, third, wide}

@@ -11,7 +11,7 @@ use Rattle.giop_msg.specs.Msg.{IsMessage}
 use Rattle.giop_msg.specs.RequestId.{request_id_layout}
 use Rattle.giop_msg.specs.declared.msg.Msg.{Msg}
 use Rattle.giop_msg.proofs.FramerLemmas.{waits_for_header}
-use Rattle.giop_session.specs.RunLimits.{ServerIsGivenWithin, asks_under}
+use Rattle.giop_session.specs.Runs.RunLimits.{ServerIsGivenWithin, asks_under}
 use Rattle.laws_in_use.specs.Locating.{bad, cancel_big, door_begins, door_ends, key_little, limits}
 use Rattle.laws_in_use.specs.Runs.{server_given}
 use Rattle.laws_in_use.proofs.LocatingMessages.{messages}

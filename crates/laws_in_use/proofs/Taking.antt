@@ -13,15 +13,15 @@ use Rattle.giop_msg.specs.declared.msg.Msg.{Msg}
 use Rattle.giop_msg.specs.RequestId.{request_id_of}
 use Rattle.giop_calls.specs.declared.fault.CallFault.{CallFault}
 use Rattle.giop_session.specs.declared.limits.Limits.{Limits}
-use Rattle.giop_session.specs.declared.plan.Planned.{Planned}
-use Rattle.giop_session.specs.declared.sending.Sends.{Sends}
+use Rattle.giop_session.specs.declared.calls.plan.Planned.{Planned}
+use Rattle.giop_session.specs.declared.calls.sending.Sends.{Sends}
 use Rattle.giop_session.specs.declared.session_fault.SessionFault.{SessionFault}
-use Rattle.giop_session.specs.declared.slot.Slot.{Slot}
-use Rattle.giop_session.specs.declared.table_fault.TableFault.{TableFault}
-use Rattle.giop_session.specs.declared.table_fault.TableFault.TheVariants.{TooManyCalls, GatherFull}
-use Rattle.giop_session.specs.Begun.{no_calls}
-use Rattle.giop_session.specs.CallTable.{Act, Answers, Brings, Call, First, Hears, Held, More, Nothing, at, calls_fault, gathers, octets_fault, put_call, room_fault, rules_of, step_of, turn}
-use Rattle.giop_session.specs.Heard.{Befalls, IsHeardAs, heard_of, hears_by, in_call, silent}
+use Rattle.giop_session.specs.declared.calls.slot.Slot.{Slot}
+use Rattle.giop_session.specs.declared.calls.table_fault.TableFault.{TableFault}
+use Rattle.giop_session.specs.declared.calls.table_fault.TableFault.TheVariants.{TooManyCalls, GatherFull}
+use Rattle.giop_session.specs.Calls.Begun.{no_calls}
+use Rattle.giop_session.specs.Calls.CallTable.{Act, Answers, Brings, Call, First, Hears, Held, More, Nothing, at, calls_fault, gathers, octets_fault, put_call, room_fault, rules_of, step_of, turn}
+use Rattle.giop_session.specs.Hearing.Heard.{Befalls, IsHeardAs, heard_of, hears_by, in_call, silent}
 
 -- what is known of the calls of an end: how many there may be, and only these ids have any; how many
 -- octets there may be, and how many there are

@@ -44,20 +44,20 @@ use Rattle.giop_session.specs.declared.session_fault.SessionFault.{SessionFault}
 use Rattle.giop_session.specs.declared.session_fault.SessionFault.TheVariants.{Call as InCall, NoMemory}
 use Rattle.giop_session.specs.declared.slot.Slot.{Slot}
 use Rattle.giop_session.specs.declared.table_fault.TableFault.{TableFault}
-use Rattle.giop_session.specs.Acting.{IsAccepted}
-use Rattle.giop_session.specs.Alone.{alone_heard, own_messages}
-use Rattle.giop_session.specs.CallTable.{Act, Call, Hears, Held, Nothing, Reply, at, rules_of, turn}
-use Rattle.giop_session.specs.ClientCalls.{IsLocate, cancel_fault, locate_fault, locate_octets, open_version}
-use Rattle.giop_session.specs.ClientRuns.{ClientIsGiven, client_entry}
-use Rattle.giop_session.specs.Driven.{EndState, Says, new_end}
-use Rattle.giop_session.specs.Feeding.{Fed, Through}
-use Rattle.giop_session.specs.Heard.{hears_by, in_call, kept}
-use Rattle.giop_session.specs.Putting.{Befell, Puts, octets_of}
-use Rattle.giop_session.specs.Sending.{entry_of, message_of, unsent_of}
-use Rattle.giop_session.specs.Unsent.{first_of}
-use Rattle.giop_session.specs.ServerHears.{server_befalls, server_breaks}
-use Rattle.giop_session.specs.ServerRuns.{ServerIsGiven, server_entry}
-use Rattle.giop_session.specs.World.{Told, WorldRuns, WorldState, new_world, told_of_answer}
+use Rattle.giop_session.specs.Acts.Acting.{IsAccepted}
+use Rattle.giop_session.specs.Runs.Alone.{alone_heard, own_messages}
+use Rattle.giop_session.specs.Calls.CallTable.{Act, Call, Hears, Held, Nothing, Reply, at, rules_of, turn}
+use Rattle.giop_session.specs.Acts.ClientCalls.{IsLocate, cancel_fault, locate_fault, locate_octets, open_version}
+use Rattle.giop_session.specs.Runs.ClientRuns.{ClientIsGiven, client_entry}
+use Rattle.giop_session.specs.Runs.Driven.{EndState, Says, new_end}
+use Rattle.giop_session.specs.Hearing.Feeding.{Fed, Through}
+use Rattle.giop_session.specs.Hearing.Heard.{hears_by, in_call, kept}
+use Rattle.giop_session.specs.Acts.Putting.{Befell, Puts, octets_of}
+use Rattle.giop_session.specs.Calls.Sending.{entry_of, message_of, unsent_of}
+use Rattle.giop_session.specs.Calls.Unsent.{first_of}
+use Rattle.giop_session.specs.Hearing.ServerHears.{server_befalls, server_breaks}
+use Rattle.giop_session.specs.Runs.ServerRuns.{ServerIsGiven, server_entry}
+use Rattle.giop_session.specs.Worlds.World.{Told, WorldRuns, WorldState, new_world, told_of_answer}
 use Rattle.laws_in_use.specs.Left.{new_client}
 use Rattle.laws_in_use.specs.Limited.{new_server}
 use Rattle.laws_in_use.specs.Locating.{key, key_little, limits}

@@ -15,11 +15,11 @@ use Rattle.giop_calls.specs.declared.client.event.ClientEvent.{ClientEvent}
 use Rattle.giop_calls.specs.declared.client.event.ClientEvent.TheVariants as event
 use Rattle.giop_calls.specs.declared.client.heard.HeardReply.TheVariants as heard
 use Rattle.giop_calls.specs.declared.kind.CallKind.TheVariants as kind
-use Rattle.giop_session.specs.declared.plan.Plan.TheVariants.{Next, Put}
-use Rattle.giop_session.specs.Carries.{Bad, Did, Got}
-use Rattle.giop_session.specs.ClientCarries.{ClientItem}
-use Rattle.giop_session.specs.Events.{Local}
-use Rattle.giop_session.specs.Inputs.{Does, Input, Reads}
+use Rattle.giop_session.specs.declared.calls.plan.Plan.TheVariants.{Next, Put}
+use Rattle.giop_session.specs.Items.Carries.{Bad, Did, Got}
+use Rattle.giop_session.specs.Items.ClientCarries.{ClientItem}
+use Rattle.giop_session.specs.Runs.Events.{Local}
+use Rattle.giop_session.specs.Runs.Inputs.{Does, Input, Reads}
 use Rattle.laws_in_use.specs.Locating.{cancel_big, cancel_little, door, door_begins, door_ends, here_little, key, key_big, key_little}
 
 -- the client asks where `door` is, in two messages

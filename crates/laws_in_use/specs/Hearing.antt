@@ -12,8 +12,8 @@ use Rattle.giop_calls.specs.declared.client.entry.ClientEntry.TheVariants as cli
 use Rattle.giop_calls.specs.declared.kind.CallKind.TheVariants as kind
 use Rattle.giop_calls.specs.declared.server.entry.ServerEntry.{ServerEntry}
 use Rattle.giop_calls.specs.declared.server.entry.ServerEntry.TheVariants as server
-use Rattle.giop_session.specs.CallTable.{Call}
-use Rattle.giop_session.specs.LaneAtEnds.{gathers}
+use Rattle.giop_session.specs.Calls.CallTable.{Call}
+use Rattle.giop_session.specs.Worlds.LaneAtEnds.{gathers}
 use Rattle.laws_in_use.specs.Asking.{here_begins}
 use Rattle.laws_in_use.specs.Locating.{door, door_begins}
 

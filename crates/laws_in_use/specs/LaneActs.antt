@@ -9,7 +9,7 @@ use Rattle.giop_calls.specs.declared.client.entry.ClientEntry.TheVariants as cli
 use Rattle.giop_calls.specs.declared.client.rule.ClientRule.{ClientRule}
 use Rattle.giop_calls.specs.declared.kind.CallKind.TheVariants as kind
 use Rattle.giop_calls.specs.declared.server.entry.ServerEntry.TheVariants as server
-use Rattle.giop_session.specs.CallTable.{Held, put_call}
+use Rattle.giop_session.specs.Calls.CallTable.{Held, put_call}
 use Rattle.laws_in_use.specs.Hearing.{waits}
 use Rattle.laws_in_use.specs.Left.{new_client}
 use Rattle.laws_in_use.specs.Locating.{door, door_begins, door_ends, here_big, limits}

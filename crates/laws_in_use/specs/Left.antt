@@ -9,14 +9,14 @@ use Rattle.giop_msg.specs.declared.msg.Msg.{Msg}
 use Rattle.giop_msg.specs.declared.version.Version.TheVariants.{V10}
 use Rattle.giop_calls.specs.declared.client.entry.ClientEntry.{ClientEntry}
 use Rattle.giop_calls.specs.declared.client.rule.ClientRule.{ClientRule}
-use Rattle.giop_session.specs.declared.form.Form.{Form}
+use Rattle.giop_session.specs.declared.acts.form.Form.{Form}
 use Rattle.giop_session.specs.declared.limits.Limits.{Limits}
-use Rattle.giop_session.specs.declared.plan.Plan.TheVariants.{Put}
-use Rattle.giop_session.specs.declared.plan.Planned.{Planned}
-use Rattle.giop_session.specs.Begun.{no_calls}
-use Rattle.giop_session.specs.CallTable.{Held}
-use Rattle.giop_session.specs.ClientCalls.{request_octets}
-use Rattle.giop_session.specs.ServerAnswers.{reply_octets}
+use Rattle.giop_session.specs.declared.calls.plan.Plan.TheVariants.{Put}
+use Rattle.giop_session.specs.declared.calls.plan.Planned.{Planned}
+use Rattle.giop_session.specs.Calls.Begun.{no_calls}
+use Rattle.giop_session.specs.Calls.CallTable.{Held}
+use Rattle.giop_session.specs.Acts.ClientCalls.{request_octets}
+use Rattle.giop_session.specs.Acts.ServerAnswers.{reply_octets}
 use Rattle.laws_in_use.specs.Exchange.{ping, pong}
 
 -- in pieces of 24 octets, big-endian

@@ -16,11 +16,11 @@ use Rattle.giop_calls.specs.declared.server.event.ServerEvent.{ServerEvent}
 use Rattle.giop_calls.specs.declared.server.event.ServerEvent.TheVariants.{AnswerLocate}
 use Rattle.giop_calls.specs.declared.server.heard.HeardCall.TheVariants as heard
 use Rattle.giop_session.specs.declared.limits.Limits.{Limits}
-use Rattle.giop_session.specs.declared.plan.Plan.TheVariants.{Put}
-use Rattle.giop_session.specs.Carries.{Bad, Cancel, Did, Got}
-use Rattle.giop_session.specs.Events.{Local}
-use Rattle.giop_session.specs.Inputs.{Does, Input, Reads}
-use Rattle.giop_session.specs.ServerCarries.{ServerItem}
+use Rattle.giop_session.specs.declared.calls.plan.Plan.TheVariants.{Put}
+use Rattle.giop_session.specs.Items.Carries.{Bad, Cancel, Did, Got}
+use Rattle.giop_session.specs.Runs.Events.{Local}
+use Rattle.giop_session.specs.Runs.Inputs.{Does, Input, Reads}
+use Rattle.giop_session.specs.Items.ServerCarries.{ServerItem}
 
 -- under 7, in 1.2: where `door` is; big-endian in two messages
 abbrev pub door_begins : Msg

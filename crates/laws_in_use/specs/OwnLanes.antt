@@ -11,7 +11,7 @@ use Rattle.giop_calls.specs.declared.client.call.Call.TheVariants as asked
 use Rattle.giop_calls.specs.declared.client.entry.ClientEntry.TheVariants as client
 use Rattle.giop_calls.specs.declared.client.late.Late.TheVariants as late
 use Rattle.giop_calls.specs.declared.server.entry.ServerEntry.TheVariants as server
-use Rattle.giop_session.specs.OwnLane.{alone}
+use Rattle.giop_session.specs.Worlds.OwnLane.{alone}
 use Rattle.laws_in_use.specs.Asking.{here}
 use Rattle.laws_in_use.specs.Locating.{door, here_big}
 use Rattle.laws_in_use.specs.Sent.{door_cut}

@@ -17,9 +17,9 @@ use Rattle.giop_session.specs.declared.laws.inputs.ClientInput.{ClientInput}
 use Rattle.giop_session.specs.declared.laws.inputs.ClientInput.TheVariants as client
 use Rattle.giop_session.specs.declared.laws.inputs.ServerInput.{ServerInput}
 use Rattle.giop_session.specs.declared.laws.inputs.ServerInput.TheVariants as server
-use Rattle.giop_session.specs.Carries.{Did}
-use Rattle.giop_session.specs.ClientCarries.{ClientItem}
-use Rattle.giop_session.specs.ServerCarries.{ServerItem}
+use Rattle.giop_session.specs.Items.Carries.{Did}
+use Rattle.giop_session.specs.Items.ClientCarries.{ClientItem}
+use Rattle.giop_session.specs.Items.ServerCarries.{ServerItem}
 use Rattle.laws_in_use.specs.Asking.{here_begins, here_ends, short, told_of_nine, told_of_seven, unknown_little}
 use Rattle.laws_in_use.specs.Locating.{bad, cancel_big, door, door_begins, door_ends, key, key_little, said_of_nine, said_of_seven}
 

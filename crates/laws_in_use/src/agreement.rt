@@ -11,10 +11,10 @@ ghost use Rattle.giop_calls.specs.declared.server.entry.ServerEntry.TheVariants.
 ghost use Rattle.giop_calls.specs.ClientTable as client_table;
 ghost use Rattle.giop_session.specs.declared.laws.inputs.WorldEvent.{WorldEvent};
 ghost use Rattle.giop_session.specs.declared.session_fault.SessionFault.TheVariants.{Call as InCall, TooManyCalls};
-ghost use Rattle.giop_session.specs.Agreement.{AreInRange};
-ghost use Rattle.giop_session.specs.ClientRuns.{client_entry};
-ghost use Rattle.giop_session.specs.ServerRuns.{server_entry};
-ghost use Rattle.giop_session.specs.World.{new_world, WorldRuns, WorldState};
+ghost use Rattle.giop_session.specs.Worlds.Agreement.{AreInRange};
+ghost use Rattle.giop_session.specs.Runs.ClientRuns.{client_entry};
+ghost use Rattle.giop_session.specs.Runs.ServerRuns.{server_entry};
+ghost use Rattle.giop_session.specs.Worlds.World.{new_world, WorldRuns, WorldState};
 ghost use Rattle.laws_in_use.specs.Asking.{here};
 ghost use Rattle.laws_in_use.specs.Locating.{door, key, limits};
 ghost use Rattle.laws_in_use.specs.Runs.{Forms};

@@ -9,11 +9,11 @@ ghost use Rattle.giop_msg.specs.declared.kind.Kind.TheVariants.{LocateReply};
 ghost use Rattle.giop_msg.specs.declared.version.Version.TheVariants.{V12};
 ghost use Rattle.giop_calls.specs.declared.client.call.Call.TheVariants as asked;
 ghost use Rattle.giop_calls.specs.declared.client.entry.ClientEntry.TheVariants.{LocateDone, Undecoded};
-ghost use Rattle.giop_session.specs.Carries.{IsWrittenAs};
-ghost use Rattle.giop_session.specs.ClientCarries.{client_telling, unknown};
-ghost use Rattle.giop_session.specs.EndRuns.{ClientTakes};
-ghost use Rattle.giop_session.specs.Inputs.{Holds};
-ghost use Rattle.giop_session.specs.Sending.{entry_of};
+ghost use Rattle.giop_session.specs.Items.Carries.{IsWrittenAs};
+ghost use Rattle.giop_session.specs.Items.ClientCarries.{client_telling, unknown};
+ghost use Rattle.giop_session.specs.Runs.EndRuns.{ClientTakes};
+ghost use Rattle.giop_session.specs.Runs.Inputs.{Holds};
+ghost use Rattle.giop_session.specs.Calls.Sending.{entry_of};
 ghost use Rattle.laws_in_use.specs.Asking.{here, one_way, other_way, told};
 ghost use Rattle.laws_in_use.specs.Locating.{door, here_little, key, limits, tight_limits};
 

@@ -9,11 +9,11 @@ ghost use Rattle.giop_calls.specs.declared.client.heard.HeardReply.TheVariants a
 ghost use Rattle.giop_calls.specs.declared.kind.CallKind.TheVariants as kind;
 ghost use Rattle.giop_calls.specs.declared.server.event.ServerEvent.TheVariants as at_server;
 ghost use Rattle.giop_calls.specs.declared.server.heard.HeardCall.TheVariants as heard;
-ghost use Rattle.giop_session.specs.CallTable.{Brings, brought, First, Hears, More, Nothing};
-ghost use Rattle.giop_session.specs.ClientHears.{client_befalls};
-ghost use Rattle.giop_session.specs.Heard.{behind_id, kept};
-ghost use Rattle.giop_session.specs.LaneAtEnds.{gathered_in};
-ghost use Rattle.giop_session.specs.ServerHears.{server_befalls};
+ghost use Rattle.giop_session.specs.Calls.CallTable.{Brings, brought, First, Hears, More, Nothing};
+ghost use Rattle.giop_session.specs.Hearing.ClientHears.{client_befalls};
+ghost use Rattle.giop_session.specs.Hearing.Heard.{behind_id, kept};
+ghost use Rattle.giop_session.specs.Worlds.LaneAtEnds.{gathered_in};
+ghost use Rattle.giop_session.specs.Hearing.ServerHears.{server_befalls};
 ghost use Rattle.laws_in_use.specs.Asking.{here, here_begins, here_ends};
 ghost use Rattle.laws_in_use.specs.Hearing.{door_begun, door_goes_on, gathers_door, gathers_here, waits};
 ghost use Rattle.laws_in_use.specs.Locating.{cancel_big, door, door_begins, door_ends, here_little, key, key_big};

@@ -7,10 +7,10 @@ ghost use Rattle.giop_msg.specs.declared.messages.request_fault.RequestFault.The
 ghost use Rattle.giop_msg.specs.declared.version.Version.TheVariants.{V10};
 ghost use Rattle.giop_calls.specs.declared.kind.CallKind.TheVariants as kind;
 ghost use Rattle.giop_calls.specs.declared.server.entry.ServerEntry.TheVariants.{LocateAnswered, Undecoded};
-ghost use Rattle.giop_session.specs.EndRuns.{ServerTakes};
-ghost use Rattle.giop_session.specs.Inputs.{Holds};
-ghost use Rattle.giop_session.specs.Sending.{entry_of};
-ghost use Rattle.giop_session.specs.ServerCarries.{server_telling};
+ghost use Rattle.giop_session.specs.Runs.EndRuns.{ServerTakes};
+ghost use Rattle.giop_session.specs.Runs.Inputs.{Holds};
+ghost use Rattle.giop_session.specs.Calls.Sending.{entry_of};
+ghost use Rattle.giop_session.specs.Items.ServerCarries.{server_telling};
 ghost use Rattle.laws_in_use.specs.Locating.{door, limits, one_way, other_way, said, tight_limits};
 
 use giop_msg::laws::locate_requests_are_spelled;

@@ -9,8 +9,8 @@ ghost use Rattle.giop_calls.specs.declared.server.entry.ServerEntry.TheVariants 
 ghost use Rattle.giop_calls.specs.ClientTable as client_table;
 ghost use Rattle.giop_calls.specs.Lane.{Lane, new, Runs};
 ghost use Rattle.giop_calls.specs.ServerTable as server_table;
-ghost use Rattle.giop_session.specs.Coding.{coding};
-ghost use Rattle.giop_session.specs.OwnLane.{located_run, OwnRuns};
+ghost use Rattle.giop_session.specs.Worlds.Coding.{coding};
+ghost use Rattle.giop_session.specs.Worlds.OwnLane.{located_run, OwnRuns};
 ghost use Rattle.laws_in_use.specs.Asking.{here, unknown_big};
 ghost use Rattle.laws_in_use.specs.Locating.{door, key, key_big};
 ghost use Rattle.laws_in_use.specs.OwnLanes.{again, answered, crossed, crossing};

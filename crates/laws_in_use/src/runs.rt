@@ -13,11 +13,11 @@ ghost use Rattle.giop_session.specs.declared.laws.inputs.Answered.TheVariants.{D
 ghost use Rattle.giop_session.specs.declared.laws.inputs.ClientInput.TheVariants as client;
 ghost use Rattle.giop_session.specs.declared.laws.inputs.ServerInput.TheVariants as server;
 ghost use Rattle.giop_session.specs.declared.session_fault.SessionFault.TheVariants.{Closed};
-ghost use Rattle.giop_session.specs.ClientRuns.{client_entry, client_named, ClientHolds};
-ghost use Rattle.giop_session.specs.Driven.{NoneRefused, own_answers};
-ghost use Rattle.giop_session.specs.RunLimits.{ClientIsGivenWithin, NoneForALimit, ServerIsGivenWithin};
-ghost use Rattle.giop_session.specs.Sent.{close_connection};
-ghost use Rattle.giop_session.specs.ServerRuns.{server_entry, server_named, ServerHolds};
+ghost use Rattle.giop_session.specs.Runs.ClientRuns.{client_entry, client_named, ClientHolds};
+ghost use Rattle.giop_session.specs.Runs.Driven.{NoneRefused, own_answers};
+ghost use Rattle.giop_session.specs.Runs.RunLimits.{ClientIsGivenWithin, NoneForALimit, ServerIsGivenWithin};
+ghost use Rattle.giop_session.specs.Acts.Sent.{close_connection};
+ghost use Rattle.giop_session.specs.Runs.ServerRuns.{server_entry, server_named, ServerHolds};
 ghost use Rattle.laws_in_use.specs.Asking.{here};
 ghost use Rattle.laws_in_use.specs.Locating as locating;
 ghost use Rattle.laws_in_use.specs.Runs.{client_answers, client_given, client_told, door_taken, Forms, key_taken, server_answers, server_given, server_said};

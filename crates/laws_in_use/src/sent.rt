@@ -10,12 +10,12 @@ ghost use Rattle.giop_calls.specs.declared.client.call.Call.TheVariants as asked
 ghost use Rattle.giop_calls.specs.declared.client.heard.HeardReply.TheVariants as reply;
 ghost use Rattle.giop_calls.specs.declared.kind.CallKind.TheVariants as kind;
 ghost use Rattle.giop_calls.specs.declared.server.heard.HeardCall.TheVariants as call;
-ghost use Rattle.giop_session.specs.ClientCalls.{IsCancel};
-ghost use Rattle.giop_session.specs.Coding.{coding};
-ghost use Rattle.giop_session.specs.LaneAtEnds.{seen};
-ghost use Rattle.giop_session.specs.OnTheWay.{IsFramed, Names};
-ghost use Rattle.giop_session.specs.OwnLane.{PlansCall, PlansLocated};
-ghost use Rattle.giop_session.specs.ServerAnswers.{IsLocateAnswer};
+ghost use Rattle.giop_session.specs.Acts.ClientCalls.{IsCancel};
+ghost use Rattle.giop_session.specs.Worlds.Coding.{coding};
+ghost use Rattle.giop_session.specs.Worlds.LaneAtEnds.{seen};
+ghost use Rattle.giop_session.specs.Worlds.OnTheWay.{IsFramed, Names};
+ghost use Rattle.giop_session.specs.Worlds.OwnLane.{PlansCall, PlansLocated};
+ghost use Rattle.giop_session.specs.Acts.ServerAnswers.{IsLocateAnswer};
 ghost use Rattle.laws_in_use.specs.Asking.{unknown_big};
 ghost use Rattle.laws_in_use.specs.Locating.{cancel_little, door, door_begins, door_ends, key, key_big};
 ghost use Rattle.laws_in_use.specs.Sent.{answers_key, asks_door, asks_key, cancels_key};

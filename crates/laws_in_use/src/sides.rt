@@ -3,9 +3,9 @@
 ghost use Rattle.std.specs.Prelude.{◌≡◌, ◌≢◌, ◌↔◌, true, false, None, Some};
 ghost use Rattle.giop_msg.specs.declared.kind.Kind.{Kind};
 ghost use Rattle.giop_msg.specs.declared.kind.Kind.TheVariants as kind;
-ghost use Rattle.giop_session.specs.ClientHears as client;
-ghost use Rattle.giop_session.specs.PutOut.{is_of_client, is_of_server};
-ghost use Rattle.giop_session.specs.ServerHears as server;
+ghost use Rattle.giop_session.specs.Hearing.ClientHears as client;
+ghost use Rattle.giop_session.specs.Acts.PutOut.{is_of_client, is_of_server};
+ghost use Rattle.giop_session.specs.Hearing.ServerHears as server;
 ghost use Rattle.giop_session.specs.declared.session_fault.SessionFault.TheVariants.{Closed, PeerError, WrongDirection};
 
 /// What a client sends is exactly what a server takes for no wrong direction and for no

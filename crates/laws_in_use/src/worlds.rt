@@ -9,9 +9,9 @@ ghost use Rattle.giop_calls.specs.declared.server.entry.ServerEntry.TheVariants.
 ghost use Rattle.giop_msg.specs.Msg.{message_octets};
 ghost use Rattle.giop_session.specs.declared.laws.inputs.ServerInput.{ServerInput};
 ghost use Rattle.giop_session.specs.declared.session_fault.SessionFault.TheVariants.{Call as InCall};
-ghost use Rattle.giop_session.specs.ClientRuns.{client_entry};
-ghost use Rattle.giop_session.specs.ServerRuns.{server_entry};
-ghost use Rattle.giop_session.specs.World.{ends_of, fed_to_server};
+ghost use Rattle.giop_session.specs.Runs.ClientRuns.{client_entry};
+ghost use Rattle.giop_session.specs.Runs.ServerRuns.{server_entry};
+ghost use Rattle.giop_session.specs.Worlds.World.{ends_of, fed_to_server};
 ghost use Rattle.laws_in_use.specs.Locating as locating;
 ghost use Rattle.laws_in_use.specs.Runs.{Forms};
 ghost use Rattle.laws_in_use.specs.Worlds.{asked_for, unasked};

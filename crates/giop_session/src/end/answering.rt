@@ -1,5 +1,5 @@
 //! What a server's own program answers: a Reply or a LocateReply (CORBA 3.3 Part 2, 9.4.3 and
-//! 9.4.6). Its meaning is `IsAnswer` and `IsLocateAnswer` in specs/ServerAnswers.antt: change both.
+//! 9.4.6). Its meaning is `IsAnswer` and `IsLocateAnswer` in specs/Acts/ServerAnswers.antt: change both.
 ghost use Rattle.std.specs.Prelude.{◌≡◌, ◌<◌, ◌^◌, [], ◌∷◌, true, Some, None, Err, length, IfErr, IfOk, IfSome, IfNone, option_copied};
 ghost use Rattle.std.specs.FinMap as finite;
 ghost use Rattle.std.specs.Option.{option_map};
@@ -8,23 +8,23 @@ ghost use Rattle.giop_msg.specs.Cut.{IsCut};
 ghost use Rattle.giop_calls.specs.ServerTable as table;
 ghost use Rattle.giop_calls.specs.declared.server.event.ServerEvent.TheVariants as event;
 ghost use Rattle.giop_calls.specs.Outcomes.{copied};
-ghost use Rattle.giop_session.specs.declared.plan.Plan.TheVariants.{Next};
-ghost use Rattle.giop_session.specs.CallTable.{rules_of};
-ghost use Rattle.giop_session.specs.Form.{IsForm};
-ghost use Rattle.giop_session.specs.Heard.{in_call};
-ghost use Rattle.giop_session.specs.Putting.{Puts};
-ghost use Rattle.giop_session.specs.Refused.{IsRefusal, unfit_unless};
-ghost use Rattle.giop_session.specs.Sending.{entry_of};
-ghost use Rattle.giop_session.specs.ServerAnswers.{answer_fault, IsAnswer, IsLocateAnswer, is_reply_sendable, locate_in, locate_of, located, question_in, question_of, reply_octets};
+ghost use Rattle.giop_session.specs.declared.calls.plan.Plan.TheVariants.{Next};
+ghost use Rattle.giop_session.specs.Calls.CallTable.{rules_of};
+ghost use Rattle.giop_session.specs.Acts.Form.{IsForm};
+ghost use Rattle.giop_session.specs.Hearing.Heard.{in_call};
+ghost use Rattle.giop_session.specs.Acts.Putting.{Puts};
+ghost use Rattle.giop_session.specs.Calls.Refused.{IsRefusal, unfit_unless};
+ghost use Rattle.giop_session.specs.Calls.Sending.{entry_of};
+ghost use Rattle.giop_session.specs.Acts.ServerAnswers.{answer_fault, IsAnswer, IsLocateAnswer, is_reply_sendable, locate_in, locate_of, located, question_in, question_of, reply_octets};
 
+use crate::acts::form::Form;
+use crate::acts::local::{done, sent};
+use crate::acts::messages::Messages;
+use crate::acts::putting::put;
+use crate::acts::sendable::one_message;
+use crate::calls::plan::{Plan, Planned};
 use crate::end::ServerEnd;
-use crate::form::Form;
-use crate::heard::kept;
-use crate::local::{done, sent};
-use crate::messages::Messages;
-use crate::plan::{Plan, Planned};
-use crate::putting::put;
-use crate::sendable::one_message;
+use crate::hearing::heard::kept;
 use crate::session_fault::SessionFault;
 use giop_calls::{Aside, CallKind, Outcome, ServerEntry, ServerEvent};
 use giop_cdr::{OctetList, Order};
@@ -45,7 +45,7 @@ impl<'a> ServerEnd<'a> {
     ///   larger than the limit `message`.
     ///
     /// A refusal changes nothing.
-    #[tactic(auto, using(crate::proofs::LocalLemmas::refused_puts, crate::proofs::LocalLemmas::answer_puts, crate::proofs::LocalLemmas::unasked_puts))]
+    #[tactic(auto, using(crate::proofs::OnActs::LocalLemmas::refused_puts, crate::proofs::OnActs::LocalLemmas::answer_puts, crate::proofs::OnActs::LocalLemmas::unasked_puts))]
     pub fn answer(&mut self, reply: Reply, form: Form) -> Result<(), SessionFault>
         requires { IsForm form }
         ensures failed { (why : _) → self.old.fault ≡ Some why
@@ -84,7 +84,7 @@ impl<'a> ServerEnd<'a> {
     /// - `NoMemory`, where it is out of memory.
     ///
     /// A refusal changes nothing.
-    #[tactic(auto, using(crate::proofs::QuietLemmas::answer_locate_quiet))]
+    #[tactic(auto, using(crate::proofs::OnLimits::QuietLemmas::answer_locate_quiet))]
     pub fn answer_locate(&mut self, id: u32, here: bool, order: Order) -> Result<(), SessionFault>
         ensures failed { (why : _) → self.old.fault ≡ Some why
             → (result ≡ Err why) × (self.new ≡ self.old) }
@@ -122,7 +122,7 @@ impl<'a> ServerEnd<'a> {
     /// A failed end returns its fault. An id of which no piece is left is refused as
     /// `NothingToSend`. Else `NoMemory` is returned where it is out of memory. A refusal changes
     /// nothing.
-    #[tactic(auto, using(crate::proofs::QuietLemmas::server_send_quiet))]
+    #[tactic(auto, using(crate::proofs::OnLimits::QuietLemmas::server_send_quiet))]
     pub fn send(&mut self, id: u32) -> Result<(), SessionFault>
         ensures failed { (why : _) → self.old.fault ≡ Some why
             → (result ≡ Err why) × (self.new ≡ self.old) }
@@ -159,7 +159,7 @@ impl<'a> ServerEnd<'a> {
 
     // The call is answered by a Reply in so many pieces; the plan says what becomes of its
     // messages.
-    #[tactic(auto, using(crate::proofs::QuietLemmas::answer_quiet, crate::proofs::LocalLemmas::wanted_puts))]
+    #[tactic(auto, using(crate::proofs::OnLimits::QuietLemmas::answer_quiet, crate::proofs::OnActs::LocalLemmas::wanted_puts))]
     #[inline(always)]
     fn put_reply(&mut self, reply: Reply, pieces: u32, plan: Plan) -> Result<(), SessionFault>
         ensures puts { Puts (rules_of table.server_step table.is_closed table.is_gathering) in_call
@@ -193,7 +193,7 @@ impl<'a> ServerEnd<'a> {
     }
 
     // The messages that a Reply to a Request is sent in.
-    #[tactic(auto, using(crate::proofs::LocalLemmas::refused_unsent))]
+    #[tactic(auto, using(crate::proofs::OnActs::LocalLemmas::refused_unsent))]
     #[inline(always)]
     fn pieces_of_reply(
         &self,
@@ -226,7 +226,7 @@ impl<'a> ServerEnd<'a> {
     }
 
     // The LocateReply to a LocateRequest. `None` where it is out of memory.
-    #[tactic(auto, using(crate::proofs::LocatedLemmas::located_short))]
+    #[tactic(auto, using(crate::proofs::OnActs::LocatedLemmas::located_short))]
     fn located(&self, version: Version, order: Order, id: u32, here: bool) -> Option<Messages>
         ensures { IfSome result (λ messages. messages ≡ located version order id here ∷ []) }
     {

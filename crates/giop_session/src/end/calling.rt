@@ -1,6 +1,6 @@
 //! What a client's own program does: it calls, asks where an object is, and cancels (CORBA 3.3 Part
 //! 2, 9.4.2, 9.4.5 and 9.4.4). Its meaning is `IsCall`, `IsLocate` and `IsCancel` in
-//! specs/ClientCalls.antt: change both.
+//! specs/Acts/ClientCalls.antt: change both.
 ghost use Rattle.std.specs.Prelude.{◌≡◌, ◌⊎◌, ◌<◌, ◌^◌, [], ◌∷◌, Some, None, Err, length, IfErr, IfOk, IfSome, option_copied};
 ghost use Rattle.std.specs.FinMap as finite;
 ghost use Rattle.std.specs.Option.{option_map};
@@ -9,24 +9,24 @@ ghost use Rattle.giop_msg.specs.Cut.{IsCut};
 ghost use Rattle.giop_calls.specs.ClientTable as table;
 ghost use Rattle.giop_calls.specs.declared.client.event.ClientEvent.TheVariants as event;
 ghost use Rattle.giop_calls.specs.Outcomes.{copied};
-ghost use Rattle.giop_session.specs.declared.plan.Plan.TheVariants.{Next};
+ghost use Rattle.giop_session.specs.declared.calls.plan.Plan.TheVariants.{Next};
 ghost use Rattle.giop_session.specs.declared.session_fault.SessionFault.TheVariants.{NoMemory};
-ghost use Rattle.giop_session.specs.ClientCalls.{begin_fault, call_fault, cancel_fault, IsCall, IsCancel, IsLocate, locate_fault, locate_octets, open_in, open_version, request_octets, version_of};
-ghost use Rattle.giop_session.specs.CallTable.{rules_of};
-ghost use Rattle.giop_session.specs.Form.{IsForm};
-ghost use Rattle.giop_session.specs.Heard.{in_call};
-ghost use Rattle.giop_session.specs.Putting.{Puts};
-ghost use Rattle.giop_session.specs.Refused.{IsRefusal};
-ghost use Rattle.giop_session.specs.Sending.{entry_of};
-ghost use Rattle.giop_session.specs.Sent.{cancel_request};
+ghost use Rattle.giop_session.specs.Acts.ClientCalls.{begin_fault, call_fault, cancel_fault, IsCall, IsCancel, IsLocate, locate_fault, locate_octets, open_in, open_version, request_octets, version_of};
+ghost use Rattle.giop_session.specs.Calls.CallTable.{rules_of};
+ghost use Rattle.giop_session.specs.Acts.Form.{IsForm};
+ghost use Rattle.giop_session.specs.Hearing.Heard.{in_call};
+ghost use Rattle.giop_session.specs.Acts.Putting.{Puts};
+ghost use Rattle.giop_session.specs.Calls.Refused.{IsRefusal};
+ghost use Rattle.giop_session.specs.Calls.Sending.{entry_of};
+ghost use Rattle.giop_session.specs.Acts.Sent.{cancel_request};
 
+use crate::acts::form::Form;
+use crate::acts::local::{done, sent};
+use crate::acts::messages::Messages;
+use crate::acts::putting::put;
+use crate::acts::sendable::one_message;
+use crate::calls::plan::{Plan, Planned};
 use crate::end::ClientEnd;
-use crate::form::Form;
-use crate::local::{done, sent};
-use crate::messages::Messages;
-use crate::plan::{Plan, Planned};
-use crate::putting::put;
-use crate::sendable::one_message;
 use crate::session_fault::SessionFault;
 use giop_calls::{Aside, Call, CallFault, ClientEntry, ClientEvent, Outcome, with_target_aside};
 use giop_cdr::{OctetList, Order};
@@ -47,7 +47,7 @@ impl<'a> ClientEnd<'a> {
     /// - `TooManyCalls`.
     ///
     /// A refusal changes nothing.
-    #[tactic(auto, using(crate::proofs::QuietLemmas::call_quiet, crate::proofs::LocalLemmas::refused_puts))]
+    #[tactic(auto, using(crate::proofs::OnLimits::QuietLemmas::call_quiet, crate::proofs::OnActs::LocalLemmas::refused_puts))]
     pub fn call(&mut self, request: Request, form: Form) -> Result<(), SessionFault>
         requires { IsForm form }
         ensures failed { (why : _) → self.old.fault ≡ Some why
@@ -95,7 +95,7 @@ impl<'a> ClientEnd<'a> {
     /// - `TooManyCalls`.
     ///
     /// A refusal changes nothing.
-    #[tactic(auto, using(crate::proofs::QuietLemmas::call_quiet, crate::proofs::LocalLemmas::refused_puts))]
+    #[tactic(auto, using(crate::proofs::OnLimits::QuietLemmas::call_quiet, crate::proofs::OnActs::LocalLemmas::refused_puts))]
     pub fn locate(&mut self, request: LocateRequest, form: Form) -> Result<(), SessionFault>
         requires { IsForm form }
         ensures failed { (why : _) → self.old.fault ≡ Some why
@@ -136,7 +136,7 @@ impl<'a> ClientEnd<'a> {
     ///
     /// A failed end returns its fault. An id without such a call is refused as `NotOpen`. Else
     /// `NoMemory` is returned where it is out of memory. A refusal changes nothing.
-    #[tactic(auto, using(crate::proofs::QuietLemmas::cancel_quiet, crate::proofs::LocalLemmas::refused_puts))]
+    #[tactic(auto, using(crate::proofs::OnLimits::QuietLemmas::cancel_quiet, crate::proofs::OnActs::LocalLemmas::refused_puts))]
     pub fn cancel(&mut self, id: u32, order: Order) -> Result<(), SessionFault>
         ensures failed { (why : _) → self.old.fault ≡ Some why
             → (result ≡ Err why) × (self.new ≡ self.old) }
@@ -174,7 +174,7 @@ impl<'a> ClientEnd<'a> {
     /// A failed end returns its fault. An id of which no piece is left is refused as
     /// `NothingToSend`. Else `NoMemory` is returned where it is out of memory. A refusal changes
     /// nothing.
-    #[tactic(auto, using(crate::proofs::QuietLemmas::client_send_quiet))]
+    #[tactic(auto, using(crate::proofs::OnLimits::QuietLemmas::client_send_quiet))]
     pub fn send(&mut self, id: u32) -> Result<(), SessionFault>
         ensures failed { (why : _) → self.old.fault ≡ Some why
             → (result ≡ Err why) × (self.new ≡ self.old) }
@@ -210,7 +210,7 @@ impl<'a> ClientEnd<'a> {
     }
 
     // The messages that a Request is sent in.
-    #[tactic(auto, using(crate::proofs::LocalLemmas::refused_unsent))]
+    #[tactic(auto, using(crate::proofs::OnActs::LocalLemmas::refused_unsent))]
     fn pieces_of_request(&self, request: &Request, form: Form) -> Result<Messages, SessionFault>
         requires { IsForm form }
         ensures ok { IfOk result (λ messages. call_fault self.now.interface.now self.now.limits
@@ -242,7 +242,7 @@ impl<'a> ClientEnd<'a> {
     }
 
     // The messages that a LocateRequest is sent in.
-    #[tactic(auto, using(crate::proofs::LocalLemmas::refused_unsent))]
+    #[tactic(auto, using(crate::proofs::OnActs::LocalLemmas::refused_unsent))]
     fn pieces_of_locate(
         &self,
         request: &LocateRequest,

@@ -3,9 +3,9 @@
 ghost use Rattle.std.specs.Prelude.{◌≡◌, ◌↔◌, [], IsOk};
 ghost use Rattle.giop_session.specs.Pumping.{Writes};
 
+use crate::acts::outgoing::Outgoing;
 use crate::end::End;
 use crate::hearing::Hearing;
-use crate::outgoing::Outgoing;
 use std::io;
 use std::io::{ErrorKind, Write};
 

@@ -1,9 +1,9 @@
 //! What an end's own acts leave of its calls. Each function's contract is a law; the bodies are
 //! empty, and no program calls these.
 ghost use Rattle.std.specs.Prelude.{◌≡◌, ℕ, Err, Ok};
-ghost use Rattle.giop_session.specs.Acting.{IsAccepted};
-ghost use Rattle.giop_session.specs.CallTable.{Held, rules_of};
-ghost use Rattle.giop_session.specs.Putting.{Befell};
+ghost use Rattle.giop_session.specs.Acts.Acting.{IsAccepted};
+ghost use Rattle.giop_session.specs.Calls.CallTable.{Held, rules_of};
+ghost use Rattle.giop_session.specs.Acts.Putting.{Befell};
 
 use crate::Side;
 

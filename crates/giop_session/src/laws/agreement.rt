@@ -2,8 +2,8 @@
 //! program calls it; docs/AGREEMENT.md reads it aloud.
 ghost use Rattle.std.specs.Prelude.{◌≡◌, List, None};
 ghost use Rattle.giop_types.specs.declared.json.interface.Interface.{Interface};
-ghost use Rattle.giop_session.specs.Agreement.{Agreed, AreInRange, FailsByLimits};
-ghost use Rattle.giop_session.specs.World.{WorldRuns, WorldState};
+ghost use Rattle.giop_session.specs.Worlds.Agreement.{Agreed, AreInRange, FailsByLimits};
+ghost use Rattle.giop_session.specs.Worlds.World.{WorldRuns, WorldState};
 ghost use Rattle.giop_session.specs.declared.laws.inputs.WorldEvent.{WorldEvent};
 ghost use Rattle.giop_session.specs.declared.limits.Limits.{Limits};
 

@@ -18,14 +18,14 @@ ghost use Rattle.giop_calls.specs.declared.client.heard.HeardReply.TheVariants a
 ghost use Rattle.giop_calls.specs.declared.server.heard.HeardCall.TheVariants as call;
 ghost use Rattle.giop_types.specs.declared.json.interface.Interface.{Interface};
 ghost use Rattle.giop_session.specs.declared.limits.Limits.{Limits};
-ghost use Rattle.giop_session.specs.CallTable.{at, Held, turn};
-ghost use Rattle.giop_session.specs.Carries.{CarriesItem, Got, IsSeries, IsWrittenAs, behind_all};
-ghost use Rattle.giop_session.specs.ClientCarries.{ClientItem, answered, client_telling, unknown};
-ghost use Rattle.giop_session.specs.EndRuns.{ClientTakes, ServerTakes};
-ghost use Rattle.giop_session.specs.Events.{Comes, Event, Follows, Meets, own_events};
-ghost use Rattle.giop_session.specs.Inputs.{Holds};
-ghost use Rattle.giop_session.specs.Sending.{entry_of};
-ghost use Rattle.giop_session.specs.ServerCarries.{ServerItem, server_telling};
+ghost use Rattle.giop_session.specs.Calls.CallTable.{at, Held, turn};
+ghost use Rattle.giop_session.specs.Items.Carries.{CarriesItem, Got, IsSeries, IsWrittenAs, behind_all};
+ghost use Rattle.giop_session.specs.Items.ClientCarries.{ClientItem, answered, client_telling, unknown};
+ghost use Rattle.giop_session.specs.Runs.EndRuns.{ClientTakes, ServerTakes};
+ghost use Rattle.giop_session.specs.Runs.Events.{Comes, Event, Follows, Meets, own_events};
+ghost use Rattle.giop_session.specs.Runs.Inputs.{Holds};
+ghost use Rattle.giop_session.specs.Calls.Sending.{entry_of};
+ghost use Rattle.giop_session.specs.Items.ServerCarries.{ServerItem, server_telling};
 
 use crate::Hearing;
 

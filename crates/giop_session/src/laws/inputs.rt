@@ -1,11 +1,11 @@
 //! The inputs that `run_server` and `run_client` give an end, what it answers to each, and the
 //! events of a world of two ends (`run_world`). What an input does is `ServerIsGiven` in
-//! specs/ServerRuns.antt, `ClientIsGiven` in specs/ClientRuns.antt and `Happens` in
-//! specs/World.antt.
+//! specs/Runs/ServerRuns.antt, `ClientIsGiven` in specs/Runs/ClientRuns.antt and `Happens` in
+//! specs/Worlds/World.antt.
 ghost use Rattle.std.specs.Prelude.{◌≡◌, ◌↔◌, IfSome, IsSome};
-ghost use Rattle.giop_session.specs.Form.{IsForm};
+ghost use Rattle.giop_session.specs.Acts.Form.{IsForm};
 
-use crate::form::Form;
+use crate::acts::form::Form;
 use crate::session_fault::SessionFault;
 use giop_cdr::{OctetList, Order};
 use giop_msg::{LocateRequest, Reply, Request};

@@ -10,13 +10,13 @@ ghost use Rattle.giop_calls.specs.declared.client.entry.ClientEntry.{ClientEntry
 ghost use Rattle.giop_calls.specs.declared.client.rule.ClientRule.{ClientRule};
 ghost use Rattle.giop_calls.specs.declared.server.entry.ServerEntry.{ServerEntry};
 ghost use Rattle.giop_calls.specs.declared.server.rule.ServerRule.{ServerRule};
-ghost use Rattle.giop_session.specs.CallTable.{at, Held};
-ghost use Rattle.giop_session.specs.ClientHears.{client_befalls, client_breaks};
-ghost use Rattle.giop_session.specs.Coding.{coding};
-ghost use Rattle.giop_session.specs.Heard.{hears_by, in_call};
-ghost use Rattle.giop_session.specs.LaneAtEnds.{IsOfLimit, seen};
-ghost use Rattle.giop_session.specs.ServerHears.{server_befalls, server_breaks};
-ghost use Rattle.giop_session.specs.Tracks.{ClientShows, IsToClient, IsToServer, ServerShows};
+ghost use Rattle.giop_session.specs.Calls.CallTable.{at, Held};
+ghost use Rattle.giop_session.specs.Hearing.ClientHears.{client_befalls, client_breaks};
+ghost use Rattle.giop_session.specs.Worlds.Coding.{coding};
+ghost use Rattle.giop_session.specs.Hearing.Heard.{hears_by, in_call};
+ghost use Rattle.giop_session.specs.Worlds.LaneAtEnds.{IsOfLimit, seen};
+ghost use Rattle.giop_session.specs.Hearing.ServerHears.{server_befalls, server_breaks};
+ghost use Rattle.giop_session.specs.Worlds.Tracks.{ClientShows, IsToClient, IsToServer, ServerShows};
 
 use giop_calls::laws::ends_of_one_lane_agree;
 

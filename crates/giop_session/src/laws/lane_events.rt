@@ -9,14 +9,14 @@ ghost use Rattle.giop_calls.specs.declared.client.entry.ClientEntry.{ClientEntry
 ghost use Rattle.giop_calls.specs.declared.client.entry.ClientEntry.TheVariants as client;
 ghost use Rattle.giop_calls.specs.declared.client.event.ClientEvent.{ClientEvent};
 ghost use Rattle.giop_calls.specs.declared.server.entry.ServerEntry.TheVariants as server;
-ghost use Rattle.giop_session.specs.CallTable.{Brings, Hears, More, Nothing};
-ghost use Rattle.giop_session.specs.ClientCarries.{replies};
-ghost use Rattle.giop_session.specs.ClientHears.{awaited, client_befalls};
-ghost use Rattle.giop_session.specs.Coding.{coding};
-ghost use Rattle.giop_session.specs.Heard.{behind_id, kept};
-ghost use Rattle.giop_session.specs.LaneAtEnds.{gathers, seen};
-ghost use Rattle.giop_session.specs.ServerCarries.{asks};
-ghost use Rattle.giop_session.specs.ServerHears.{server_befalls};
+ghost use Rattle.giop_session.specs.Calls.CallTable.{Brings, Hears, More, Nothing};
+ghost use Rattle.giop_session.specs.Items.ClientCarries.{replies};
+ghost use Rattle.giop_session.specs.Hearing.ClientHears.{awaited, client_befalls};
+ghost use Rattle.giop_session.specs.Worlds.Coding.{coding};
+ghost use Rattle.giop_session.specs.Hearing.Heard.{behind_id, kept};
+ghost use Rattle.giop_session.specs.Worlds.LaneAtEnds.{gathers, seen};
+ghost use Rattle.giop_session.specs.Items.ServerCarries.{asks};
+ghost use Rattle.giop_session.specs.Hearing.ServerHears.{server_befalls};
 
 /// What befalls a call at a server's end is the event that its lane has of the message: of what
 /// opens a call, of a Fragment in the byte order of what is gathered, and of a CancelRequest.

@@ -12,15 +12,15 @@ ghost use Rattle.giop_calls.specs.declared.server.entry.ServerEntry.{ServerEntry
 ghost use Rattle.giop_calls.specs.declared.server.event.ServerEvent.{ServerEvent};
 ghost use Rattle.giop_calls.specs.declared.server.rule.ServerRule.{ServerRule};
 ghost use Rattle.giop_session.specs.declared.limits.Limits.{Limits};
-ghost use Rattle.giop_session.specs.Begun.{no_calls};
-ghost use Rattle.giop_session.specs.CallTable.{Held};
-ghost use Rattle.giop_session.specs.ClientCalls.{IsCall, IsCancel, IsLocate};
-ghost use Rattle.giop_session.specs.ClientHears.{client_befalls, client_breaks};
-ghost use Rattle.giop_session.specs.Events.{Event, Meets};
-ghost use Rattle.giop_session.specs.Heard.{in_call};
-ghost use Rattle.giop_session.specs.LeftToSend.{ArePlanned, ClientPlans, IsLeft, ServerPlans};
-ghost use Rattle.giop_session.specs.ServerAnswers.{IsAnswer, IsLocateAnswer};
-ghost use Rattle.giop_session.specs.ServerHears.{server_befalls, server_breaks};
+ghost use Rattle.giop_session.specs.Calls.Begun.{no_calls};
+ghost use Rattle.giop_session.specs.Calls.CallTable.{Held};
+ghost use Rattle.giop_session.specs.Acts.ClientCalls.{IsCall, IsCancel, IsLocate};
+ghost use Rattle.giop_session.specs.Hearing.ClientHears.{client_befalls, client_breaks};
+ghost use Rattle.giop_session.specs.Runs.Events.{Event, Meets};
+ghost use Rattle.giop_session.specs.Hearing.Heard.{in_call};
+ghost use Rattle.giop_session.specs.Runs.LeftToSend.{ArePlanned, ClientPlans, IsLeft, ServerPlans};
+ghost use Rattle.giop_session.specs.Acts.ServerAnswers.{IsAnswer, IsLocateAnswer};
+ghost use Rattle.giop_session.specs.Hearing.ServerHears.{server_befalls, server_breaks};
 
 /// A server's end hears messages and acts itself, and none of this is refused. It plans a Reply in
 /// as many messages as its event says, a LocateReply in one, and a further piece as the next one:

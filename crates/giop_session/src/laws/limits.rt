@@ -13,13 +13,13 @@ ghost use Rattle.giop_calls.specs.declared.server.rule.ServerRule.{ServerRule};
 ghost use Rattle.giop_session.specs.declared.limits.Limits.{Limits};
 ghost use Rattle.giop_session.specs.declared.session_fault.SessionFault.{SessionFault};
 ghost use Rattle.giop_session.specs.declared.session_fault.SessionFault.TheVariants.{TooManyCalls, GatherFull};
-ghost use Rattle.giop_session.specs.Begun.{no_calls};
-ghost use Rattle.giop_session.specs.CallTable.{Held};
-ghost use Rattle.giop_session.specs.ClientHears.{client_befalls, client_breaks};
-ghost use Rattle.giop_session.specs.Events.{Event, Meets};
-ghost use Rattle.giop_session.specs.Heard.{in_call};
-ghost use Rattle.giop_session.specs.Limits.{AreWithinAtClient, AreWithinAtServer, IsNext, payload_of, Refuses};
-ghost use Rattle.giop_session.specs.ServerHears.{server_befalls, server_breaks};
+ghost use Rattle.giop_session.specs.Calls.Begun.{no_calls};
+ghost use Rattle.giop_session.specs.Calls.CallTable.{Held};
+ghost use Rattle.giop_session.specs.Hearing.ClientHears.{client_befalls, client_breaks};
+ghost use Rattle.giop_session.specs.Runs.Events.{Event, Meets};
+ghost use Rattle.giop_session.specs.Hearing.Heard.{in_call};
+ghost use Rattle.giop_session.specs.Runs.Limits.{AreWithinAtClient, AreWithinAtServer, IsNext, payload_of, Refuses};
+ghost use Rattle.giop_session.specs.Hearing.ServerHears.{server_befalls, server_breaks};
 
 /// Let a server's Requests and LocateRequests have at most as many distinct ids as its limit
 /// `calls`, and all pieces of fragmented messages at most as many octets as its limit `gathered`.

@@ -1,18 +1,18 @@
 //! An end is made and given a list of inputs: `run_server` and `run_client`, whose contracts are
 //! the headline (docs/HEADLINE.md) of functions that run. What an input does to an end is
-//! specs/ServerRuns.antt and specs/ClientRuns.antt.
+//! specs/Runs/ServerRuns.antt and specs/Runs/ClientRuns.antt.
 ghost use Rattle.std.specs.Prelude.{◌≡◌, ◌≢◌, ◌≤◌, ◌^◌, ◌↔◌, None, Err, IfOk, IsErr};
 ghost use Rattle.std.specs.FinMap as finite;
 ghost use Rattle.giop_session.specs.declared.laws.inputs.Answered.TheVariants.{Refused};
 ghost use Rattle.giop_session.specs.declared.session_fault.SessionFault.TheVariants.{NoMemory};
-ghost use Rattle.giop_session.specs.Carries.{behind_all};
-ghost use Rattle.giop_session.specs.ClientCarries.{client_telling, unknown};
-ghost use Rattle.giop_session.specs.ClientRuns.{client_entry, client_named, ClientHolds, ClientRuns, ClientTakesAs};
-ghost use Rattle.giop_session.specs.Driven.{answer_of, Closes, end_state, Feeds, InTurn, IsGiven, item_answers, NoneRefused, own_answers, taken_answer_of, TakesOut};
-ghost use Rattle.giop_session.specs.PutOut.{ArePutOut, is_of_client, is_of_server};
-ghost use Rattle.giop_session.specs.RunLimits.{ClientIsGivenWithin, NoneForALimit, ServerIsGivenWithin};
-ghost use Rattle.giop_session.specs.ServerCarries.{server_telling};
-ghost use Rattle.giop_session.specs.ServerRuns.{server_entry, server_named, ServerHolds, ServerRuns, ServerTakesAs};
+ghost use Rattle.giop_session.specs.Items.Carries.{behind_all};
+ghost use Rattle.giop_session.specs.Items.ClientCarries.{client_telling, unknown};
+ghost use Rattle.giop_session.specs.Runs.ClientRuns.{client_entry, client_named, ClientHolds, ClientRuns, ClientTakesAs};
+ghost use Rattle.giop_session.specs.Runs.Driven.{answer_of, Closes, end_state, Feeds, InTurn, IsGiven, item_answers, NoneRefused, own_answers, taken_answer_of, TakesOut};
+ghost use Rattle.giop_session.specs.Acts.PutOut.{ArePutOut, is_of_client, is_of_server};
+ghost use Rattle.giop_session.specs.Runs.RunLimits.{ClientIsGivenWithin, NoneForALimit, ServerIsGivenWithin};
+ghost use Rattle.giop_session.specs.Items.ServerCarries.{server_telling};
+ghost use Rattle.giop_session.specs.Runs.ServerRuns.{server_entry, server_named, ServerHolds, ServerRuns, ServerTakesAs};
 
 use super::inputs::{Answered, ClientInput, ServerInput};
 use crate::end::{ClientEnd, End, ServerEnd};
@@ -136,8 +136,8 @@ pub(super) trait Driven {
 
 impl<'a> Driven for End<'a, ServerRule> {
     ghost use Rattle.std.specs.Prelude.{◌≡◌};
-    ghost use Rattle.giop_session.specs.Driven.{end_state};
-    ghost use Rattle.giop_session.specs.ServerRuns.{ServerIsGiven};
+    ghost use Rattle.giop_session.specs.Runs.Driven.{end_state};
+    ghost use Rattle.giop_session.specs.Runs.ServerRuns.{ServerIsGiven};
 
     type Input = ServerInput;
 
@@ -169,8 +169,8 @@ impl<'a> Driven for End<'a, ServerRule> {
 
 impl<'a> Driven for End<'a, ClientRule> {
     ghost use Rattle.std.specs.Prelude.{◌≡◌};
-    ghost use Rattle.giop_session.specs.ClientRuns.{ClientIsGiven};
-    ghost use Rattle.giop_session.specs.Driven.{end_state};
+    ghost use Rattle.giop_session.specs.Runs.ClientRuns.{ClientIsGiven};
+    ghost use Rattle.giop_session.specs.Runs.Driven.{end_state};
 
     type Input = ClientInput;
 

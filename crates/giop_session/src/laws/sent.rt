@@ -11,11 +11,11 @@ ghost use Rattle.giop_msg.specs.declared.msg.Msg.{Msg};
 ghost use Rattle.giop_calls.specs.Lane.{Cut, pieces_of};
 ghost use Rattle.giop_calls.specs.declared.client.event.ClientEvent.TheVariants as at_client;
 ghost use Rattle.giop_calls.specs.declared.server.event.ServerEvent.TheVariants as at_server;
-ghost use Rattle.giop_session.specs.ClientCalls.{IsCancel};
-ghost use Rattle.giop_session.specs.OnTheWay.{id_of, IsFramed, Names, OnTheWay};
-ghost use Rattle.giop_session.specs.OwnLane.{PlansCall, PlansLocated, PlansReply, sends_cut};
-ghost use Rattle.giop_session.specs.Sent.{sends_one};
-ghost use Rattle.giop_session.specs.ServerAnswers.{IsLocateAnswer};
+ghost use Rattle.giop_session.specs.Acts.ClientCalls.{IsCancel};
+ghost use Rattle.giop_session.specs.Worlds.OnTheWay.{id_of, IsFramed, Names, OnTheWay};
+ghost use Rattle.giop_session.specs.Worlds.OwnLane.{PlansCall, PlansLocated, PlansReply, sends_cut};
+ghost use Rattle.giop_session.specs.Acts.Sent.{sends_one};
+ghost use Rattle.giop_session.specs.Acts.ServerAnswers.{IsLocateAnswer};
 
 /// What an end plans to send are messages that a framer of the largest limit reads: the pieces of a
 /// call or a Reply, a LocateReply, a CancelRequest.

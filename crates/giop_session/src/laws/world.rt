@@ -1,11 +1,11 @@
 //! A client's end and a server's end that hear one another, and what happens between them
-//! (`run_world`). Its meaning is `WorldRuns`, `GoesBy` and `AreJoined` in specs/World.antt, and
-//! `Agreed` and `FailsByLimits` in specs/Agreement.antt: change both.
+//! (`run_world`). Its meaning is `WorldRuns`, `GoesBy` and `AreJoined` in specs/Worlds/World.antt, and
+//! `Agreed` and `FailsByLimits` in specs/Worlds/Agreement.antt: change both.
 ghost use Rattle.std.specs.Prelude.{◌≡◌, ◌≤◌, ◌^◌, IfOk, length, None, take, drop};
 ghost use Rattle.giop_types.specs.declared.json.interface.Interface.{Interface};
-ghost use Rattle.giop_session.specs.Agreement.{Agreed, AreInRange, FailsByLimits};
-ghost use Rattle.giop_session.specs.World.{AreJoined, ArriveAtClient, ArriveAtServer, AtClient, AtServer};
-ghost use Rattle.giop_session.specs.World.{ends_of, GoesBy, told_of_answer, WorldRuns};
+ghost use Rattle.giop_session.specs.Worlds.Agreement.{Agreed, AreInRange, FailsByLimits};
+ghost use Rattle.giop_session.specs.Worlds.World.{AreJoined, ArriveAtClient, ArriveAtServer, AtClient, AtServer};
+ghost use Rattle.giop_session.specs.Worlds.World.{ends_of, GoesBy, told_of_answer, WorldRuns};
 
 use super::agreement::two_ends_agree;
 use super::inputs::{Answered, ClientInput, ServerInput, WorldEvent};
@@ -74,7 +74,7 @@ pub fn run_world<'a>(
 }
 
 impl<'a> Driven for World<'a> {
-    ghost use Rattle.giop_session.specs.World.{ends_of, GoesBy, Happens};
+    ghost use Rattle.giop_session.specs.Worlds.World.{ends_of, GoesBy, Happens};
 
     type Input = WorldEvent;
 

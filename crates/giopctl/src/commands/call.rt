@@ -4,8 +4,8 @@ ghost use Rattle.std.specs.Prelude.{◌≡◌, [], ◌∷◌, IfOk, None, OnOk, 
 ghost use Rattle.std.specs.FinMap as finite;
 ghost use Rattle.std.specs.Io.KnownBytes.{Appends};
 ghost use Rattle.std.specs.List.{list_all};
-ghost use Rattle.giop_session.specs.Form.{IsForm};
-ghost use Rattle.giop_session.specs.Sending.{entry_of};
+ghost use Rattle.giop_session.specs.Acts.Form.{IsForm};
+ghost use Rattle.giop_session.specs.Calls.Sending.{entry_of};
 ghost use Rattle.giop_session.specs.Pumping.{between};
 ghost use Rattle.giopctl.specs.Acts.{outbox};
 ghost use Rattle.giopctl.specs.Calling.{CallsAll, CallsOne, Converses, Talks, are_over, asked_of, client_hears, is_over, request_of};
@@ -15,9 +15,14 @@ ghost use Rattle.giopctl.specs.Steps.{Upto};
 ghost use Rattle.giopctl.specs.Table.{client_entry_line};
 ghost use Rattle.giopctl.specs.Turns.{Waits};
 
-use crate::calls::CallLine;
-use crate::commands::calling::Calling;
-use crate::commands::sending::send_all;
+pub mod calls;
+pub mod files;
+pub mod given;
+pub mod table;
+
+use crate::commands::call::calls::CallLine;
+use crate::commands::call::given::Calling;
+use crate::commands::session::sending::send_all;
 use crate::commands::session::{TURNS, goes_on, told, told_of, write_all_out, write_session};
 use crate::failure::Failure;
 use crate::status::Status;

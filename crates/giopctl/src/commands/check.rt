@@ -2,14 +2,17 @@
 ghost use Rattle.std.specs.Prelude.{◌≡◌, ◌≢◌, [], IfOk, OnOk, Some, None, length};
 ghost use Rattle.std.specs.Io.KnownBytes.{Appends, IsAtEnd};
 ghost use Rattle.giop_session.specs.declared.session_fault.SessionFault.TheVariants.{NoMemory};
-ghost use Rattle.giop_session.specs.Heard.{hears_by};
+ghost use Rattle.giop_session.specs.Hearing.Heard.{hears_by};
 ghost use Rattle.giopctl.specs.Check.{AreLimits, Checks, ChecksKnown, HeardKnown, default_limits, fault_status, last_status};
 ghost use Rattle.giopctl.specs.Dump.{ended};
 ghost use Rattle.giopctl.specs.SessionLines.{last_line, session_fault_line};
 
+pub mod files;
+pub mod text;
+
 use crate::commands::dump::BehindFault;
-use crate::commands::dump_messages::write_rest;
-use crate::commands::table::write_table;
+use crate::commands::dump::messages::write_rest;
+use crate::commands::session::table::write_table;
 use crate::failure::Failure;
 use crate::lines::SessionFaultLine;
 use crate::pieces::{PieceBuffer, drain};

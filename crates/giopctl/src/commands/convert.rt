@@ -4,6 +4,11 @@ ghost use Rattle.std.specs.Io.KnownBytes.{Appends};
 ghost use Rattle.giopctl.specs.Convert.{unended, Tells};
 ghost use Rattle.giopctl.specs.Dump.{ended};
 
+pub mod described;
+pub mod files;
+pub mod reference;
+pub mod value;
+
 use crate::failure::Failure;
 use crate::lines::RefusalLine;
 use crate::status::Status;

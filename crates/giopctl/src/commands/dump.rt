@@ -4,7 +4,10 @@ ghost use Rattle.std.specs.Prelude.{◌≡◌, ◌++◌, IfErr, IfOk, OnOk};
 ghost use Rattle.std.specs.Io.KnownBytes.{IsAtEnd};
 ghost use Rattle.giopctl.specs.Dump.{Dumps, DumpsKnown};
 
-use crate::commands::dump_messages::{write_fault, write_message, write_rest};
+pub mod heads;
+pub mod messages;
+
+use crate::commands::dump::messages::{write_fault, write_message, write_rest};
 use crate::failure::Failure;
 use crate::pieces::{PieceBuffer, drain};
 use crate::status::Status;

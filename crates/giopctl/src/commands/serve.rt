@@ -3,7 +3,7 @@
 ghost use Rattle.std.specs.Prelude.{◌≡◌, ◌++◌, IfOk, OnOk};
 ghost use Rattle.std.specs.Io.KnownBytes.{Appends};
 ghost use Rattle.serde_json.specs.View.{view};
-ghost use Rattle.giop_session.specs.Form.{IsForm};
+ghost use Rattle.giop_session.specs.Acts.Form.{IsForm};
 ghost use Rattle.giop_session.specs.Pumping.{between};
 ghost use Rattle.giopctl.specs.Acts.{outbox};
 ghost use Rattle.giopctl.specs.Check.{default_limits};
@@ -13,10 +13,16 @@ ghost use Rattle.giopctl.specs.Sessions.{IsServed, Serves, connection_line, serv
 ghost use Rattle.giopctl.specs.Steps.{Upto};
 ghost use Rattle.giopctl.specs.Table.{server_entry_line};
 
-use crate::answers::Answers;
-use crate::commands::answering::{Due, due_to, reply_to};
-use crate::commands::sending::send_all;
-use crate::commands::serving::Serving;
+pub mod answering;
+pub mod answers;
+pub mod files;
+pub mod given;
+pub mod table;
+
+use crate::commands::serve::answering::{Due, due_to, reply_to};
+use crate::commands::serve::answers::Answers;
+use crate::commands::serve::given::Serving;
+use crate::commands::session::sending::send_all;
 use crate::commands::session::{TURNS, goes_on, told, told_of, write_session};
 use crate::failure::Failure;
 use crate::status::Status;

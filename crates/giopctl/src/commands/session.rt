@@ -4,15 +4,23 @@
 ghost use Rattle.std.specs.Prelude.{◌≡◌, ◌≢◌, ◌⊎◌, [], false, Some, None, Ok, Err, IfOk, IfErr, OnOk};
 ghost use Rattle.std.specs.Io.KnownBytes.{Appends};
 ghost use Rattle.giop_session.specs.declared.session_fault.SessionFault.TheVariants.{NoMemory};
-ghost use Rattle.giop_session.specs.Heard.{hears_by};
+ghost use Rattle.giop_session.specs.Hearing.Heard.{hears_by};
 ghost use Rattle.giop_session.specs.Pumping.{Writes, between};
-ghost use Rattle.giop_session.specs.SessionFaults.{error_message_of};
+ghost use Rattle.giop_session.specs.Calls.SessionFaults.{error_message_of};
 ghost use Rattle.giopctl.specs.declared.failure.Failure.TheVariants.{Memory};
 ghost use Rattle.giopctl.specs.Check.{answer_of};
 ghost use Rattle.giopctl.specs.Sessions.{fault_text, session_text, told};
 ghost use Rattle.giopctl.specs.Turns.{GoesOn, IsOfConnection, peer_octets};
 
-use crate::commands::table::{Tabled, write_table};
+pub mod bodies;
+pub mod files;
+pub mod json;
+pub mod sending;
+pub mod table;
+pub mod target;
+pub mod words;
+
+use crate::commands::session::table::{Tabled, write_table};
 use crate::failure::Failure;
 use crate::lines::SessionFaultLine;
 use giop_session::{End, Hearing, PumpFault, SessionFault, turn, write_out};

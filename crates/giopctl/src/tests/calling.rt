@@ -1,6 +1,6 @@
 //! One call over memory. What is sent and printed for other calls is cases of the built program
 //! (tests/cases/calling).
-use crate::calls::{CallLine, calls_from_json};
+use crate::commands::call::calls::{CallLine, calls_from_json};
 use crate::commands::call_session;
 use crate::status::Status;
 use crate::tests::session_files::interface;

@@ -1,6 +1,6 @@
 //! Connections that break or never end. What is answered to each message is cases of the built
 //! program (tests/cases/serving).
-use crate::answers::{Answers, answers_from_json};
+use crate::commands::serve::answers::{Answers, answers_from_json};
 use crate::commands::serve_session;
 use crate::status::Status;
 use crate::tests::session_files::interface;

@@ -1,7 +1,7 @@
 //! Calls and answers that are read. Those that are refused are cases of the built program
 //! (tests/cases/calls, answers).
-use crate::answers::{AnswerGiven, answers_from_json};
-use crate::calls::calls_from_json;
+use crate::commands::call::calls::calls_from_json;
+use crate::commands::serve::answers::{AnswerGiven, answers_from_json};
 use giop_types::Interface;
 use std::alloc::Global;
 use std::test::Fail;

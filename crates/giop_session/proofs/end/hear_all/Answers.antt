@@ -1,10 +1,10 @@
 use Rattle.std.proofs.Common.{Err, IfSome, subst}
 use Rattle.giop_msg.specs.Stream.{TakesMessage}
 use Rattle.giop_msg.proofs.FramerLemmas.{takes_fewer}
-use Rattle.giop_session.specs.Feeding.{Fed, with_octets}
-use Rattle.giop_session.specs.Heard.{hears_by}
-use Rattle.giop_session.proofs.FeedingLemmas.{so_far_none, so_far_more, wanting, of_want, passed_on, refused_fed}
-use Rattle.giop_session.proofs.HeardLemmas.{keeps, keeps_there}
+use Rattle.giop_session.specs.Hearing.Feeding.{Fed, with_octets}
+use Rattle.giop_session.specs.Hearing.Heard.{hears_by}
+use Rattle.giop_session.proofs.OnHearing.FeedingLemmas.{so_far_none, so_far_more, wanting, of_want, passed_on, refused_fed}
+use Rattle.giop_session.proofs.OnHearing.HeardLemmas.{keeps, keeps_there}
 use Rattle.giop_session.proofs.end.hear_all.Goals as goal
 
 pub returns-in_err-feed : goal.returns-in_err-feed

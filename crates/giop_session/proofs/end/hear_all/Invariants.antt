@@ -1,6 +1,6 @@
 use Rattle.std.proofs.Common.{length}
-use Rattle.giop_session.specs.Heard.{hears_by}
-use Rattle.giop_session.proofs.FeedingLemmas.{SoFar}
+use Rattle.giop_session.specs.Hearing.Heard.{hears_by}
+use Rattle.giop_session.proofs.OnHearing.FeedingLemmas.{SoFar}
 use Rattle.giop_session.proofs.end.hear_all.Given as goal
 
 abbrev pub invariant-loop-message : goal.invariant-loop-message

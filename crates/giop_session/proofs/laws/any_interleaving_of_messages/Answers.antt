@@ -1,7 +1,7 @@
 use Rattle.std.proofs.Common.{sym, ap, ◌∙◌}
-use Rattle.giop_session.specs.Alone.{alone_heard}
-use Rattle.giop_session.specs.CallTable.{at, turn}
-use Rattle.giop_session.proofs.HeardLemmas.{calls_alone}
+use Rattle.giop_session.specs.Runs.Alone.{alone_heard}
+use Rattle.giop_session.specs.Calls.CallTable.{at, turn}
+use Rattle.giop_session.proofs.OnHearing.HeardLemmas.{calls_alone}
 use Rattle.giop_session.proofs.laws.any_interleaving_of_messages.Goals as goal
 
 pub returns : goal.returns

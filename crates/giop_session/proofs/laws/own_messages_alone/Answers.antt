@@ -1,4 +1,4 @@
-use Rattle.giop_session.proofs.HeardLemmas.{calls_alone}
+use Rattle.giop_session.proofs.OnHearing.HeardLemmas.{calls_alone}
 use Rattle.giop_session.proofs.laws.own_messages_alone.Goals as goal
 
 pub returns : goal.returns

@@ -1,5 +1,5 @@
 use Rattle.std.proofs.Common.{◌≡◌, ◌<◌, Ok, Err, refl, sym, ap, subst, ◌∙◌, arith}
-use Rattle.giop_session.specs.Heard.{hears_by}
+use Rattle.giop_session.specs.Hearing.Heard.{hears_by}
 use Rattle.giop_session.specs.Pumping.{Pumped, Turned, between}
 use Rattle.giop_session.proofs.PumpingLemmas.{SoFar, so_far_none, so_far_more, pumped_out, pumped_spent, pumped_away, passed_on, writes_on}
 use Rattle.giop_session.proofs.pumping.pump.Goals as goal

@@ -1,5 +1,5 @@
 use Rattle.std.proofs.Common.{◌≡◌}
-use Rattle.giop_session.specs.Heard.{hears_by}
+use Rattle.giop_session.specs.Hearing.Heard.{hears_by}
 use Rattle.giop_session.specs.Pumping.{between}
 use Rattle.giop_session.proofs.PumpingLemmas.{SoFar}
 use Rattle.giop_session.proofs.pumping.pump.Given as goal

@@ -10,8 +10,8 @@ use Rattle.giop_msg.specs.declared.version.Version.TheVariants.{V10, V12}
 use Rattle.giop_calls.specs.declared.client.call.Call.TheVariants as asked
 use Rattle.giop_calls.specs.ClientTable.{settles}
 use Rattle.giop_calls.specs.declared.client.entry.ClientEntry.TheVariants.{Waiting}
-use Rattle.giop_session.specs.Carries.{behind_all}
-use Rattle.giop_session.specs.ClientCarries.{client_telling, unknown}
+use Rattle.giop_session.specs.Items.Carries.{behind_all}
+use Rattle.giop_session.specs.Items.ClientCarries.{client_telling, unknown}
 use Rattle.laws_in_use.specs.Asking.{here, one_way, other_way, told, told_of_nine, told_of_seven}
 use Rattle.laws_in_use.specs.Locating.{door, here_little, key, limits, tight_limits}
 use Rattle.laws_in_use.proofs.AskingHolds as holds

@@ -3,7 +3,7 @@ use Rattle.giop_calls.specs.declared.client.entry.ClientEntry.{ClientEntry}
 use Rattle.giop_calls.specs.declared.client.entry.ClientEntry.TheVariants.{Cancelled, Done, Gathering, LocateDone, OnewaySent, Sending, Undecoded, Waiting}
 use Rattle.giop_calls.specs.declared.client.event.ClientEvent.TheVariants as event
 use Rattle.giop_calls.specs.ClientTable.{client_step}
-use Rattle.giop_session.specs.ClientCalls.{cancel_fault, open_version}
+use Rattle.giop_session.specs.Acts.ClientCalls.{cancel_fault, open_version}
 use Rattle.laws_in_use.proofs.ends.what_may_be_cancelled.Goals as goal
 
 accepted : (stands : ClientEntry) → (cancel_fault (open_version (Some stands)) ≡ None) ↔ ((client_step (Some stands) event.Cancel).outcome ≡ Ok tt)

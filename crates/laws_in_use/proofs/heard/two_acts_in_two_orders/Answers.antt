@@ -6,9 +6,9 @@ use Rattle.giop_cdr.specs.Reading.Values.{field_at, number_at}
 use Rattle.giop_ids.specs.Runs.{alone, is_own, left, own, told_alone}
 use Rattle.giop_msg.specs.RequestId.{request_id_layout}
 use Rattle.giop_calls.specs.ServerTable.{is_closed, is_gathering, server_step}
-use Rattle.giop_session.specs.CallTable.{at, is_of_call, turn}
-use Rattle.giop_session.specs.Events.{Comes, Follows, own_events}
-use Rattle.giop_session.specs.ServerHears.{server_befalls}
+use Rattle.giop_session.specs.Calls.CallTable.{at, is_of_call, turn}
+use Rattle.giop_session.specs.Runs.Events.{Comes, Follows, own_events}
+use Rattle.giop_session.specs.Hearing.ServerHears.{server_befalls}
 use Rattle.laws_in_use.specs.Heard.{asks, begins, silence}
 use Rattle.laws_in_use.specs.Locating.{door_begins, key_little, limits}
 use Rattle.laws_in_use.proofs.LocatingRuns.{asked_act, begun_act, new, none_at, one_1, one_2}

@@ -7,11 +7,11 @@ use Rattle.giop_msg.specs.Msg.{message_octets}
 use Rattle.giop_msg.specs.RequestId.{request_id_layout}
 use Rattle.giop_msg.specs.declared.msg.Msg.{Msg}
 use Rattle.giop_calls.specs.ServerTable.{is_closed, is_gathering, server_step}
-use Rattle.giop_session.specs.Alone.{alone_heard, own_messages}
-use Rattle.giop_session.specs.CallTable.{at, turn}
-use Rattle.giop_session.specs.Events.{Comes}
-use Rattle.giop_session.specs.Inputs.{nothing_unread}
-use Rattle.giop_session.specs.ServerHears.{server_befalls}
+use Rattle.giop_session.specs.Runs.Alone.{alone_heard, own_messages}
+use Rattle.giop_session.specs.Calls.CallTable.{at, turn}
+use Rattle.giop_session.specs.Runs.Events.{Comes}
+use Rattle.giop_session.specs.Runs.Inputs.{nothing_unread}
+use Rattle.giop_session.specs.Hearing.ServerHears.{server_befalls}
 use Rattle.laws_in_use.specs.Heard.{asked_and_begun, begun_and_asked}
 use Rattle.laws_in_use.specs.Locating.{door_begins, door_ends, key_little, limits}
 use Rattle.laws_in_use.proofs.LocatingReads as read

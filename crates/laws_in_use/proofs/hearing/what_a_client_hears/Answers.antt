@@ -3,8 +3,8 @@ use Rattle.giop_msg.specs.declared.version.Version.TheVariants.{V12}
 use Rattle.giop_calls.specs.declared.client.call.Call.TheVariants as asked
 use Rattle.giop_calls.specs.declared.client.event.ClientEvent.TheVariants as event
 use Rattle.giop_calls.specs.declared.kind.CallKind.TheVariants as kind
-use Rattle.giop_session.specs.CallTable.{Hears, More, Nothing}
-use Rattle.giop_session.specs.Heard.{behind_id, kept}
+use Rattle.giop_session.specs.Calls.CallTable.{Hears, More, Nothing}
+use Rattle.giop_session.specs.Hearing.Heard.{behind_id, kept}
 use Rattle.laws_in_use.specs.Asking.{here_begins, here_ends}
 use Rattle.laws_in_use.specs.Hearing.{door_goes_on, here_begun, waits}
 use Rattle.laws_in_use.specs.Locating.{door, here_little}

@@ -5,8 +5,8 @@ use Rattle.giop_calls.specs.declared.client.event.ClientEvent.{ClientEvent}
 use Rattle.giop_calls.specs.declared.client.event.ClientEvent.TheVariants as event
 use Rattle.giop_calls.specs.declared.client.heard.HeardReply.TheVariants as heard
 use Rattle.giop_calls.specs.declared.kind.CallKind.TheVariants as kind
-use Rattle.giop_session.specs.CallTable.{Hears, More}
-use Rattle.giop_session.specs.Heard.{behind_id, kept}
+use Rattle.giop_session.specs.Calls.CallTable.{Hears, More}
+use Rattle.giop_session.specs.Hearing.Heard.{behind_id, kept}
 use Rattle.laws_in_use.specs.Asking.{here, here_ends}
 use Rattle.laws_in_use.specs.Hearing.{here_begun, here_standing, waiting, waits}
 use Rattle.laws_in_use.specs.Locating.{door, here_little}

@@ -1,8 +1,8 @@
 use Rattle.std.proofs.Common.{◌≡◌, ◌∙◌, ap, [], ◌∷◌, refl, true}
 use Rattle.giop_calls.specs.declared.kind.CallKind.TheVariants as kind
 use Rattle.giop_calls.specs.declared.server.event.ServerEvent.TheVariants as event
-use Rattle.giop_session.specs.CallTable.{Hears, More}
-use Rattle.giop_session.specs.Heard.{behind_id, kept}
+use Rattle.giop_session.specs.Calls.CallTable.{Hears, More}
+use Rattle.giop_session.specs.Hearing.Heard.{behind_id, kept}
 use Rattle.laws_in_use.specs.Hearing.{door_begun}
 use Rattle.laws_in_use.specs.Locating.{cancel_big, door_ends, key_big}
 use Rattle.laws_in_use.proofs.LocatingMessages.{decoded}

@@ -5,9 +5,9 @@ use Rattle.giop_calls.specs.declared.server.event.ServerEvent.TheVariants as eve
 use Rattle.giop_calls.specs.ServerTable.{is_closed, is_gathering, server_step}
 use Rattle.giop_session.specs.declared.session_fault.SessionFault.TheVariants.{Call as InCall}
 use Rattle.giop_session.specs.declared.table_fault.TableFault.TheVariants.{Rule}
-use Rattle.giop_session.specs.CallTable.{Call, Hears, Nothing, rules_of, turn}
-use Rattle.giop_session.specs.Heard.{in_call}
-use Rattle.giop_session.specs.Sending.{entry_of, slot_of, unsent_after, unsent_of}
+use Rattle.giop_session.specs.Calls.CallTable.{Call, Hears, Nothing, rules_of, turn}
+use Rattle.giop_session.specs.Hearing.Heard.{in_call}
+use Rattle.giop_session.specs.Calls.Sending.{entry_of, slot_of, unsent_after, unsent_of}
 use Rattle.laws_in_use.specs.Left.{sends}
 use Rattle.laws_in_use.specs.Limited.{new_server}
 use Rattle.laws_in_use.specs.Locating.{here_big, limits}

@@ -3,7 +3,7 @@ use Rattle.giop_cdr.specs.declared.order.Order.TheVariants.{Little}
 use Rattle.giop_msg.specs.declared.version.Version.TheVariants.{V10}
 use Rattle.giop_calls.specs.declared.client.call.Call.TheVariants as asked
 use Rattle.giop_calls.specs.declared.client.event.ClientEvent.TheVariants as event
-use Rattle.giop_session.specs.Events.{Does}
+use Rattle.giop_session.specs.Runs.Events.{Does}
 use Rattle.laws_in_use.specs.Asking.{asking}
 use Rattle.laws_in_use.specs.Exchange.{ping}
 use Rattle.laws_in_use.specs.Left.{form, ping_sent, sends}

@@ -2,7 +2,7 @@ use Rattle.std.proofs.Common.{◌≡◌, true, [], ◌∷◌, Some, refl, inl, a
 use Rattle.giop_cdr.specs.declared.order.Order.TheVariants.{Big}
 use Rattle.giop_msg.specs.declared.version.Version.TheVariants.{V10, V12}
 use Rattle.giop_calls.specs.declared.server.event.ServerEvent.TheVariants as event
-use Rattle.giop_session.specs.Sent.{sends_one}
+use Rattle.giop_session.specs.Acts.Sent.{sends_one}
 use Rattle.laws_in_use.specs.Exchange.{ping, pong}
 use Rattle.laws_in_use.specs.Left.{form, pong_sent, sends}
 use Rattle.laws_in_use.proofs.ServerRunTaken.{here_is}

@@ -1,6 +1,6 @@
 use Rattle.std.proofs.Common.{[], ◌∷◌, arith}
 use Rattle.std.proofs.lemmas.List.Sorted.{IsPermutation-refl}
-use Rattle.giop_session.specs.Events.{Comes, Does}
+use Rattle.giop_session.specs.Runs.Events.{Comes, Does}
 use Rattle.laws_in_use.specs.Asking.{asking, sending}
 use Rattle.laws_in_use.specs.Limited.{asked}
 use Rattle.laws_in_use.specs.Locating.{here_little, limits}

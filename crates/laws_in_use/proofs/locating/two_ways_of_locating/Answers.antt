@@ -3,8 +3,8 @@ use Rattle.giop_ids.proofs.Puts.{eq_apart}
 use Rattle.giop_cdr.specs.declared.order.Order.TheVariants.{Big}
 use Rattle.giop_msg.specs.declared.version.Version.TheVariants.{V10, V12}
 use Rattle.giop_calls.specs.ServerTable.{arrived}
-use Rattle.giop_session.specs.Carries.{behind_all}
-use Rattle.giop_session.specs.ServerCarries.{server_telling}
+use Rattle.giop_session.specs.Items.Carries.{behind_all}
+use Rattle.giop_session.specs.Items.ServerCarries.{server_telling}
 use Rattle.laws_in_use.specs.Locating.{door, door_begins, door_ends, limits, one_way, other_way, said, said_of_nine, said_of_seven, tight_limits}
 use Rattle.laws_in_use.proofs.LocatingHolds as holds
 use Rattle.laws_in_use.proofs.LocatingMessages.{decoded}

@@ -3,8 +3,8 @@ use Rattle.std.proofs.lemmas.List.Elements.{All-cons, All-nil}
 use Rattle.giop_msg.specs.Header.{header_octets, header_of, header_fault}
 use Rattle.giop_msg.specs.Msg.{IsMessage, message_octets}
 use Rattle.giop_msg.proofs.FramerLemmas.{waits_for_header}
-use Rattle.giop_session.specs.Inputs.{nothing_unread}
-use Rattle.giop_session.specs.OnTheWay.{IsFramed}
+use Rattle.giop_session.specs.Runs.Inputs.{nothing_unread}
+use Rattle.giop_session.specs.Worlds.OnTheWay.{IsFramed}
 use Rattle.laws_in_use.specs.Asking.{here_begins, here_ends}
 use Rattle.laws_in_use.specs.Locating.{door_begins}
 use Rattle.laws_in_use.proofs.on_the_way.messages_that_came_in_part.Goals as goal

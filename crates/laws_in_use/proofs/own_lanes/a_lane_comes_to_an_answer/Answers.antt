@@ -1,6 +1,6 @@
 use Rattle.laws_in_use.specs.Asking.{unknown_big}
 use Rattle.laws_in_use.specs.Locating.{key, key_big}
-use Rattle.giop_session.specs.OwnLane.{located_run}
+use Rattle.giop_session.specs.Worlds.OwnLane.{located_run}
 use Rattle.laws_in_use.proofs.SentPlans.{answers_so, asks_key_so}
 use Rattle.laws_in_use.proofs.own_lanes.a_lane_comes_to_an_answer.Goals as goal
 use Rattle.std.proofs.Common.{false}

@@ -1,7 +1,7 @@
 use Rattle.giop_msg.specs.declared.version.Version.TheVariants.{V12}
 use Rattle.giop_calls.specs.declared.server.event.ServerEvent.TheVariants as at_server
-use Rattle.giop_session.specs.Coding.{coding}
-use Rattle.giop_session.specs.OwnLane.{sends_cut}
+use Rattle.giop_session.specs.Worlds.Coding.{coding}
+use Rattle.giop_session.specs.Worlds.OwnLane.{sends_cut}
 use Rattle.laws_in_use.specs.Exchange.{ping}
 use Rattle.laws_in_use.specs.Framed.{refusing}
 use Rattle.laws_in_use.specs.Pinged.{refusal_cut}

@@ -2,8 +2,8 @@ use Rattle.std.proofs.Common.{None}
 use Rattle.giop_msg.specs.declared.version.Version.TheVariants.{V12}
 use Rattle.giop_calls.specs.declared.client.call.Call.TheVariants as asked
 use Rattle.giop_calls.specs.declared.client.event.ClientEvent.TheVariants as at_client
-use Rattle.giop_session.specs.Coding.{coding}
-use Rattle.giop_session.specs.OwnLane.{sends_cut}
+use Rattle.giop_session.specs.Worlds.Coding.{coding}
+use Rattle.giop_session.specs.Worlds.OwnLane.{sends_cut}
 use Rattle.laws_in_use.specs.Exchange.{ping}
 use Rattle.laws_in_use.specs.Pinged.{ping_cut}
 use Rattle.laws_in_use.proofs.PingPlans.{pings_in_two}

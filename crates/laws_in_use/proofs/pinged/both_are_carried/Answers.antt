@@ -4,7 +4,7 @@ use Rattle.giop_msg.specs.declared.kind.Kind.TheVariants as message
 use Rattle.giop_msg.specs.declared.version.Version.TheVariants.{V12}
 use Rattle.giop_calls.specs.declared.client.call.Call.TheVariants as asked
 use Rattle.giop_calls.specs.declared.client.entry.ClientEntry.TheVariants as client
-use Rattle.giop_session.specs.ClientCalls.{request_octets}
+use Rattle.giop_session.specs.Acts.ClientCalls.{request_octets}
 use Rattle.laws_in_use.specs.Exchange.{ping}
 use Rattle.laws_in_use.specs.Framed.{refusing}
 use Rattle.laws_in_use.specs.Pinged.{ping_begins, ping_ends, refusal_begins, refusal_ends}

@@ -5,9 +5,9 @@ use Rattle.giop_calls.specs.declared.client.call.Call.TheVariants as asked
 use Rattle.giop_calls.specs.declared.client.entry.ClientEntry.TheVariants.{Waiting}
 use Rattle.giop_calls.specs.ClientTable.{settles}
 use Rattle.giop_session.specs.declared.laws.inputs.Answered.TheVariants as answer
-use Rattle.giop_session.specs.Carries.{behind_all}
-use Rattle.giop_session.specs.ClientCarries.{client_telling, unknown}
-use Rattle.giop_session.specs.RunLimits.{ClientIsGivenWithin}
+use Rattle.giop_session.specs.Items.Carries.{behind_all}
+use Rattle.giop_session.specs.Items.ClientCarries.{client_telling, unknown}
+use Rattle.giop_session.specs.Runs.RunLimits.{ClientIsGivenWithin}
 use Rattle.laws_in_use.specs.Asking.{told_of_seven}
 use Rattle.laws_in_use.specs.Locating.{key, limits}
 use Rattle.laws_in_use.specs.Runs.{client_told, told_and_taken}

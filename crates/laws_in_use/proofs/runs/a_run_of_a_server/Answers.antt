@@ -3,9 +3,9 @@ use Rattle.giop_ids.proofs.Puts.{eq_apart}
 use Rattle.giop_cdr.specs.declared.order.Order.TheVariants.{Big}
 use Rattle.giop_msg.specs.declared.version.Version.TheVariants.{V10, V12}
 use Rattle.giop_calls.specs.ServerTable.{arrived}
-use Rattle.giop_session.specs.Carries.{behind_all}
-use Rattle.giop_session.specs.RunLimits.{ServerIsGivenWithin}
-use Rattle.giop_session.specs.ServerCarries.{server_telling}
+use Rattle.giop_session.specs.Items.Carries.{behind_all}
+use Rattle.giop_session.specs.Runs.RunLimits.{ServerIsGivenWithin}
+use Rattle.giop_session.specs.Items.ServerCarries.{server_telling}
 use Rattle.laws_in_use.specs.Locating.{door, door_begins, door_ends, limits, said_of_nine}
 use Rattle.laws_in_use.specs.Runs.{said_and_taken, server_said}
 use Rattle.laws_in_use.proofs.Closings.{server_closes_by}

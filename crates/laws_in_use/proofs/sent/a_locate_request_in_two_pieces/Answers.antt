@@ -1,6 +1,6 @@
 use Rattle.std.proofs.Common.{None}
 use Rattle.giop_calls.specs.declared.client.call.Call.TheVariants as asked
-use Rattle.giop_session.specs.Coding.{coding}
+use Rattle.giop_session.specs.Worlds.Coding.{coding}
 use Rattle.laws_in_use.specs.Locating.{door}
 use Rattle.laws_in_use.specs.Sent.{asks_door, door_cut}
 use Rattle.laws_in_use.proofs.SentPlans.{asks_door_so, read_of}

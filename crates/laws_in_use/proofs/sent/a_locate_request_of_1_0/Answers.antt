@@ -5,9 +5,9 @@ use Rattle.giop_msg.specs.declared.version.Version.TheVariants.{V10}
 use Rattle.giop_calls.specs.Lane.{CutsLocated}
 use Rattle.giop_calls.specs.declared.client.call.Call.TheVariants as asked
 use Rattle.giop_calls.specs.declared.server.event.ServerEvent.{ServerEvent}
-use Rattle.giop_session.specs.declared.plan.Planned.{Planned}
-use Rattle.giop_session.specs.Coding.{coding}
-use Rattle.giop_session.specs.OwnLane.{alone}
+use Rattle.giop_session.specs.declared.calls.plan.Planned.{Planned}
+use Rattle.giop_session.specs.Worlds.Coding.{coding}
+use Rattle.giop_session.specs.Worlds.OwnLane.{alone}
 use Rattle.laws_in_use.specs.Asking.{unknown_big}
 use Rattle.laws_in_use.specs.Locating.{cancel_little, key, key_big}
 use Rattle.laws_in_use.specs.Sent.{answers_key, asks_key}

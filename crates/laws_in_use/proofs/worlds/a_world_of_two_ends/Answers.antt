@@ -4,8 +4,8 @@ use Rattle.giop_calls.specs.ServerTable as server
 use Rattle.giop_calls.specs.declared.fault.CallFault.TheVariants.{NotOpen}
 use Rattle.giop_session.specs.declared.laws.inputs.WorldEvent.{WorldEvent}
 use Rattle.giop_session.specs.declared.session_fault.SessionFault.TheVariants.{Call as InCall}
-use Rattle.giop_session.specs.Agreement.{AreInRange}
-use Rattle.giop_session.specs.Heard.{in_call}
+use Rattle.giop_session.specs.Worlds.Agreement.{AreInRange}
+use Rattle.giop_session.specs.Hearing.Heard.{in_call}
 use Rattle.laws_in_use.specs.Left.{new_client}
 use Rattle.laws_in_use.specs.Limited.{new_server}
 use Rattle.laws_in_use.specs.Locating.{key_little, limits}

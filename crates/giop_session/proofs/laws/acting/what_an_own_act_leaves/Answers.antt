@@ -1,4 +1,4 @@
-use Rattle.giop_session.proofs.ActingLemmas.{accepted, refused}
+use Rattle.giop_session.proofs.OnActs.ActingLemmas.{accepted, refused}
 use Rattle.giop_session.proofs.laws.acting.what_an_own_act_leaves.Goals as goal
 
 pub returns-clause-accepted : goal.returns-clause-accepted

@@ -1,4 +1,4 @@
-use Rattle.giop_session.proofs.AgreementLemmas.{ends_agree, ends_fail_by_limits}
+use Rattle.giop_session.proofs.OnWorlds.AgreementLemmas.{ends_agree, ends_fail_by_limits}
 use Rattle.giop_session.proofs.laws.agreement.two_ends_agree.Goals as goal
 
 pub returns : goal.returns

@@ -1,4 +1,4 @@
-use Rattle.giop_session.proofs.LaneAtEndsLemmas.{first_reply, last_reply, more_reply, whole_reply}
+use Rattle.giop_session.proofs.OnLanes.LaneAtEndsLemmas.{first_reply, last_reply, more_reply, whole_reply}
 use Rattle.giop_session.proofs.laws.coding.clients_read_as_coding.Goals as goal
 
 pub returns-clause-whole : goal.returns-clause-whole

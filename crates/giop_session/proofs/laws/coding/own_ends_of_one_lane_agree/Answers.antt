@@ -1,6 +1,6 @@
 use Rattle.giop_calls.specs.Lane.{new}
-use Rattle.giop_session.specs.Coding.{coding}
-use Rattle.giop_session.proofs.CodingLemmas.{own_runs}
+use Rattle.giop_session.specs.Worlds.Coding.{coding}
+use Rattle.giop_session.proofs.OnLanes.CodingLemmas.{own_runs}
 use Rattle.giop_session.proofs.laws.coding.own_ends_of_one_lane_agree.Goals as goal
 
 pub returns-clause-read : goal.returns-clause-read

@@ -1,4 +1,4 @@
-use Rattle.giop_session.proofs.LaneAtEndsLemmas.{begun, longer}
+use Rattle.giop_session.proofs.OnLanes.LaneAtEndsLemmas.{begun, longer}
 use Rattle.giop_session.proofs.laws.coding.pieces_are_gathered_as_they_come.Goals as goal
 
 pub returns-clause-first : goal.returns-clause-first

@@ -1,4 +1,4 @@
-use Rattle.giop_session.proofs.LaneAtEndsLemmas.{first_call, last_call, more_call, whole_call}
+use Rattle.giop_session.proofs.OnLanes.LaneAtEndsLemmas.{first_call, last_call, more_call, whole_call}
 use Rattle.giop_session.proofs.laws.coding.servers_read_as_coding.Goals as goal
 
 pub returns-clause-whole : goal.returns-clause-whole

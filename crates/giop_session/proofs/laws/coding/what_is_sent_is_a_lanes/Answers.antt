@@ -1,4 +1,4 @@
-use Rattle.giop_session.proofs.LaneAtEndsLemmas.{call_seen, located_seen, reply_seen}
+use Rattle.giop_session.proofs.OnLanes.LaneAtEndsLemmas.{call_seen, located_seen, reply_seen}
 use Rattle.giop_session.proofs.laws.coding.what_is_sent_is_a_lanes.Goals as goal
 
 pub returns-clause-call : goal.returns-clause-call

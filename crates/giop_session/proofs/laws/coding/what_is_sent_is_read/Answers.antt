@@ -1,4 +1,4 @@
-use Rattle.giop_session.proofs.CodingLemmas.{call_read, located_read, reply_read}
+use Rattle.giop_session.proofs.OnLanes.CodingLemmas.{call_read, located_read, reply_read}
 use Rattle.giop_session.proofs.laws.coding.what_is_sent_is_read.Goals as goal
 
 pub returns-clause-call : goal.returns-clause-call

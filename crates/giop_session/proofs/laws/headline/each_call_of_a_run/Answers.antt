@@ -1,4 +1,4 @@
-use Rattle.giop_session.proofs.EventLemmas.{each_follows}
+use Rattle.giop_session.proofs.OnRuns.EventLemmas.{each_follows}
 use Rattle.giop_session.proofs.laws.headline.each_call_of_a_run.Goals as goal
 
 pub returns : goal.returns

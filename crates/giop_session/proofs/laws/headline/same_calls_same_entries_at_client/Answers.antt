@@ -1,5 +1,5 @@
 use Rattle.std.proofs.Common.{◌∙◌, sym}
-use Rattle.giop_session.proofs.ClientHeadline.{client_entries}
+use Rattle.giop_session.proofs.OnItems.ClientHeadline.{client_entries}
 use Rattle.giop_session.proofs.laws.headline.same_calls_same_entries_at_client.Goals as goal
 
 pub returns-clause-value : goal.returns-clause-value

@@ -1,5 +1,5 @@
 use Rattle.std.proofs.Common.{◌∙◌, sym}
-use Rattle.giop_session.proofs.ServerHeadline.{server_entries}
+use Rattle.giop_session.proofs.OnItems.ServerHeadline.{server_entries}
 use Rattle.giop_session.proofs.laws.headline.same_calls_same_entries_at_server.Goals as goal
 
 pub returns-clause-value : goal.returns-clause-value

@@ -15,8 +15,8 @@ use Rattle.giop_msg.proofs.WholeMessages.LawLemmas.{whole_of}
 use Rattle.giop_msg.proofs.WholeMessages.LocateReplyLemmas.{locate_reply_is}
 use Rattle.giop_msg.proofs.WholeMessages.ReplyLemmas.{reply_is}
 use Rattle.giop_msg.proofs.WholeMessages.RequestLemmas.{request_is}
-use Rattle.giop_session.specs.ClientCarries.{SpellsReply}
-use Rattle.giop_session.proofs.CutItemLemmas.{cut_series}
+use Rattle.giop_session.specs.Items.ClientCarries.{SpellsReply}
+use Rattle.giop_session.proofs.OnItems.CutItemLemmas.{cut_series}
 use Rattle.giop_session.proofs.laws.headline.what_is_cut_is_carried.Goals as goal
 
 pub returns-clause-series : goal.returns-clause-series

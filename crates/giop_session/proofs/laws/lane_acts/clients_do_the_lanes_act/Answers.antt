@@ -1,5 +1,5 @@
-use Rattle.giop_session.specs.Coding.{coding}
-use Rattle.giop_session.proofs.LaneActLemmas.{client_heard, client_refused}
+use Rattle.giop_session.specs.Worlds.Coding.{coding}
+use Rattle.giop_session.proofs.OnLanes.LaneActLemmas.{client_heard, client_refused}
 use Rattle.giop_session.proofs.laws.lane_acts.clients_do_the_lanes_act.Goals as goal
 
 pub returns-clause-heard : goal.returns-clause-heard

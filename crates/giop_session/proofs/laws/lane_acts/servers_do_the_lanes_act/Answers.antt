@@ -1,5 +1,5 @@
-use Rattle.giop_session.specs.Coding.{coding}
-use Rattle.giop_session.proofs.LaneActLemmas.{server_heard, server_refused}
+use Rattle.giop_session.specs.Worlds.Coding.{coding}
+use Rattle.giop_session.proofs.OnLanes.LaneActLemmas.{server_heard, server_refused}
 use Rattle.giop_session.proofs.laws.lane_acts.servers_do_the_lanes_act.Goals as goal
 
 pub returns-clause-heard : goal.returns-clause-heard

@@ -1,4 +1,4 @@
-use Rattle.giop_session.proofs.LaneEventLemmas.{client_continues, client_opens}
+use Rattle.giop_session.proofs.OnLanes.LaneEventLemmas.{client_continues, client_opens}
 use Rattle.giop_session.proofs.laws.lane_events.clients_hear_the_lanes_event.Goals as goal
 
 pub returns-clause-opens : goal.returns-clause-opens

@@ -1,4 +1,4 @@
-use Rattle.giop_session.proofs.LaneEventLemmas.{server_continues, server_opens, server_stops}
+use Rattle.giop_session.proofs.OnLanes.LaneEventLemmas.{server_continues, server_opens, server_stops}
 use Rattle.giop_session.proofs.laws.lane_events.servers_hear_the_lanes_event.Goals as goal
 
 pub returns-clause-opens : goal.returns-clause-opens

@@ -2,15 +2,15 @@ use Rattle.std.proofs.Common.{refl, sym, subst}
 use Rattle.std.specs.Ordering.{nat_cmp}
 use Rattle.std.specs.FinMap as finite
 use Rattle.giop_calls.specs.ClientTable.{is_closed, is_gathering, left_of, client_step}
-use Rattle.giop_session.specs.Begun.{no_calls}
-use Rattle.giop_session.specs.CallTable.{at}
-use Rattle.giop_session.specs.Events.{own_events}
-use Rattle.giop_session.specs.Heard.{in_call}
-use Rattle.giop_session.specs.LeftToSend.{IsLeft, ClientPlans}
-use Rattle.giop_session.specs.ClientHears.{client_befalls, client_breaks}
-use Rattle.giop_session.proofs.EventLemmas.{each_follows}
-use Rattle.giop_session.proofs.FollowedLemmas.{followed, met_heard, own_heard, own_planned}
-use Rattle.giop_session.proofs.ClientLeftLemmas.{heard_of, own_of}
+use Rattle.giop_session.specs.Calls.Begun.{no_calls}
+use Rattle.giop_session.specs.Calls.CallTable.{at}
+use Rattle.giop_session.specs.Runs.Events.{own_events}
+use Rattle.giop_session.specs.Hearing.Heard.{in_call}
+use Rattle.giop_session.specs.Runs.LeftToSend.{IsLeft, ClientPlans}
+use Rattle.giop_session.specs.Hearing.ClientHears.{client_befalls, client_breaks}
+use Rattle.giop_session.proofs.OnRuns.EventLemmas.{each_follows}
+use Rattle.giop_session.proofs.OnRuns.FollowedLemmas.{followed, met_heard, own_heard, own_planned}
+use Rattle.giop_session.proofs.OnRuns.ClientLeftLemmas.{heard_of, own_of}
 use Rattle.giop_session.proofs.laws.left.what_is_left_is_unsent_at_client.Goals as goal
 
 pub returns-clause-called : goal.returns-clause-called

@@ -2,15 +2,15 @@ use Rattle.std.proofs.Common.{refl, sym, subst}
 use Rattle.std.specs.Ordering.{nat_cmp}
 use Rattle.std.specs.FinMap as finite
 use Rattle.giop_calls.specs.ServerTable.{is_closed, is_gathering, left_of, server_step}
-use Rattle.giop_session.specs.Begun.{no_calls}
-use Rattle.giop_session.specs.CallTable.{at}
-use Rattle.giop_session.specs.Events.{own_events}
-use Rattle.giop_session.specs.Heard.{in_call}
-use Rattle.giop_session.specs.LeftToSend.{IsLeft, ServerPlans}
-use Rattle.giop_session.specs.ServerHears.{server_befalls, server_breaks}
-use Rattle.giop_session.proofs.EventLemmas.{each_follows}
-use Rattle.giop_session.proofs.FollowedLemmas.{followed, met_heard, own_heard, own_planned}
-use Rattle.giop_session.proofs.LeftLemmas.{heard_of, own_of}
+use Rattle.giop_session.specs.Calls.Begun.{no_calls}
+use Rattle.giop_session.specs.Calls.CallTable.{at}
+use Rattle.giop_session.specs.Runs.Events.{own_events}
+use Rattle.giop_session.specs.Hearing.Heard.{in_call}
+use Rattle.giop_session.specs.Runs.LeftToSend.{IsLeft, ServerPlans}
+use Rattle.giop_session.specs.Hearing.ServerHears.{server_befalls, server_breaks}
+use Rattle.giop_session.proofs.OnRuns.EventLemmas.{each_follows}
+use Rattle.giop_session.proofs.OnRuns.FollowedLemmas.{followed, met_heard, own_heard, own_planned}
+use Rattle.giop_session.proofs.OnRuns.LeftLemmas.{heard_of, own_of}
 use Rattle.giop_session.proofs.laws.left.what_is_left_is_unsent_at_server.Goals as goal
 
 pub returns-clause-answered : goal.returns-clause-answered

@@ -1,11 +1,11 @@
 use Rattle.std.proofs.Common.{false}
 use Rattle.giop_calls.specs.ClientTable.{is_closed, is_gathering, client_step}
-use Rattle.giop_session.specs.Heard.{in_call}
-use Rattle.giop_session.specs.Limits.{begins_at_client}
-use Rattle.giop_session.specs.ClientHears.{client_befalls, client_breaks}
-use Rattle.giop_session.proofs.FewLemmas.{few_within}
-use Rattle.giop_session.proofs.LimitLemmas.{in_any_order}
-use Rattle.giop_session.proofs.ClientLimitLemmas.{begins_only, broken, own, small}
+use Rattle.giop_session.specs.Hearing.Heard.{in_call}
+use Rattle.giop_session.specs.Runs.Limits.{begins_at_client}
+use Rattle.giop_session.specs.Hearing.ClientHears.{client_befalls, client_breaks}
+use Rattle.giop_session.proofs.OnLimits.FewLemmas.{few_within}
+use Rattle.giop_session.proofs.OnLimits.LimitLemmas.{in_any_order}
+use Rattle.giop_session.proofs.OnLimits.ClientLimitLemmas.{begins_only, broken, own, small}
 use Rattle.giop_session.proofs.laws.limits.limits_in_any_order_at_client.Goals as goal
 
 pub returns-clause-order : goal.returns-clause-order

@@ -1,10 +1,10 @@
 use Rattle.giop_calls.specs.ServerTable.{is_closed, is_gathering, server_step}
-use Rattle.giop_session.specs.Heard.{in_call}
-use Rattle.giop_session.specs.Limits.{begins_at_server, is_asking}
-use Rattle.giop_session.specs.ServerHears.{server_befalls, server_breaks}
-use Rattle.giop_session.proofs.FewLemmas.{few_within}
-use Rattle.giop_session.proofs.LimitLemmas.{in_any_order}
-use Rattle.giop_session.proofs.ServerLimitLemmas.{begins_only, broken, own, small}
+use Rattle.giop_session.specs.Hearing.Heard.{in_call}
+use Rattle.giop_session.specs.Runs.Limits.{begins_at_server, is_asking}
+use Rattle.giop_session.specs.Hearing.ServerHears.{server_befalls, server_breaks}
+use Rattle.giop_session.proofs.OnLimits.FewLemmas.{few_within}
+use Rattle.giop_session.proofs.OnLimits.LimitLemmas.{in_any_order}
+use Rattle.giop_session.proofs.OnLimits.ServerLimitLemmas.{begins_only, broken, own, small}
 use Rattle.giop_session.proofs.laws.limits.limits_in_any_order_at_server.Goals as goal
 
 pub returns-clause-order : goal.returns-clause-order

@@ -1,15 +1,15 @@
 use Rattle.std.proofs.Common.{◌≡◌, ◌∙◌, ap, subst}
 use Rattle.giop_calls.specs.ClientTable.{is_closed, is_gathering, client_step}
-use Rattle.giop_session.specs.Begun.{no_calls}
-use Rattle.giop_session.specs.Driven.{end_state, new_end}
-use Rattle.giop_session.specs.Heard.{in_call}
-use Rattle.giop_session.specs.Inputs.{nothing_unread}
-use Rattle.giop_session.specs.ClientHears.{client_befalls, client_breaks}
-use Rattle.giop_session.specs.ClientRuns.{ClientIsGiven, ClientRuns, ClientRunsFrom, client_deed}
-use Rattle.giop_session.proofs.DrivenLemmas.{in_turn_seen, run_taken, taken_takes}
-use Rattle.giop_session.proofs.SidesPutOut.{client_puts_out}
-use Rattle.giop_session.proofs.ClientHeadline.{client_answers, client_entries}
-use Rattle.giop_session.proofs.ClientRunLimitLemmas.{client_run_free}
+use Rattle.giop_session.specs.Calls.Begun.{no_calls}
+use Rattle.giop_session.specs.Runs.Driven.{end_state, new_end}
+use Rattle.giop_session.specs.Hearing.Heard.{in_call}
+use Rattle.giop_session.specs.Runs.Inputs.{nothing_unread}
+use Rattle.giop_session.specs.Hearing.ClientHears.{client_befalls, client_breaks}
+use Rattle.giop_session.specs.Runs.ClientRuns.{ClientIsGiven, ClientRuns, ClientRunsFrom, client_deed}
+use Rattle.giop_session.proofs.OnRuns.DrivenLemmas.{in_turn_seen, run_taken, taken_takes}
+use Rattle.giop_session.proofs.OnActs.SidesPutOut.{client_puts_out}
+use Rattle.giop_session.proofs.OnItems.ClientHeadline.{client_answers, client_entries}
+use Rattle.giop_session.proofs.OnLimits.ClientRunLimitLemmas.{client_run_free}
 use Rattle.giop_session.proofs.laws.running.run_client.Goals as goal
 
 -- the run, as contracts see an end

@@ -1,15 +1,15 @@
 use Rattle.std.proofs.Common.{◌≡◌, ◌∙◌, ap, subst}
 use Rattle.giop_calls.specs.ServerTable.{is_closed, is_gathering, server_step}
-use Rattle.giop_session.specs.Begun.{no_calls}
-use Rattle.giop_session.specs.Driven.{end_state, new_end}
-use Rattle.giop_session.specs.Heard.{in_call}
-use Rattle.giop_session.specs.Inputs.{nothing_unread}
-use Rattle.giop_session.specs.ServerHears.{server_befalls, server_breaks}
-use Rattle.giop_session.specs.ServerRuns.{ServerIsGiven, ServerRuns, ServerRunsFrom, server_deed}
-use Rattle.giop_session.proofs.DrivenLemmas.{in_turn_seen, run_taken, taken_takes}
-use Rattle.giop_session.proofs.SidesPutOut.{server_puts_out}
-use Rattle.giop_session.proofs.ServerHeadline.{server_answers, server_entries}
-use Rattle.giop_session.proofs.ServerRunLimitLemmas.{server_run_free}
+use Rattle.giop_session.specs.Calls.Begun.{no_calls}
+use Rattle.giop_session.specs.Runs.Driven.{end_state, new_end}
+use Rattle.giop_session.specs.Hearing.Heard.{in_call}
+use Rattle.giop_session.specs.Runs.Inputs.{nothing_unread}
+use Rattle.giop_session.specs.Hearing.ServerHears.{server_befalls, server_breaks}
+use Rattle.giop_session.specs.Runs.ServerRuns.{ServerIsGiven, ServerRuns, ServerRunsFrom, server_deed}
+use Rattle.giop_session.proofs.OnRuns.DrivenLemmas.{in_turn_seen, run_taken, taken_takes}
+use Rattle.giop_session.proofs.OnActs.SidesPutOut.{server_puts_out}
+use Rattle.giop_session.proofs.OnItems.ServerHeadline.{server_answers, server_entries}
+use Rattle.giop_session.proofs.OnLimits.ServerRunLimitLemmas.{server_run_free}
 use Rattle.giop_session.proofs.laws.running.run_server.Goals as goal
 
 -- the run, as contracts see an end

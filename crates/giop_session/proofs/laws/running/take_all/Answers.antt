@@ -1,6 +1,6 @@
 use Rattle.std.proofs.Common.{◌++◌, ◌∷◌, [], sym, subst, rules, append_assoc}
-use Rattle.giop_session.specs.Driven.{InTurn}
-use Rattle.giop_session.proofs.DrivenLemmas.{in_turn_more}
+use Rattle.giop_session.specs.Runs.Driven.{InTurn}
+use Rattle.giop_session.proofs.OnRuns.DrivenLemmas.{in_turn_more}
 use Rattle.giop_session.proofs.laws.running.take_all.Goals as goal
 
 pub loop-input-preserved : goal.loop-input-preserved

@@ -1,5 +1,5 @@
 use Rattle.std.proofs.Common.{◌≡◌, ◌++◌}
-use Rattle.giop_session.specs.Driven.{InTurn}
+use Rattle.giop_session.specs.Runs.Driven.{InTurn}
 use Rattle.giop_session.proofs.laws.running.take_all.Given as goal
 
 -- the inputs so far have had these answers, and the others are still to come

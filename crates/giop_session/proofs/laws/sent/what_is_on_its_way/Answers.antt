@@ -1,4 +1,4 @@
-use Rattle.giop_session.proofs.OnTheWayLemmas.{nothing_left, one_list, refused_by_size}
+use Rattle.giop_session.proofs.OnLanes.OnTheWayLemmas.{nothing_left, one_list, refused_by_size}
 use Rattle.giop_session.proofs.laws.sent.what_is_on_its_way.Goals as goal
 
 pub returns-clause-one : goal.returns-clause-one

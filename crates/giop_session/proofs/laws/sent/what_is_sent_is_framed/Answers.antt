@@ -1,4 +1,4 @@
-use Rattle.giop_session.proofs.SentLemmas.{call_framed, cancel_framed, located_framed, reply_framed}
+use Rattle.giop_session.proofs.OnActs.SentLemmas.{call_framed, cancel_framed, located_framed, reply_framed}
 use Rattle.giop_session.proofs.laws.sent.what_is_sent_is_framed.Goals as goal
 
 pub returns-clause-call : goal.returns-clause-call

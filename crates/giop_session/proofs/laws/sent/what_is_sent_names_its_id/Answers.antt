@@ -1,4 +1,4 @@
-use Rattle.giop_session.proofs.IdLemmas.{call_named, cancel_named, located_named, reply_named}
+use Rattle.giop_session.proofs.OnActs.IdLemmas.{call_named, cancel_named, located_named, reply_named}
 use Rattle.giop_session.proofs.laws.sent.what_is_sent_names_its_id.Goals as goal
 
 pub returns-clause-call : goal.returns-clause-call

@@ -1,5 +1,5 @@
 use Rattle.std.proofs.Common.{◌≡◌, None}
-use Rattle.giop_session.specs.Heard.{hears_by}
+use Rattle.giop_session.specs.Hearing.Heard.{hears_by}
 use Rattle.giopctl.proofs.CheckLemmas.{SoFar}
 use Rattle.giopctl.proofs.commands.check.hear.Given as goal
 

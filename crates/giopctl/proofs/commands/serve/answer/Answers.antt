@@ -1,9 +1,9 @@
 use Rattle.std.proofs.Common.{ap, sym}
 use Rattle.giop_calls.specs.ServerTable.{server_step, is_closed, is_gathering}
-use Rattle.giop_session.specs.CallTable.{rules_of}
-use Rattle.giop_session.specs.Heard.{in_call}
-use Rattle.giop_session.specs.ServerAnswers.{IsAnswer, answer_fault, question_in}
-use Rattle.giopctl.specs.declared.commands.answering.Due.TheVariants.{Reply}
+use Rattle.giop_session.specs.Calls.CallTable.{rules_of}
+use Rattle.giop_session.specs.Hearing.Heard.{in_call}
+use Rattle.giop_session.specs.Acts.ServerAnswers.{IsAnswer, answer_fault, question_in}
+use Rattle.giopctl.specs.declared.commands.serve.answering.Due.TheVariants.{Reply}
 use Rattle.giopctl.specs.Acts.{outbox}
 use Rattle.giopctl.specs.Answering.{reply_of}
 use Rattle.giopctl.specs.Serving.{served_of}

@@ -1,12 +1,12 @@
 use Rattle.std.proofs.Common.{◌≡◌, IfOk, ap, subst, sym}
 use Rattle.std.proofs.lemmas.Result.{IfOk-weaker}
 use Rattle.giop_calls.specs.ClientTable.{is_closed, is_gathering, client_step}
-use Rattle.giop_session.specs.Driven.{end_state}
-use Rattle.giop_session.specs.Heard.{in_call}
-use Rattle.giop_session.specs.ClientCalls.{IsCall, call_fault}
-use Rattle.giop_session.specs.ClientHears.{client_befalls, client_breaks}
-use Rattle.giop_session.specs.ClientRuns.{ClientIsGiven, client_entry}
-use Rattle.giop_session.proofs.DrivenLemmas.{puts_given}
+use Rattle.giop_session.specs.Runs.Driven.{end_state}
+use Rattle.giop_session.specs.Hearing.Heard.{in_call}
+use Rattle.giop_session.specs.Acts.ClientCalls.{IsCall, call_fault}
+use Rattle.giop_session.specs.Hearing.ClientHears.{client_befalls, client_breaks}
+use Rattle.giop_session.specs.Runs.ClientRuns.{ClientIsGiven, client_entry}
+use Rattle.giop_session.proofs.OnRuns.DrivenLemmas.{puts_given}
 use Rattle.giop_session.proofs.laws.running.EndClientRuleDriven.take_input.Goals as goal
 
 pub returns-in-Call : goal.returns-in-Call

@@ -1,12 +1,12 @@
 use Rattle.std.proofs.Common.{◌≡◌, IfOk, ap, subst, sym}
 use Rattle.std.proofs.lemmas.Result.{IfOk-weaker}
 use Rattle.giop_calls.specs.ServerTable.{is_closed, is_gathering, server_step}
-use Rattle.giop_session.specs.Driven.{end_state}
-use Rattle.giop_session.specs.Heard.{in_call}
-use Rattle.giop_session.specs.ServerAnswers.{IsAnswer, answer_fault, question_of}
-use Rattle.giop_session.specs.ServerHears.{server_befalls, server_breaks}
-use Rattle.giop_session.specs.ServerRuns.{ServerIsGiven, server_entry}
-use Rattle.giop_session.proofs.DrivenLemmas.{puts_given}
+use Rattle.giop_session.specs.Runs.Driven.{end_state}
+use Rattle.giop_session.specs.Hearing.Heard.{in_call}
+use Rattle.giop_session.specs.Acts.ServerAnswers.{IsAnswer, answer_fault, question_of}
+use Rattle.giop_session.specs.Hearing.ServerHears.{server_befalls, server_breaks}
+use Rattle.giop_session.specs.Runs.ServerRuns.{ServerIsGiven, server_entry}
+use Rattle.giop_session.proofs.OnRuns.DrivenLemmas.{puts_given}
 use Rattle.giop_session.proofs.laws.running.EndServerRuleDriven.take_input.Goals as goal
 
 pub returns-in-Answer : goal.returns-in-Answer

@@ -1,0 +1,160 @@
+-- What a client's end and a server's end put out are messages of their sides.
+use Rattle.std.proofs.Common.{◌≡◌, ℕ, Bool, true, false, cond, List, [], Option, Some, None, refl, sym, subst}
+use Rattle.std.specs.FinMap as finite
+use Rattle.std.specs.Ordering.{nat_cmp}
+use Rattle.giop_types.specs.declared.json.interface.Interface.{Interface}
+use Rattle.giop_msg.specs.declared.kind.Kind.{Kind}
+use Rattle.giop_msg.specs.declared.kind.Kind.TheVariants as message
+use Rattle.giop_msg.specs.declared.messages.request.Request.{Request}
+use Rattle.giop_msg.specs.declared.msg.Msg.{Msg}
+use Rattle.giop_msg.specs.declared.version.Version.{Version}
+use Rattle.giop_calls.specs.ClientTable as client_table
+use Rattle.giop_calls.specs.ServerTable as server_table
+use Rattle.giop_calls.specs.declared.client.call.Call.{Call as Asked}
+use Rattle.giop_calls.specs.declared.kind.CallKind.{CallKind}
+use Rattle.giop_calls.specs.declared.kind.CallKind.TheVariants as kind
+use Rattle.giop_calls.specs.declared.client.entry.ClientEntry.{ClientEntry}
+use Rattle.giop_calls.specs.declared.client.call.Call.TheVariants as asked
+use Rattle.giop_calls.specs.declared.client.event.ClientEvent.{ClientEvent}
+use Rattle.giop_calls.specs.declared.client.event.ClientEvent.TheVariants as client_event
+use Rattle.giop_calls.specs.declared.client.rule.ClientRule.{ClientRule}
+use Rattle.giop_calls.specs.declared.server.entry.ServerEntry.{ServerEntry}
+use Rattle.giop_calls.specs.declared.server.event.ServerEvent.{ServerEvent}
+use Rattle.giop_calls.specs.declared.server.event.ServerEvent.TheVariants as server_event
+use Rattle.giop_calls.specs.declared.server.rule.ServerRule.{ServerRule}
+use Rattle.giop_session.specs.declared.acts.form.Form.{Form}
+use Rattle.giop_session.specs.declared.laws.inputs.Answered.{Answered}
+use Rattle.giop_session.specs.declared.laws.inputs.ClientInput.{ClientInput}
+use Rattle.giop_session.specs.declared.laws.inputs.ClientInput.TheVariants as client
+use Rattle.giop_session.specs.declared.laws.inputs.ServerInput.{ServerInput}
+use Rattle.giop_session.specs.declared.laws.inputs.ServerInput.TheVariants as server
+use Rattle.giop_session.specs.declared.limits.Limits.{Limits}
+use Rattle.giop_session.specs.declared.calls.plan.Planned.{Planned}
+use Rattle.giop_session.specs.Calls.CallTable.{Act, Call, Held}
+use Rattle.giop_session.specs.Acts.ClientCalls.{IsCancel, open_version}
+use Rattle.giop_session.specs.Hearing.ClientHears as client_hears
+use Rattle.giop_session.specs.Hearing.ClientHears.{client_befalls, client_breaks}
+use Rattle.giop_session.specs.Runs.ClientRuns.{ClientRuns, client_deed, client_entry}
+use Rattle.giop_session.specs.Runs.Driven.{EndState, new_end}
+use Rattle.giop_session.specs.Hearing.Heard.{in_call}
+use Rattle.giop_session.specs.Acts.PutOut.{AreOf, ArePutOut, is_of_client, is_of_server}
+use Rattle.giop_session.specs.Calls.Sending.{unsent_of}
+use Rattle.giop_session.specs.Acts.Sent.{IsSent}
+use Rattle.giop_session.specs.Acts.ServerAnswers.{IsAnswer, IsLocateAnswer, locate_of, question_of, reply_octets}
+use Rattle.giop_session.specs.Hearing.ServerHears as server_hears
+use Rattle.giop_session.specs.Hearing.ServerHears.{server_befalls, server_breaks}
+use Rattle.giop_session.specs.Runs.ServerRuns.{ServerRuns, server_deed, server_entry}
+use Rattle.giop_session.proofs.OnActs.PutOutLemmas.{ActIsOf, DeedIsOf, PlanIsOf, cut_are, run_is}
+
+-- what is sent in messages of a kind
+sent_is : {V : Type 0} (sends : Kind → Bool) (version : Version) (kind : Kind) (form : Form) (octets : List ℕ) (event : ℕ → V)
+    (planned : Planned V) → sends kind ≡ true → sends message.Fragment ≡ true
+    → IsSent version kind form octets event planned → PlanIsOf sends planned.plan
+sent_is sends version kind form octets event planned own fragment (messages, cut, is) =
+    subst (λ p. PlanIsOf sends p.plan) (sym is) (cut_are sends version kind form.order octets form.piece messages own fragment cut)
+
+-- one of two acts
+act_if : {V : Type 0} (sends : Kind → Bool) (b : Bool) (one other : Act V) → ActIsOf sends one → ActIsOf sends other
+    → ActIsOf sends (cond b one other)
+act_if sends true one other is those = is
+act_if sends false one other is those = those
+
+-- what comes to a client puts nothing out
+client_first : (interface : Interface) (kind : CallKind) (m : Msg) (awaits : Option Asked)
+    → ActIsOf is_of_client (client_hears.comes interface kind m awaits)
+client_first interface kind m None = act_if is_of_client m.more _ _ tt tt
+client_first interface kind m (Some call) = act_if is_of_client m.more _ _ tt tt
+
+client_more : (interface : Interface) (m : Msg) (pieces : Option (Asked × List ℕ))
+    → ActIsOf is_of_client (client_hears.continues interface m pieces)
+client_more interface m None = act_if is_of_client m.more _ _ tt tt
+client_more interface m (Some pieces) = act_if is_of_client m.more _ _ tt tt
+
+client_comes : (interface : Interface) (m : Msg) (call : Call ClientEntry) → ActIsOf is_of_client (client_befalls interface m call)
+client_comes interface m call = by_kind m.kind
+  where
+    by_kind : (kind : Kind) → ActIsOf is_of_client (client_hears.befalls_by interface m call kind)
+    by_kind message.Reply = client_first interface kind.Request m (client_hears.awaited kind.Request m.version call.slot)
+    by_kind message.LocateReply = client_first interface kind.Locate m (client_hears.awaited kind.Locate m.version call.slot)
+    by_kind message.Fragment = client_more interface m (client_hears.continued m.order (client_hears.gathered_call call.slot) call.pieces)
+    by_kind message.Request = tt
+    by_kind message.LocateRequest = tt
+    by_kind message.CancelRequest = tt
+    by_kind message.CloseConnection = tt
+    by_kind message.MessageError = tt
+
+client_deeds : (interface : Interface) (limits : Limits) (h : Held ClientRule ClientEntry) (input : ClientInput)
+    → DeedIsOf is_of_client (client_deed interface limits h input)
+client_deeds interface limits h (client.Feed octets) = tt
+client_deeds interface limits h (client.Call request form) = λ planned is.
+    sent_is is_of_client _ message.Request form.form _ (client_event.Call (asked.Request request)) planned refl refl is
+client_deeds interface limits h (client.Locate request form) =
+    λ planned is. sent_is is_of_client _ message.LocateRequest form.form _ (client_event.Call (asked.Locate request)) planned refl refl is
+client_deeds interface limits h (client.Cancel id order) = λ planned is. by_version (open_version (client_entry h id)) planned is
+  where
+    by_version : (version : Option Version) (planned : Planned ClientEvent) → IsCancel id order version planned → PlanIsOf is_of_client planned.plan
+    by_version None planned is = absurd is
+    by_version (Some version) planned is = subst (λ p. PlanIsOf is_of_client p.plan) (sym is) (refl, tt)
+client_deeds interface limits h (client.Send id) = λ planned is. subst (λ p. PlanIsOf is_of_client p.plan) (sym is) tt
+client_deeds interface limits h (client.Take id) = tt
+client_deeds interface limits h client.Close = refl
+
+pub client_puts_out : (interface : Interface) (limits : Limits) (inputs : List ClientInput) (answers : List (Answered ClientEntry))
+    (s : EndState (Held ClientRule ClientEntry)) → ClientRuns interface limits inputs answers s → ArePutOut is_of_client s.outgoing
+client_puts_out interface limits inputs answers s run =
+    (run_is is_of_client (λ rule. client_table.client_step) (λ rule. client_table.is_closed) client_table.is_gathering in_call client_breaks
+    (client_befalls interface) (client_comes interface) (client_deed interface limits) (client_deeds interface limits)
+    (new_end (record {}) limits) s inputs answers run
+    ((λ id. subst (λ slot. AreOf is_of_client (unsent_of slot)) (sym (finite.get-empty nat_cmp id)) tt), record { messages = []; own = tt; whole = refl })).1
+
+-- nor what comes to a server
+server_first : (interface : Interface) (kind : CallKind) (m : Msg) → ActIsOf is_of_server (server_hears.comes interface kind m)
+server_first interface kind m = act_if is_of_server m.more _ _ tt tt
+
+server_more : (interface : Interface) (m : Msg) (pieces : Option (CallKind × List ℕ))
+    → ActIsOf is_of_server (server_hears.continues interface m pieces)
+server_more interface m None = tt
+server_more interface m (Some pieces) = act_if is_of_server m.more _ _ tt tt
+
+server_comes : (interface : Interface) (m : Msg) (call : Call ServerEntry) → ActIsOf is_of_server (server_befalls interface m call)
+server_comes interface m call = by_kind m.kind
+  where
+    by_kind : (kind : Kind) → ActIsOf is_of_server (server_hears.befalls_by interface m call kind)
+    by_kind message.Request = server_first interface kind.Request m
+    by_kind message.LocateRequest = server_first interface kind.Locate m
+    by_kind message.CancelRequest = tt
+    by_kind message.Fragment = server_more interface m (server_hears.continued m.order (server_hears.gathered_kind call.slot) call.pieces)
+    by_kind message.Reply = tt
+    by_kind message.LocateReply = tt
+    by_kind message.CloseConnection = tt
+    by_kind message.MessageError = tt
+
+server_deeds : (interface : Interface) (limits : Limits) (h : Held ServerRule ServerEntry) (input : ServerInput)
+    → DeedIsOf is_of_server (server_deed interface limits h input)
+server_deeds interface limits h (server.Feed octets) = tt
+server_deeds interface limits h (server.Answer reply form) = λ planned is. by_question (question_of (server_entry h reply.id)) planned is
+  where
+    by_question : (question : Option (Option Request)) (planned : Planned ServerEvent) → IsAnswer interface question reply form.form planned
+        → PlanIsOf is_of_server planned.plan
+    by_question None planned is = subst (λ p. PlanIsOf is_of_server p.plan) (sym is) tt
+    by_question (Some question) planned is =
+        sent_is is_of_server reply.version message.Reply form.form (reply_octets interface question reply form.form.order)
+        (server_event.Answer reply) planned refl refl is
+server_deeds interface limits h (server.AnswerLocate id here order) =
+    λ planned is. by_version (locate_of here (server_entry h id)) planned is
+  where
+    by_version : (version : Option Version) (planned : Planned ServerEvent) → IsLocateAnswer id here order version planned
+        → PlanIsOf is_of_server planned.plan
+    by_version None planned is = subst (λ p. PlanIsOf is_of_server p.plan) (sym is) tt
+    by_version (Some version) planned is = subst (λ p. PlanIsOf is_of_server p.plan) (sym is) (refl, tt)
+server_deeds interface limits h (server.Send id) = λ planned is. subst (λ p. PlanIsOf is_of_server p.plan) (sym is) tt
+server_deeds interface limits h (server.Take id) = tt
+server_deeds interface limits h server.Close = refl
+
+pub server_puts_out : (interface : Interface) (limits : Limits) (inputs : List ServerInput) (answers : List (Answered ServerEntry))
+    (s : EndState (Held ServerRule ServerEntry)) → ServerRuns interface limits inputs answers s → ArePutOut is_of_server s.outgoing
+server_puts_out interface limits inputs answers s run =
+    (run_is is_of_server (λ rule. server_table.server_step) (λ rule. server_table.is_closed) server_table.is_gathering in_call server_breaks
+    (server_befalls interface) (server_comes interface) (server_deed interface limits) (server_deeds interface limits)
+    (new_end (record {}) limits) s inputs answers run
+    ((λ id. subst (λ slot. AreOf is_of_server (unsent_of slot)) (sym (finite.get-empty nat_cmp id)) tt), record { messages = []; own = tt; whole = refl })).1

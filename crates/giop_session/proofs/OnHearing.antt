@@ -1,0 +1,7 @@
+-- What hearing a message rests on.
+pub mod ServerLemmas
+pub mod FeedingLemmas
+pub mod HeardLemmas
+pub mod ClientCancelLemmas
+pub mod ClientReplyLemmas
+pub mod ClientLemmas

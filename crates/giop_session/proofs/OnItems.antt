@@ -1,0 +1,8 @@
+-- What the headline rests on.
+pub mod ItemLemmas
+pub mod CutItemLemmas
+pub mod ServerItemLemmas
+pub mod ClientItemLemmas
+pub mod ServerHeadline
+pub mod ClientHeadline
+pub mod AnswerLemmas

@@ -1,0 +1,7 @@
+-- What runs of inputs rest on.
+pub mod EventLemmas
+pub mod InputLemmas
+pub mod LeftLemmas
+pub mod FollowedLemmas
+pub mod ClientLeftLemmas
+pub mod DrivenLemmas

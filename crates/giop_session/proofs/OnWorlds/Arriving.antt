@@ -1,0 +1,335 @@
+-- Octets that arrive at an end of a world are acts of the lanes that their messages are on, and then a limit is met, if one is.
+use Rattle.std.proofs.Common.{◌≡◌, ◌≢◌, ℕ, List, [], ◌∷◌, ◌++◌, map, take, drop, Option, Some, None, Result, Ok, Err, refl, sym, ap, subst, ◌∙◌}
+use Rattle.std.proofs.lemmas.List.{take-append-drop}
+use Rattle.std.specs.Option.{option_map}
+use Rattle.giop_types.specs.declared.json.interface.Interface.{Interface}
+use Rattle.giop_msg.specs.declared.msg.Msg.{Msg}
+use Rattle.giop_calls.specs.ClientTable as client_table
+use Rattle.giop_calls.specs.Lane.{Codec, Lane, Message, Standing, ToClient, ToServer, later, step}
+use Rattle.giop_calls.specs.Lane as lanes
+use Rattle.giop_calls.specs.ServerTable as server_table
+use Rattle.giop_calls.specs.declared.client.entry.ClientEntry.{ClientEntry}
+use Rattle.giop_calls.specs.declared.client.rule.ClientRule.{ClientRule}
+use Rattle.giop_calls.specs.declared.server.entry.ServerEntry.{ServerEntry}
+use Rattle.giop_calls.specs.declared.server.rule.ServerRule.{ServerRule}
+use Rattle.giop_session.specs.declared.laws.inputs.Answered.{Answered}
+use Rattle.giop_session.specs.declared.laws.inputs.Answered.TheVariants as answer
+use Rattle.giop_session.specs.declared.limits.Limits.{Limits}
+use Rattle.giop_session.specs.declared.session_fault.SessionFault.{SessionFault}
+use Rattle.giop_session.specs.declared.session_fault.SessionFault.TheVariants.{NoMemory}
+use Rattle.giop_session.specs.Runs.Alone.{own_messages}
+use Rattle.giop_session.specs.Calls.CallTable.{Held, at}
+use Rattle.giop_session.specs.Hearing.ClientHears.{client_befalls, client_breaks}
+use Rattle.giop_session.specs.Worlds.Coding.{coding}
+use Rattle.giop_session.specs.Runs.Driven.{Feeds, IsDoneBy, IsGivenBy}
+use Rattle.giop_session.specs.Hearing.Feeding.{Fed, standing, with_octets}
+use Rattle.giop_session.specs.Hearing.Heard.{in_call}
+use Rattle.giop_session.specs.Worlds.LaneAtEnds.{seen}
+use Rattle.giop_session.specs.Worlds.OnTheWay.{IsFramed}
+use Rattle.giop_session.specs.Hearing.ServerHears.{server_befalls, server_breaks}
+use Rattle.giop_session.specs.Worlds.Tracks.{ClientShows, ServerShows, Shows}
+use Rattle.giop_session.specs.Worlds.World.{ArriveAtClient, ArriveAtServer, Told, WorldState}
+use Rattle.giop_session.proofs.OnWorlds.Acted.{client_shows_as, server_shows_as}
+use Rattle.giop_session.proofs.OnLanes.ClientHearsNext.{client_hears_next}
+use Rattle.giop_session.proofs.OnWorlds.Feeds.{GoesBy, fed}
+use Rattle.giop_session.proofs.OnLanes.NextHeard.{ClientHearsIt, IsFull, ServerHearsIt}
+use Rattle.giop_session.proofs.OnWorlds.OwnMessages.{own_first, own_passed}
+use Rattle.giop_session.proofs.OnLanes.ServerHearsNext.{server_hears_next}
+use Rattle.giop_session.proofs.OnWorlds.WorldTracks.{AreSound, IsAnswered, IsAsked, Tracks, at_each, runs_more}
+
+same_lane : (one other : Lane) → Some one ≡ Some other → one ≡ other
+same_lane one other is = cc
+
+-- ---- what a lane has once its next message arrived
+
+-- at the server: all but what stands there
+record AtServer (lane after : Lane) (rest : List Message) : Type 0 where
+  to_server : after.to_server ≡ rest
+  client : after.client ≡ lane.client
+  unsent : after.unsent ≡ lane.unsent
+  to_client : after.to_client ≡ lane.to_client
+
+came_to_server : (codec : Codec) (lane after : Lane) (all : List Message) (m : Message) (rest : List Message) → all ≡ m ∷ rest
+    → lanes.to_server codec lane all ≡ Some after → AtServer lane after rest
+came_to_server codec lane after [] m rest is stepped = absurd cc
+came_to_server codec lane after (n ∷ others) m rest is stepped = by_served (lanes.served codec lane.server n) stepped
+  where
+    by_served : (found : Option (Standing ServerEntry)) → option_map (λ s. record lane { server = s; to_server = others }) found ≡ Some after
+        → AtServer lane after rest
+    by_served None none = absurd cc
+    by_served (Some s) some =
+        let same = same_lane (record lane { server = s; to_server = others }) after some in record {
+          to_server = ap (λ one. one.to_server) (sym same) ∙ ap later is;
+          client = ap (λ one. one.client) (sym same);
+          unsent = ap (λ one. one.unsent) (sym same);
+          to_client = ap (λ one. one.to_client) (sym same);
+        }
+
+-- and at the client
+record AtClient (lane after : Lane) (rest : List Message) : Type 0 where
+  to_client : after.to_client ≡ rest
+  server : after.server ≡ lane.server
+  unanswered : after.unanswered ≡ lane.unanswered
+  to_server : after.to_server ≡ lane.to_server
+
+came_to_client : (codec : Codec) (lane after : Lane) (all : List Message) (m : Message) (rest : List Message) → all ≡ m ∷ rest
+    → lanes.to_client codec lane all ≡ Some after → AtClient lane after rest
+came_to_client codec lane after [] m rest is stepped = absurd cc
+came_to_client codec lane after (n ∷ others) m rest is stepped =
+    by_heard (lanes.hears codec lane.client n (lanes.client_event codec lane.client n)) stepped
+  where
+    by_heard : (found : Option (Standing ClientEntry)) → option_map (λ c. record lane { client = c; to_client = others }) found ≡ Some after
+        → AtClient lane after rest
+    by_heard None none = absurd cc
+    by_heard (Some c) some =
+        let same = same_lane (record lane { client = c; to_client = others }) after some in record {
+          to_client = ap (λ one. one.to_client) (sym same) ∙ ap later is;
+          server = ap (λ one. one.server) (sym same);
+          unanswered = ap (λ one. one.unanswered) (sym same);
+          to_server = ap (λ one. one.to_server) (sym same);
+        }
+
+asked_framed : (m : Msg) → IsAsked m → IsFramed m
+asked_framed m (id, is) = is.framed
+
+answered_framed : (m : Msg) → IsAnswered m → IsFramed m
+answered_framed m (id, is) = is.framed
+
+module _ (interface : Interface) (are_sound : AreSound interface) where
+  -- ---- one message at a server
+
+  -- what both ends have, with these on their way
+  abbrev ServerKnows : Held ClientRule ClientEntry → List Msg → Held ServerRule ServerEntry → List Msg → Type 0
+  ServerKnows c answered h asked = (id : ℕ) → Shows interface id (at c id) (at h id) asked answered
+
+  server_hears : (c : Held ClientRule ClientEntry) (answered : List Msg) (h k : Held ServerRule ServerEntry) (m : Msg) (rest : List Msg) → IsAsked m
+      → ServerKnows c answered h (m ∷ rest) → ServerHearsIt interface m h (Ok tt) k → GoesBy (ServerKnows c answered) h k rest
+  server_hears c answered h k m rest (id, is) knows hears =
+      let s = knows id in
+      let comes : s.lane.to_server ≡ seen m ∷ map seen (own_messages id rest) = s.to_server ∙ ap (map seen) (own_first id m rest is.names) in
+      let went = server_hears_next interface s.lane id m (map seen (own_messages id rest)) h k (Ok tt) (are_sound s.acts s.lane s.runs) comes s.server is
+      (λ wrong. absurd cc) hears in
+      let then_so = came_to_server (coding interface) s.lane went.after s.lane.to_server (seen m) (map seen (own_messages id rest)) comes went.stepped in
+      let here : Shows interface id (at c id) (at k id) rest answered = record {
+        acts = s.acts ++ ToServer ∷ [];
+        lane = went.after;
+        runs = runs_more (coding interface) lanes.new s.lane went.after s.acts ToServer s.runs tt went.stepped;
+        client = client_shows_as id (at c id) s.lane went.after then_so.client then_so.unsent s.client;
+        server = went.shows;
+        to_server = then_so.to_server;
+        to_client = then_so.to_client ∙ s.to_client;
+      } in record {
+        knows = at_each (λ n. Shows interface n (at c n) (at k n) rest answered) id here (λ other differs.
+            let o = knows other in record {
+              acts = o.acts;
+              lane = o.lane;
+              runs = o.runs;
+              client = o.client;
+              server = subst (λ call. ServerShows other call o.lane) (sym (went.beside.others other differs)) o.server;
+              to_server = o.to_server ∙ ap (map seen) (own_passed id other m rest is.names differs);
+              to_client = o.to_client;
+            });
+        calls = went.beside.calls;
+        room = went.beside.room;
+      }
+
+  server_refuses : (c : Held ClientRule ClientEntry) (answered : List Msg) (h : Held ServerRule ServerEntry) (m : Msg) (rest : List Msg)
+      (fault : SessionFault) → IsAsked m → ServerKnows c answered h (m ∷ rest) → fault ≢ NoMemory → ServerHearsIt interface m h (Err fault) h
+      → IsFull m h fault
+  server_refuses c answered h m rest fault (id, is) knows memory hears =
+      let s = knows id in
+      (server_hears_next interface s.lane id m (map seen (own_messages id rest)) h h (Err fault) (are_sound s.acts s.lane s.runs)
+      (s.to_server ∙ ap (map seen) (own_first id m rest is.names)) s.server is
+      (λ wrong. memory (same_fault fault wrong)) hears).1
+    where
+      same_fault : (fault : SessionFault) → ◌≡◌ {A = Result (Unit {0}) SessionFault} (Err fault) (Err NoMemory) → fault ≡ NoMemory
+      same_fault fault is = cc
+
+  -- ---- and at a client
+
+  abbrev ClientKnows : Held ServerRule ServerEntry → List Msg → Held ClientRule ClientEntry → List Msg → Type 0
+  ClientKnows c asked h answered = (id : ℕ) → Shows interface id (at h id) (at c id) asked answered
+
+  client_hears : (c : Held ServerRule ServerEntry) (asked : List Msg) (h k : Held ClientRule ClientEntry) (m : Msg) (rest : List Msg) → IsAnswered m
+      → ClientKnows c asked h (m ∷ rest) → ClientHearsIt interface m h (Ok tt) k → GoesBy (ClientKnows c asked) h k rest
+  client_hears c asked h k m rest (id, is) knows hears =
+      let s = knows id in
+      let comes : s.lane.to_client ≡ seen m ∷ map seen (own_messages id rest) = s.to_client ∙ ap (map seen) (own_first id m rest is.names) in
+      let went = client_hears_next interface s.lane id m (map seen (own_messages id rest)) h k (Ok tt) (are_sound s.acts s.lane s.runs) comes s.client is
+      (λ wrong. absurd cc) hears in
+      let then_so = came_to_client (coding interface) s.lane went.after s.lane.to_client (seen m) (map seen (own_messages id rest)) comes went.stepped in
+      let here : Shows interface id (at k id) (at c id) asked rest = record {
+        acts = s.acts ++ ToClient ∷ [];
+        lane = went.after;
+        runs = runs_more (coding interface) lanes.new s.lane went.after s.acts ToClient s.runs tt went.stepped;
+        client = went.shows;
+        server = server_shows_as id (at c id) s.lane went.after then_so.server then_so.unanswered s.server;
+        to_server = then_so.to_server ∙ s.to_server;
+        to_client = then_so.to_client;
+      } in record {
+        knows = at_each (λ n. Shows interface n (at k n) (at c n) asked rest) id here (λ other differs.
+            let o = knows other in record {
+              acts = o.acts;
+              lane = o.lane;
+              runs = o.runs;
+              client = subst (λ call. ClientShows other call o.lane) (sym (went.beside.others other differs)) o.client;
+              server = o.server;
+              to_server = o.to_server;
+              to_client = o.to_client ∙ ap (map seen) (own_passed id other m rest is.names differs);
+            });
+        calls = went.beside.calls;
+        room = went.beside.room;
+      }
+
+  client_refuses : (c : Held ServerRule ServerEntry) (asked : List Msg) (h : Held ClientRule ClientEntry) (m : Msg) (rest : List Msg)
+      (fault : SessionFault) → IsAnswered m → ClientKnows c asked h (m ∷ rest) → fault ≢ NoMemory → ClientHearsIt interface m h (Err fault) h
+      → IsFull m h fault
+  client_refuses c asked h m rest fault (id, is) knows memory hears =
+      let s = knows id in
+      (client_hears_next interface s.lane id m (map seen (own_messages id rest)) h h (Err fault) (are_sound s.acts s.lane s.runs)
+      (s.to_client ∙ ap (map seen) (own_first id m rest is.names)) s.client is
+      (λ wrong. memory (same_fault fault wrong)) hears).1
+    where
+      same_fault : (fault : SessionFault) → ◌≡◌ {A = Result (Unit {0}) SessionFault} (Err fault) (Err NoMemory) → fault ≡ NoMemory
+      same_fault fault is = cc
+
+  -- ---- in a world
+
+  module _ (client_limits server_limits : Limits) where
+    abbrev Tracked : WorldState → Type 0
+    Tracked = Tracks interface client_limits server_limits
+
+    not_wanting : {E : Type 0} (fault : SessionFault) → (◌≢◌ {A = Answered E} (answer.Refused fault) (answer.Refused NoMemory))
+        → (◌≢◌ {A = Result (Unit {0}) SessionFault} (Err fault) (Err NoMemory))
+    not_wanting fault memory is = memory (ap answer.Refused (same_fault fault is))
+      where
+        same_fault : (fault : SessionFault) → ◌≡◌ {A = Result (Unit {0}) SessionFault} (Err fault) (Err NoMemory) → fault ≡ NoMemory
+        same_fault fault is = cc
+
+    pub at_server : (w v : WorldState) (n : ℕ) (told : Told) → Tracked w → ArriveAtServer interface client_limits server_limits w n told v → Tracked v
+    at_server w v n told tracks (answered, (memory, is), tells, gone) = by_fault w.server.fault refl is
+      where
+        octets : List ℕ
+        octets = take n w.client.outgoing
+
+        behind : List ℕ
+        behind = drop n w.client.outgoing
+
+        by_fed : w.server.fault ≡ None → (result : Result (Unit {0}) SessionFault) → (result ≢ Err NoMemory)
+            → Fed (ServerHearsIt interface) (with_octets w.server.unread octets) w.server.calls result v.server.unread v.server.calls
+            → v.server ≡ record w.server { unread = v.server.unread; calls = v.server.calls; fault = standing result } → Tracked v
+        by_fed sound result wanting is_fed rest =
+            let a = fed (ServerHearsIt interface) IsAsked (ServerKnows w.client.calls tracks.answered) asked_framed
+            (server_hears w.client.calls tracks.answered) (server_refuses w.client.calls tracks.answered) server_limits result v.server.unread
+            v.server.calls behind w.server.unread tracks.asked w.server.calls octets w.client.outgoing tracks.are_asked tracks.shows tracks.server_within
+            (tracks.to_server sound) (sym (take-append-drop n w.client.outgoing)) wanting is_fed in
+            let u : WorldState = record {
+              client = record w.client { outgoing = behind };
+              server = record w.server { unread = v.server.unread; calls = v.server.calls; fault = standing result };
+            } in
+            let now : Tracked u = record {
+              asked = a.rest;
+              answered = tracks.answered;
+              are_asked = a.are;
+              are_answered = tracks.are_answered;
+              shows = a.knows;
+              to_server = a.way;
+              to_client = tracks.to_client;
+              client_within = tracks.client_within;
+              server_within = a.within;
+              client_met = tracks.client_met;
+              server_met = a.met;
+            } in
+            subst Tracked (λ i. record { client = sym gone i; server = sym rest i }) now
+
+        by_answer : w.server.fault ≡ None → (one : Answered ServerEntry) → (one ≢ answer.Refused NoMemory)
+            → IsDoneBy (λ rule. server_table.server_step) (λ rule. server_table.is_closed) server_table.is_gathering in_call server_breaks
+            (server_befalls interface) (Feeds octets) w.server one v.server → Tracked v
+        by_answer sound answer.Done memory (is_fed, rest) = by_fed sound (Ok tt) (λ wrong. absurd cc) is_fed rest
+        by_answer sound (answer.Refused why) memory (is_fed, rest) =
+            by_fed sound (Err why) (not_wanting {E = ServerEntry} why memory) is_fed rest
+        by_answer sound (answer.Taken entry) memory done = absurd done
+
+        by_fault : (fault : Option SessionFault) → w.server.fault ≡ fault
+            → IsGivenBy (λ rule. server_table.server_step) (λ rule. server_table.is_closed) server_table.is_gathering in_call server_breaks
+            (server_befalls interface) fault (Feeds octets) w.server answered v.server → Tracked v
+        by_fault (Some why) failed (refused, stays) =
+            let lost : Tracked (record w { client = record w.client { outgoing = behind } }) = record {
+              asked = tracks.asked;
+              answered = tracks.answered;
+              are_asked = tracks.are_asked;
+              are_answered = tracks.are_answered;
+              shows = tracks.shows;
+              to_server = λ sound. let wrong : None ≡ Some why = sym sound ∙ failed in absurd cc;
+              to_client = tracks.to_client;
+              client_within = tracks.client_within;
+              server_within = tracks.server_within;
+              client_met = tracks.client_met;
+              server_met = tracks.server_met;
+            } in
+            subst Tracked (λ i. record { client = sym gone i; server = sym stays i }) lost
+        by_fault None sound done = by_answer sound answered memory done
+
+    pub at_client : (w v : WorldState) (n : ℕ) (told : Told) → Tracked w → ArriveAtClient interface client_limits server_limits w n told v → Tracked v
+    at_client w v n told tracks (answered, (memory, is), tells, gone) = by_fault w.client.fault refl is
+      where
+        octets : List ℕ
+        octets = take n w.server.outgoing
+
+        behind : List ℕ
+        behind = drop n w.server.outgoing
+
+        by_fed : w.client.fault ≡ None → (result : Result (Unit {0}) SessionFault) → (result ≢ Err NoMemory)
+            → Fed (ClientHearsIt interface) (with_octets w.client.unread octets) w.client.calls result v.client.unread v.client.calls
+            → v.client ≡ record w.client { unread = v.client.unread; calls = v.client.calls; fault = standing result } → Tracked v
+        by_fed sound result wanting is_fed rest =
+            let a = fed (ClientHearsIt interface) IsAnswered (ClientKnows w.server.calls tracks.asked) answered_framed
+            (client_hears w.server.calls tracks.asked) (client_refuses w.server.calls tracks.asked) client_limits result v.client.unread
+            v.client.calls behind w.client.unread tracks.answered w.client.calls octets w.server.outgoing tracks.are_answered tracks.shows
+            tracks.client_within (tracks.to_client sound) (sym (take-append-drop n w.server.outgoing)) wanting is_fed in
+            let u : WorldState = record {
+              client = record w.client { unread = v.client.unread; calls = v.client.calls; fault = standing result };
+              server = record w.server { outgoing = behind };
+            } in
+            let now : Tracked u = record {
+              asked = tracks.asked;
+              answered = a.rest;
+              are_asked = tracks.are_asked;
+              are_answered = a.are;
+              shows = a.knows;
+              to_server = tracks.to_server;
+              to_client = a.way;
+              client_within = a.within;
+              server_within = tracks.server_within;
+              client_met = a.met;
+              server_met = tracks.server_met;
+            } in
+            subst Tracked (λ i. record { client = sym rest i; server = sym gone i }) now
+
+        by_answer : w.client.fault ≡ None → (one : Answered ClientEntry) → (one ≢ answer.Refused NoMemory)
+            → IsDoneBy (λ rule. client_table.client_step) (λ rule. client_table.is_closed) client_table.is_gathering in_call client_breaks
+            (client_befalls interface) (Feeds octets) w.client one v.client → Tracked v
+        by_answer sound answer.Done memory (is_fed, rest) = by_fed sound (Ok tt) (λ wrong. absurd cc) is_fed rest
+        by_answer sound (answer.Refused why) memory (is_fed, rest) =
+            by_fed sound (Err why) (not_wanting {E = ClientEntry} why memory) is_fed rest
+        by_answer sound (answer.Taken entry) memory done = absurd done
+
+        by_fault : (fault : Option SessionFault) → w.client.fault ≡ fault
+            → IsGivenBy (λ rule. client_table.client_step) (λ rule. client_table.is_closed) client_table.is_gathering in_call client_breaks
+            (client_befalls interface) fault (Feeds octets) w.client answered v.client → Tracked v
+        by_fault (Some why) failed (refused, stays) =
+            let lost : Tracked (record w { server = record w.server { outgoing = behind } }) = record {
+              asked = tracks.asked;
+              answered = tracks.answered;
+              are_asked = tracks.are_asked;
+              are_answered = tracks.are_answered;
+              shows = tracks.shows;
+              to_server = tracks.to_server;
+              to_client = λ sound. let wrong : None ≡ Some why = sym sound ∙ failed in absurd cc;
+              client_within = tracks.client_within;
+              server_within = tracks.server_within;
+              client_met = tracks.client_met;
+              server_met = tracks.server_met;
+            } in
+            subst Tracked (λ i. record { client = sym stays i; server = sym gone i }) lost
+        by_fault None sound done = by_answer sound answered memory done

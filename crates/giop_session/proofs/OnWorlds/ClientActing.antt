@@ -1,0 +1,345 @@
+-- What a client's own program does in a world is an act of the lane of its id.
+use Rattle.std.proofs.Common.{◌≡◌, ℕ, ◌+◌, ◌-◌, ◌==◌, ◌^◌, ◌<◌, Bool, true, false, if◌then◌else◌, List, [], ◌∷◌, ◌++◌, map, Option, Some, None, Result, Ok, Err, IsOk, refl, sym, ap, subst, ◌∙◌, ◌⊎◌, inl, inr}
+use Rattle.std.specs.FinMap as finite
+use Rattle.std.specs.List.{AllByRecursion, flat_map}
+use Rattle.giop_cdr.specs.declared.order.Order.{Order}
+use Rattle.giop_types.specs.declared.json.interface.Interface.{Interface}
+use Rattle.giop_msg.specs.Locate.{AnyLocateRequest}
+use Rattle.giop_msg.specs.Msg.{message_octets}
+use Rattle.giop_msg.specs.declared.messages.request.Request.{Request}
+use Rattle.giop_msg.specs.declared.msg.Msg.{Msg}
+use Rattle.giop_msg.specs.declared.version.Version.{Version}
+use Rattle.giop_calls.specs.ClientTable.{client_step, is_closed, is_free, is_gathering, sending, sent}
+use Rattle.giop_calls.specs.ClientTable as client_table
+use Rattle.giop_calls.specs.Lane.{Cut, Lane, Message, Stops, count, fragments, is_last, later, next, pieces_of, tried}
+use Rattle.giop_calls.specs.Lane as lanes
+use Rattle.giop_calls.specs.Messages.{is_oneway}
+use Rattle.giop_calls.specs.declared.client.call.Call.{Call}
+use Rattle.giop_calls.specs.declared.client.call.Call.TheVariants as asked
+use Rattle.giop_calls.specs.declared.client.entry.ClientEntry.{ClientEntry}
+use Rattle.giop_calls.specs.declared.client.entry.ClientEntry.TheVariants as entries
+use Rattle.giop_calls.specs.declared.client.event.ClientEvent.{ClientEvent}
+use Rattle.giop_calls.specs.declared.client.event.ClientEvent.TheVariants as at_client
+use Rattle.giop_calls.specs.declared.client.late.Late.TheVariants as late
+use Rattle.giop_calls.specs.declared.client.rule.ClientRule.{ClientRule}
+use Rattle.giop_calls.specs.declared.fault.CallFault.{CallFault}
+use Rattle.giop_calls.specs.declared.fault.CallFault.TheVariants.{IdInUse}
+use Rattle.giop_session.specs.declared.laws.inputs.Answered.{Answered}
+use Rattle.giop_session.specs.declared.laws.inputs.Answered.TheVariants as answer
+use Rattle.giop_session.specs.declared.laws.inputs.CheckedForm.{CheckedForm}
+use Rattle.giop_session.specs.declared.laws.inputs.ClientInput.TheVariants as given
+use Rattle.giop_session.specs.declared.laws.inputs.WorldEvent.TheVariants as event
+use Rattle.giop_session.specs.declared.limits.Limits.{Limits}
+use Rattle.giop_session.specs.declared.calls.plan.Plan.TheVariants.{Next}
+use Rattle.giop_session.specs.declared.calls.plan.Planned.{Planned}
+use Rattle.giop_session.specs.declared.session_fault.SessionFault.{SessionFault}
+use Rattle.giop_session.specs.Acts.Acting.{IsAccepted}
+use Rattle.giop_session.specs.Worlds.Agreement.{IsInRange}
+use Rattle.giop_session.specs.Calls.CallTable.{Held, at, rules_of}
+use Rattle.giop_session.specs.Acts.ClientCalls.{IsCall, IsCancel, IsLocate, call_fault, cancel_fault, locate_fault, open_version}
+use Rattle.giop_session.specs.Hearing.ClientHears.{client_befalls, client_breaks}
+use Rattle.giop_session.specs.Runs.ClientRuns.{client_entry}
+use Rattle.giop_session.specs.Runs.Driven.{IsDoneBy, IsGiven, IsGivenBy, PutsOut}
+use Rattle.giop_session.specs.Hearing.Heard.{in_call}
+use Rattle.giop_session.specs.Worlds.LaneAtEnds.{seen}
+use Rattle.giop_session.specs.Worlds.OnTheWay.{id_of}
+use Rattle.giop_session.specs.Worlds.OwnLane.{PlansCall, sends_cut}
+use Rattle.giop_session.specs.Acts.Putting.{Puts}
+use Rattle.giop_session.specs.Calls.Sending.{entry_of, message_of, slot_of, unsent_after, unsent_of}
+use Rattle.giop_session.specs.Acts.Sent.{cancel_request, sends_one}
+use Rattle.giop_session.specs.Worlds.Tracks.{ClientShows, IsToServer}
+use Rattle.giop_session.specs.Calls.Unsent.{first_of}
+use Rattle.giop_session.specs.Worlds.World.{AtClient, Told, WorldState}
+use Rattle.giop_session.proofs.OnWorlds.Acted.{Acted, ClientActs, client_goes_on, comes_to, listed, octets_listed}
+use Rattle.giop_session.proofs.OnLanes.CodingLemmas.{call_read, own_suits}
+use Rattle.giop_session.proofs.OnLanes.LaneAtEndsLemmas.{call_seen}
+use Rattle.giop_session.proofs.OnWorlds.SentMessages.{call_for, cancel_for}
+use Rattle.giop_session.proofs.OnWorlds.WorldTracks.{Tracks}
+
+-- ---- what stands after an act
+
+-- an entry stands, and gathers nothing
+record StandsStill (entry : Option ClientEntry) : Type 0 where
+  one : ClientEntry
+  is : entry ≡ Some one
+  still : is_gathering one ≡ false
+
+sent_still : (call : Call) → is_gathering (sent call) ≡ false
+sent_still (asked.Request q) = by_oneway (is_oneway q)
+  where
+    by_oneway : (oneway : Bool) → is_gathering (if oneway then entries.OnewaySent q else entries.Waiting (asked.Request q)) ≡ false
+    by_oneway true = refl
+    by_oneway false = refl
+sent_still (asked.Locate q) = refl
+
+sending_still : (call : Call) (left : ℕ) → is_gathering (sending call left) ≡ false
+sending_still call left = by_left (left == 0)
+  where
+    by_left : (none : Bool) → is_gathering (if none then sent call else entries.Sending call left) ≡ false
+    by_left true = sent_still call
+    by_left false = refl
+
+either_stands : (free : Bool) (before : Option ClientEntry) (after : ClientEntry) → is_gathering after ≡ false
+    → IsOk (if free then client_table.becomes after else client_table.refused before IdInUse).outcome
+    → StandsStill (if free then client_table.becomes after else client_table.refused before IdInUse).entry
+either_stands true before after still ok = record { one = after; is = refl; still = still }
+either_stands false before after still ok = absurd cc
+
+call_stands : (entry : Option ClientEntry) (call : Call) (n : ℕ) → IsOk (client_step entry (at_client.Call call n)).outcome
+    → StandsStill (client_step entry (at_client.Call call n)).entry
+call_stands entry call n ok = either_stands (is_free entry) entry (sending call (n - 1)) (sending_still call (n - 1)) ok
+
+send_stands : (entry : Option ClientEntry) → IsOk (client_step entry at_client.Send).outcome → StandsStill (client_step entry at_client.Send).entry
+send_stands None ok = absurd cc
+send_stands (Some (entries.Sending call left)) ok =
+    record { one = sending call (left - 1); is = refl; still = sending_still call (left - 1) }
+send_stands (Some (entries.Waiting call)) ok = absurd cc
+send_stands (Some (entries.Gathering call)) ok = absurd cc
+send_stands (Some (entries.Done q r)) ok = absurd cc
+send_stands (Some (entries.LocateDone q r)) ok = absurd cc
+send_stands (Some (entries.Undecoded call fault)) ok = absurd cc
+send_stands (Some (entries.OnewaySent q)) ok = absurd cc
+send_stands (Some (entries.Cancelled came)) ok = absurd cc
+
+cancel_stands : (entry : Option ClientEntry) → IsOk (client_step entry at_client.Cancel).outcome → StandsStill (client_step entry at_client.Cancel).entry
+cancel_stands None ok = absurd cc
+cancel_stands (Some (entries.Sending call left)) ok = record { one = entries.Cancelled late.None; is = refl; still = refl }
+cancel_stands (Some (entries.Waiting call)) ok = record { one = entries.Cancelled late.None; is = refl; still = refl }
+cancel_stands (Some (entries.Gathering call)) ok = record { one = entries.Cancelled late.Begun; is = refl; still = refl }
+cancel_stands (Some (entries.Done q r)) ok = absurd cc
+cancel_stands (Some (entries.LocateDone q r)) ok = absurd cc
+cancel_stands (Some (entries.Undecoded call fault)) ok = absurd cc
+cancel_stands (Some (entries.OnewaySent q)) ok = absurd cc
+cancel_stands (Some (entries.Cancelled came)) ok = absurd cc
+
+abbrev gathers_now : Option ClientEntry → Bool
+gathers_now None = false
+gathers_now (Some entry) = is_gathering entry
+
+-- ---- one act
+
+pub tried_so : (outcome : Result (Unit {0}) CallFault) (before after : Lane) → IsOk outcome → tried outcome before after ≡ Some after
+tried_so (Ok done) before after ok = refl
+tried_so (Err why) before after ok = absurd cc
+
+-- the first of what is unsent, and the others, as the lane has them
+pub first_seen : (unsent : List Msg) → map seen (listed (first_of unsent)) ≡ next (map seen unsent)
+first_seen [] = refl
+first_seen (m ∷ unsent) = refl
+
+pub others_seen : (unsent : List Msg) → map seen (unsent_after Next unsent) ≡ later (map seen unsent)
+others_seen [] = refl
+others_seen (m ∷ unsent) = refl
+
+pub others_are : (P : Msg → Type 0) (unsent : List Msg) → AllByRecursion P unsent → AllByRecursion P (unsent_after Next unsent)
+others_are P [] are = tt
+others_are P (m ∷ unsent) (is, are) = are
+
+pub first_is : (P : Msg → Type 0) (unsent : List Msg) → AllByRecursion P unsent → AllByRecursion P (listed (first_of unsent))
+first_is P [] are = tt
+first_is P (m ∷ unsent) (is, are) = (is, tt)
+
+module _ (interface : Interface) (id : ℕ) (h k : Held ClientRule ClientEntry) (out out' : List ℕ) (lane : Lane) (shows : ClientShows id (at h id) lane) where
+  abbrev slot_before : List Msg
+  slot_before = unsent_of (finite.get h.table id)
+
+  -- what the end shows then
+  shows_then : (planned : Planned ClientEvent) (after : Lane) → IsAccepted client_step id planned h out k out'
+      → StandsStill (client_step lane.client.entry planned.event).entry → after.client.entry ≡ (client_step lane.client.entry planned.event).entry
+      → map seen (unsent_after planned.plan slot_before) ≡ after.unsent
+      → AllByRecursion (IsToServer id) (unsent_after planned.plan slot_before) → ClientShows id (at k id) after
+  shows_then planned after is stands entered unsent each =
+      let left = unsent_after planned.plan slot_before in
+      let slot : finite.get k.table id ≡ Some (record { entry = stands.one; unsent = left }) =
+      is.slot ∙ ap (λ entry. slot_of entry left) (ap (λ entry. (client_step entry planned.event).entry) shows.entry ∙ stands.is) in record {
+        entry = ap entry_of slot ∙ sym stands.is ∙ sym entered;
+        each = subst (AllByRecursion (IsToServer id)) (sym (ap unsent_of slot)) each;
+        unsent = ap (map seen) (ap unsent_of slot) ∙ unsent;
+        gathered = λ q gathers.
+            let wrong : false ≡ true = sym stands.still ∙ ap gathers_now (sym stands.is ∙ sym entered ∙ gathers) in absurd cc;
+      }
+
+  -- what it accepts, the lane does
+  accepts_too : (one : ClientEvent) → IsOk (client_step (entry_of (finite.get h.table id)) one).outcome → IsOk (client_step lane.client.entry one).outcome
+  accepts_too one ok = subst (λ entry. IsOk (client_step entry one).outcome) shows.entry ok
+
+  calls_cut : (call : Call) (cut : Cut) → id_of call ≡ id → PlansCall interface (client_entry h id) call (sends_cut (at_client.Call call) cut)
+      → IsAccepted client_step id (sends_cut (at_client.Call call) cut) h out k out'
+      → ClientActs interface id lane k (cut.first ∷ [])
+  calls_cut call cut named plans is =
+      let ok = accepts_too (at_client.Call call (count cut)) is.outcome in
+      let step = client_step lane.client.entry (at_client.Call call (count cut)) in
+      let sees = call_seen interface (client_entry h id) call cut plans in
+      let each = subst (λ n. AllByRecursion (IsToServer n) (pieces_of cut)) named (call_for interface (client_entry h id) call cut plans) in
+      let after : Lane = record lane {
+        client = record lane.client { entry = step.entry; uses = lane.client.uses + 1 };
+        to_server = lane.to_server ++ lanes.Opens (lanes.kind_of call) (lanes.version_of call) (is_last cut.rest) cut.first ∷ [];
+        unsent = fragments cut.rest;
+      } in record {
+        act = lanes.Calls call cut;
+        after = after;
+        suits = own_suits interface lane (lanes.Calls call cut)
+            (subst (λ entry. PlansCall interface entry call (sends_cut (at_client.Call call) cut)) shows.entry plans);
+        stepped = tried_so step.outcome lane after ok;
+        shows = shows_then (sends_cut (at_client.Call call) cut) after is (call_stands lane.client.entry call (count cut) ok) refl (ap later sees) each.1;
+        server = refl;
+        unanswered = refl;
+        to_client = refl;
+        to_server = ap (λ l. lane.to_server ++ l) (sym (ap next sees));
+        each = (each.0, tt);
+      }
+
+  pub calls : (call : Call) (planned : Planned ClientEvent) → id_of call ≡ id → PlansCall interface (client_entry h id) call planned
+      → IsAccepted client_step id planned h out k out' → ClientActs interface id lane k (listed (message_of planned.plan slot_before))
+  calls call planned named plans is =
+      let found = call_read interface (client_entry h id) call planned plans in
+      subst (λ one. ClientActs interface id lane k (listed (message_of one.plan slot_before))) (sym found.1)
+      (calls_cut call found.0 named (subst (PlansCall interface (client_entry h id) call) found.1 plans)
+      (subst (λ one. IsAccepted client_step id one h out k out') found.1 is))
+
+  pub sends : (planned : Planned ClientEvent) → planned ≡ record { event = at_client.Send; plan = Next }
+      → IsAccepted client_step id planned h out k out' → ClientActs interface id lane k (listed (message_of planned.plan slot_before))
+  sends planned plans is =
+      let one : Planned ClientEvent = record { event = at_client.Send; plan = Next } in
+      let accepted = subst (λ one. IsAccepted client_step id one h out k out') plans is in
+      let ok = accepts_too at_client.Send accepted.outcome in
+      let step = client_step lane.client.entry at_client.Send in
+      let after : Lane = record lane {
+        client = record lane.client { entry = step.entry };
+        to_server = lane.to_server ++ next lane.unsent;
+        unsent = later lane.unsent;
+      } in
+      subst (λ one. ClientActs interface id lane k (listed (message_of one.plan slot_before))) (sym plans) (record {
+        act = lanes.Sends;
+        after = after;
+        suits = tt;
+        stepped = tried_so step.outcome lane after ok;
+        shows = shows_then one after accepted (send_stands lane.client.entry ok) refl (others_seen slot_before ∙ ap later shows.unsent)
+            (others_are (IsToServer id) slot_before shows.each);
+        server = refl;
+        unanswered = refl;
+        to_client = refl;
+        to_server = ap (λ l. lane.to_server ++ l) (sym (first_seen slot_before ∙ ap next shows.unsent));
+        each = first_is (IsToServer id) slot_before shows.each;
+      })
+
+  cancels_in : (order : Order) (version : Version) → id < 2 ^ 32
+      → IsAccepted client_step id (sends_one at_client.Cancel (cancel_request version order id)) h out k out'
+      → ClientActs interface id lane k (cancel_request version order id ∷ [])
+  cancels_in order version small is =
+      let ok = accepts_too at_client.Cancel is.outcome in
+      let step = client_step lane.client.entry at_client.Cancel in
+      let after : Lane = record lane {
+        client = record lane.client { entry = step.entry };
+        to_server = lane.to_server ++ Stops ∷ [];
+        unsent = [];
+      } in record {
+        act = lanes.Cancels;
+        after = after;
+        suits = tt;
+        stepped = tried_so step.outcome lane after ok;
+        shows = shows_then (sends_one at_client.Cancel (cancel_request version order id)) after is (cancel_stands lane.client.entry ok) refl refl tt;
+        server = refl;
+        unanswered = refl;
+        to_client = refl;
+        to_server = refl;
+        each = (cancel_for id order version (cancel_request version order id) small refl, tt);
+      }
+
+  pub cancels : (order : Order) (version : Option Version) (planned : Planned ClientEvent) → id < 2 ^ 32 → IsCancel id order version planned
+      → IsAccepted client_step id planned h out k out' → ClientActs interface id lane k (listed (message_of planned.plan slot_before))
+  cancels order None planned small plans is = absurd plans
+  cancels order (Some version) planned small plans is =
+      subst (λ one. ClientActs interface id lane k (listed (message_of one.plan slot_before))) (sym plans)
+      (cancels_in order version small (subst (λ one. IsAccepted client_step id one h out k out') plans is))
+
+-- ---- in a world
+
+module _ (interface : Interface) (client_limits server_limits : Limits) where
+  abbrev Tracked : WorldState → Type 0
+  Tracked = Tracks interface client_limits server_limits
+
+  -- an act of the client's own that the lane of its id takes leaves a world tracked
+  puts_on : (w v : WorldState) (id : ℕ) (refusal : Option CallFault) (Plans : Planned ClientEvent → Type 0) (answered : Answered ClientEntry)
+      (tracks : Tracked w)
+      → IsGiven (λ rule. client_step) (λ rule. is_closed) is_gathering in_call client_breaks (client_befalls interface)
+      (PutsOut id refusal Plans) w.client answered v.client
+      → v.server ≡ w.server
+      → ((acted : Acted client_step is_closed is_gathering in_call id refusal Plans w.client.calls w.client.outgoing v.client.calls v.client.outgoing)
+      → ClientActs interface id (tracks.shows id).lane v.client.calls
+      (listed (message_of acted.planned.plan (unsent_of (finite.get w.client.calls.table id)))))
+      → Tracked v
+  puts_on w v id refusal Plans answered tracks (memory, is_given) same acts = by_fault w.client.fault refl is_given
+    where
+      by_what : w.client.fault ≡ None → v.client ≡ record w.client { calls = v.client.calls; outgoing = v.client.outgoing }
+          → ((v.client.calls ≡ w.client.calls) × (v.client.outgoing ≡ w.client.outgoing))
+          ⊎ Acted client_step is_closed is_gathering in_call id refusal Plans w.client.calls w.client.outgoing v.client.calls v.client.outgoing
+          → Tracked v
+      by_what sound rest (inl (calls, outgoing)) =
+          let stays : v.client ≡ w.client = rest ∙ (λ i. record w.client { calls = calls i; outgoing = outgoing i }) in
+          subst Tracked (λ i. record { client = sym stays i; server = sym same i }) tracks
+      by_what sound rest (inr acted) =
+          let message = message_of acted.planned.plan (unsent_of (finite.get w.client.calls.table id)) in
+          let goes : record w.client { calls = v.client.calls; outgoing = w.client.outgoing ++ flat_map message_octets (listed message) } ≡ v.client =
+          ap (λ octets. record w.client { calls = v.client.calls; outgoing = octets })
+          (ap (λ l. w.client.outgoing ++ l) (sym (octets_listed message)) ∙ sym acted.is.puts) ∙ sym rest in
+          subst Tracked (λ i. record { client = goes i; server = sym same i })
+          (client_goes_on interface client_limits server_limits w id v.client.calls (listed message) sound tracks (acts acted) acted.beside)
+
+      by_result : (result : Result (Unit {0}) SessionFault) → w.client.fault ≡ None
+          → Puts (rules_of client_step is_closed is_gathering) in_call id refusal Plans w.client.calls w.client.outgoing result
+          v.client.calls v.client.outgoing
+          → v.client ≡ record w.client { calls = v.client.calls; outgoing = v.client.outgoing } → Tracked v
+      by_result result sound puts rest = by_what sound rest
+          (comes_to client_step is_closed is_gathering in_call id refusal Plans w.client.calls v.client.calls w.client.outgoing v.client.outgoing
+          result puts)
+
+      by_answer : (one : Answered ClientEntry) → w.client.fault ≡ None
+          → IsDoneBy (λ rule. client_step) (λ rule. is_closed) is_gathering in_call client_breaks (client_befalls interface)
+          (PutsOut id refusal Plans) w.client one v.client → Tracked v
+      by_answer answer.Done sound (puts, rest) = by_result (Ok tt) sound puts rest
+      by_answer (answer.Refused why) sound (puts, rest) = by_result (Err why) sound puts rest
+      by_answer (answer.Taken entry) sound done = absurd done
+
+      by_fault : (fault : Option SessionFault) → w.client.fault ≡ fault
+          → IsGivenBy (λ rule. client_step) (λ rule. is_closed) is_gathering in_call client_breaks (client_befalls interface)
+          fault (PutsOut id refusal Plans) w.client answered v.client → Tracked v
+      by_fault (Some why) failed (refused, stays) = subst Tracked (λ i. record { client = sym stays i; server = sym same i }) tracks
+      by_fault None sound done = by_answer answered sound done
+
+  pub client_calls : (w v : WorldState) (q : Request) (form : CheckedForm) (told : Told) → IsInRange interface (event.Call q form) → Tracked w
+      → AtClient interface client_limits server_limits w (given.Call q form) told v → Tracked v
+  client_calls w v q form told in_range tracks (answered, is, tells, same) =
+      let id = q.head.id in
+      let entry = client_entry w.client.calls id in
+      puts_on w v id (call_fault interface client_limits entry q form.form) (IsCall interface q form.form) answered tracks is same
+      (λ acted. calls interface id w.client.calls v.client.calls w.client.outgoing v.client.outgoing (tracks.shows id).lane (tracks.shows id).client
+      (asked.Request q) acted.planned refl
+      (record { limits = client_limits; form = form.form; is_form = form.sound; in_range = in_range; unrefused = acted.unrefused; plans = acted.plans })
+      acted.is)
+
+  pub client_locates : (w v : WorldState) (q : AnyLocateRequest) (form : CheckedForm) (told : Told) → IsInRange interface (event.Locate q form)
+      → Tracked w → AtClient interface client_limits server_limits w (given.Locate q form) told v → Tracked v
+  client_locates w v q form told in_range tracks (answered, is, tells, same) =
+      let id = q.id in
+      let entry = client_entry w.client.calls id in
+      puts_on w v id (locate_fault client_limits entry q form.form) (IsLocate q form.form) answered tracks is same
+      (λ acted. calls interface id w.client.calls v.client.calls w.client.outgoing v.client.outgoing (tracks.shows id).lane (tracks.shows id).client
+      (asked.Locate q) acted.planned refl
+      (record { limits = client_limits; form = form.form; is_form = form.sound; in_range = in_range; unrefused = acted.unrefused; plans = acted.plans })
+      acted.is)
+
+  pub client_cancels : (w v : WorldState) (id : ℕ) (order : Order) (told : Told) → id < 2 ^ 32 → Tracked w
+      → AtClient interface client_limits server_limits w (given.Cancel id order) told v → Tracked v
+  client_cancels w v id order told small tracks (answered, is, tells, same) =
+      let version = open_version (client_entry w.client.calls id) in
+      puts_on w v id (cancel_fault version) (IsCancel id order version) answered tracks is same
+      (λ acted. cancels interface id w.client.calls v.client.calls w.client.outgoing v.client.outgoing (tracks.shows id).lane (tracks.shows id).client
+      order version acted.planned small acted.plans acted.is)
+
+  pub client_sends : (w v : WorldState) (id : ℕ) (told : Told) → Tracked w
+      → AtClient interface client_limits server_limits w (given.Send id) told v → Tracked v
+  client_sends w v id told tracks (answered, is, tells, same) =
+      puts_on w v id None (λ planned. planned ≡ record { event = at_client.Send; plan = Next }) answered tracks is same
+      (λ acted. sends interface id w.client.calls v.client.calls w.client.outgoing v.client.outgoing (tracks.shows id).lane (tracks.shows id).client
+      acted.planned acted.plans acted.is)

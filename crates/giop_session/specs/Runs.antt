@@ -1,0 +1,11 @@
+-- What an end comes to that is given many inputs, one after another.
+pub mod Alone
+pub mod ClientRuns
+pub mod Driven
+pub mod EndRuns
+pub mod Events
+pub mod Inputs
+pub mod LeftToSend
+pub mod Limits
+pub mod RunLimits
+pub mod ServerRuns

@@ -1,0 +1,33 @@
+-- What a call comes to by its own messages alone: those that name its id, in their order.
+use Rattle.std.specs.Prelude.{ℕ, ◌==◌, Bool, false, if◌then◌else◌, List, [], ◌∷◌, Option, Some, None, Result, Ok, Err}
+use Rattle.giop_cdr.specs.declared.fault.CdrFault.{CdrFault}
+use Rattle.giop_msg.specs.declared.msg.Msg.{Msg}
+use Rattle.giop_msg.specs.RequestId.{request_id_of}
+use Rattle.giop_ids.specs.Runs.{left}
+use Rattle.giop_session.specs.Calls.CallTable.{Act, Call, Turned}
+
+-- whether a message names an id
+abbrev pub names_by : Option (Result ℕ CdrFault) → ℕ → Bool
+names_by (Some (Ok named)) id = id == named
+names_by (Some (Err fault)) id = false
+names_by None id = false
+
+abbrev pub names : Msg → ℕ → Bool
+names m id = names_by (request_id_of m) id
+
+-- the messages that name an id, in their order
+abbrev pub own_messages : ℕ → List Msg → List Msg
+own_messages id [] = []
+own_messages id (m ∷ messages) =
+    if names m id then m ∷ own_messages id messages else own_messages id messages
+
+module _ {E V A F : Type 0} (turn : Call E → Act V → Turned E A F)
+    (befalls : Msg → Call E → Act V) where
+  -- what a message leaves of the call that it names
+  abbrev pub call_after : Msg → Call E → Call E
+  call_after m call = left call (turn call (befalls m call))
+
+  -- what these leave of it, one after another
+  abbrev pub alone_heard : Call E → List Msg → Call E
+  alone_heard call [] = call
+  alone_heard call (m ∷ messages) = alone_heard (call_after m call) messages

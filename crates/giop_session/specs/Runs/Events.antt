@@ -1,0 +1,68 @@
+-- What an end meets: the messages of its peer, and its own acts on its calls; and what a run of
+-- these leaves of each call.
+use Rattle.std.specs.Prelude.{◌≡◌, ℕ, ◌==◌, Bool, if◌then◌else◌, List, [], ◌∷◌, Option, Ok, IsOk}
+use Rattle.giop_ids.specs.Runs.{left}
+use Rattle.giop_ids.specs.Runs.{Does as DoesAct}
+use Rattle.giop_msg.specs.declared.msg.Msg.{Msg}
+use Rattle.giop_mux.specs.Runs.{Happening}
+use Rattle.giop_mux.specs.Runs.{Hears as IsTold, IsTaken as TakesOut}
+use Rattle.giop_mux.specs.declared.step.Step.{Step}
+use Rattle.giop_session.specs.declared.calls.plan.Planned.{Planned}
+use Rattle.giop_session.specs.declared.session_fault.SessionFault.{SessionFault}
+use Rattle.giop_session.specs.Runs.Alone.{names}
+use Rattle.giop_session.specs.Calls.CallTable.{Act, Call, Held, Hears, IsTaken, Nothing, Reply, Turned, rules_of}
+use Rattle.giop_session.specs.Hearing.Heard.{hears_by}
+
+-- an act of an end on one of its calls: an event of its own, with the messages that are sent for
+-- it, or that it takes the entry out
+abbrev pub Local : Type 0 → Type 0
+Local V = Happening (Planned V)
+
+-- a message comes, or the end itself does something to the call of an id
+pub data Event (V : Type 0) : Type 0 where
+  Comes : Msg → Event V
+  Does : ℕ → Local V → Event V
+
+-- what the end's own act is to its call: it brings no octets
+abbrev pub act_of : {V : Type 0} → Local V → Act V
+act_of (IsTold planned) = Hears planned Nothing
+act_of TakesOut = IsTaken
+
+-- whether an event is one of the call of an id
+abbrev pub is_of : {V : Type 0} → ℕ → Event V → Bool
+is_of id (Comes m) = names m id
+is_of id (Does named act) = id == named
+
+-- the events of an id, in their order
+abbrev pub own_events : {V : Type 0} → ℕ → List (Event V) → List (Event V)
+own_events id [] = []
+own_events id (e ∷ events) =
+    if is_of id e then e ∷ own_events id events else own_events id events
+
+module _ {R E V A F : Type 0} (next : R → Option E → V → Step E A F) (closed : R → E → Bool)
+    (gathering : E → Bool) (of_rule : ℕ → F → SessionFault) (breaks : Msg → Option SessionFault)
+    (befalls : Msg → Call E → Act V) where
+  -- an end meets an event, and doesn't refuse it
+  abbrev pub Accepts : Event V → Held R E → Held R E → Type 0
+  Accepts (Comes m) h k = hears_by next closed gathering of_rule breaks befalls m h (Ok tt) k
+  Accepts (Does id act) h k = (reply : Reply E A)
+      × DoesAct (rules_of (next h.rule) (closed h.rule) gathering) h
+      (record { id = id; what = act_of act }) (Ok reply) k
+
+  -- it meets these, one after another, and refuses none
+  abbrev pub Meets : Held R E → List (Event V) → Held R E → Type 0
+  Meets h [] k = k ≡ h
+  Meets h (e ∷ events) k = (mid : Held R E) × Accepts e h mid × Meets mid events k
+
+module _ {E V A F : Type 0} (turn : Call E → Act V → Turned E A F)
+    (befalls : Msg → Call E → Act V) where
+  -- what an event is to the call that it names
+  abbrev pub what : Event V → Call E → Act V
+  what (Comes m) call = befalls m call
+  what (Does id act) call = act_of act
+
+  -- one call meets these events, one after another; none is refused, and this is left of it
+  abbrev pub Follows : Call E → List (Event V) → Call E → Type 0
+  Follows call [] after = after ≡ call
+  Follows call (e ∷ events) after = IsOk (turn call (what e call))
+      × Follows (left call (turn call (what e call))) events after

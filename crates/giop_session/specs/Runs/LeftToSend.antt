@@ -1,0 +1,45 @@
+-- As many messages of a call are still to be sent as its entry says (CORBA 3.3 Part 2, 9.4.9).
+use Rattle.std.specs.Prelude.{◌≡◌, ℕ, List, [], ◌∷◌, length, Option, Some, None}
+use Rattle.giop_mux.specs.Runs.{Hears as IsTold, IsTaken as TakesOut}
+use Rattle.giop_calls.specs.declared.client.event.ClientEvent.{ClientEvent}
+use Rattle.giop_calls.specs.declared.client.event.ClientEvent.TheVariants as client
+use Rattle.giop_calls.specs.declared.server.event.ServerEvent.{ServerEvent}
+use Rattle.giop_calls.specs.declared.server.event.ServerEvent.TheVariants as server
+use Rattle.giop_session.specs.declared.calls.plan.Plan.{Plan}
+use Rattle.giop_session.specs.declared.calls.plan.Plan.TheVariants.{Put, Next}
+use Rattle.giop_session.specs.declared.calls.slot.Slot.{Slot}
+use Rattle.giop_session.specs.Runs.Events.{Event, Comes, Does}
+use Rattle.giop_session.specs.Calls.Sending.{entry_of, unsent_of}
+
+-- what a server's own events do to the messages of their calls: a Reply is sent in as many as its
+-- event says, a LocateReply in one, and a further piece is the next
+abbrev pub ServerPlans : ServerEvent → Plan → Type 0
+ServerPlans (server.Answer reply pieces) (Put messages) = length messages ≡ pieces
+ServerPlans (server.AnswerLocate here) (Put messages) = length messages ≡ 1
+ServerPlans server.Send Next = Unit {0}
+ServerPlans event plan = ⊥
+
+-- and a client's: a call is sent in as many as its event says, a CancelRequest is one, in place of
+-- those that were left, and a further piece is the next
+abbrev pub ClientPlans : ClientEvent → Plan → Type 0
+ClientPlans (client.Call call pieces) (Put messages) = length messages ≡ pieces
+ClientPlans client.Cancel (Put messages) = length messages ≡ 1
+ClientPlans client.Send Next = Unit {0}
+ClientPlans event plan = ⊥
+
+-- the end's own acts among these events are planned so
+abbrev pub ArePlanned : {V : Type 0} → (V → Plan → Type 0) → List (Event V) → Type 0
+ArePlanned plans [] = Unit {0}
+ArePlanned plans (Comes m ∷ events) = ArePlanned plans events
+ArePlanned plans (Does id (IsTold planned) ∷ events) =
+    plans planned.event planned.plan × ArePlanned plans events
+ArePlanned plans (Does id TakesOut ∷ events) = ArePlanned plans events
+
+-- how many messages of a call its entry says to be left
+abbrev pub left_in : {E : Type 0} → (E → ℕ) → Option E → ℕ
+left_in left None = 0
+left_in left (Some entry) = left entry
+
+-- so many are left
+abbrev pub IsLeft : {E : Type 0} → (E → ℕ) → Option (Slot E) → Type 0
+IsLeft left slot = left_in left (entry_of slot) ≡ length (unsent_of slot)

@@ -1,0 +1,106 @@
+-- What the session's own ends put on a lane: the calls and replies that they plan to send (CORBA
+-- 3.3 Part 2, 9.4.2, 9.4.3, 9.4.5, 9.4.6 and 9.4.9).
+use Rattle.std.specs.Prelude.{◌≡◌, ℕ, ◌<◌, ◌^◌, Bool, List, [], ◌∷◌, Option, Some, None}
+use Rattle.giop_cdr.specs.Ending.{Ending, ended}
+use Rattle.giop_cdr.specs.declared.order.Order.{Order}
+use Rattle.giop_types.specs.declared.json.interface.Interface.{Interface}
+use Rattle.giop_msg.specs.Locate.{AnyLocateRequest, locate_request}
+use Rattle.giop_msg.specs.Messages.Reply.{reply}
+use Rattle.giop_msg.specs.Messages.Request.{request}
+use Rattle.giop_msg.specs.declared.messages.reply.Reply.{Reply}
+use Rattle.giop_msg.specs.declared.messages.request.Request.{Request}
+use Rattle.giop_calls.specs.Lane.{Act, Cut, Lane, Piece, count, pieces_of, step}
+use Rattle.giop_calls.specs.Lane as lanes
+use Rattle.giop_calls.specs.declared.client.call.Call.{Call}
+use Rattle.giop_calls.specs.declared.client.call.Call.TheVariants as asked
+use Rattle.giop_calls.specs.declared.client.entry.ClientEntry.{ClientEntry}
+use Rattle.giop_calls.specs.declared.client.event.ClientEvent.{ClientEvent}
+use Rattle.giop_calls.specs.declared.client.event.ClientEvent.TheVariants as at_client
+use Rattle.giop_calls.specs.declared.fault.CallFault.{CallFault}
+use Rattle.giop_calls.specs.declared.server.entry.ServerEntry.TheVariants.{Asked, LocateAsked}
+use Rattle.giop_calls.specs.declared.server.event.ServerEvent.{ServerEvent}
+use Rattle.giop_calls.specs.declared.server.event.ServerEvent.TheVariants as at_server
+use Rattle.giop_session.specs.declared.acts.form.Form.{Form}
+use Rattle.giop_session.specs.declared.limits.Limits.{Limits}
+use Rattle.giop_session.specs.declared.calls.plan.Plan.TheVariants.{Put}
+use Rattle.giop_session.specs.declared.calls.plan.Planned.{Planned}
+use Rattle.giop_session.specs.Acts.ClientCalls.{IsCall, IsLocate, call_fault, locate_fault}
+use Rattle.giop_session.specs.Worlds.Coding.{coding}
+use Rattle.giop_session.specs.Acts.Form.{IsForm}
+use Rattle.giop_session.specs.Acts.Sent.{sends_one}
+use Rattle.giop_session.specs.Acts.ServerAnswers.{IsAnswer, IsLocateAnswer, answer_fault}
+
+-- an event that sends a message in these pieces, and tells how many
+abbrev pub sends_cut : {V : Type 0} → (ℕ → V) → Cut → Planned V
+sends_cut event cut = record { event = event (count cut); plan = Put (pieces_of cut) }
+
+-- what a program passes by value is in range: each number of the message, and the size of a piece
+pub record InRange {A : Type 0} (layout : Ending A) (value : A) (form : Form) : Type 0 where
+  pub holds : layout.holds value
+  pub piece : form.piece < 2 ^ 32
+
+-- a message is planned to be sent: within some limits and in some form, where nothing refuses it
+pub record IsPlanned {A V : Type 0} (layout : Ending A) (value : A)
+    (fault : Limits → Form → Option CallFault) (Plans : Form → Planned V → Type 0)
+    (planned : Planned V) : Type 0 where
+  pub limits : Limits
+  pub form : Form
+  pub is_form : IsForm form
+  pub in_range : InRange layout value form
+  pub unrefused : fault limits form ≡ None
+  pub plans : Plans form planned
+
+-- a client's end plans a call, where this stands under its id
+abbrev pub PlansCall : Interface → Option ClientEntry → Call → Planned ClientEvent → Type 0
+PlansCall interface entry (asked.Request q) =
+    IsPlanned (request interface q.head.version) q
+    (λ limits. call_fault interface limits entry q) (IsCall interface q)
+PlansCall interface entry (asked.Locate q) =
+    IsPlanned (ended (locate_request q.version)) q (λ limits. locate_fault limits entry q)
+    (IsLocate q)
+
+-- a server's end plans a Reply to a Request
+abbrev pub PlansReply : Interface → Request → Reply → Planned ServerEvent → Type 0
+PlansReply interface q r =
+    IsPlanned (reply interface (Some q) r.version) r
+    (λ limits. answer_fault interface limits (Some (Some q)) r)
+    (IsAnswer interface (Some (Some q)) r)
+
+-- and a LocateReply to a LocateRequest
+abbrev pub PlansLocated : AnyLocateRequest → Bool → Planned ServerEvent → Type 0
+PlansLocated q here planned = (id : ℕ) × (order : Order) × (id < 2 ^ 32)
+    × IsLocateAnswer id here order (Some q.version) planned
+
+-- an act of a lane is what the session's own ends plan there
+abbrev pub IsOwn : Interface → Lane → Act → Type 0
+IsOwn interface lane (lanes.Calls call cut) =
+    PlansCall interface lane.client.entry call (sends_cut (at_client.Call call) cut)
+IsOwn interface lane (lanes.Answers r cut) = (q : Request) → lane.server.entry ≡ Some (Asked q)
+    → PlansReply interface q r (sends_cut (at_server.Answer r) cut)
+IsOwn interface lane (lanes.Locates here piece) =
+    (q : AnyLocateRequest) → lane.server.entry ≡ Some (LocateAsked q)
+    → PlansLocated q here (sends_one (at_server.AnswerLocate here) piece)
+IsOwn interface lane act = Unit {0}
+
+-- a schedule of such acts leads from one lane to another
+abbrev pub OwnRuns : Interface → Lane → List Act → Lane → Type 0
+OwnRuns interface lane [] end = lane ≡ end
+OwnRuns interface lane (act ∷ acts) end = IsOwn interface lane act
+    × ((after : Lane) × (step (coding interface) lane act ≡ Some after)
+    × OwnRuns interface after acts end)
+
+-- a message in one piece
+abbrev pub alone : Piece → Cut
+alone piece = record { first = piece; rest = [] }
+
+-- a Request is called in one piece, arrives, is answered in one, and that arrives
+abbrev pub replied_run : Request → Reply → (one other : Piece) → List Act
+replied_run q r one other =
+    lanes.Calls (asked.Request q) (alone one) ∷ lanes.ToServer
+    ∷ lanes.Answers r (alone other) ∷ lanes.ToClient ∷ []
+
+-- so a LocateRequest
+abbrev pub located_run : AnyLocateRequest → Bool → (one other : Piece) → List Act
+located_run q here one other =
+    lanes.Calls (asked.Locate q) (alone one) ∷ lanes.ToServer
+    ∷ lanes.Locates here other ∷ lanes.ToClient ∷ []

@@ -1,0 +1,4 @@
+pub mod Keep
+pub mod Flows
+pub mod Effects
+pub mod Observing

@@ -1,0 +1,160 @@
+//! An observer of a connection: it hears the messages of both directions, and tells which calls are
+//! over. Its meaning is specs/Observing.antt: change both.
+ghost use Rattle.std.specs.Prelude.{◌≡◌, ◌≤◌, ◌^◌, length, IfOk, OnOk, option_copied};
+ghost use Rattle.std.specs.FinMap as finite;
+ghost use Rattle.giop_ids.specs.ById.{put};
+ghost use Rattle.giop_msg.specs.RequestId.{request_id_of};
+ghost use Rattle.giop_trace.specs.Flows.{is_answer, is_waiting};
+ghost use Rattle.giop_trace.specs.Observing.{heard, is_early, is_early_by, left};
+
+use crate::effect::Effect;
+use crate::steps::{effect, is_whole, lone};
+use crate::{Direction, Flow, Heard, Keep};
+use giop_msg::{Kind, Msg};
+use giop_mux::Mux;
+use std::alloc::{AllocError, Global};
+
+/// An observer of one connection: the calls that are open, and whether the client is heard alone.
+///
+/// Messages of both directions are given to it in the order in which they are to be read. It holds
+/// the joined octets of the calls that are open, and nothing else.
+#[derive(Debug, Drop)]
+pub struct Observer {
+    /// Whether the client alone is heard: a call is over then as soon as its request is whole.
+    pub alone: bool,
+    /// The calls that are open, by request id.
+    pub calls: Mux<Keep>,
+}
+
+impl Observer {
+    /// An observer that heard nothing. It takes no memory.
+    pub fn new(alloc: Global, alone: bool) -> Observer
+        ensures alone { result.alone ≡ alone }
+        ensures value { result.calls.entries ≡ finite.empty }
+    {
+        Observer {
+            alone,
+            calls: Mux::new(alloc, Keep, u32::MAX),
+        }
+    }
+
+    /// Hears the message that a direction brought next, and tells which calls are over by it.
+    ///
+    /// - A Request or a LocateRequest of the client begins a call. Where the id has a call that is
+    ///   open, that one is over (`earlier`).
+    /// - A Reply or a LocateReply of the server answers the call of its id. Where that has an
+    ///   answer already, or there is none, it begins one that no one asked for.
+    /// - A Fragment continues the message of its direction and id of which more is to come, if it
+    ///   has that message's byte order.
+    /// - A CancelRequest marks the call of its id; one whose request isn't whole is over.
+    /// - Any other message has no place in a call, nor has a Fragment that continues none: it is
+    ///   told by itself.
+    ///
+    /// A call is over when its answer is whole; or its request is, and no reply is expected, or the
+    /// client is heard alone. A CancelRequest for an id without a call does nothing.
+    ///
+    /// It is refused only where it is out of memory, where joined octets would be more than 2^62,
+    /// or for the 2^32nd open call. The call of the id may be lost then.
+    #[tactic(auto, using(crate::proofs::TableLemmas::put_back))]
+    pub fn hear(&mut self, direction: Direction, message: Msg) -> Result<Heard, AllocError>
+        requires { length message.payload ≤ 2 ^ 62 }
+        ensures value { IfOk result (λ told.
+            told ≡ heard self.old.alone self.old.calls.entries direction message) }
+        ensures ok { OnOk result (self.new.calls.entries
+            ≡ left self.old.alone self.old.calls.entries direction message) }
+        ensures same { OnOk result (self.new.alone ≡ self.old.alone) }
+    {
+        let Some(Ok(id)) = message.request_id() else {
+            return Ok(Heard {
+                id: None,
+                earlier: None,
+                over: Some(lone(direction, message)),
+            });
+        };
+        let entry = self.taken(id);
+        let Effect {
+            earlier,
+            stays,
+            over,
+        } = effect(self.alone, direction, entry, message)?;
+        if let Some(flow) = stays {
+            self.keep(id, flow)?;
+        }
+        Ok(Heard {
+            id: Some(id),
+            earlier,
+            over,
+        })
+    }
+
+    /// Whether a message of the server is a Reply or a LocateReply to a call whose request isn't
+    /// whole yet: where the two directions are read one beside the other, the client's is to be
+    /// read on before it. It takes no memory.
+    pub fn is_early(&self, message: &Msg) -> bool
+        requires { length message.now.payload ≤ 2 ^ 62 }
+        ensures { result ≡ is_early self.now.calls.entries message.now }
+    {
+        match message.kind {
+            Kind::Reply | Kind::LocateReply => self.is_early_answer(message),
+            _ => false,
+        }
+    }
+
+    /// The ids of the calls that are open, ascending.
+    pub fn ids(&self, alloc: Global) -> Result<Vec<u32>, AllocError>
+        ensures { IfOk result (λ ids. ids.items ≡ finite.keys self.now.calls.entries) }
+    {
+        self.calls.ids(alloc)
+    }
+
+    /// The call of an id that is open, if there is one. It takes no memory.
+    pub fn flow(&self, id: u32) -> Option<&Flow>
+        ensures { option_copied result ≡ finite.get self.now.calls.entries id }
+    {
+        self.calls.entry(id)
+    }
+
+    fn is_early_answer(&self, message: &Msg) -> bool
+        requires { length message.now.payload ≤ 2 ^ 62 }
+        ensures { result ≡ is_early_by self.now.calls.entries (request_id_of message.now) }
+    {
+        match message.request_id() {
+            Some(Ok(id)) => !self.is_waiting(id),
+            _ => false,
+        }
+    }
+
+    // Whether the call of an id waits for its answer.
+    fn is_waiting(&self, id: u32) -> bool
+        ensures { result ≡ is_waiting (finite.get self.now.calls.entries id) }
+    {
+        match self.flow(id) {
+            Some(flow) => is_whole(&flow.asked) && flow.answer.is_none(),
+            None => false,
+        }
+    }
+
+    // Takes the call of an id out of the table.
+    fn taken(&mut self, id: u32) -> Option<Flow>
+        ensures value { result ≡ finite.get self.old.calls.entries id }
+        ensures ok { self.new.calls.entries ≡ finite.remove self.old.calls.entries id }
+        ensures same { self.new.alone ≡ self.old.alone }
+    {
+        match self.calls.take(id) {
+            Ok(flow) => flow,
+            Err(_) => None,
+        }
+    }
+
+    // Puts a call under its id.
+    fn keep(&mut self, id: u32, flow: Flow) -> Result<(), AllocError>
+        ensures ok { OnOk result (self.new.calls.entries
+            ≡ finite.insert self.old.calls.entries id flow) }
+        ensures same { self.new.alone ≡ self.old.alone }
+    {
+        match self.calls.apply(id, flow) {
+            Ok(()) => Ok(()),
+            Err(_) => Err(AllocError),
+        }
+    }
+}

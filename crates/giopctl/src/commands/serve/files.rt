@@ -1,0 +1,118 @@
+//! `serve` over files, connections and the standard output. What it reads, sends and prints is
+//! commands/serve.rt, over any reader and writer; here are the files and the sockets.
+
+use crate::cli::ServeWords;
+use crate::commands::serve::answers::answers_from_json;
+use crate::commands::session::files::{interface_of, read, refused_form};
+use crate::commands::{Serving, serve_over};
+use crate::failure::Failure;
+use crate::files::OUTPUT_BUFFER;
+use crate::report;
+use crate::status::Status;
+use std::io;
+use std::io::{BufWriter, Write};
+use std::net::{Ipv4Addr, TcpListener, TcpStream};
+
+// The address that is listened at, as standard error has it.
+const HERE: &str = "127.0.0.1";
+
+/// Reads the file of the interface and that of the answers, listens at a port of 127.0.0.1, and
+/// serves so many connections one after the other. The status is the greatest of theirs. What is
+/// refused is reported before the port is bound: the interface, then the answers.
+pub fn serve(rt: &HostRuntime, words: ServeWords) -> Status {
+    match served(rt, words) {
+        Ok(status) => status,
+        Err(status) => status,
+    }
+}
+
+fn served(rt: &HostRuntime, words: ServeWords) -> Result<Status, Status> {
+    let interface = read(rt, words.interface)?;
+    let answers = read(rt, words.answers)?;
+    let key = match hex::decode(rt.alloc(), words.key) {
+        Ok(key) => key,
+        Err(_) => return Err(report::answer(rt, "--key", Err(Failure::Memory))),
+    };
+    let interface = interface_of(rt, words.interface, interface.as_slice())?;
+    let answers = match answers_from_json(rt.alloc(), &interface, answers.as_slice()) {
+        Ok(answers) => answers,
+        Err(fault) => return Err(refused_form(rt, words.answers, answers.as_slice(), fault)),
+    };
+    let serving = Serving {
+        interface: &interface,
+        answers: &answers,
+        key: key.as_slice(),
+        form: words.form,
+        limits: words.limits,
+    };
+    let listener = listening(rt, words.port)?;
+    Ok(serve_each(rt, &listener, words.connections, &serving))
+}
+
+fn listening(rt: &HostRuntime, port: u16) -> Result<TcpListener, Status> {
+    match TcpListener::bind(rt, (Ipv4Addr::LOCALHOST, port)) {
+        Ok(listener) => {
+            let _ = eprintln!(rt; "giopctl: listening on {HERE}:{port}");
+            Ok(listener)
+        }
+        Err(error) => {
+            let failure = Failure::connection(error);
+            let _ = eprintln!(rt; "giopctl: {HERE}:{port}: {failure}");
+            Err(failure.status())
+        }
+    }
+}
+
+// Serves so many connections, and continues whatever one of them ends with.
+fn serve_each(
+    rt: &HostRuntime,
+    listener: &TcpListener,
+    connections: u32,
+    serving: &Serving<'_>,
+) -> Status {
+    let mut status = Status::Done;
+    for served in 0..connections {
+        status = status.or_greater(serve_next(rt, listener, served + 1, serving));
+    }
+    status
+}
+
+// Waits for a connection, and serves it.
+fn serve_next(
+    rt: &HostRuntime,
+    listener: &TcpListener,
+    number: u32,
+    serving: &Serving<'_>,
+) -> Status {
+    let (stream, peer) = match listener.accept() {
+        Ok(accepted) => accepted,
+        Err(error) => return report::answer(rt, HERE, Err(Failure::connection(error))),
+    };
+    let _ = eprintln!(rt; "giopctl: connection {number} from {peer}");
+    let answered = serve_stream(rt, &stream, number, serving);
+    match format!(in rt.alloc(); "connection {number}") {
+        Ok(name) => report::answer(rt, name.as_str(), answered),
+        Err(_) => report::answer(rt, HERE, answered),
+    }
+}
+
+fn serve_stream(
+    rt: &HostRuntime,
+    stream: &TcpStream,
+    number: u32,
+    serving: &Serving<'_>,
+) -> Result<Status, Failure> {
+    let mut reader = stream;
+    let mut writer = stream;
+    let mut out = BufWriter::with_capacity(rt.alloc(), OUTPUT_BUFFER, io::writer(rt))?;
+    let status = serve_over(
+        rt.alloc(),
+        number,
+        *serving,
+        &mut reader,
+        &mut writer,
+        &mut out,
+    )?;
+    out.flush()?;
+    Ok(status)
+}
