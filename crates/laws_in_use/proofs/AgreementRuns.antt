@@ -1,5 +1,5 @@
 -- Schedules of worlds: their numbers are in range, and what the first one comes to.
-use Rattle.std.proofs.Common.{◌≡◌, ◌≢◌, ℕ, Bool, true, false, if◌then◌else◌, [], ◌∷◌, Option, Some, None, Err, refl, sym, ap, subst, ◌∙◌, inr, arith, rules}
+use Rattle.std.proofs.Common.{◌≡◌, ℕ, Bool, true, false, if◌then◌else◌, [], ◌∷◌, Option, Some, None, Err, refl, sym, ap, subst, ◌∙◌, inr, arith, rules}
 use Rattle.std.specs.FinMap as finite
 use Rattle.std.specs.Ordering.{nat_cmp}
 use Rattle.giop_types.specs.declared.json.interface.Interface.{Interface}
@@ -63,7 +63,7 @@ refused = subst
     (sym no_fault_else)
     (inr (refl, refl, refl))
 
-not_memory : ◌≢◌ {A = Answered ClientEntry} (answer.Refused (InCall 9 NotOpen)) (answer.Refused NoMemory)
+not_memory : ◌≡◌ {A = Answered ClientEntry} (answer.Refused (InCall 9 NotOpen)) (answer.Refused NoMemory) → ⊥
 not_memory is = absurd cc
 
 given : (interface : Interface)

@@ -1,5 +1,5 @@
 -- Lanes on which a message of `door` is next to arrive: their acts lead there, and ends show them.
-use Rattle.std.proofs.Common.{◌≡◌, ◌<◌, ◌+◌, ℕ, true, [], ◌∷◌, List, Option, Some, None, Ok, refl, sym, ap, subst, ◌∙◌, inl, inr, arith}
+use Rattle.std.proofs.Common.{◌≡◌, ◌<◌, ◌+◌, ◌^◌, ◌-◌, ℕ, true, [], ◌∷◌, List, Option, Some, None, Ok, refl, sym, ap, subst, ◌∙◌, inl, inr, arith}
 use Rattle.std.specs.FinMap as finite
 use Rattle.std.specs.Ordering.{nat_cmp}
 use Rattle.giop_ids.proofs.Lengths.{len_within_ids}
@@ -49,11 +49,11 @@ abbrev ids : List ℕ
 ids = 7 ∷ 9 ∷ []
 
 -- what stands at either end of a lane that an act leads to, if it does
-server_of : Option Lane → Option ServerEntry
+abbrev server_of : Option Lane → Option ServerEntry
 server_of None = None
 server_of (Some lane) = lane.server.entry
 
-client_of : Option Lane → Option ClientEntry
+abbrev client_of : Option Lane → Option ClientEntry
 client_of None = None
 client_of (Some lane) = lane.client.entry
 
@@ -75,13 +75,16 @@ pub gathers_then : (interface : Interface) (after : Lane) → step (coding inter
     → after.server.entry ≡ Some (Gathering kind.Locate)
 gathers_then interface after is = sym (ap server_of is)
 
+new_stands : Stands (new_server limits) limits ids 0
+new_stands = stands_none (record {}) limits ids
+
 pub server_memory_alone : (why : SessionFault) → IsOfLimit door_begins (new_server limits) why → why ≡ NoMemory
 server_memory_alone why (inl met) =
-    let less = len_within_ids ids (new_server limits).table (stands_none (record {}) limits ids).only in
+    let less = len_within_ids ids (new_server limits).table new_stands.only in
     let full : finite.len (new_server limits).table ≡ 3 = met.1 in
     absurd (omega (arith, less, full))
 server_memory_alone why (inr (inl met)) =
-    let held : total_of (new_server limits).gathered ≡ 0 = (stands_none {E = ServerEntry} (record {}) limits ids).total in
+    let held : total_of (new_server limits).gathered ≡ 0 = new_stands.total in
     let over : 20 < total_of (new_server limits).gathered + 12 = met.1 in
     absurd (omega (arith, held, over))
 server_memory_alone why (inr (inr is)) = is

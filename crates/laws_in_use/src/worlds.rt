@@ -46,9 +46,9 @@ pub fn a_world_of_two_ends<'a>(
         ≢ message_octets locating.here_big ++ more)) }
     ensures agreed { (forms : Forms) → schedule.items ≡ asked_for forms → IfOk result (λ run.
         (ends_of run.0).client.fault ≡ None → (ends_of run.0).server.fault ≡ None
-        → run.0.client.outgoing ≡ [] → run.0.server.outgoing ≡ []
-        → server_entry run.0.server.calls 9 ≡ Some (LocateAsked locating.key)
-        → option_map outcome (client_entry run.0.client.calls 9) ≡ Some Pending) }
+        → (ends_of run.0).client.outgoing ≡ [] → (ends_of run.0).server.outgoing ≡ []
+        → server_entry (ends_of run.0).server.calls 9 ≡ Some (LocateAsked locating.key)
+        → option_map outcome (client_entry (ends_of run.0).client.calls 9) ≡ Some Pending) }
     ensures stands { schedule.items ≡ unasked → IfOk result (λ run.
         (ends_of run.0).client.fault ≢ Some (InCall 9 NotOpen)) }
 {

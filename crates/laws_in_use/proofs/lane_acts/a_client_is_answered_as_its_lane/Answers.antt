@@ -18,10 +18,10 @@ returns-clause-heard c = λ interface. (_, heard_answer interface)
 
 pub returns-clause-answered : goal.returns-clause-answered
 returns-clause-answered c = λ interface h k shows hears.
-    let (after, leads, then, others) =
+    let (after, leads, stored, others) =
     c.clients_do_the_lanes_act.ensures.heard interface answered_acts answered_lane 7 here_big [] h k (runs_answered interface) refl shows next_answered
     hears in (
-      then.entry ∙ answered_then interface after leads,
+      stored.entry ∙ answered_then interface after leads,
       others,
     )
 

@@ -20,9 +20,9 @@ returns-clause-heard c = λ interface. (one_1 interface, begun interface)
 
 pub returns-clause-gathers : goal.returns-clause-gathers
 returns-clause-gathers c = λ interface h k shows hears.
-    let (after, leads, then, others) =
+    let (after, leads, stored, others) =
     c.servers_do_the_lanes_act.ensures.heard interface asked_acts asked_lane 7 door_begins [] h k (runs_asked interface) refl shows next_asked hears in (
-      then.entry ∙ gathers_then interface after leads,
+      stored.entry ∙ gathers_then interface after leads,
       others,
     )
 
