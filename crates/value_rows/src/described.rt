@@ -1,4 +1,5 @@
 //! Values by their descriptions, labels of unions, and interfaces.
+ghost use Rattle.std.specs.Prelude.{◌≤◌, ◌^◌, length};
 
 use crate::parts::value_of;
 use crate::reading::front;

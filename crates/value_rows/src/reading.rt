@@ -35,7 +35,20 @@ pub fn lent(alloc: Global, of: [&str; 3], kinds: &[&str]) -> Result<String> {
     let [of_order, start, digits] = of;
     let octets = octets(alloc, digits)?;
     let source = SliceOctets::new(front(octets.as_slice()));
-    let mut input = CdrIn::new(&source, order(of_order)?, small(start)? as usize);
+    lend_all(alloc, &source, order(of_order)?, small(start)?, kinds)
+}
+
+// The octets and their reader have one lifetime here, which those that are lent have too.
+fn lend_all<'a>(
+    alloc: Global,
+    source: &'a SliceOctets<'a>,
+    order: Order,
+    start: u8,
+    kinds: &[&str],
+) -> Result<String>
+    requires { length source.now ≤ 2 ^ 20 }
+{
+    let mut input = CdrIn::new(source, order, start as usize);
     let mut text = String::new(alloc);
     for word in kinds {
         let said = lent_text(alloc, &mut input, word)?;
@@ -164,8 +177,8 @@ fn agreed<S: Octets>(
     if places[0] != places[2] || places[1] != places[2] {
         bail!("three places");
     }
-    match (skipped, viewed, read) {
-        (Ok(()), Ok(view), Ok(octets)) if lies(&view, octets.as_slice()) => {
+    match (&skipped, &viewed, &read) {
+        (Ok(()), Ok(view), Ok(octets)) if lies(view, octets.as_slice()) => {
             Ok(shown(alloc, octets.as_slice())?)
         }
         (Err(one), Err(other), Err(fault)) if one == fault && other == fault => {
