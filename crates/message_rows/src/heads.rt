@@ -4,7 +4,7 @@ ghost use Rattle.std.specs.Prelude.{◌≤◌, ◌^◌, length};
 use crate::decoding::front;
 use crate::names::version;
 use anyhow::{Result, bail};
-use giop_cdr::{CdrOut, EncodeFault, Order, SliceOctets};
+use giop_cdr::{CdrFault, CdrOut, EncodeFault, Order, SliceOctets};
 use giop_msg::{
     LocateReplyHead, LocateRequest, ReplyHead, RequestHead, ServiceContexts, Target, Version,
 };
@@ -31,20 +31,22 @@ fn request(alloc: Global, joined: &SliceOctets, version: Version, order: Order) 
     requires { length joined.now ≤ 2 ^ 62 }
 {
     let viewed = RequestHead::view(joined, version, order);
-    match (RequestHead::decode(alloc, joined, version, order), viewed) {
-        (Ok((head, body)), Ok((view, place))) => {
-            if body != place || head != view.to_owned(alloc)? {
-                bail!("two heads");
-            }
-            let mut out = CdrOut::new(alloc, order, 12);
-            let answer = head.write(&mut out);
-            let again = written(alloc, head.is_writable(), answer, &out)?;
-            let said = request_text(alloc, head)?;
-            Ok(format!(in alloc; "{said}, body at {body}; {again}")?)
-        }
-        (Err(fault), Err(other)) if fault == other => Ok(format!(in alloc; "{fault}")?),
-        _ => bail!("two answers"),
+    let (head, body) = match RequestHead::decode(alloc, joined, version, order) {
+        Ok(found) => found,
+        Err(fault) => return refused(alloc, fault, viewed.err()),
+    };
+    let (view, place) = match viewed {
+        Ok(found) => found,
+        Err(_) => bail!("two answers"),
+    };
+    if body != place || head != view.to_owned(alloc)? {
+        bail!("two heads");
     }
+    let mut out = CdrOut::new(alloc, order, 12);
+    let answer = head.write(&mut out);
+    let again = written(alloc, head.is_writable(), answer, &out)?;
+    let said = request_text(alloc, head)?;
+    Ok(format!(in alloc; "{said}, body at {body}; {again}")?)
 }
 
 fn request_text(alloc: Global, head: RequestHead) -> Result<String, AllocError> {
@@ -59,29 +61,29 @@ fn reply(alloc: Global, joined: &SliceOctets, version: Version, order: Order) ->
     requires { length joined.now ≤ 2 ^ 62 }
 {
     let viewed = ReplyHead::view(joined, version, order);
-    match (ReplyHead::decode(alloc, joined, version, order), viewed) {
-        (Ok((head, body)), Ok((view, place))) => {
-            if body != place || head != view.to_owned(alloc)? {
-                bail!("two heads");
-            }
-            let mut out = CdrOut::new(alloc, order, 12);
-            let answer = head.write(&mut out);
-            let again = written(alloc, head.is_writable(), answer, &out)?;
-            let ReplyHead {
-                version,
-                id,
-                status,
-                contexts,
-            } = head;
-            let minor = version.minor();
-            let contexts = contexts_text(alloc, contexts)?;
-            Ok(format!(in alloc;
-                "1.{minor} id {id} status {status}{contexts}, body at {body}; {again}"
-            )?)
-        }
-        (Err(fault), Err(other)) if fault == other => Ok(format!(in alloc; "{fault}")?),
-        _ => bail!("two answers"),
+    let (head, body) = match ReplyHead::decode(alloc, joined, version, order) {
+        Ok(found) => found,
+        Err(fault) => return refused(alloc, fault, viewed.err()),
+    };
+    let (view, place) = match viewed {
+        Ok(found) => found,
+        Err(_) => bail!("two answers"),
+    };
+    if body != place || head != view.to_owned(alloc)? {
+        bail!("two heads");
     }
+    let mut out = CdrOut::new(alloc, order, 12);
+    let answer = head.write(&mut out);
+    let again = written(alloc, head.is_writable(), answer, &out)?;
+    let ReplyHead {
+        version,
+        id,
+        status,
+        contexts,
+    } = head;
+    let minor = version.minor();
+    let contexts = contexts_text(alloc, contexts)?;
+    Ok(format!(in alloc; "1.{minor} id {id} status {status}{contexts}, body at {body}; {again}")?)
 }
 
 fn locate_request(
@@ -126,6 +128,14 @@ fn locate_reply(
     } = head;
     let minor = version.minor();
     Ok(format!(in alloc; "1.{minor} id {id} status {status}, body at {body}; {again}")?)
+}
+
+// The fault of a head that is read, which has to be that of the view.
+fn refused(alloc: Global, fault: CdrFault, other: Option<CdrFault>) -> Result<String> {
+    if other != Some(fault) {
+        bail!("two answers");
+    }
+    Ok(format!(in alloc; "{fault}")?)
 }
 
 /// What was written, or `Unfit`, where that agrees with whether it can be.
