@@ -15,12 +15,12 @@ use Rattle.giop_calls.specs.ClientTable as client
 use Rattle.giop_calls.specs.declared.client.entry.ClientEntry.{ClientEntry}
 use Rattle.giop_calls.specs.declared.fault.CallFault.{CallFault}
 use Rattle.giop_calls.specs.declared.fault.CallFault.TheVariants.{NotOpen}
-use Rattle.giop_session.specs.declared.form.Form.{Form}
+use Rattle.giop_session.specs.declared.acts.form.Form.{Form}
 use Rattle.giop_session.specs.declared.laws.inputs.Answered.{Answered}
 use Rattle.giop_session.specs.declared.laws.inputs.Answered.TheVariants as answer
 use Rattle.giop_session.specs.declared.laws.inputs.ClientInput.TheVariants as client_input
 use Rattle.giop_session.specs.declared.session_fault.SessionFault.TheVariants.{Call as InCall, NoMemory}
-use Rattle.giop_session.specs.declared.slot.Slot.{Slot}
+use Rattle.giop_session.specs.declared.calls.slot.Slot.{Slot}
 use Rattle.giop_session.specs.Worlds.Agreement.{AreInRange}
 use Rattle.giop_session.specs.Calls.CallTable.{rules_of}
 use Rattle.giop_session.specs.Acts.ClientCalls.{IsCancel, cancel_fault, open_version}

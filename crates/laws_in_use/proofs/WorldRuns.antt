@@ -35,15 +35,15 @@ use Rattle.giop_calls.specs.ClientTable as client
 use Rattle.giop_calls.specs.ServerTable as server
 use Rattle.giop_session.specs.declared.laws.inputs.Answered.{Answered}
 use Rattle.giop_session.specs.declared.laws.inputs.Answered.TheVariants as answer
-use Rattle.giop_session.specs.declared.form.Form.{Form}
+use Rattle.giop_session.specs.declared.acts.form.Form.{Form}
 use Rattle.giop_session.specs.declared.laws.inputs.WorldEvent.{WorldEvent}
 use Rattle.giop_session.specs.declared.laws.inputs.ClientInput.TheVariants as client_input
 use Rattle.giop_session.specs.declared.laws.inputs.ServerInput.TheVariants as server_input
-use Rattle.giop_session.specs.declared.plan.Planned.{Planned}
+use Rattle.giop_session.specs.declared.calls.plan.Planned.{Planned}
 use Rattle.giop_session.specs.declared.session_fault.SessionFault.{SessionFault}
 use Rattle.giop_session.specs.declared.session_fault.SessionFault.TheVariants.{Call as InCall, NoMemory}
-use Rattle.giop_session.specs.declared.slot.Slot.{Slot}
-use Rattle.giop_session.specs.declared.table_fault.TableFault.{TableFault}
+use Rattle.giop_session.specs.declared.calls.slot.Slot.{Slot}
+use Rattle.giop_session.specs.declared.calls.table_fault.TableFault.{TableFault}
 use Rattle.giop_session.specs.Acts.Acting.{IsAccepted}
 use Rattle.giop_session.specs.Runs.Alone.{alone_heard, own_messages}
 use Rattle.giop_session.specs.Calls.CallTable.{Act, Call, Hears, Held, Nothing, Reply, at, rules_of, turn}

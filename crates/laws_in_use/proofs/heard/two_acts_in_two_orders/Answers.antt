@@ -5,6 +5,7 @@ use Rattle.giop_cdr.specs.Layout.{number, chosen}
 use Rattle.giop_cdr.specs.Reading.Values.{field_at, number_at}
 use Rattle.giop_ids.specs.Runs.{alone, is_own, left, own, told_alone}
 use Rattle.giop_msg.specs.RequestId.{request_id_layout}
+use Rattle.giop_calls.specs.declared.server.event.ServerEvent.{ServerEvent}
 use Rattle.giop_calls.specs.ServerTable.{is_closed, is_gathering, server_step}
 use Rattle.giop_session.specs.Calls.CallTable.{at, is_of_call, turn}
 use Rattle.giop_session.specs.Runs.Events.{Comes, Follows, own_events}
@@ -54,7 +55,7 @@ returns-clause-either c = λ k k' results results' run run' free free'.
     c.any_interleaving.ensures (new limits) k k' (begins ∷ asks ∷ []) (asks ∷ begins ∷ []) results results' run run' free free'
     (λ id. same_by (7 == id) (9 == id) (apart id))
 
-own_is : own_events 7 (Comes door_begins ∷ Comes key_little ∷ []) ≡ Comes door_begins ∷ []
+own_is : own_events {V = ServerEvent} 7 (Comes door_begins ∷ Comes key_little ∷ []) ≡ Comes door_begins ∷ []
 unfolding request_id_layout chosen number number_at field_at
 own_is = refl
 
