@@ -22,6 +22,8 @@ mod serving;
 mod session;
 mod table;
 mod target;
+mod trace;
+mod trace_text;
 
 pub use answering::{Answer, Due, due_to};
 pub use call::{call_over, call_session};
@@ -37,3 +39,5 @@ pub use serve::{serve_over, serve_session};
 pub use serving::Serving;
 pub use table::{Tabled, write_table};
 pub use target::{Endpoint, Targeted, target_of};
+pub use trace::{Heard, trace_stream};
+pub use trace_text::trace_text;

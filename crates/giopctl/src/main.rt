@@ -22,6 +22,7 @@ mod session_words;
 mod status;
 #[cfg(test)]
 mod tests;
+mod tracing;
 
 use cli::Task;
 use commands::BehindFault;
@@ -44,6 +45,7 @@ fn run(rt: &HostRuntime) -> Status {
     match cli::task_of(rt.alloc(), words.as_slice()) {
         Ok(Some(Task::Dump { file, limit })) => report::answer(rt, file, dump(rt, file, limit)),
         Ok(Some(Task::Check(words))) => checking::check(rt, words),
+        Ok(Some(Task::Trace(words))) => tracing::trace(rt, words),
         Ok(Some(Task::Convert { file, kind })) => converting::convert(rt, file, kind),
         Ok(Some(Task::Call(words))) => calling::call(rt, words),
         Ok(Some(Task::Serve(words))) => serving::serve(rt, words),
