@@ -1,5 +1,5 @@
-//! `trace` over files and the standard output. What it prints is commands/trace.rt, over any readers
-//! and writer.
+//! `trace` over files and the standard output. What it prints is commands/trace.rt, over any
+//! readers and writer.
 
 use crate::cli::TraceWords;
 use crate::commands::{Heard, trace_text};
