@@ -1,10 +1,15 @@
 //! Messages by a few words, and what an observer tells as a line.
+ghost use Rattle.std.specs.Prelude.{◌≤◌, ◌^◌, length, IfOk};
+
 use giop_cdr::{OctetList, Order};
 use giop_msg::{Kind, Msg, Version};
 use giop_trace::{Direction, Flow, Observer};
 use std::alloc::{AllocError, Global};
 use std::process::Abort;
 use std::test::Fail;
+
+// The most octets of a message that is heard.
+const MOST: usize = 1 << 62;
 
 /// A message behind its request id.
 #[derive(Clone, Copy)]
@@ -56,12 +61,17 @@ pub const fn first(by: Direction, kind: Kind, id: u32, behind: &'static [u8]) ->
 }
 
 /// The message.
-pub fn message(alloc: Global, brought: Brought) -> Result<Msg, AllocError> {
+pub fn message(alloc: Global, brought: Brought) -> Result<Msg, AllocError>
+    ensures { IfOk result (λ message. length message.payload ≤ 2 ^ 62) }
+{
     let mut payload = OctetList::new(alloc);
     if brought.kind.has_request_id() {
         payload.extend_from_slice(&brought.order.ulong_octets(brought.id))?;
     }
     payload.extend_from_slice(brought.behind)?;
+    if payload.len() > MOST {
+        return Err(AllocError);
+    }
     Ok(Msg {
         version: Version::V12,
         order: brought.order,
