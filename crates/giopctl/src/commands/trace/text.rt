@@ -1,0 +1,27 @@
+//! `trace` by the text of an interface.
+
+use crate::commands::convert::refuse;
+use crate::commands::convert::value::form_refusal;
+use crate::commands::trace::{Heard, trace_stream};
+use crate::failure::Failure;
+use crate::status::Status;
+use giop_types::Interface;
+use std::alloc::Global;
+use std::io::{Read, Write};
+
+/// Traces the octets that two readers give by an interface in JSON, as `trace_stream` says. Where
+/// the text is no interface, the line of its fault is written, and nothing is read; `Refused`.
+pub fn trace_text<C: Read, S: Read, W: Write>(
+    alloc: Global,
+    interface: &[u8],
+    limit: u32,
+    heard: Heard,
+    client: &mut C,
+    server: &mut S,
+    writer: &mut W,
+) -> Result<Status, Failure> {
+    match Interface::from_json(alloc, interface) {
+        Ok(interface) => trace_stream(alloc, &interface, limit, heard, client, server, writer),
+        Err(fault) => refuse(form_refusal(fault)?, writer),
+    }
+}
