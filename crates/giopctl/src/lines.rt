@@ -1,6 +1,6 @@
 //! The lines that the commands write, without their newlines. Each is pinned to a text in
-//! specs/Lines.antt, TableLines.antt, SessionLines.antt or ConvertLines.antt, and docs/giopctl.md
-//! shows it: change all three.
+//! specs/Lines.antt, TableLines.antt, SessionLines.antt, ConvertLines.antt or TraceLines.antt, and
+//! docs/giopctl.md shows it: change all three.
 
 mod cdr_fault;
 mod client_entry;
@@ -29,4 +29,4 @@ pub use reply::ReplyLine;
 pub use request::RequestLine;
 pub use server_entry::{RequestFaultText, ServerEntryLine};
 pub use session_fault::SessionFaultLine;
-pub use traced::{IdText, MinorText, OwnTargetText};
+pub use traced::{DirectionEndLine, IdText, MinorText, OwnTargetText};

@@ -1,4 +1,6 @@
 //! `trace`: both directions of one connection, a line for each call when it is over.
+ghost use Rattle.std.specs.Prelude.{◌≡◌, None, IfNone, IfOk, OnOk, false};
+ghost use Rattle.std.specs.Io.KnownBytes.{IsAtEnd};
 
 mod answer_part;
 mod asked_part;
@@ -8,10 +10,9 @@ mod incoming;
 pub mod text;
 
 use crate::commands::trace::call_line::{Unanswered, write_call};
-use crate::commands::trace::incoming::Incoming;
+use crate::commands::trace::incoming::{Brought, Incoming};
 use crate::failure::Failure;
 use crate::status::Status;
-use giop_msg::Msg;
 use giop_trace::{Direction, Observer};
 use giop_types::Interface;
 use std::alloc::Global;
@@ -34,7 +35,7 @@ struct Tracing {
     observer: Observer,
     client: Incoming,
     server: Incoming,
-    held: Option<Msg>,
+    held: Option<Brought>,
 }
 
 /// Writes a line for each call of a connection when it is over, then one for each that is open, by
@@ -55,7 +56,13 @@ pub fn trace_stream<C: Read, S: Read, W: Write>(
     client: &mut C,
     server: &mut S,
     writer: &mut W,
-) -> Result<Status, Failure> {
+) -> Result<Status, Failure>
+    ensures client { IfOk result (λ status. status ≡ Status.Done
+        → IsAtEnd (C.remaining client.new)) }
+    ensures server { IfOk result (λ status. status ≡ Status.Done → heard ≡ Heard.Both
+        → IsAtEnd (S.remaining server.new)) }
+    ensures alone { heard ≡ Heard.Client → S.remaining server.new ≡ S.remaining server.old }
+{
     let mut tracing = Tracing {
         observer: Observer::new(alloc, heard == Heard::Client),
         client: Incoming::new(alloc, limit)?,
@@ -65,12 +72,12 @@ pub fn trace_stream<C: Read, S: Read, W: Write>(
     if heard == Heard::Client {
         hear_client(alloc, interface, &mut tracing, client, writer)?;
         write_open(alloc, interface, &tracing.observer, writer)?;
-        return tracing.client.write_end("client", writer);
+        return tracing.client.write_end(Direction::Client, writer);
     }
     hear_both(alloc, interface, &mut tracing, client, server, writer)?;
     write_open(alloc, interface, &tracing.observer, writer)?;
-    let client = tracing.client.write_end("client", writer)?;
-    let server = tracing.server.write_end("server", writer)?;
+    let client = tracing.client.write_end(Direction::Client, writer)?;
+    let server = tracing.server.write_end(Direction::Server, writer)?;
     Ok(match client {
         Status::Done => server,
         _ => client,
@@ -84,8 +91,11 @@ fn hear_client<C: Read, W: Write>(
     tracing: &mut Tracing,
     client: &mut C,
     writer: &mut W,
-) -> Result<(), Failure> {
-    for _ in 0..u64::MAX {
+) -> Result<(), Failure>
+    ensures { OnOk result (tracing.new.client.fault ≡ None
+        → IsAtEnd (C.remaining client.new)) }
+{
+    'messages: for _ in 0..u64::MAX {
         let Some(message) = tracing.client.next(client, writer)? else {
             return Ok(());
         };
@@ -109,8 +119,13 @@ fn hear_both<C: Read, S: Read, W: Write>(
     client: &mut C,
     server: &mut S,
     writer: &mut W,
-) -> Result<(), Failure> {
-    for _ in 0..u64::MAX {
+) -> Result<(), Failure>
+    ensures client { OnOk result (tracing.new.client.fault ≡ None
+        → IsAtEnd (C.remaining client.new)) }
+    ensures server { OnOk result (tracing.new.server.fault ≡ None
+        → IsAtEnd (S.remaining server.new)) }
+{
+    'messages: for _ in 0..u64::MAX {
         let Some(message) = tracing.client.next(client, writer)? else {
             return hear_server(alloc, interface, tracing, false, server, writer);
         };
@@ -135,12 +150,16 @@ fn hear_server<S: Read, W: Write>(
     waits: bool,
     server: &mut S,
     writer: &mut W,
-) -> Result<(), Failure> {
-    for _ in 0..u64::MAX {
+) -> Result<(), Failure>
+    ensures end { OnOk result (waits ≡ false → tracing.new.server.fault ≡ None
+        → IsAtEnd (S.remaining server.new)) }
+    ensures same { tracing.new.client ≡ tracing.old.client }
+{
+    'messages: for _ in 0..u64::MAX {
         let Some(message) = next_of_server(tracing, server, writer)? else {
             return Ok(());
         };
-        if waits && tracing.observer.is_early(&message) {
+        if waits && tracing.observer.is_early(&message.message) {
             tracing.held = Some(message);
             return Ok(());
         }
@@ -161,7 +180,11 @@ fn next_of_server<S: Read, W: Write>(
     tracing: &mut Tracing,
     server: &mut S,
     writer: &mut W,
-) -> Result<Option<Msg>, Failure> {
+) -> Result<Option<Brought>, Failure>
+    ensures end { IfOk result (λ o. IfNone o (tracing.new.server.fault ≡ None
+        → IsAtEnd (S.remaining server.new))) }
+    ensures same { tracing.new.client ≡ tracing.old.client }
+{
     match tracing.held.take() {
         Some(message) => Ok(Some(message)),
         None => tracing.server.next(server, writer),
@@ -174,10 +197,13 @@ fn tell<W: Write>(
     interface: &Interface,
     tracing: &mut Tracing,
     direction: Direction,
-    message: Msg,
+    brought: Brought,
     writer: &mut W,
-) -> Result<(), Failure> {
-    let told = tracing.observer.hear(direction, message)?;
+) -> Result<(), Failure>
+    ensures client { tracing.new.client ≡ tracing.old.client }
+    ensures server { tracing.new.server ≡ tracing.old.server }
+{
+    let told = tracing.observer.hear(direction, brought.message)?;
     let unanswered = if tracing.observer.alone {
         Unanswered::Untold
     } else {

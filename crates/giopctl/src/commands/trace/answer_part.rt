@@ -1,4 +1,5 @@
 //! What a call came to, in its line.
+ghost use Rattle.std.specs.Prelude.{◌^◌, ◌≤◌, length};
 
 use crate::commands::call::table::brought_by;
 use crate::failure::Failure;
@@ -20,11 +21,13 @@ pub fn write_answer<W: Write>(
     message: &Msg,
     writer: &mut W,
 ) -> Result<(), Failure> {
+    if message.payload.len() > MOST {
+        return Err(Failure::Memory);
+    }
     match message.kind {
         Kind::Reply | Kind::LocateReply if message.more => {
             write_octets("Unfinished", message, writer)
         }
-        Kind::Reply | Kind::LocateReply if message.payload.len() > MOST => Err(Failure::Memory),
         Kind::Reply => write_reply(alloc, interface, request, message, writer),
         Kind::LocateReply => write_located(message, writer),
         _ => write_octets("Server", message, writer),
@@ -43,7 +46,9 @@ fn write_reply<W: Write>(
     request: Option<&Request>,
     message: &Msg,
     writer: &mut W,
-) -> Result<(), Failure> {
+) -> Result<(), Failure>
+    requires { length message.now.payload ≤ 2 ^ 62 }
+{
     let joined = SliceOctets::new(message.payload.as_slice());
     let (version, order) = (message.version, message.order);
     match Reply::decode(alloc, interface, request, &joined, version, order) {
@@ -51,7 +56,7 @@ fn write_reply<W: Write>(
         Err(fault) if fault.kind == CdrKind::NoMemory => Err(Failure::Memory),
         Err(fault) => {
             write!(writer, " Undecoded reply {}", CdrFaultText(fault))?;
-            write_exception(message, writer)?;
+            write_exception(alloc, message, writer)?;
             write!(writer, " {}", HexText(message.payload.as_slice()))?;
             Ok(())
         }
@@ -95,7 +100,9 @@ fn write_body<W: Write>(
     Ok(())
 }
 
-fn write_located<W: Write>(message: &Msg, writer: &mut W) -> Result<(), Failure> {
+fn write_located<W: Write>(message: &Msg, writer: &mut W) -> Result<(), Failure>
+    requires { length message.now.payload ≤ 2 ^ 62 }
+{
     let joined = SliceOctets::new(message.payload.as_slice());
     match LocateReplyHead::view(&joined, message.version, message.order) {
         Ok((head, _)) => write!(writer, " LocateDone {}", head.status)?,
@@ -109,20 +116,26 @@ fn write_located<W: Write>(message: &Msg, writer: &mut W) -> Result<(), Failure>
 
 // Writes the repository id of the user exception that a Reply begins its body with, if it can be
 // read.
-fn write_exception<W: Write>(message: &Msg, writer: &mut W) -> Result<(), Failure> {
+fn write_exception<W: Write>(alloc: Global, message: &Msg, writer: &mut W) -> Result<(), Failure>
+    requires { length message.now.payload ≤ 2 ^ 62 }
+{
     let octets = message.payload.as_slice();
     let joined = SliceOctets::new(octets);
     let (status, place) = match ReplyHead::view(&joined, message.version, message.order) {
         Ok((head, place)) => (head.status, place),
         Err(_) => return Ok(()),
     };
-    let Some(body) = octets.get(place.saturating_sub(12)..) else {
-        return Ok(());
+    let body = match octets.get(place.saturating_sub(12)..) {
+        Some(body) if body.len() <= MOST => SliceOctets::new(body),
+        _ => return Ok(()),
     };
-    let body = SliceOctets::new(body);
-    let mut input = CdrIn::new(&body, message.order, place);
-    match input.string_slice(u32::MAX) {
-        Ok(exception) if status == 1 => write!(writer, " exception {}", EscapedText(exception))?,
+    // No number is aligned to more than 8.
+    let mut input = CdrIn::new(&body, message.order, place % 8);
+    match input.read_string(alloc, u32::MAX) {
+        Ok(exception) if status == 1 => {
+            write!(writer, " exception {}", EscapedText(exception.as_slice()))?
+        }
+        Err(fault) if fault.kind == CdrKind::NoMemory => return Err(Failure::Memory),
         _ => {}
     }
     Ok(())

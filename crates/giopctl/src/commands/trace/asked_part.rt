@@ -1,4 +1,5 @@
 //! What was asked, in the line of a call.
+ghost use Rattle.std.specs.Prelude.{◌^◌, ◌≤◌, length};
 
 use crate::commands::serve::table::request_ins;
 use crate::failure::Failure;
@@ -49,16 +50,20 @@ pub fn asked_of(
     let Some(message) = message else {
         return Ok(Asked::Nothing);
     };
+    if message.payload.len() > MOST {
+        return Err(Failure::Memory);
+    }
     match message.kind {
         Kind::Request | Kind::LocateRequest if message.more => Ok(Asked::Pieces),
-        Kind::Request | Kind::LocateRequest if message.payload.len() > MOST => Err(Failure::Memory),
         Kind::Request => request_of(alloc, interface, message),
         Kind::LocateRequest => locate_of(alloc, message),
         _ => Ok(Asked::Other),
     }
 }
 
-fn request_of(alloc: Global, interface: &Interface, message: &Msg) -> Result<Asked, Failure> {
+fn request_of(alloc: Global, interface: &Interface, message: &Msg) -> Result<Asked, Failure>
+    requires { length message.now.payload ≤ 2 ^ 62 }
+{
     let joined = SliceOctets::new(message.payload.as_slice());
     match Request::decode(alloc, interface, &joined, message.version, message.order) {
         Ok(request) => Ok(Asked::Request(request)),
@@ -67,7 +72,9 @@ fn request_of(alloc: Global, interface: &Interface, message: &Msg) -> Result<Ask
     }
 }
 
-fn locate_of(alloc: Global, message: &Msg) -> Result<Asked, Failure> {
+fn locate_of(alloc: Global, message: &Msg) -> Result<Asked, Failure>
+    requires { length message.now.payload ≤ 2 ^ 62 }
+{
     let joined = SliceOctets::new(message.payload.as_slice());
     match LocateRequest::decode(alloc, &joined, message.version, message.order) {
         Ok(request) => Ok(Asked::Locate(request)),

@@ -1,4 +1,6 @@
 //! `trace` by the text of an interface.
+ghost use Rattle.std.specs.Prelude.{◌≡◌, IfOk};
+ghost use Rattle.std.specs.Io.KnownBytes.{IsAtEnd};
 
 use crate::commands::convert::refuse;
 use crate::commands::convert::value::form_refusal;
@@ -19,7 +21,13 @@ pub fn trace_text<C: Read, S: Read, W: Write>(
     client: &mut C,
     server: &mut S,
     writer: &mut W,
-) -> Result<Status, Failure> {
+) -> Result<Status, Failure>
+    ensures client { IfOk result (λ status. status ≡ Status.Done
+        → IsAtEnd (C.remaining client.new)) }
+    ensures server { IfOk result (λ status. status ≡ Status.Done → heard ≡ Heard.Both
+        → IsAtEnd (S.remaining server.new)) }
+    ensures alone { heard ≡ Heard.Client → S.remaining server.new ≡ S.remaining server.old }
+{
     match Interface::from_json(alloc, interface) {
         Ok(interface) => trace_stream(alloc, &interface, limit, heard, client, server, writer),
         Err(fault) => refuse(form_refusal(fault)?, writer),
