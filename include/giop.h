@@ -3,10 +3,11 @@
  * The library opens no socket, starts no thread, prints nothing and keeps no global state. What each
  * function does is proved over what its handle holds; docs/c.md says what that leaves to the caller.
  *
- * Handles. A handle is a struct that you declare and pass by its address. Begin with GIOP_FRAMER_CLOSED
- * or with all octets zero: such a handle holds nothing, and each call answers GIOP_CLOSED. The library
- * owns what a handle points to. Don't copy a handle, don't write to it, and don't pass NULL for one; two
- * calls at one handle must not overlap, and a handle stays on the thread that opened it.
+ * Handles. A handle is a struct that you declare and pass by its address. Begin with {0}, as
+ * GIOP_FRAMER_CLOSED is, or with all octets zero: such a handle holds nothing, and each call answers
+ * GIOP_CLOSED. The library owns what a handle points to. Don't copy a handle, don't write to it, and don't
+ * pass NULL for one; two calls at one handle must not overlap, and a handle stays on the thread that opened
+ * it.
  *
  * Statuses. Each function says below which of these it answers, and it answers no other.
  */
@@ -133,6 +134,35 @@ uint32_t giop_request_head(const giop_message *message, const uint8_t *payload, 
 
 /* Frees what the handle holds, which holds nothing then. A second call does nothing. */
 void giop_framer_free(giop_framer *framer);
+
+/* ---- interfaces ----
+ *
+ * An interface says what the operations of an object take and give. It is made of JSON (docs/FORMATS.md).
+ */
+typedef struct giop_interface {
+    void *at;
+} giop_interface;
+
+/* Why a text of JSON is refused. */
+typedef struct giop_text_fault {
+    uint32_t number;      /* what is wrong, one of GIOP_TEXT_ */
+    uint32_t description; /* with GIOP_TEXT_BAD_DESCRIPTION what is wrong with one: 1 it is empty, 2 a name
+                           * or a label is doubled, 3 a discriminant is bad, 4 it is nested too deep; else 0 */
+} giop_text_fault;
+
+#define GIOP_TEXT_BAD_JSON 1u        /* it is no JSON, or nests more than 127 deep */
+#define GIOP_TEXT_BAD_SHAPE 2u       /* it has another form than the one that is asked for */
+#define GIOP_TEXT_BAD_DESCRIPTION 3u /* a description describes no type of IDL */
+#define GIOP_TEXT_UNFIT 4u           /* a value isn't of its description, or there are too many or too few */
+
+/* Opens a handle: the interface that a text of JSON is. What the handle held is let go. Answers GIOP_OK;
+ * GIOP_FAULT: the text is refused, and *fault says why; or GIOP_NO_MEMORY. With both the handle is as it
+ * was. *fault is written with GIOP_FAULT alone. json may be NULL where size is 0. */
+uint32_t giop_interface_new(giop_interface *interface, const uint8_t *json, size_t size,
+                            giop_text_fault *fault);
+
+/* Lets go what the handle holds, which holds nothing then. A second call does nothing. */
+void giop_interface_free(giop_interface *interface);
 
 #ifdef __cplusplus
 }

@@ -187,10 +187,37 @@ def limits():
         + [text for _, text in lists for _ in range(2)] + ['true'])
 
 
+ASKED, ANSWER = 'whole request 3 1.2', 'answer 1.2 1'
+
+
+def tables():
+    """Tables as large as their limit: of a thousand calls, half of which are answered and taken; of
+    the default limit, whose calls go one by one; and a run of two events for each call."""
+    ids = [turn * 7 % 1000 for turn in range(1000)]
+    given = ['server 1000'] + [f'{call} {ASKED}' for call in ids] + ['len', 'full']
+    printed = ['server 1000'] + ['done'] * 1000 + ['1000', 'true']
+    for call in range(500):
+        given += [f'{call} {ANSWER}', f'take {call}']
+        printed += ['done', 'answered 0']
+    yield 'call_rows', [], given + ['len', 'ids'], printed + [
+        '500', ' '.join(str(call) for call in range(500, 1000))]
+    ids = [turn * 4099 for turn in range(1024)]
+    given = ['server 1024'] + [f'{call} {ASKED}' for call in ids] + ['full', f'1 {ASKED}', 'ids']
+    printed = ['server 1024'] + ['done'] * 1024 + ['true', 'TooManyCalls', ' '.join(map(str, ids))]
+    for call in ids:
+        given += [f'entry {call}', f'{call} {ANSWER}', f'take {call}']
+        printed += ['asked', 'done', 'answered 0']
+    yield 'call_rows', [], given + ['empty'], printed + ['true']
+    given = [f'{call} {event}' for event in (ASKED, ANSWER) for call in range(1024)]
+    yield 'call_rows', [], ['server-run 1024'] + given + ['full'], (
+        ['server-run 1024'] + ['done'] * 2048 + ['true'])
+
+
 SUBJECTS = {
     'any_interleaving_in_any_reads_gives_one_table': interleavings,
     'random_calls_gather_what_a_plain_table_does': random_calls,
     'lists_hold_all_octets_of_the_limit': limits,
+    'calls_of_the_limit_stand_side_by_side': tables,
 }
 
-PROGRAMS = ['gather_rows', 'session_rows']
+PROGRAMS = ['call_rows', 'gather_rows', 'session_rows']

@@ -1,11 +1,11 @@
 //! The rule of a client, for rows.
 
 use crate::made;
-use crate::ruled::Ruled;
-use crate::words::{flags, is_first, kind, kind_word, number, version};
+use crate::ruled::{Ruled, kind, kind_word, version};
 use anyhow::{Result, bail};
 use giop_calls::{Call, CallKind, ClientEntry, ClientEvent, ClientRule, HeardReply, Late, Outcome};
 use giop_msg::{Reply, Version};
+use rows::{is_first, number, small};
 use std::alloc::{AllocError, Global};
 use std::fmt::Write;
 
@@ -17,7 +17,7 @@ impl Ruled for ClientRule {
                 pieces: number(pieces)?,
             },
             ["call", word, pieces] => ClientEvent::Call {
-                call: Call::Request(made::request(alloc, flags(word)?, Version::V12)?),
+                call: Call::Request(made::request(alloc, small(word)?, Version::V12)?),
                 pieces: number(pieces)?,
             },
             ["send"] => ClientEvent::Send,

@@ -11,12 +11,12 @@ mod rule;
 mod ruled;
 mod server;
 mod table;
-mod words;
 
 use anyhow::{Result, bail};
 use giop_calls::{ClientRule, ServerRule};
+use rows::{number, print_rows, split};
+use rule::ByItself;
 use std::io::Read;
-use words::{number, split};
 
 fn main(rt: HostRuntime) -> Result<()> {
     let mut octets = Vec::new(rt.alloc());
@@ -31,12 +31,14 @@ fn run(rt: &HostRuntime, lines: &[&str]) -> Result<()> {
         bail!("there is no line");
     };
     println!(rt; "{first}")?;
-    let words = split(rt.alloc(), first)?;
+    let alloc = rt.alloc();
+    let words = split(alloc, first)?;
     match words.as_slice() {
-        ["server"] => rule::run(rt, ServerRule, rows),
-        ["client"] => rule::run(rt, ClientRule, rows),
-        ["server", calls] => table::run(rt, ServerRule, number(calls)?, rows),
-        ["client", calls] => table::run(rt, ClientRule, number(calls)?, rows),
+        ["server"] => print_rows(rt, alloc, &mut ByItself { rule: ServerRule }, rows),
+        ["client"] => print_rows(rt, alloc, &mut ByItself { rule: ClientRule }, rows),
+        ["server", calls] => table::run(rt, alloc, ServerRule, number(calls)?, rows),
+        ["client", calls] => table::run(rt, alloc, ClientRule, number(calls)?, rows),
+        ["server-run", calls] => table::run_at_once(rt, alloc, ServerRule, number(calls)?, rows),
         _ => bail!("no such rule: {first}"),
     }
 }

@@ -1,33 +1,29 @@
 //! Rows of a rule by itself: `EVENT.. at ENTRY..`.
 
 use crate::ruled::{Ruled, entry_text};
-use crate::words::split;
 use anyhow::{Context, Result};
 use giop_calls::{CallFault, Outcome};
 use giop_msg::Reply;
 use giop_mux::CallRule;
+use rows::Rows;
 use std::alloc::Global;
 
-/// Prints for each row what the event came to, and the entry behind it.
-pub fn run<R: Ruled>(rt: &HostRuntime, rule: R, rows: &[&str]) -> Result<()> {
-    for row in rows {
-        let text = stepped(rt.alloc(), rule, row)?;
-        println!(rt; "{text}")?;
-    }
-    Ok(())
+/// A rule by itself.
+#[derive(Drop)]
+pub struct ByItself<R: Ruled> {
+    pub rule: R,
 }
 
-// The line of a row.
-fn stepped<R: Ruled>(alloc: Global, rule: R, row: &str) -> Result<String> {
-    let Some((event, entry)) = row.split_once(" at ") else {
-        return Ok(row.to_string(alloc)?);
-    };
-    let entry_words = split(alloc, entry)?;
-    let entry = R::entry(alloc, entry_words.as_slice())?;
-    let words = split(alloc, event)?;
-    match words.as_slice() {
-        ["outcome"] => outcome_text::<R>(alloc, &entry.context("no entry")?),
-        words => step_text(alloc, rule, entry, R::event(alloc, words)?),
+impl<R: Ruled> Rows for ByItself<R> {
+    /// What the event came to, and the entry behind it; or what the call came to.
+    fn line(&mut self, alloc: Global, words: &[&str]) -> Result<String> {
+        let at = words.iter().position(|word| *word == "at");
+        let at = at.context("a row is EVENT at ENTRY")?;
+        let entry = R::entry(alloc, &words[at + 1..])?;
+        match &words[..at] {
+            ["outcome"] => outcome_text::<R>(alloc, &entry.context("no entry")?),
+            event => step_text(alloc, self.rule, entry, R::event(alloc, event)?),
+        }
     }
 }
 

@@ -1,8 +1,8 @@
 //! What both rules have, for rows.
 
-use anyhow::Result;
-use giop_calls::{CallFault, Outcome};
-use giop_msg::Reply;
+use anyhow::{Result, bail};
+use giop_calls::{CallFault, CallKind, Outcome};
+use giop_msg::{Reply, Version};
 use giop_mux::CallRule;
 use std::alloc::{AllocError, Global};
 
@@ -29,4 +29,31 @@ pub fn entry_text<R: Ruled>(alloc: Global, entry: Option<&R::Entry>) -> Result<S
         None => text.push_str("absent")?,
     }
     Ok(text)
+}
+
+/// `1.0`, `1.1` or `1.2`.
+pub fn version(word: &str) -> Result<Version> {
+    Ok(match word {
+        "1.0" => Version::V10,
+        "1.1" => Version::V11,
+        "1.2" => Version::V12,
+        _ => bail!("no version: {word}"),
+    })
+}
+
+/// `request` or `locate`.
+pub fn kind(word: &str) -> Result<CallKind> {
+    Ok(match word {
+        "request" => CallKind::Request,
+        "locate" => CallKind::Locate,
+        _ => bail!("no kind: {word}"),
+    })
+}
+
+/// `request` or `locate`.
+pub fn kind_word(kind: CallKind) -> &'static str {
+    match kind {
+        CallKind::Request => "request",
+        CallKind::Locate => "locate",
+    }
 }

@@ -1,13 +1,13 @@
 //! The rule of a server, for rows.
 
 use crate::made;
-use crate::ruled::Ruled;
-use crate::words::{flags, is_first, kind, kind_word, number, version};
+use crate::ruled::{Ruled, kind, kind_word, version};
 use anyhow::{Result, bail};
 use giop_calls::{
     CallKind, HeardCall, Outcome, Question, ServerEntry, ServerEvent, ServerRule, UndecodedCall,
 };
 use giop_msg::{Reply, Version};
+use rows::{is_first, number, small};
 use std::alloc::{AllocError, Global};
 use std::fmt::Write;
 
@@ -95,7 +95,7 @@ fn expects(word: &str) -> Result<Option<CallKind>> {
 fn heard(alloc: Global, words: &[&str]) -> Result<HeardCall> {
     Ok(match words {
         ["request", word, of] => {
-            HeardCall::Request(made::request(alloc, flags(word)?, version(of)?)?)
+            HeardCall::Request(made::request(alloc, small(word)?, version(of)?)?)
         }
         ["locate"] => HeardCall::Locate(made::locate_request(alloc, Version::V12)?),
         ["undecoded", word] => HeardCall::Undecoded(made::undecoded(expects(word)?)),

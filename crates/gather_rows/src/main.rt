@@ -5,12 +5,13 @@
 //! and what is wrong isn't known here: who runs this compares.
 #![tactic(auto)]
 
-mod octets;
+mod lying;
 
 use anyhow::{Result, bail};
 use giop_cdr::Order;
 use giop_frag::{Gather, GatherFault};
-use octets::{each_octet, octets, order, order_word, runs, shown};
+use lying::{each_octet, runs};
+use rows::{Rows, number, octets, order, order_word, print_rows, shown, split};
 use std::alloc::{AllocError, Global};
 use std::io::Read;
 
@@ -32,40 +33,44 @@ fn run(rt: &HostRuntime, lines: &[&str]) -> Result<()> {
     let ["gather", limit] = words.as_slice() else {
         bail!("the first line is gather and the limit");
     };
-    let mut gather = Gather::new(alloc, number(limit)? as usize);
-    for row in rows {
-        let text = done(alloc, &mut gather, row)?;
-        println!(rt; "{text}")?;
-    }
-    Ok(())
+    let mut gathering = Gathering {
+        gather: Gather::new(alloc, number(limit)? as usize),
+    };
+    print_rows(rt, alloc, &mut gathering, rows)
 }
 
-// The line of a row.
-fn done(alloc: Global, gather: &mut Gather, row: &str) -> Result<String> {
-    let words = split(alloc, row)?;
-    match words.as_slice() {
-        [] => Ok(row.to_string(alloc)?),
-        ["begin", id, order_word, word] => {
-            let octets = octets(alloc, word)?;
-            begin(
-                alloc,
-                gather,
-                number(id)?,
-                order(order_word)?,
-                octets.as_slice(),
-            )
+// The gatherer at which the rows act.
+#[derive(Drop)]
+struct Gathering {
+    gather: Gather,
+}
+
+impl Rows for Gathering {
+    fn line(&mut self, alloc: Global, words: &[&str]) -> Result<String> {
+        let gather = &mut self.gather;
+        match words {
+            ["begin", id, of_order, word] => {
+                let octets = octets(alloc, word)?;
+                begin(
+                    alloc,
+                    gather,
+                    number(id)?,
+                    order(of_order)?,
+                    octets.as_slice(),
+                )
+            }
+            ["add", id, of_order, word] => {
+                let octets = octets(alloc, word)?;
+                let answer = gather.add(number(id)?, order(of_order)?, octets.as_slice());
+                Ok(answer_text(alloc, answer)?)
+            }
+            ["discard", id] => {
+                gather.discard(number(id)?);
+                Ok("done".to_string(alloc)?)
+            }
+            ["finish", id] => finish(alloc, gather, number(id)?),
+            words => asked(alloc, gather, words),
         }
-        ["add", id, order_word, word] => {
-            let octets = octets(alloc, word)?;
-            let answer = gather.add(number(id)?, order(order_word)?, octets.as_slice());
-            Ok(answer_text(alloc, answer)?)
-        }
-        ["discard", id] => {
-            gather.discard(number(id)?);
-            Ok("done".to_string(alloc)?)
-        }
-        ["finish", id] => finish(alloc, gather, number(id)?),
-        words => asked(alloc, gather, words),
     }
 }
 
@@ -126,21 +131,5 @@ fn answer_text(alloc: Global, answer: Result<(), GatherFault>) -> Result<String,
     match answer {
         Ok(()) => "done".to_string(alloc),
         Err(fault) => format!(in alloc; "{fault}"),
-    }
-}
-
-// The words of a line, up to a comment.
-fn split(alloc: Global, line: &str) -> Result<Vec<&str>, AllocError> {
-    let row = match line.split_once('#') {
-        Some((row, _)) => row,
-        None => line,
-    };
-    row.split_whitespace().collect(alloc)
-}
-
-fn number(word: &str) -> Result<u32> {
-    match word.parse::<u32>() {
-        Ok(number) => Ok(number),
-        Err(_) => bail!("no number: {word}"),
     }
 }

@@ -6,6 +6,7 @@ use Rattle.std.proofs.alloc.Global.TheLaws as global_laws
 use Rattle.std.specs.contracts.impls.GlobalAllocator.TheImpl.{ghosts}
 use Rattle.handle.specs.contracts.raw_box.RawBox as raw_box
 use Rattle.giop_c.specs.contracts.reader.Reader as reader
+use Rattle.giop_c.specs.contracts.shared.Shared as shared
 
 abbrev pub Heap : RattleType
 Heap = global.the_row
@@ -16,3 +17,7 @@ heap_laws = global_laws.the_row_laws
 -- a reader behind a pointer
 abbrev pub RawReader : RattleType
 RawReader = raw_box.the_row reader.the_row Heap ghosts
+
+-- an interface behind a pointer
+abbrev pub RawShared : RattleType
+RawShared = raw_box.the_row shared.the_row Heap ghosts

@@ -1,3 +1,4 @@
 pub mod Calls
 pub mod Heads
+pub mod Interfaces
 pub mod Records

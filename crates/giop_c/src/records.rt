@@ -1,10 +1,12 @@
 //! The structs that cross to C by value. `include/giop.h` declares them too: change both.
 ghost use Rattle.std.specs.Prelude.{◌≡◌, ◌<◌, ◌^◌, length};
 ghost use Rattle.giop_c.specs.Heads.{c_cdr_fault};
+ghost use Rattle.giop_c.specs.Interfaces.{c_text_fault, description_number};
 ghost use Rattle.giop_c.specs.Records.{c_fault, c_message};
 
 use giop_cdr::CdrFault;
 use giop_msg::{Msg, WireFault};
+use giop_types::FormFault;
 
 /// What the header of a message says, as C sees it: `giop_message`.
 #[repr(C)]
@@ -86,4 +88,36 @@ pub struct Request {
     pub flags: u8,
     /// The addressing disposition: 0 a key, 1 a profile, 2 a reference.
     pub target: u8,
+}
+
+/// Why a text of JSON is refused, as C sees it: `giop_text_fault`.
+#[repr(C)]
+#[derive(Clone, Copy, Debug, PartialEq, Eq)]
+pub struct TextFault {
+    /// The number of what is wrong, 1 to 5.
+    pub number: u32,
+    /// Where a description is wrong, the number of that, 1 to 4; else 0.
+    pub description: u32,
+}
+
+impl TextFault {
+    /// A fault of a text.
+    pub fn of(refused: FormFault) -> TextFault
+        ensures { result ≡ c_text_fault refused }
+    {
+        TextFault {
+            number: u32::from(refused.number()),
+            description: description_number(refused),
+        }
+    }
+}
+
+// The number of a description's fault, where that is what is wrong.
+fn description_number(refused: FormFault) -> u32
+    ensures { result ≡ description_number refused }
+{
+    match refused {
+        FormFault::BadDesc(fault) => u32::from(fault.number()),
+        _ => 0,
+    }
 }

@@ -1,4 +1,5 @@
-//! What no clause of giop_cdr says: worked octets, the printed faults, and runs without memory.
+//! What neither a clause of giop_cdr nor a row says: runs without memory. All else are rows
+//! (tests/cases).
 #![tactic(auto)]
 
 #[cfg(test)]

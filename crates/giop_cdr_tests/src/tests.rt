@@ -1,9 +1,2 @@
-//! The tests of giop_cdr, a subject a file; `shown` and `two_parts` are what they share.
-mod encapsulations;
-mod faults;
+//! What of giop_cdr only a proved test can say: refused allocations.
 mod memory;
-mod reading;
-mod shown;
-mod two_parts;
-mod views;
-mod writing;

@@ -1,5 +1,5 @@
-//! What no clause of giop_ior says: texts and octets worked by hand from the standard's rules, the
-//! printed names, and that each call succeeds with ample memory.
+//! What neither a clause of giop_ior nor a row says: runs without memory. All else are rows
+//! (tests/cases).
 #![tactic(auto)]
 
 #[cfg(test)]

@@ -1,5 +1,2 @@
-//! The tests of giop_ior, a subject a file.
-mod corbaloc;
-mod ior;
-mod ior_text;
-mod recorded;
+//! What of giop_ior only a proved test can say: refused allocations.
+mod memory;

@@ -1,10 +1,3 @@
-//! The tests of giop_msg, a subject a file; `streams` is what they share.
-mod cutting;
-mod framer;
-mod header;
-mod heads;
+//! What of giop_msg only a proved test can say: refused allocations.
+mod memory;
 mod memory_last;
-mod messages;
-mod replies_written;
-mod request_head;
-mod streams;

@@ -1,5 +1,3 @@
-//! The tests of giop_mux, a subject a file, over a rule of notes.
+//! The tests of giop_mux, over a rule of numbers.
 mod memory;
-mod notes;
-mod refusals;
-mod table;
+mod numbers;

@@ -20,6 +20,7 @@ ghost use Rattle.giop_session.specs.Calls.SessionFaults.{error_message_of};
 
 mod answering;
 mod calling;
+mod detached;
 mod writing;
 
 use crate::acts::outgoing::Outgoing;
@@ -28,6 +29,7 @@ use crate::calls::slot::Slot;
 use crate::hearing::Hearing;
 use crate::limits::Limits;
 use crate::session_fault::SessionFault;
+pub use detached::Detached;
 use giop_calls::{ClientRule, ServerRule};
 use giop_cdr::{OctetList, Order};
 use giop_msg::{Framer, Kind, Msg, Version};

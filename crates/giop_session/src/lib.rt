@@ -31,7 +31,7 @@ pub use calls::side::Side;
 pub use calls::slot::Slot;
 pub use calls::table_fault::TableFault;
 pub use calls::unsent::Unsent;
-pub use end::{ClientEnd, End, ServerEnd, write_out};
+pub use end::{ClientEnd, Detached, End, ServerEnd, write_out};
 pub use hearing::Hearing;
 pub use hearing::with_last::WithLast;
 pub use limits::Limits;

@@ -1,4 +1,5 @@
-//! What no clause of giop_types says: worked octets, and runs without memory.
+//! What neither a clause of giop_types nor a row says: runs without memory, and calls that no
+//! program of rows makes. All else are rows (tests/cases).
 #![tactic(auto)]
 
 #[cfg(test)]

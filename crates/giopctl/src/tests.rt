@@ -1,7 +1,5 @@
 //! What no clause says: the text of worked files, runs that fail, and the words that are taken.
 
-mod calling;
-mod check;
 mod dump;
 mod failing;
 mod octets;
@@ -10,4 +8,3 @@ mod serving;
 mod session_files;
 mod session_words;
 mod target;
-mod words;

@@ -1,12 +1,13 @@
 //! Whole messages that are decoded, and encoded again.
 ghost use Rattle.std.specs.Prelude.{◌≤◌, ◌^◌, length};
 
+use crate::names::version;
 use crate::shown::{reply_text, request_text};
-use crate::words::{octets, order, version};
 use anyhow::Result;
 use giop_cdr::{EncodeFault, SliceOctets};
 use giop_msg::{LocateReply, LocateRequest, Reply, Request, RequestFault, Version};
 use giop_types::Interface;
+use rows::{octets, order};
 use std::alloc::Global;
 
 /// A Request, by the octets behind its header; and it itself. What it says is printed, and then how
@@ -105,15 +106,19 @@ pub fn locate_reply(alloc: Global, of_order: &str, again_in: &str, digits: &str)
     }
 }
 
-// At most a megabyte of octets.
-fn front(octets: &[u8]) -> &[u8]
+/// At most a megabyte of octets.
+pub fn front(octets: &[u8]) -> &[u8]
     ensures { length result.now ≤ 2 ^ 62 }
 {
     &octets[..octets.len().min(1 << 20)]
 }
 
-// What was encoded, where that agrees with whether it can be.
-fn encoded(alloc: Global, writable: bool, again: Result<Vec<u8>, EncodeFault>) -> Result<String> {
+/// What was encoded, or `Unfit`, where that agrees with whether it can be.
+pub fn encoded(
+    alloc: Global,
+    writable: bool,
+    again: Result<Vec<u8>, EncodeFault>,
+) -> Result<String> {
     Ok(match (writable, again) {
         (true, Ok(octets)) => hex::encode(alloc, octets.as_slice())?,
         (false, Err(EncodeFault::Unfit)) => "Unfit".to_string(alloc)?,

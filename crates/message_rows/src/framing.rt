@@ -1,9 +1,10 @@
 //! Messages of a stream, messages that are cut, and request ids.
 
-use crate::words::{kind, octets, order, version};
+use crate::names::{kind, version};
 use anyhow::Result;
 use giop_cdr::{OctetList, Order};
-use giop_msg::{Framer, Msg, can_cut, cut};
+use giop_msg::{Framer, Header, Msg, can_cut, cut, read_pieces};
+use rows::{is_first, number, octets, order};
 use std::alloc::{AllocError, Global};
 use std::fmt::Write;
 
@@ -18,6 +19,52 @@ pub fn next(alloc: Global, framer: &mut Framer) -> Result<String> {
         Ok(None) => Ok("none".to_string(alloc)?),
         Err(fault) => Ok(format!(in alloc; "{fault}")?),
     }
+}
+
+/// All messages that are there at the front of a framer, and `none` behind them or the fault.
+pub fn take(alloc: Global, framer: &mut Framer) -> Result<String> {
+    let mut messages = Vec::new(alloc);
+    let outcome = framer.take_messages(&mut messages);
+    let mut text = messages_text(alloc, messages.as_slice())?;
+    match outcome {
+        Ok(()) => text.push_str("none")?,
+        Err(fault) => write!(text, "{fault}")?,
+    }
+    Ok(text)
+}
+
+/// What a stream has that comes in two pieces: its messages, and how many octets are left behind
+/// them, or the fault.
+pub fn split(alloc: Global, front: &str, back: &str) -> Result<String> {
+    let (front, back) = (octets(alloc, front)?, octets(alloc, back)?);
+    let reading = read_pieces(alloc, 1024, &[front.as_slice(), back.as_slice()])?;
+    let mut text = messages_text(alloc, reading.messages.as_slice())?;
+    match reading.fault {
+        None => write!(text, "{} left", reading.framer.rest())?,
+        Some(fault) => write!(text, "{fault}")?,
+    }
+    Ok(text)
+}
+
+fn messages_text(alloc: Global, messages: &[Msg]) -> Result<String> {
+    let mut text = String::new(alloc);
+    for message in messages {
+        write!(text, "{}, ", message_text(alloc, message)?)?;
+    }
+    Ok(text)
+}
+
+/// The octets of a header, by the words version, order, `more` or `whole`, kind and size.
+pub fn header(alloc: Global, words: [&str; 5]) -> Result<String> {
+    let [of_version, of_order, more, of_kind, size] = words;
+    let header = Header {
+        version: version(of_version)?,
+        order: order(of_order)?,
+        more: is_first(more, "more", "whole")?,
+        kind: kind(of_kind)?,
+        size: number(size)?,
+    };
+    Ok(hex::encode(alloc, header.octets())?)
 }
 
 // `KIND MINOR ORDER more ID PAYLOAD`.

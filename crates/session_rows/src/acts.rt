@@ -1,15 +1,17 @@
 //! What an end is given, by the words of a row.
 
 use crate::messages::{locate_request, reply, request};
-use crate::words::{form, number, octets, order};
+use crate::words::form;
 use anyhow::{Result, bail};
+use giop_cdr::OctetList;
 use giop_session::laws::{ClientInput, ServerInput};
+use rows::{number, octets, order};
 use std::alloc::Global;
 
 /// What a server's end is given.
 pub fn server_input(alloc: Global, words: &[&str]) -> Result<ServerInput> {
     Ok(match words {
-        ["hear", digits] => ServerInput::Feed(octets(alloc, digits)?),
+        ["hear", digits] => ServerInput::Feed(OctetList::from(octets(alloc, digits)?)),
         ["answer", version, id, order, piece, body @ ..] => ServerInput::Answer {
             reply: reply(alloc, version, id, body)?,
             form: form(order, piece)?,
@@ -34,7 +36,7 @@ pub fn server_input(alloc: Global, words: &[&str]) -> Result<ServerInput> {
 /// What a client's end is given.
 pub fn client_input(alloc: Global, words: &[&str]) -> Result<ClientInput> {
     Ok(match words {
-        ["hear", digits] => ClientInput::Feed(octets(alloc, digits)?),
+        ["hear", digits] => ClientInput::Feed(OctetList::from(octets(alloc, digits)?)),
         [
             "call",
             version,

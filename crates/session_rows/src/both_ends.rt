@@ -4,12 +4,12 @@ use crate::first_line::{EndLimits, defaults};
 use crate::one_end::{answered, write_off};
 use crate::shown::{is_question, question, told};
 use crate::side::RowEnd;
-use crate::words::{number, split};
 use anyhow::{Result, bail};
 use giop_calls::{ClientRule, ServerRule};
 use giop_session::laws::Answered;
 use giop_session::{ClientEnd, End, Hearing, ServerEnd};
 use giop_types::Interface;
+use rows::{number, split};
 use std::alloc::Global;
 
 /// Does what each row says, one after the other, and prints what each came to. The client's limits

@@ -1,9 +1,9 @@
 //! The first line: at which ends the rows act, and within which limits.
 ghost use Rattle.std.specs.Prelude.{◌≤◌, ◌^◌, ◌<◌, IfOk};
 
-use crate::words::{number, split};
 use anyhow::{Context, Result, bail};
 use giop_session::Limits;
+use rows::{number, split};
 use std::alloc::Global;
 
 /// Limits of an end that can be made.

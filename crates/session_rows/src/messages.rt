@@ -1,12 +1,13 @@
 //! Requests and replies, by the words of a row.
 
-use crate::words::{number, text, version};
+use crate::words::{text, version};
 use anyhow::{Result, bail};
 use giop_cdr::OctetList;
 use giop_msg::{
     Completion, LocateRequest, Reply, ReplyBody, Request, RequestHead, ServiceContexts, Target,
 };
 use giop_types::{Value, ValueList};
+use rows::number;
 use std::alloc::{AllocError, Global};
 
 /// A Request of the object with the key `6b`, without contexts: its version, id, flags and

@@ -2,10 +2,10 @@
 
 use crate::shown::{is_question, question, table, told, written};
 use crate::side::RowEnd;
-use crate::words::split;
 use anyhow::{Result, bail};
 use giop_session::laws::Answered;
 use giop_session::{End, Hearing, SessionFault};
+use rows::split;
 use std::alloc::Global;
 
 /// Does what each row says, one after the other, and hears octets in reads of so many at most.

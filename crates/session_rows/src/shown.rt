@@ -1,13 +1,13 @@
 //! What stands at an end, and what it answered, as texts.
 
 use crate::side::RowEnd;
-use crate::words::number;
 use anyhow::{Result, bail};
 use giop_calls::{ClientEntry, Late, Outcome, Question, ServerEntry};
 use giop_msg::{Reply, ReplyBody, Request};
 use giop_session::SessionFault;
 use giop_session::laws::Answered;
 use giop_types::Value;
+use rows::number;
 use std::alloc::{AllocError, Global};
 use std::fmt::Write;
 

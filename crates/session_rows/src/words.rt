@@ -1,38 +1,13 @@
 //! Words of a row that stand for numbers, octets and the like.
 
 use anyhow::{Context, Result, bail};
-use giop_cdr::{OctetList, Order};
+use giop_cdr::OctetList;
 use giop_msg::Version;
 use giop_session::Form;
 use giop_session::laws::CheckedForm;
 use percent_encoding::percent_decode;
+use rows::{number, order};
 use std::alloc::{AllocError, Global};
-
-/// The words of a line, up to a comment.
-pub fn split(alloc: Global, line: &str) -> Result<Vec<&str>, AllocError> {
-    let row = match line.split_once('#') {
-        Some((row, _)) => row,
-        None => line,
-    };
-    row.split_whitespace().collect(alloc)
-}
-
-/// A number, in decimal digits.
-pub fn number(word: &str) -> Result<u32> {
-    match word.parse::<u32>() {
-        Ok(number) => Ok(number),
-        Err(_) => bail!("no number: {word}"),
-    }
-}
-
-/// `big` or `little`.
-pub fn order(word: &str) -> Result<Order> {
-    Ok(match word {
-        "big" => Order::Big,
-        "little" => Order::Little,
-        _ => bail!("no byte order: {word}"),
-    })
-}
 
 /// `1.0`, `1.1` or `1.2`.
 pub fn version(word: &str) -> Result<Version> {
@@ -51,12 +26,6 @@ pub fn form(order_word: &str, piece: &str) -> Result<CheckedForm> {
         piece: number(piece)?,
     };
     Ok(CheckedForm::check(form).context("a piece is a multiple of 8, and 24 at least")?)
-}
-
-/// Octets in hexadecimal digits.
-pub fn octets(alloc: Global, word: &str) -> Result<OctetList> {
-    let octets = hex::decode(alloc, word)?;
-    Ok(OctetList::from(octets))
 }
 
 /// Octets as text, of which `%` and two hexadecimal digits stand for any.

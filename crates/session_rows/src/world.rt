@@ -3,10 +3,10 @@
 use crate::acts::{client_input, server_input};
 use crate::first_line::{EndLimits, defaults};
 use crate::shown::{is_question, question, refusal};
-use crate::words::{number, split};
 use anyhow::{Context, Result, bail};
 use giop_session::laws::{ClientInput, ServerInput, World, WorldEvent, run_world};
 use giop_types::Interface;
+use rows::{number, split};
 use std::alloc::Global;
 
 /// Lets all that the rows say happen in a world, and then prints what each came to. The client's

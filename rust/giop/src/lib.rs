@@ -16,6 +16,10 @@
 //! ```
 #![warn(missing_docs)]
 
+mod interface;
+
+pub use interface::{Interface, InterfaceError};
+
 use std::error;
 use std::ffi::c_void;
 use std::fmt;

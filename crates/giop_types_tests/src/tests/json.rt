@@ -1,5 +1,5 @@
-//! Each call on JSON forms once. Values of each form, and each refusal, are cases of the built program
-//! (tests/cases/values, descriptions, nesting).
+//! Each call on JSON forms once. Values of each form, and each refusal, are cases of the built
+//! program (tests/cases/values, descriptions, nesting).
 use giop_cdr::{CdrOut, Order};
 use giop_types::{
     FormFault, Value, desc_from_json, encode, reference_desc, value_from_json, value_to_json,

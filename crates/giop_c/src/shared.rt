@@ -1,0 +1,28 @@
+//! What a handle of an interface holds: the interface, which ends that were opened by it share.
+ghost use Rattle.giop_types.specs.JsonForms.DescFromJson.{json_in};
+ghost use Rattle.giop_types.specs.JsonForms.FromJson.{Reads};
+ghost use Rattle.giop_types.specs.JsonForms.InterfaceFromJson.{interface_told};
+ghost use Rattle.giop_c.specs.Interfaces.{shared_view};
+
+use giop_types::{FormFault, Interface};
+use std::alloc::Global;
+use std::sync::Arc;
+
+/// An interface that several ends use. It is freed when the last of its holders is.
+#[derive(Drop)]
+pub struct Shared {
+    pub interface: Arc<Interface>,
+}
+
+impl Shared {
+    /// The interface that a JSON text is. Refused as `Interface::from_json` refuses it.
+    pub fn of_json(alloc: Global, text: &[u8]) -> Result<Shared, FormFault>
+        ensures { Reads shared_view result (interface_told (json_in text.now)) }
+    {
+        let interface = Interface::from_json(alloc, text)?;
+        match Arc::new(alloc, interface) {
+            Ok(interface) => Ok(Shared { interface }),
+            Err(_) => Err(FormFault::NoMemory),
+        }
+    }
+}
