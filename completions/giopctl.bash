@@ -12,17 +12,18 @@ _giopctl() {
     fi
     for ((i = 1; i < COMP_CWORD; i++)); do
         case "$path ${COMP_WORDS[i]}" in
-            'giopctl dump'|'giopctl check'|'giopctl convert'|'giopctl convert ior'|'giopctl convert corbaloc'|'giopctl convert encode'|'giopctl convert decode'|'giopctl call'|'giopctl serve'|'giopctl help'|'giopctl convert help') path="$path ${COMP_WORDS[i]}" ;;
+            'giopctl dump'|'giopctl check'|'giopctl trace'|'giopctl convert'|'giopctl convert ior'|'giopctl convert corbaloc'|'giopctl convert encode'|'giopctl convert decode'|'giopctl call'|'giopctl serve'|'giopctl help'|'giopctl convert help') path="$path ${COMP_WORDS[i]}" ;;
         esac
     done
     case "$path $before" in
-        'giopctl check --interface'|'giopctl convert encode --desc'|'giopctl convert decode --desc'|'giopctl call --interface'|'giopctl serve --interface'|'giopctl serve --answers') files=yes ;;
-        'giopctl dump --message-limit'|'giopctl check --message-limit'|'giopctl check --calls-limit'|'giopctl check --gathered-limit'|'giopctl call --target'|'giopctl call --piece'|'giopctl call --message-limit'|'giopctl call --calls-limit'|'giopctl call --gathered-limit'|'giopctl serve --port'|'giopctl serve --key'|'giopctl serve --connections'|'giopctl serve --piece'|'giopctl serve --message-limit'|'giopctl serve --calls-limit'|'giopctl serve --gathered-limit') return ;;
+        'giopctl check --interface'|'giopctl trace --interface'|'giopctl convert encode --desc'|'giopctl convert decode --desc'|'giopctl call --interface'|'giopctl serve --interface'|'giopctl serve --answers') files=yes ;;
+        'giopctl dump --message-limit'|'giopctl check --message-limit'|'giopctl check --calls-limit'|'giopctl check --gathered-limit'|'giopctl trace --message-limit'|'giopctl call --target'|'giopctl call --piece'|'giopctl call --message-limit'|'giopctl call --calls-limit'|'giopctl call --gathered-limit'|'giopctl serve --port'|'giopctl serve --key'|'giopctl serve --connections'|'giopctl serve --piece'|'giopctl serve --message-limit'|'giopctl serve --calls-limit'|'giopctl serve --gathered-limit') return ;;
         *)
             case "$path:$word" in
                 'giopctl:-'*) words='-h --help -V --version' ;;
                 'giopctl dump:-'*) words='--message-limit -h --help' ;;
                 'giopctl check:-'*) words='--interface --message-limit --calls-limit --gathered-limit -h --help' ;;
+                'giopctl trace:-'*) words='--interface --message-limit -h --help' ;;
                 'giopctl convert:-'*) words='-h --help' ;;
                 'giopctl convert ior:-'*) words='-h --help' ;;
                 'giopctl convert corbaloc:-'*) words='-h --help' ;;
@@ -30,11 +31,11 @@ _giopctl() {
                 'giopctl convert decode:-'*) words='--desc --little -h --help' ;;
                 'giopctl call:-'*) words='--target --interface --piece --little --message-limit --calls-limit --gathered-limit -h --help' ;;
                 'giopctl serve:'*) words='--port --interface --answers --key --connections --piece --little --message-limit --calls-limit --gathered-limit -h --help' ;;
-                'giopctl:'*) words='dump check convert call serve help' ;;
+                'giopctl:'*) words='dump check trace convert call serve help' ;;
                 'giopctl convert:'*) words='ior corbaloc encode decode help' ;;
-                'giopctl help:'*) words='dump check convert call serve' ;;
+                'giopctl help:'*) words='dump check trace convert call serve' ;;
                 'giopctl convert help:'*) words='ior corbaloc encode decode' ;;
-                'giopctl dump:'*|'giopctl check:'*|'giopctl convert ior:'*|'giopctl convert corbaloc:'*|'giopctl convert encode:'*|'giopctl convert decode:'*|'giopctl call:'*) files=yes ;;
+                'giopctl dump:'*|'giopctl check:'*|'giopctl trace:'*|'giopctl convert ior:'*|'giopctl convert corbaloc:'*|'giopctl convert encode:'*|'giopctl convert decode:'*|'giopctl call:'*) files=yes ;;
             esac ;;
     esac
     if [[ -n $files ]]; then

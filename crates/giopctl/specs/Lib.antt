@@ -9,6 +9,8 @@ pub mod TableLines
 pub mod Bodies
 pub mod Table
 pub mod Check
+pub mod TraceLines
+pub mod Trace
 pub mod Steps
 pub mod Acts
 pub mod Turns

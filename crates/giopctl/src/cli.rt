@@ -25,6 +25,8 @@ pub enum Task<'a> {
     },
     /// Show what becomes of the calls of a file.
     Check(CheckWords<'a>),
+    /// Show each call of a connection.
+    Trace(TraceWords<'a>),
     /// Write what a file holds in another form.
     Convert {
         /// The file's name, or `-` for the standard input.
@@ -48,6 +50,19 @@ pub struct CheckWords<'a> {
     /// What the end that hears it holds at most.
     pub limits: Limits,
     pub ghost bounded: { AreLimits limits },
+}
+
+/// What `trace` is asked for.
+#[derive(Clone, Copy, Debug)]
+pub struct TraceWords<'a> {
+    /// The name of the interface's file, or `-` for the standard input.
+    pub interface: &'a str,
+    /// The name of the file of what the client sent, or `-` for the standard input.
+    pub client: &'a str,
+    /// The name of the file of what the server sent, if it is given.
+    pub server: Option<&'a str>,
+    /// The greatest message size, the header not counted.
+    pub limit: u32,
 }
 
 /// The kinds of `convert`.
@@ -110,6 +125,40 @@ Exit statuses:
 
 Example:
   giopctl check --interface examples/calculator.json examples/add.giop";
+
+const TRACE_HELP: &str = "\
+CLIENT and SERVER are what the two ends of one connection sent. Each call has a line when it is over:
+its id, what was asked and what it came to. With CLIENT alone the line is written when the request is
+whole, and says nothing of what it came to. Asked is
+  Asked TARGET OPERATION INS    a Request, and its values as a JSON list
+  LocateAsked TARGET            a LocateRequest
+  Undecoded FAULT OCTETS        one that can't be decoded: header, operation or body, and where
+  Unfinished KIND OCTETS        one of which pieces are missing
+  Unasked                       nothing, where an answer came all the same
+and it came to
+  Done 0 OUTS                   a result
+  Done 1 EXCEPTION MEMBERS      a user exception
+  Done 2 EXCEPTION MINOR 0xHEX COMPLETION   a system exception
+  Done 3 IOR, Done 4 IOR        a forward
+  LocateDone STATUS             a LocateReply
+  OnewaySent, Cancelled, NoAnswer
+  Undecoded reply FAULT [exception EXCEPTION] OCTETS, Unfinished KIND OCTETS
+A message without a place in a call is told by itself, as Client KIND OCTETS or Server KIND OCTETS.
+Calls that are open at the end follow in ascending order of their ids. The last lines tell how many
+octets of each direction are left, or what is wrong with the header that stands there.
+After each message of CLIENT those of SERVER are read up to the first Reply to a call whose request
+hasn't been read; that one waits.
+
+Exit statuses:
+  0  both directions are messages and nothing else
+  1  octets are left, or a header is wrong; or the interface is refused
+  2  usage
+  3  reading or writing failed
+  4  out of memory
+
+Example:
+  giopctl trace --interface examples/demo.json examples/omniorb_client.giop \
+examples/omniorb_server.giop";
 
 const DUMP_HELP: &str = "\
 Each message has a line: its offset in the file, its kind, its version where that is 1.0 or 1.1,
@@ -189,6 +238,12 @@ pub fn task_of<'a>(alloc: Global, words: &'a [String]) -> Result<Option<Task<'a>
             Err(wrong) => Err(misused(alloc, wrong)?),
         };
     }
+    if let Some(trace) = matches.subcommand_matches("trace") {
+        return match traced(trace) {
+            Ok(task) => Ok(task),
+            Err(wrong) => Err(misused(alloc, wrong)?),
+        };
+    }
     if let Some(call) = matches.subcommand_matches("call") {
         return match call_words(call) {
             Ok(words) => Ok(Some(Task::Call(words))),
@@ -248,6 +303,20 @@ fn checked<'a>(matches: &ArgMatches<'a>) -> Result<Option<Task<'a>>, &'static st
     })))
 }
 
+fn traced<'a>(matches: &ArgMatches<'a>) -> Result<Option<Task<'a>>, &'static str> {
+    let limit = message_limit_of(matches)?;
+    let (Some(interface), Some(client)) = (matches.get_str("interface"), matches.get_str("CLIENT"))
+    else {
+        return Ok(None);
+    };
+    Ok(Some(Task::Trace(TraceWords {
+        interface,
+        client,
+        server: matches.get_str("SERVER"),
+        limit,
+    })))
+}
+
 fn converted<'a>(matches: &ArgMatches<'a>, kind: Option<ConvertKind<'a>>) -> Option<Task<'a>> {
     let file = matches.get_str("FILE")?;
     let kind = kind?;
@@ -275,6 +344,7 @@ fn giopctl<'a>(alloc: Global) -> Result<Command<'a>, AllocError> {
         .after_help(STATUSES)
         .subcommand(dump(alloc)?)?
         .subcommand(check(alloc)?)?
+        .subcommand(trace(alloc)?)?
         .subcommand(convert(alloc)?)?
         .subcommand(call(alloc)?)?
         .subcommand(serve(alloc)?)
@@ -305,6 +375,25 @@ fn check<'a>(alloc: Global) -> Result<Command<'a>, AllocError> {
         .after_help(CHECK_HELP)
         .arg(interface)?;
     limited(alloc, command)?.arg(file)
+}
+
+fn trace<'a>(alloc: Global) -> Result<Command<'a>, AllocError> {
+    let interface = Arg::new(alloc, "interface")
+        .long("interface")
+        .required(true)
+        .value_name("FILE")
+        .help("The file of the interface, in JSON");
+    let client = Arg::new(alloc, "CLIENT").required(true).help(
+        "A file of what the client sent, or - for the standard input",
+    );
+    let server = Arg::new(alloc, "SERVER").help("A file of what the server sent, or -");
+    Command::new(alloc, "trace")
+        .about("Shows each call of a connection, and what it came to")
+        .after_help(TRACE_HELP)
+        .arg(interface)?
+        .arg(message_limit(alloc))?
+        .arg(client)?
+        .arg(server)
 }
 
 fn convert<'a>(alloc: Global) -> Result<Command<'a>, AllocError> {

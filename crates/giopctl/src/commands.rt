@@ -7,6 +7,7 @@ pub mod convert;
 pub mod dump;
 pub mod serve;
 pub mod session;
+pub mod trace;
 
 pub use call::given::Calling;
 pub use call::{call_over, call_session};
@@ -22,3 +23,5 @@ pub use serve::given::Serving;
 pub use serve::{serve_over, serve_session};
 pub use session::table::{Tabled, write_table};
 pub use session::target::{Endpoint, Targeted, target_of};
+pub use trace::text::trace_text;
+pub use trace::{Heard, trace_stream};

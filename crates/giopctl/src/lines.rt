@@ -1,6 +1,6 @@
 //! The lines that the commands write, without their newlines. Each is pinned to a text in
-//! specs/Lines.antt, TableLines.antt, SessionLines.antt or ConvertLines.antt, and docs/giopctl.md
-//! shows it: change all three.
+//! specs/Lines.antt, TableLines.antt, SessionLines.antt, ConvertLines.antt or TraceLines.antt, and
+//! docs/giopctl.md shows it: change all three.
 
 mod cdr_fault;
 mod client_entry;
@@ -15,8 +15,10 @@ mod request;
 mod server_entry;
 mod session_fault;
 mod target;
+mod traced;
 
-pub use client_entry::ClientEntryLine;
+pub use cdr_fault::CdrFaultText;
+pub use client_entry::{ClientEntryLine, CompletionText};
 pub use end::{FaultLine, HeadFaultLine, RestLine};
 pub use locate::{LocateReplyLine, LocateRequestLine};
 pub use message::MessageLine;
@@ -25,5 +27,6 @@ pub use reference::{IiopLine, ProfileLine, TypeLine};
 pub use refusal::RefusalLine;
 pub use reply::ReplyLine;
 pub use request::RequestLine;
-pub use server_entry::ServerEntryLine;
+pub use server_entry::{RequestFaultText, ServerEntryLine};
 pub use session_fault::SessionFaultLine;
+pub use traced::{DirectionEndLine, IdText, MinorText, OwnTargetText};

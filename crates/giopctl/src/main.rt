@@ -35,6 +35,7 @@ fn run(rt: &HostRuntime) -> Status {
     match cli::task_of(rt.alloc(), words.as_slice()) {
         Ok(Some(Task::Dump { file, limit })) => report::answer(rt, file, dump(rt, file, limit)),
         Ok(Some(Task::Check(words))) => commands::check::files::check(rt, words),
+        Ok(Some(Task::Trace(words))) => commands::trace::files::trace(rt, words),
         Ok(Some(Task::Convert { file, kind })) => commands::convert::files::convert(rt, file, kind),
         Ok(Some(Task::Call(words))) => commands::call::files::call(rt, words),
         Ok(Some(Task::Serve(words))) => commands::serve::files::serve(rt, words),

@@ -77,9 +77,9 @@ impl fmt::Display for ReplyText<'_> {
     }
 }
 
-// The number of a completion.
+/// The number of a completion.
 #[derive(Clone, Copy)]
-struct CompletionText(Completion);
+pub struct CompletionText(pub Completion);
 
 impl fmt::Display for CompletionText {
     ghost use Rattle.std.specs.Prelude.{Some};

@@ -78,9 +78,9 @@ impl fmt::Display for HereText {
     }
 }
 
-// Why a Request or a LocateRequest can't be decoded: `header FAULT`, `operation` or `body FAULT`.
+/// Why a Request or a LocateRequest can't be decoded: `header FAULT`, `operation` or `body FAULT`.
 #[derive(Clone, Copy)]
-struct RequestFaultText(RequestFault);
+pub struct RequestFaultText(pub RequestFault);
 
 impl fmt::Display for RequestFaultText {
     ghost use Rattle.std.specs.Prelude.{Some};

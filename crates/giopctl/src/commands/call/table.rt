@@ -50,7 +50,8 @@ fn brought_text(
     }
 }
 
-fn brought_by(
+/// What a Reply to a Request brought, as text; empty where its status has no values.
+pub fn brought_by(
     alloc: Global,
     interface: &Interface,
     request: &Request,

@@ -43,7 +43,8 @@ fn ins_text(alloc: Global, interface: &Interface, entry: &ServerEntry) -> Result
     }
 }
 
-fn request_ins(
+/// The ins of a Request, as a JSON list.
+pub fn request_ins(
     alloc: Global,
     interface: &Interface,
     request: &Request,

@@ -1,0 +1,35 @@
+//! `trace` by the text of an interface.
+ghost use Rattle.std.specs.Prelude.{◌≡◌, IfOk};
+ghost use Rattle.std.specs.Io.KnownBytes.{IsAtEnd};
+
+use crate::commands::convert::refuse;
+use crate::commands::convert::value::form_refusal;
+use crate::commands::trace::{Heard, trace_stream};
+use crate::failure::Failure;
+use crate::status::Status;
+use giop_types::Interface;
+use std::alloc::Global;
+use std::io::{Read, Write};
+
+/// Traces the octets that two readers give by an interface in JSON, as `trace_stream` says. Where
+/// the text is no interface, the line of its fault is written, and nothing is read; `Refused`.
+pub fn trace_text<C: Read, S: Read, W: Write>(
+    alloc: Global,
+    interface: &[u8],
+    limit: u32,
+    heard: Heard,
+    client: &mut C,
+    server: &mut S,
+    writer: &mut W,
+) -> Result<Status, Failure>
+    ensures client { IfOk result (λ status. status ≡ Status.Done
+        → IsAtEnd (C.remaining client.new)) }
+    ensures server { IfOk result (λ status. status ≡ Status.Done → heard ≡ Heard.Both
+        → IsAtEnd (S.remaining server.new)) }
+    ensures alone { heard ≡ Heard.Client → S.remaining server.new ≡ S.remaining server.old }
+{
+    match Interface::from_json(alloc, interface) {
+        Ok(interface) => trace_stream(alloc, &interface, limit, heard, client, server, writer),
+        Err(fault) => refuse(form_refusal(fault)?, writer),
+    }
+}
