@@ -1,6 +1,7 @@
 //! Booleans, octets, chars and integers (CORBA 3.3 Part 2, 9.3.1), sequences of octets and strings
-//! (9.3.2), written. What a write appends is defined in `specs/Writing/Output.antt`.
-ghost use Rattle.std.specs.Prelude.{◌≡◌, ◌<◌, ◌^◌, ◌+◌, length, false, if◌then◌else◌};
+//! (9.3.2), written. What a write appends is defined in `specs/Writing/Output.antt`. `held`
+//! hands on the range of a number, which its type says, to who speaks of the value alone.
+ghost use Rattle.std.specs.Prelude.{◌≡◌, ◌<◌, ◌^◌, ◌+◌, length, false, if◌then◌else◌, FitsSigned};
 ghost use Rattle.std.specs.Int.{w8, w16, w32, w64};
 ghost use Rattle.giop_cdr.specs.Writing.Output.{number_out, signed_out, octets_out, string_out};
 ghost use Rattle.giop_cdr.specs.Reading.Values.{has_null};
@@ -24,7 +25,8 @@ impl CdrOut {
     /// An octet (9.3.1.4), which has no byte order.
     #[inline(always)]
     pub fn write_octet(&mut self, value: u8) -> Result<(), AllocError>
-        ensures { Writes self.old result self.new (number_out w8 value self.old) }
+        ensures written { Writes self.old result self.new (number_out w8 value self.old) }
+        ensures held { value < 2 ^ 8 }
     {
         match self.order() {
             Order::Big => self.append_field(u8::to_be_bytes(value)),
@@ -35,7 +37,8 @@ impl CdrOut {
     /// A char (9.3.1.6), by its octet, which isn't translated.
     #[inline(always)]
     pub fn write_char(&mut self, value: u8) -> Result<(), AllocError>
-        ensures { Writes self.old result self.new (number_out w8 value self.old) }
+        ensures written { Writes self.old result self.new (number_out w8 value self.old) }
+        ensures held { value < 2 ^ 8 }
     {
         self.write_octet(value)
     }
@@ -43,7 +46,8 @@ impl CdrOut {
     /// A short, two octets aligned to 2 (9.3.1.2), in two's complement.
     #[inline(always)]
     pub fn write_short(&mut self, value: i16) -> Result<(), AllocError>
-        ensures { Writes self.old result self.new (signed_out w16 value self.old) }
+        ensures written { Writes self.old result self.new (signed_out w16 value self.old) }
+        ensures held { FitsSigned w16 value }
     {
         match self.order() {
             Order::Big => self.append_field(i16::to_be_bytes(value)),
@@ -54,7 +58,8 @@ impl CdrOut {
     /// An unsigned short, two octets aligned to 2 (9.3.1.2).
     #[inline(always)]
     pub fn write_ushort(&mut self, value: u16) -> Result<(), AllocError>
-        ensures { Writes self.old result self.new (number_out w16 value self.old) }
+        ensures written { Writes self.old result self.new (number_out w16 value self.old) }
+        ensures held { value < 2 ^ 16 }
     {
         match self.order() {
             Order::Big => self.append_field(u16::to_be_bytes(value)),
@@ -65,7 +70,8 @@ impl CdrOut {
     /// A long, four octets aligned to 4 (9.3.1.2), in two's complement.
     #[inline(always)]
     pub fn write_long(&mut self, value: i32) -> Result<(), AllocError>
-        ensures { Writes self.old result self.new (signed_out w32 value self.old) }
+        ensures written { Writes self.old result self.new (signed_out w32 value self.old) }
+        ensures held { FitsSigned w32 value }
     {
         match self.order() {
             Order::Big => self.append_field(i32::to_be_bytes(value)),
@@ -76,7 +82,8 @@ impl CdrOut {
     /// An unsigned long, four octets aligned to 4 (9.3.1.2).
     #[inline(always)]
     pub fn write_ulong(&mut self, value: u32) -> Result<(), AllocError>
-        ensures { Writes self.old result self.new (number_out w32 value self.old) }
+        ensures written { Writes self.old result self.new (number_out w32 value self.old) }
+        ensures held { value < 2 ^ 32 }
     {
         match self.order() {
             Order::Big => self.append_field(u32::to_be_bytes(value)),
@@ -87,7 +94,8 @@ impl CdrOut {
     /// A long long, eight octets aligned to 8 (9.3.1.2), in two's complement.
     #[inline(always)]
     pub fn write_longlong(&mut self, value: i64) -> Result<(), AllocError>
-        ensures { Writes self.old result self.new (signed_out w64 value self.old) }
+        ensures written { Writes self.old result self.new (signed_out w64 value self.old) }
+        ensures held { FitsSigned w64 value }
     {
         match self.order() {
             Order::Big => self.append_field(i64::to_be_bytes(value)),
@@ -98,7 +106,8 @@ impl CdrOut {
     /// An unsigned long long, eight octets aligned to 8 (9.3.1.2).
     #[inline(always)]
     pub fn write_ulonglong(&mut self, value: u64) -> Result<(), AllocError>
-        ensures { Writes self.old result self.new (number_out w64 value self.old) }
+        ensures written { Writes self.old result self.new (number_out w64 value self.old) }
+        ensures held { value < 2 ^ 64 }
     {
         match self.order() {
             Order::Big => self.append_field(u64::to_be_bytes(value)),
