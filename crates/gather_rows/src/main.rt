@@ -6,11 +6,13 @@
 #![tactic(auto)]
 
 mod lying;
+mod reading;
 
 use anyhow::{Result, bail};
 use giop_cdr::Order;
 use giop_frag::{Gather, GatherFault};
 use lying::{each_octet, runs};
+use reading::read;
 use rows::{Rows, number, octets, order, order_word, print_rows, shown, split};
 use std::alloc::{AllocError, Global};
 use std::io::Read;
@@ -108,6 +110,7 @@ fn asked(alloc: Global, gather: &Gather, words: &[&str]) -> Result<String> {
         ["contains", id] => format!(in alloc; "{}", gather.contains(number(id)?))?,
         ["counts"] => format!(in alloc; "{gather:?}")?,
         ["joined", id] => joined(alloc, gather, number(id)?)?,
+        ["read", id, start, before, kind] => read(alloc, gather, [id, start, before, kind])?,
         _ => bail!("no such row"),
     })
 }
