@@ -62,19 +62,3 @@ doubled_labels-some = record {
   none = refl;
   more = λ b bs. rw (view-Case b) (doubled_repeated b.labels.items (all_labels (branches_of (map case_view bs))));
 }
-
--- labels that are gathered case by case
-pub gathered_more : (bs : List CaseDesc) (i : ℕ) (b : CaseDesc) (labels more all : List ℤ) → i < length bs → b ≡ get_or bs i b
-    → more ≡ labels ++ b.labels.items → labels ++ all_labels (branches_of (map case_view (drop i bs))) ≡ all
-    → more ++ all_labels (branches_of (map case_view (drop (i + 1) bs))) ≡ all
-gathered_more bs i b labels more all lt is grown so_far =
-    let left : all_labels (branches_of (map case_view (drop i bs))) ≡ b.labels.items ++ all_labels (branches_of (map case_view (drop (i + 1) bs)))
-    = rw (left_is bs i b lt is, view-Case b) refl in
-    ap (λ ls. ls ++ all_labels (branches_of (map case_view (drop (i + 1) bs)))) grown
-    ∙ append-assoc labels b.labels.items (all_labels (branches_of (map case_view (drop (i + 1) bs))))
-    ∙ ap (λ ls. labels ++ ls) (sym left) ∙ so_far
-
-pub gathered_all : (bs : List CaseDesc) (i : ℕ) (labels all : List ℤ) → length bs ≤ i
-    → labels ++ all_labels (branches_of (map case_view (drop i bs))) ≡ all → labels ≡ all
-gathered_all bs i labels all le so_far =
-    sym (append-nil labels) ∙ ap (λ cs. labels ++ all_labels (branches_of (map case_view cs))) (sym (drop_of_length-le bs le)) ∙ so_far

@@ -85,10 +85,6 @@ pub record Sees {K A : Type 0} (cmp : K → K → Ordering) (says : K → A) (eq
   pub holds : (q : K) → contains cmp set q ≡ list_any (λ y. equal y (says q)) seen
   pub apart : has_doubled equal seen ≡ false
 
-pub sees_none : {K A : Type 0} (cmp : K → K → Ordering) (says : K → A) (equal : A → A → Bool) (set : BTreeSet K) → set.keys ≡ []
-    → Sees cmp says equal set []
-sees_none cmp says equal set empty = record { holds = λ q. ap (list_any (is_at (cmp q))) empty; apart = refl }
-
 module _ {X K A : Type 0} (cmp : K → K → Ordering) (says : K → A) (equal : A → A → Bool) (decides : (x y : A) → Decides (equal x y) (x ≡ y))
     (agrees : (k q : K) → is_at (cmp k) q ≡ equal (says k) (says q)) (name : X → A) (xs : List X) (i : ℕ) (x : X) where
 
@@ -132,5 +128,5 @@ module _ {X K A : Type 0} (cmp : K → K → Ordering) (says : K → A) (equal :
 pub names_agree : (k q : Bor (List ℕ)) → is_at (λ p. slice_cmp nat_cmp k.now p.now) q ≡ same_name k.now q.now
 names_agree k q = is_eq-slice_cmp k.now q.now
 
-pub numbers_agree : (k q : ℤ) → is_at (int_cmp k) q ≡ int_eq k q
+pub numbers_agree : (k q : Bor ℤ) → is_at (λ p. int_cmp k.now p.now) q ≡ int_eq k.now q.now
 numbers_agree k q = refl

@@ -129,7 +129,7 @@ fn has_doubled_number(alloc: Global, numbers: &[i128]) -> Option<bool>
 {
     let mut seen = BTreeSet::new(alloc);
     for number in numbers {
-        match seen.insert(*number) {
+        match seen.insert(number) {
             Ok(true) => {}
             Ok(false) => return Some(true),
             Err(_) => return None,

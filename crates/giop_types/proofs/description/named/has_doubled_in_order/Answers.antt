@@ -1,9 +1,8 @@
-use Rattle.std.proofs.Common.{◌≡◌, List, ℕ, true, false, not, ◌∙◌}
-use Rattle.std.specs.BTreeSet.{contains}
+use Rattle.std.proofs.Common.{◌∙◌}
 use Rattle.std.specs.Cmp.Lexicographic.{slice_cmp, bytes_decides}
 use Rattle.std.specs.Ordering.{nat_cmp}
 use Rattle.giop_types.specs.Descriptions.Checked.{same_name}
-use Rattle.giop_types.proofs.Descriptions.SeenLemmas.{sees_again, sees_more, sees_all, was_there, was_not, names_agree}
+use Rattle.giop_types.proofs.Descriptions.SeenLemmas.{sees_again, sees_more, was_there, was_not, names_agree}
 use Rattle.giop_types.proofs.description.named.has_doubled_in_order.Goals as goal
 
 pub returns-in-Ok-false : goal.returns-in-Ok-false
