@@ -87,7 +87,6 @@ pub record Sees {K A : Type 0} (cmp : K → K → Ordering) (says : K → A) (eq
 
 module _ {X K A : Type 0} (cmp : K → K → Ordering) (says : K → A) (equal : A → A → Bool) (decides : (x y : A) → Decides (equal x y) (x ≡ y))
     (agrees : (k q : K) → is_at (cmp k) q ≡ equal (says k) (says q)) (name : X → A) (xs : List X) (i : ℕ) (x : X) where
-
   so_far : i < length xs → x ≡ get_or xs i x → map name (take (i + 1) xs) ≡ map name (take i xs) ++ name x ∷ []
   so_far lt is =
       ap (map name) (ap (λ n. take n xs) (next_place i) ∙ take-suc xs i x lt ∙ ap (λ y. take i xs ++ y ∷ []) (sym is)) ∙ map-append name (take i xs) (x ∷ [])
