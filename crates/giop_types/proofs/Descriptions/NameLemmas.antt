@@ -1,5 +1,5 @@
 -- Names of items, one after the other.
-use Rattle.std.proofs.Common.{◌≡◌, ℕ, List, [], ◌∷◌, ◌++◌, map, refl, sym, ap, ◌∙◌}
+use Rattle.std.proofs.Common.{◌≡◌, ℕ, List, [], ◌∷◌, map, refl, ap}
 use Rattle.std.specs.List.{list_any}
 use Rattle.giop_types.specs.declared.description.desc.NamedDesc.{NamedDesc}
 use Rattle.giop_types.specs.declared.description.desc.CaseDesc.{CaseDesc}

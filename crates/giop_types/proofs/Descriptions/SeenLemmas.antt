@@ -1,7 +1,7 @@
 -- A loop over items that stops at the first one which a set of those before it holds.
 use Rattle.std.proofs.Common.{◌≡◌, ℕ, ℤ, Bor, zero, suc, ◌+◌, ◌<◌, ◌≤◌, Bool, true, false, not, ◌||◌, cond, List, [], ◌∷◌, ◌++◌, map, take, drop, get_or, length}
 use Rattle.std.proofs.Common.{Ordering, refl, sym, ap, ◌∙◌, arith}
-use Rattle.std.proofs.Math.Seq.{take-suc, take-length}
+use Rattle.std.proofs.Math.Seq.{take-suc}
 use Rattle.std.proofs.lemmas.Bool.{or_parts, or_from, or_left, both_ways}
 use Rattle.std.proofs.lemmas.List.{map-append, take-append-drop}
 use Rattle.std.proofs.lemmas.List.Folds.{list_any-append}
@@ -87,7 +87,6 @@ pub record Sees {K A : Type 0} (cmp : K → K → Ordering) (says : K → A) (eq
 
 module _ {X K A : Type 0} (cmp : K → K → Ordering) (says : K → A) (equal : A → A → Bool) (decides : (x y : A) → Decides (equal x y) (x ≡ y))
     (agrees : (k q : K) → is_at (cmp k) q ≡ equal (says k) (says q)) (name : X → A) (xs : List X) (i : ℕ) (x : X) where
-
   so_far : i < length xs → x ≡ get_or xs i x → map name (take (i + 1) xs) ≡ map name (take i xs) ++ name x ∷ []
   so_far lt is =
       ap (map name) (ap (λ n. take n xs) (next_place i) ∙ take-suc xs i x lt ∙ ap (λ y. take i xs ++ y ∷ []) (sym is)) ∙ map-append name (take i xs) (x ∷ [])
