@@ -1,6 +1,6 @@
 //! Rows at a client's end and a server's, joined by what each puts out.
 
-use crate::first_line::{EndLimits, defaults};
+use crate::first_line::BothLimits;
 use crate::one_end::{answered, write_off};
 use crate::shown::{is_question, question, told};
 use crate::side::RowEnd;
@@ -12,17 +12,16 @@ use giop_types::Interface;
 use rows::{number, split};
 use std::alloc::Global;
 
-/// Does what each row says, one after the other, and prints what each came to. The client's limits
-/// are the defaults.
+/// Does what each row says, one after the other, and prints what each came to.
 pub fn run(
     rt: &HostRuntime,
     interface: &Interface,
-    within: EndLimits,
+    within: BothLimits,
     rows: &[&str],
 ) -> Result<()> {
     let alloc = rt.alloc();
-    let mut client = End::<ClientRule>::new(alloc, interface, defaults().limits);
-    let mut server = End::<ServerRule>::new(alloc, interface, within.limits);
+    let mut client = End::<ClientRule>::new(alloc, interface, within.client.limits);
+    let mut server = End::<ServerRule>::new(alloc, interface, within.server.limits);
     for row in rows {
         let text = done(alloc, &mut client, &mut server, row)?;
         println!(rt; "{text}")?;

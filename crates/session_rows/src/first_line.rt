@@ -21,6 +21,13 @@ pub struct Steps {
     pub read: usize,
 }
 
+/// Limits of both ends of a connection.
+#[derive(Clone, Copy)]
+pub struct BothLimits {
+    pub client: EndLimits,
+    pub server: EndLimits,
+}
+
 /// At which ends the rows act.
 #[derive(Clone, Copy)]
 pub enum Ends {
@@ -32,13 +39,14 @@ pub enum Ends {
     ServerInputs(EndLimits),
     /// At a client's end, which is given all of them in one list.
     ClientInputs(EndLimits),
-    /// At a client's end and a server's, joined. The limits are the server's.
-    Ends(EndLimits),
+    /// At a client's end and a server's, joined.
+    Ends(BothLimits),
     /// At the ends of a world, of which all of them are the schedule.
-    World(EndLimits),
+    World(BothLimits),
 }
 
-/// What the first line says: its first word, and then limits, each `NAME=NUMBER`.
+/// What the first line says: its first word, and then limits, each `NAME=NUMBER`. Those of two ends
+/// are the server's, and behind `client-` the client's.
 pub fn ends_in(alloc: Global, line: &str) -> Result<Ends> {
     let words = split(alloc, line)?;
     let [kind, limits @ ..] = words.as_slice() else {
@@ -48,22 +56,30 @@ pub fn ends_in(alloc: Global, line: &str) -> Result<Ends> {
         within: defaults(),
         read: usize::MAX,
     };
+    let mut client = steps;
     for word in limits {
-        set(&mut steps, word)?;
+        match word.strip_prefix("client-") {
+            Some(word) => set(&mut client, word)?,
+            None => set(&mut steps, word)?,
+        }
     }
+    let both = BothLimits {
+        client: client.within,
+        server: steps.within,
+    };
     Ok(match *kind {
         "server" => Ends::Server(steps),
         "client" => Ends::Client(steps),
         "server-inputs" => Ends::ServerInputs(steps.within),
         "client-inputs" => Ends::ClientInputs(steps.within),
-        "ends" => Ends::Ends(steps.within),
-        "world" => Ends::World(steps.within),
+        "ends" => Ends::Ends(both),
+        "world" => Ends::World(both),
         _ => bail!("no such ends: {kind}"),
     })
 }
 
-/// The default limits.
-pub fn defaults() -> EndLimits {
+// The default limits.
+fn defaults() -> EndLimits {
     EndLimits {
         limits: Limits::default(),
     }

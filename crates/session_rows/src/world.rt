@@ -1,7 +1,7 @@
 //! Rows as the schedule of a world.
 
 use crate::acts::{client_input, server_input};
-use crate::first_line::{EndLimits, defaults};
+use crate::first_line::BothLimits;
 use crate::shown::{is_question, question, refusal};
 use anyhow::{Context, Result, bail};
 use giop_session::laws::{ClientInput, ServerInput, World, WorldEvent, run_world};
@@ -9,18 +9,17 @@ use giop_types::Interface;
 use rows::{number, split};
 use std::alloc::Global;
 
-/// Lets all that the rows say happen in a world, and then prints what each came to. The client's
-/// limits are the defaults.
+/// Lets all that the rows say happen in a world, and then prints what each came to.
 pub fn run(
     rt: &HostRuntime,
     interface: &Interface,
-    within: EndLimits,
+    within: BothLimits,
     rows: &[&str],
 ) -> Result<()> {
     let alloc = rt.alloc();
     let schedule = schedule(alloc, rows)?;
-    let ours = defaults().limits;
-    let (mut world, answers) = run_world(alloc, interface, ours, within.limits, schedule)?;
+    let (ours, theirs) = (within.client.limits, within.server.limits);
+    let (mut world, answers) = run_world(alloc, interface, ours, theirs, schedule)?;
     let mut answers = answers.iter();
     for row in rows {
         let words = split(alloc, row)?;
