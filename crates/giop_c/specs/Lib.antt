@@ -1,4 +1,7 @@
 pub mod Calls
+pub mod EndRecords
+pub mod Ends
 pub mod Heads
 pub mod Interfaces
 pub mod Records
+pub mod Values

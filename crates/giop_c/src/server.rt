@@ -1,0 +1,11 @@
+//! A server's end for C: its handle, what lies behind it, and the exported functions.
+
+mod calls;
+mod entries;
+mod entry_calls;
+mod served;
+mod server_handle;
+
+pub use entries::ServerRow;
+pub use served::Served;
+pub use server_handle::ServerHandle;
