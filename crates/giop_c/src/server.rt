@@ -1,5 +1,7 @@
 //! A server's end for C: its handle, what lies behind it, and the exported functions.
 
+mod answer_calls;
+mod answers;
 mod calls;
 mod entries;
 mod entry_calls;

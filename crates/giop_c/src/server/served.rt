@@ -45,8 +45,8 @@ impl Served {
         }
     }
 
-    // The end, in whose place another is left that has heard nothing. It takes no memory.
-    fn lift(&mut self, alloc: Global) -> Detached<ServerRule>
+    /// The end, in whose place another is left that has heard nothing. It takes no memory.
+    pub fn lift(&mut self, alloc: Global) -> Detached<ServerRule>
         ensures end { result ≡ self.old.end }
         ensures interface { self.new.interface ≡ self.old.interface }
     {
