@@ -27,7 +27,8 @@ use Rattle.giop_c.specs.declared.server.answers.AnswerFault.{AnswerFault}
 use Rattle.giop_c.specs.declared.server.answers.AnswerFault.TheVariants as refused
 use Rattle.giop_c.specs.declared.server.served.Served.{Served}
 use Rattle.giop_c.specs.Calls.{ok, no_memory, fault}
-use Rattle.giop_c.specs.EndRecords.{c_end_fault, c_order_of, end_status, request_of, version_asked}
+use Rattle.giop_c.specs.EndRecords.{c_end_fault, c_order_of, end_status}
+use Rattle.giop_c.specs.Entries.{request_of, version_asked}
 use Rattle.giop_c.specs.Ends.{PutsAtServer}
 use Rattle.giop_c.specs.Values.{begun}
 

@@ -13,7 +13,7 @@ use Rattle.giop_msg.specs.declared.messages.request.Request.{Request}
 use Rattle.giop_msg.specs.Messages.Body.{fields_in}
 use Rattle.giop_msg.specs.Messages.Request.{operation_of}
 use Rattle.giop_c.specs.Calls.{no_memory, fault}
-use Rattle.giop_c.specs.Ends.{CopiesOctets}
+use Rattle.giop_c.specs.Copying.{CopiesOctets}
 
 -- where octets that stand by themselves begin to be read
 abbrev pub begun : Order → List ℕ → Cursor

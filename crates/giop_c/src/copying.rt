@@ -1,7 +1,7 @@
 //! Copies into the caller's buffers.
 ghost use Rattle.std.specs.Prelude.{◌≡◌, ◌++◌, ◌≤◌, drop, length};
 ghost use Rattle.std.specs.Option.{option_map};
-ghost use Rattle.giop_c.specs.Ends.{CopiesFront, CopiesOctets};
+ghost use Rattle.giop_c.specs.Copying.{CopiesFront, CopiesOctets};
 
 use crate::status::{OK, SMALL, WAITS};
 
@@ -40,7 +40,7 @@ pub fn copy_ids(ids: &[u32], buffer: &mut [u32], size: &mut usize)
 /// Copies octets to the front of a buffer, and writes how many they are. It answers OK; SMALL,
 /// where the buffer has no room for them; or WAITS, where there are none to copy.
 pub fn copy_octets(octets: Option<&[u8]>, buffer: &mut [u8], size: &mut usize) -> u32
-    ensures { CopiesOctets (option_map (λ octets. octets.now) octets) buffer.old buffer.new
+    ensures { CopiesOctets (option_map (λ octets. octets.now) octets.entry) buffer.old buffer.new
         size.old size.new result }
 {
     let Some(octets) = octets else {

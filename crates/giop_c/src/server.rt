@@ -1,10 +1,10 @@
 //! A server's end for C: its handle, what lies behind it, and the exported functions.
 
-mod answer_calls;
+pub mod answer_calls;
 mod answers;
-mod calls;
+pub mod calls;
 mod entries;
-mod entry_calls;
+pub mod entry_calls;
 mod served;
 mod server_handle;
 

@@ -9,7 +9,7 @@ ghost use Rattle.giop_msg.specs.Messages.Reply.{exception_of, listed, outs_for};
 ghost use Rattle.giop_session.specs.Acts.Form.{IsForm};
 ghost use Rattle.giop_session.specs.Runs.ServerRuns.{server_entry};
 ghost use Rattle.giop_c.specs.Answers.{AnswersOuts, AnswersSystem, AnswersUser, IsAnswered, Replies, answer_status, c_answer_fault, of_end};
-ghost use Rattle.giop_c.specs.EndRecords.{request_of};
+ghost use Rattle.giop_c.specs.Entries.{request_of};
 ghost use Rattle.giop_c.specs.Values.{begun};
 
 use crate::end_records::EndFault;
@@ -219,7 +219,7 @@ fn of_end(answer: Result<(), SessionFault>) -> Result<(), AnswerFault>
 // What a reply to a Request brings where there is no exception: the outs of its operation; none
 // where its flags are 1, or where no Request is known.
 fn outs_for<'a>(interface: &'a Interface, request: Option<&Request>) -> &'a [Parameter]
-    ensures { result.now ≡ outs_for interface.now (option_copied request) }
+    ensures { result.now ≡ outs_for interface.now (option_copied request.entry) }
 {
     let Some(request) = request else {
         return &[];

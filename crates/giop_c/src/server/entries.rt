@@ -3,7 +3,7 @@ ghost use Rattle.std.specs.Prelude.{◌≡◌, ◌==◌, option_copied, Some};
 ghost use Rattle.std.specs.Option.{option_map};
 ghost use Rattle.giop_calls.specs.Outcomes.{copied};
 ghost use Rattle.giop_msg.specs.Target.{key_of};
-ghost use Rattle.giop_c.specs.EndRecords.{awaits, awaits_undecoded, c_server_row, came_to, flags_in, key_in, key_size, kind_of, left, operation_in, operation_size, outcome_number, over, reply_status, request_asked, request_in, request_of, version_asked, version_in};
+ghost use Rattle.giop_c.specs.Entries.{awaits, awaits_undecoded, c_server_row, came_to, flags_in, key_in, key_size, kind_of, left, operation_in, operation_size, outcome_number, over, reply_status, request_asked, request_in, request_of, version_asked, version_in};
 
 use giop_calls::{CallKind, Outcome, Question, ServerEntry};
 use giop_msg::{Reply, Request, Target, Version};
@@ -35,7 +35,7 @@ pub struct ServerRow {
 impl ServerRow {
     /// What is stored. It takes no memory.
     pub fn of(entry: Option<&ServerEntry>) -> ServerRow
-        ensures { result ≡ c_server_row (option_copied entry) }
+        ensures { result ≡ c_server_row (option_copied entry.entry) }
     {
         let request = request_of(entry);
         ServerRow {
@@ -54,7 +54,7 @@ impl ServerRow {
 
 /// The Request under an id, where it has one that could be decoded.
 pub fn request_of(entry: Option<&ServerEntry>) -> Option<&Request>
-    ensures { option_copied result ≡ request_of (option_copied entry) }
+    ensures { option_copied result ≡ request_of (option_copied entry.entry) }
 {
     request_in(entry?)
 }
@@ -81,7 +81,7 @@ fn request_asked(asked: &Question) -> Option<&Request>
 
 /// The operation of a Request.
 pub fn operation_in(request: Option<&Request>) -> Option<&[u8]>
-    ensures { option_map (λ octets. octets.now) result ≡ operation_in (option_copied request) }
+    ensures { option_map (λ octets. octets.now) result ≡ operation_in (option_copied request.entry) }
 {
     match request {
         Some(request) => Some(request.head.operation.as_slice()),
@@ -91,7 +91,7 @@ pub fn operation_in(request: Option<&Request>) -> Option<&[u8]>
 
 /// The key of the object of a Request.
 pub fn key_in(request: Option<&Request>) -> Option<&[u8]>
-    ensures { option_map (λ octets. octets.now) result ≡ key_in (option_copied request) }
+    ensures { option_map (λ octets. octets.now) result ≡ key_in (option_copied request.entry) }
 {
     match request {
         Some(request) => Some(key_of(&request.head.target)),
@@ -110,7 +110,7 @@ fn key_of(target: &Target) -> &[u8]
 }
 
 fn operation_size(request: Option<&Request>) -> usize
-    ensures { result ≡ operation_size (option_copied request) }
+    ensures { result ≡ operation_size (option_copied request.entry) }
 {
     match request {
         Some(request) => request.head.operation.len(),
@@ -119,7 +119,7 @@ fn operation_size(request: Option<&Request>) -> usize
 }
 
 fn key_size(request: Option<&Request>) -> usize
-    ensures { result ≡ key_size (option_copied request) }
+    ensures { result ≡ key_size (option_copied request.entry) }
 {
     match request {
         Some(request) => key_of(&request.head.target).len(),
@@ -128,7 +128,7 @@ fn key_size(request: Option<&Request>) -> usize
 }
 
 fn flags_in(request: Option<&Request>) -> u8
-    ensures { result ≡ flags_in (option_copied request) }
+    ensures { result ≡ flags_in (option_copied request.entry) }
 {
     match request {
         Some(request) => request.head.flags,
@@ -137,7 +137,7 @@ fn flags_in(request: Option<&Request>) -> u8
 }
 
 fn kind_of(entry: Option<&ServerEntry>) -> u8
-    ensures { result ≡ kind_of (option_copied entry) }
+    ensures { result ≡ kind_of (option_copied entry.entry) }
 {
     match entry {
         None => 0,
@@ -153,7 +153,7 @@ fn kind_of(entry: Option<&ServerEntry>) -> u8
 }
 
 fn awaits(entry: Option<&ServerEntry>) -> u8
-    ensures { result ≡ awaits (option_copied entry) }
+    ensures { result ≡ awaits (option_copied entry.entry) }
 {
     match entry {
         Some(ServerEntry::Asked { .. }) => 1,
@@ -174,7 +174,7 @@ fn awaits_undecoded(expects: Option<CallKind>) -> u8
 }
 
 fn over(entry: Option<&ServerEntry>) -> u8
-    ensures { result ≡ over (option_copied entry) }
+    ensures { result ≡ over (option_copied entry.entry) }
 {
     match entry {
         Some(entry) if entry.is_closed() => 1,
@@ -183,7 +183,7 @@ fn over(entry: Option<&ServerEntry>) -> u8
 }
 
 fn left(entry: Option<&ServerEntry>) -> u32
-    ensures { result ≡ left (option_copied entry) }
+    ensures { result ≡ left (option_copied entry.entry) }
 {
     match entry {
         Some(entry) => entry.left(),
@@ -192,7 +192,7 @@ fn left(entry: Option<&ServerEntry>) -> u32
 }
 
 fn came_to(entry: Option<&ServerEntry>) -> u8
-    ensures { result ≡ came_to (option_copied entry) }
+    ensures { result ≡ came_to (option_copied entry.entry) }
 {
     match entry {
         Some(entry) => outcome_number(entry.outcome()),
@@ -201,7 +201,7 @@ fn came_to(entry: Option<&ServerEntry>) -> u8
 }
 
 fn outcome_number(outcome: Outcome<&Reply>) -> u8
-    ensures { result ≡ outcome_number (copied outcome) }
+    ensures { result ≡ outcome_number (copied outcome.entry) }
 {
     match outcome {
         Outcome::Pending => 0,
@@ -214,7 +214,7 @@ fn outcome_number(outcome: Outcome<&Reply>) -> u8
 }
 
 fn reply_status(entry: Option<&ServerEntry>) -> u32
-    ensures { result ≡ reply_status (option_copied entry) }
+    ensures { result ≡ reply_status (option_copied entry.entry) }
 {
     match entry {
         Some(ServerEntry::Answered { reply, .. }) => reply.body.status(),
@@ -225,7 +225,7 @@ fn reply_status(entry: Option<&ServerEntry>) -> u32
 
 /// The version in which a call is answered; 1.2 where none waits for a Reply.
 pub fn version_asked(entry: Option<&ServerEntry>) -> Version
-    ensures { result ≡ version_asked (option_copied entry) }
+    ensures { result ≡ version_asked (option_copied entry.entry) }
 {
     match entry {
         Some(entry) => version_in(entry),

@@ -3,8 +3,9 @@ ghost use Rattle.std.specs.Prelude.{◌≡◌};
 ghost use Rattle.std_alloc.specs.Arc.{arc_value};
 ghost use Rattle.giop_session.specs.Runs.ServerRuns.{server_entry};
 ghost use Rattle.giop_c.specs.Calls.{At, ok};
-ghost use Rattle.giop_c.specs.EndRecords.{c_order_of, c_server_row, key_in, operation_in, request_of};
-ghost use Rattle.giop_c.specs.Ends.{CopiesOctets};
+ghost use Rattle.giop_c.specs.EndRecords.{c_order_of};
+ghost use Rattle.giop_c.specs.Entries.{c_server_row, key_in, operation_in, request_of};
+ghost use Rattle.giop_c.specs.Copying.{CopiesOctets};
 ghost use Rattle.giop_c.specs.Values.{CopiesIns};
 
 use crate::end_records::order_of;
@@ -15,7 +16,7 @@ use std::alloc::Global;
 
 /// Writes what is stored for an id: kind 0 where nothing is. It answers OK or CLOSED.
 #[unsafe(no_mangle)]
-pub extern "C" fn giop_server_entry(
+pub extern "C" fn giop_server_entry_of(
     alloc: Global,
     server: &mut ServerHandle,
     id: u32,

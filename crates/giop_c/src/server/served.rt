@@ -6,9 +6,10 @@ ghost use Rattle.std_alloc.specs.Arc.{arc_value};
 ghost use Rattle.giop_session.specs.Calls.SessionFaults.{error_message_of};
 ghost use Rattle.giop_session.specs.Runs.Driven.{end_state, new_end};
 ghost use Rattle.giop_session.specs.Runs.ServerRuns.{server_entry};
-ghost use Rattle.giop_c.specs.EndRecords.{c_server_row, key_in, operation_in, request_of};
+ghost use Rattle.giop_c.specs.Entries.{c_server_row, key_in, operation_in, request_of};
 ghost use Rattle.giop_c.specs.Values.{CopiesIns};
-ghost use Rattle.giop_c.specs.Ends.{ClosesServer, CopiesFront, CopiesOctets, FeedsServer, LocatesAtServer, SendsAtServer, TakesAtServer, WritesAtServer};
+ghost use Rattle.giop_c.specs.Copying.{CopiesFront, CopiesOctets};
+ghost use Rattle.giop_c.specs.Ends.{ClosesServer, FeedsServer, LocatesAtServer, SendsAtServer, TakesAtServer, WritesAtServer};
 
 use crate::copying::{copy_front, copy_ids, copy_octets};
 use crate::server::entries::{ServerRow, key_in, operation_in, request_of};
@@ -256,7 +257,7 @@ fn copy_ins(
     buffer: &mut [u8],
     size: &mut usize,
 ) -> u32
-    ensures { CopiesIns interface.now (option_copied request) order
+    ensures { CopiesIns interface.now (option_copied request.entry) order
         buffer.old buffer.new size.old size.new result }
 {
     let Some(request) = request else {
