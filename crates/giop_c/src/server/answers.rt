@@ -1,14 +1,15 @@
 //! What the program of a server answers to a Request: its outs or the members of an exception, as
 //! CDR octets that stand by themselves, or an exception of the broker.
-ghost use Rattle.std.specs.Prelude.{◌≡◌, ◌≤◌, ◌^◌, length, option_copied};
+ghost use Rattle.std.specs.Prelude.{◌≡◌, ◌≤◌, ◌^◌, length, option_copied, Some};
 ghost use Rattle.std_alloc.specs.Arc.{arc_value};
 ghost use Rattle.giop_cdr.specs.Ending.{ended};
+ghost use Rattle.giop_msg.specs.declared.messages.reply_body.ReplyBody.TheVariants.{UserException};
 ghost use Rattle.giop_msg.specs.Messages.Body.{values};
 ghost use Rattle.giop_msg.specs.Messages.Outcome.{FollowsToEnd};
 ghost use Rattle.giop_msg.specs.Messages.Reply.{exception_of, listed, outs_for};
 ghost use Rattle.giop_session.specs.Acts.Form.{IsForm};
 ghost use Rattle.giop_session.specs.Runs.ServerRuns.{server_entry};
-ghost use Rattle.giop_c.specs.Answers.{AnswersOuts, AnswersSystem, AnswersUser, IsAnswered, Replies, answer_status, c_answer_fault, of_end};
+ghost use Rattle.giop_c.specs.Answers.{AnswersOuts, AnswersSystem, AnswersUser, IsAnswered, Replies, RepliesOrNot, answer_status, c_answer_fault, of_end};
 ghost use Rattle.giop_c.specs.Entries.{request_of};
 ghost use Rattle.giop_c.specs.Values.{begun};
 
@@ -121,18 +122,10 @@ impl Served {
             return Err(AnswerFault::Form);
         }
         let parameters = members_of(&self.interface, exception);
-        let members = match read_last_values(alloc, parameters, octets, order) {
-            Ok(members) => members,
-            Err(fault) => return Err(AnswerFault::Values(fault)),
-        };
-        let Ok(exception) = OctetList::from_slice(alloc, exception) else {
-            return Err(AnswerFault::End(SessionFault::NoMemory));
-        };
-        let body = ReplyBody::UserException {
-            id: exception,
-            members,
-        };
-        of_end(self.reply(alloc, id, body, form))
+        match read_last_values(alloc, parameters, octets, order) {
+            Ok(members) => self.reply_user(alloc, id, exception, members, form),
+            Err(fault) => Err(AnswerFault::Values(fault)),
+        }
     }
 
     /// Answers a Request by an exception of the broker: its id, the vendor's minor code, and whether
@@ -182,6 +175,29 @@ impl Served {
         outs
     }
 
+    // Answers the call of an id by an exception of this id and these members.
+    fn reply_user(
+        &mut self,
+        alloc: Global,
+        id: u32,
+        exception: &[u8],
+        members: ValueList,
+        form: Form,
+    ) -> Result<(), AnswerFault>
+        requires { IsForm form }
+        ensures { RepliesOrNot id (UserException exception.now members) form self.old result
+            self.new }
+    {
+        let Ok(exception) = OctetList::from_slice(alloc, exception) else {
+            return Err(AnswerFault::End(SessionFault::NoMemory));
+        };
+        let body = ReplyBody::UserException {
+            id: exception,
+            members,
+        };
+        of_end(self.reply(alloc, id, body, form))
+    }
+
     // Answers the call of an id in its version, without contexts.
     fn reply(
         &mut self,
@@ -221,9 +237,16 @@ fn of_end(answer: Result<(), SessionFault>) -> Result<(), AnswerFault>
 fn outs_for<'a>(interface: &'a Interface, request: Option<&Request>) -> &'a [Parameter]
     ensures { result.now ≡ outs_for interface.now (option_copied request.entry) }
 {
-    let Some(request) = request else {
-        return &[];
-    };
+    match request {
+        Some(request) => outs_of(interface, request),
+        None => &[],
+    }
+}
+
+// The outs of the operation of a Request; none where its flags are 1.
+fn outs_of<'a>(interface: &'a Interface, request: &Request) -> &'a [Parameter]
+    ensures { result.now ≡ outs_for interface.now (Some request.now) }
+{
     if request.head.flags == 1 {
         return &[];
     }

@@ -248,7 +248,7 @@ impl Served {
     }
 }
 
-// Copies the ins of a Request as octets of a byte order.
+// Copies the ins of a Request as octets of a byte order, where there is one.
 fn copy_ins(
     alloc: Global,
     interface: &Interface,
@@ -260,9 +260,24 @@ fn copy_ins(
     ensures { CopiesIns interface.now (option_copied request.entry) order
         buffer.old buffer.new size.old size.new result }
 {
-    let Some(request) = request else {
-        return WAITS;
-    };
+    match request {
+        Some(request) => copy_ins_of(alloc, interface, request, order, buffer, size),
+        None => WAITS,
+    }
+}
+
+// Copies the ins of a Request as octets of a byte order.
+fn copy_ins_of(
+    alloc: Global,
+    interface: &Interface,
+    request: &Request,
+    order: Order,
+    buffer: &mut [u8],
+    size: &mut usize,
+) -> u32
+    ensures { CopiesIns interface.now (Some request.now) order
+        buffer.old buffer.new size.old size.new result }
+{
     let Some(operation) = interface.operation(request.head.operation.as_slice()) else {
         return WAITS;
     };
