@@ -1,6 +1,6 @@
 -- What the calls of a server's end do to what its handle holds. Each says of the end that is held what
 -- giop_session's own call says.
-use Rattle.std.specs.Prelude.{◌≡◌, ◌⊎◌, ℕ, Bool, ◌≤◌, ◌<◌, ◌^◌, ◌++◌, List, [], Option, Some, None, Result, Ok, Err, drop, length, take, false}
+use Rattle.std.specs.Prelude.{◌≡◌, ◌⊎◌, ℕ, Bool, ◌≤◌, ◌<◌, ◌^◌, ◌++◌, List, Option, Some, None, Result, Ok, Err, drop, length, false}
 use Rattle.std.specs.FinMap as finite
 use Rattle.std.specs.Option.{option_map}
 use Rattle.std_alloc.specs.Arc.{arc_value}
@@ -9,10 +9,8 @@ use Rattle.giop_cdr.specs.declared.order.Order.TheVariants.{Big}
 use Rattle.giop_ids.specs.ById.{put}
 use Rattle.giop_msg.specs.Msg.{message_octets}
 use Rattle.giop_calls.specs.declared.fault.CallFault.{CallFault}
-use Rattle.giop_calls.specs.declared.server.entry.ServerEntry.{ServerEntry}
 use Rattle.giop_calls.specs.declared.server.event.ServerEvent.{ServerEvent}
 use Rattle.giop_calls.specs.declared.server.event.ServerEvent.TheVariants as event
-use Rattle.giop_calls.specs.declared.server.rule.ServerRule.{ServerRule}
 use Rattle.giop_calls.specs.ServerTable as server
 use Rattle.giop_session.specs.declared.calls.plan.Planned.{Planned}
 use Rattle.giop_session.specs.declared.calls.plan.Plan.TheVariants.{Next}
@@ -26,13 +24,13 @@ use Rattle.giop_session.specs.Calls.CallTable.{rules_of}
 use Rattle.giop_session.specs.Hearing.Feeding.{Fed, standing, with_octets}
 use Rattle.giop_session.specs.Hearing.Heard.{hears_by, in_call}
 use Rattle.giop_session.specs.Hearing.ServerHears.{server_befalls, server_breaks}
-use Rattle.giop_session.specs.Runs.Driven.{EndState, end_state, new_end}
+use Rattle.giop_session.specs.Runs.Driven.{end_state, new_end}
 use Rattle.giop_session.specs.Runs.ServerRuns.{server_entry}
 use Rattle.giop_c.specs.declared.server.served.Served.{Served}
 use Rattle.giop_c.specs.declared.shared.Shared.{Shared}
 use Rattle.giop_c.specs.declared.end_records.EndFault.{EndFault}
 use Rattle.giop_c.specs.declared.end_records.EndLimits.{EndLimits}
-use Rattle.giop_c.specs.Calls.{ok, closed, no_memory, fault, small, waits}
+use Rattle.giop_c.specs.Calls.{ok, closed, no_memory, fault, small}
 use Rattle.giop_c.specs.EndRecords.{c_end_fault, end_status}
 
 -- what a call of an end answers, as C is told: a status; and the fault where it is refused

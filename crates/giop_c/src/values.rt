@@ -1,6 +1,6 @@
 //! The values of parameters as CDR octets that stand by themselves: the first has the offset 0, by
 //! which all are aligned. giop_msg writes and reads the bodies of messages so, behind their heads.
-ghost use Rattle.std.specs.Prelude.{◌≡◌, ◌≤◌, ◌^◌, [], true, false, length, map, IfOk, IfErr};
+ghost use Rattle.std.specs.Prelude.{◌≡◌, ◌≤◌, ◌^◌, true, false, length, map, IfOk, IfErr};
 ghost use Rattle.giop_cdr.specs.Ending.{ended};
 ghost use Rattle.giop_cdr.specs.Reading.Outcome.{Follows};
 ghost use Rattle.giop_cdr.specs.Writing.Outcome.{Appends, Writes};

@@ -1,5 +1,5 @@
 //! What is stored for the id of a call at a server, as C sees it.
-ghost use Rattle.std.specs.Prelude.{◌≡◌, ◌==◌, option_copied, Some};
+ghost use Rattle.std.specs.Prelude.{◌≡◌, option_copied, Some};
 ghost use Rattle.std.specs.Option.{option_map};
 ghost use Rattle.giop_calls.specs.Outcomes.{copied};
 ghost use Rattle.giop_msg.specs.Target.{key_of};
