@@ -61,8 +61,8 @@ pub fn what_is_sent_names_its_id()
 /// Request or LocateRequest at a server, whatever stands there; those of a Reply are that Reply at a
 /// client whose Request it answers; and a LocateReply is one that says what the server said.
 ///
-/// A caller has nothing to show: that it is planned so is what `ClientEnd::call` and `locate`, and
-/// `ServerEnd::answer` and `answer_locate`, say of what they put out.
+/// Of the values a caller has nothing to show: that they are planned so is what `ClientEnd::call`
+/// and `locate`, and `ServerEnd::answer` and `answer_locate`, say of what they put out.
 pub fn what_is_sent_is_an_item()
     ensures request { (interface : Interface) (entry asked : _) (cut : Cut) (there : _)
         → PlansCall interface entry (question.Request asked)
