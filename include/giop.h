@@ -1,4 +1,5 @@
-/* libgiop: a stream of octets, split into GIOP messages (1.0, 1.1 and 1.2; CORBA 3.3 Part 2, 9.4).
+/* libgiop: a stream of octets, split into GIOP messages (1.0, 1.1 and 1.2; CORBA 3.3 Part 2, 9.4), and a
+ * server's end of a connection.
  *
  * The library opens no socket, starts no thread, prints nothing and keeps no global state. What each
  * function does is proved over what its handle holds; docs/c.md says what that leaves to the caller.
@@ -163,6 +164,209 @@ uint32_t giop_interface_new(giop_interface *interface, const uint8_t *json, size
 
 /* Lets go what the handle holds, which holds nothing then. A second call does nothing. */
 void giop_interface_free(giop_interface *interface);
+
+/* ---- the end of a connection that answers calls ----
+ *
+ * An end is fed what was read of its client, in pieces of any size, and keeps a table: for each request id
+ * what is stored of its call. Your program looks at the table, answers, writes what is outgoing, and takes
+ * out the calls that are over. docs/PROFILE.md has what each message does to a call ("Calls").
+ *
+ * Values cross as CDR octets that stand by themselves: the values one after another, each aligned as if the
+ * first octet had the offset 0, in the byte order that you say: 0 is big endian, any other number little.
+ */
+typedef struct giop_server {
+    void *at;
+} giop_server;
+
+/* What an end may hold at most. A limit is met where the next message would pass it. */
+typedef struct giop_limits {
+    uint64_t gathered; /* the octets of all messages of which a piece is still to come: at most 2^62 */
+    uint32_t calls;    /* entries in the table, those of calls that are over and not taken out included */
+    uint32_t message;  /* the size of a message in octets, without its header */
+} giop_limits;
+
+#define GIOP_LIMITS {8388608u, 1024u, 1048576u}
+
+/* How a message is sent. */
+typedef struct giop_form {
+    uint32_t piece;         /* how many octets a piece has at most, its header counted: a multiple of 8, and
+                             * 24 at least; a message before 1.2 is one piece, whatever its size */
+    uint32_t little_endian; /* the byte order of the message */
+} giop_form;
+
+#define GIOP_FORM {4096u, 0u}
+
+/* Why an end fails, or refuses a call of its program. */
+typedef struct giop_end_fault {
+    size_t at;       /* with WIRE, NO_ID and VALUES the place of what is wrong; else 0. It counts from the
+                      * first octet of the message's header, or of the values */
+    uint32_t number; /* one of GIOP_END_ */
+    uint32_t part;   /* with WIRE what is wrong with the header, with NO_ID and VALUES one of GIOP_CDR_, with
+                      * CALL one of GIOP_CALL_; else 0 */
+    uint32_t id;     /* with CALL the request id; else 0 */
+} giop_end_fault;
+
+#define GIOP_END_WIRE 1u            /* the octets are no message */
+#define GIOP_END_CALL 2u            /* what happens to the call of the id, or is to be done to it, is refused */
+#define GIOP_END_WRONG_DIRECTION 3u /* the message is one that only the other end sends */
+#define GIOP_END_TOO_MANY_CALLS 4u  /* the table holds as many entries as it may */
+#define GIOP_END_GATHER_FULL 5u     /* all gathered octets together would be more than the limit */
+#define GIOP_END_PEER_ERROR 6u      /* the peer sent a MessageError */
+#define GIOP_END_CLOSED 7u          /* the connection was closed, by the peer or by this end */
+#define GIOP_END_NO_MEMORY 8u       /* memory ran out: the status is GIOP_NO_MEMORY */
+#define GIOP_END_STILL_OPEN 9u      /* the entry can't be taken out, since its call isn't over */
+#define GIOP_END_NO_ID 10u          /* a message before 1.2 has no request id: a field of it has a fault */
+#define GIOP_END_VALUES 11u         /* the octets are no values of the answer */
+#define GIOP_END_FORM 12u           /* messages can't be cut into pieces of this size */
+
+#define GIOP_CALL_ID_IN_USE 1u          /* a call begins with an id whose former call isn't over */
+#define GIOP_CALL_STRAY 2u              /* a Fragment comes with an id for which nothing is gathered */
+#define GIOP_CALL_ORDER_DIFFERS 3u      /* a Fragment has another byte order than what it continues */
+#define GIOP_CALL_UNKNOWN_REPLY 4u      /* a reply comes with an id that waits for none */
+#define GIOP_CALL_WRONG_KIND 5u         /* a Request is answered as a LocateRequest, or the other way round */
+#define GIOP_CALL_NOT_OPEN 6u           /* the call that is to be answered isn't open */
+#define GIOP_CALL_UNFIT 7u              /* what is to be sent has no place in a message, or doesn't answer */
+#define GIOP_CALL_UNKNOWN_OPERATION 8u  /* the interface has no such operation */
+#define GIOP_CALL_NOTHING_TO_SEND 9u    /* no piece of a message is left to be sent */
+
+/* What is stored for the id of a call at a server: the kind of a giop_server_entry. */
+#define GIOP_NOTHING 0        /* nothing */
+#define GIOP_GATHERING 1      /* a first piece of it came, its last didn't */
+#define GIOP_ASKED 2          /* a Request that expects a reply came whole, and isn't answered */
+#define GIOP_UNDECODED 3      /* a Request or a LocateRequest came whole that can't be decoded */
+#define GIOP_LOCATE_ASKED 4   /* a LocateRequest came whole, and isn't answered */
+#define GIOP_ANSWERED 5       /* a Request was answered */
+#define GIOP_LOCATE_ANSWERED 6 /* a LocateRequest was answered */
+#define GIOP_DELIVERED 7      /* a Request without a reply came whole */
+#define GIOP_CANCELLED 8      /* a CancelRequest came for it */
+
+/* What a call came to: the outcome of a giop_server_entry. */
+#define GIOP_PENDING 0        /* it isn't over */
+#define GIOP_WAS_CANCELLED 1  /* it was cancelled */
+#define GIOP_ONE_WAY 2        /* it was a Request that expects no reply */
+#define GIOP_REPLIED 3        /* it was a Request, and all of its reply was put out */
+#define GIOP_LOCATED 4        /* it was a LocateRequest, and was answered */
+#define GIOP_NOT_DECODED 5    /* it can't be decoded, and expects no reply */
+
+typedef struct giop_server_entry {
+    size_t operation; /* the number of octets of the operation's name, without its null; 0 where no Request
+                       * is known */
+    size_t key;       /* the number of octets of the object's key; 0 where the target is no key */
+    uint32_t left;    /* how many pieces of the reply aren't sent yet: giop_server_send puts out one */
+    uint32_t status;  /* the reply status of an answered Request (9.4.3), or the locate status; else 0 */
+    uint8_t kind;     /* GIOP_NOTHING to GIOP_CANCELLED */
+    uint8_t awaits;   /* what the call waits for: 1 a Reply, 2 a LocateReply, 0 nothing */
+    uint8_t over;     /* 1 where the call is over, and may be taken out */
+    uint8_t outcome;  /* GIOP_PENDING to GIOP_NOT_DECODED */
+    uint8_t flags;    /* the response flags of the Request, as in giop_request; 0 where none is known */
+} giop_server_entry;
+
+/* Opens a handle: a server's end without calls, by the interface that another handle holds, within limits.
+ * The end keeps a share of the interface, whose handle may be freed before it. What the handle held before
+ * is freed. Answers GIOP_OK; GIOP_FAULT: the limit gathered is above 2^62; GIOP_NO_MEMORY; or GIOP_CLOSED:
+ * the interface's handle holds nothing. With all but GIOP_OK the handle is as it was. */
+uint32_t giop_server_new(giop_server *server, giop_interface *interface, const giop_limits *limits);
+
+/* Takes in octets of the client, and hears each message that is whole. The octets are copied. Answers
+ *   GIOP_OK;
+ *   GIOP_FAULT: *fault says why the end has failed. Its table is that after the last message before the
+ *     fault, and from now on each call that acts answers this fault;
+ *   GIOP_NO_MEMORY: memory ran out, and has failed the end for good; *fault has the number 8;
+ *   GIOP_CLOSED.
+ * *fault is written with GIOP_FAULT and GIOP_NO_MEMORY alone, here and below. octets may be NULL where size
+ * is 0. */
+uint32_t giop_server_feed(giop_server *server, const uint8_t *octets, size_t size, giop_end_fault *fault);
+
+/* Copies the first octets that are to be sent to the front of the buffer, as many as it has room for, and
+ * writes to *size how many there are in all. They stay until giop_server_wrote. Answers GIOP_OK or
+ * GIOP_CLOSED. buffer may be NULL where room is 0. */
+uint32_t giop_server_outgoing(giop_server *server, uint8_t *buffer, size_t room, size_t *size);
+
+/* The first octets that are to be sent were written, so many of them: they are outgoing no longer. Answers
+ * GIOP_OK; GIOP_SMALL: fewer are to be sent, and nothing has changed; or GIOP_CLOSED. */
+uint32_t giop_server_wrote(giop_server *server, size_t size);
+
+/* Copies the first request ids for which something is stored, ascending, to the front of an array of so
+ * many, as many as it has room for, and writes to *count how many there are in all. Answers GIOP_OK;
+ * GIOP_NO_MEMORY: nothing is written; or GIOP_CLOSED. ids may be NULL where room is 0. */
+uint32_t giop_server_ids(giop_server *server, uint32_t *ids, size_t room, size_t *count);
+
+/* Writes what is stored for an id: the kind is GIOP_NOTHING where nothing is. Answers GIOP_OK or
+ * GIOP_CLOSED. */
+uint32_t giop_server_entry_of(giop_server *server, uint32_t id, giop_server_entry *entry);
+
+/* Copies the operation of the Request under an id, without a null, to the front of the buffer, and writes
+ * its size. Answers GIOP_OK; GIOP_SMALL: the buffer has fewer octets than *size, and nothing was copied;
+ * GIOP_WAITS: no Request is known under the id, and *size is as it was; or GIOP_CLOSED. */
+uint32_t giop_server_operation(giop_server *server, uint32_t id, uint8_t *buffer, size_t room, size_t *size);
+
+/* Copies the key of the object of the Request under an id, and writes its size, which is 0 where the target
+ * is no key. Answers as giop_server_operation. */
+uint32_t giop_server_key(giop_server *server, uint32_t id, uint8_t *buffer, size_t room, size_t *size);
+
+/* Copies the ins of the Request under an id, as octets of this byte order, and writes their number. Answers
+ * as giop_server_operation; or GIOP_NO_MEMORY, or GIOP_FAULT: what is stored are no values of the
+ * operation. With both nothing is written. */
+uint32_t giop_server_ins(giop_server *server, uint32_t id, uint32_t little_endian,
+                         uint8_t *buffer, size_t room, size_t *size);
+
+/* Answers the Request under an id without an exception (9.4.3): outs are the octets, of this byte order, of
+ * the result and then of the inout and out parameters; none where the Request's flags are 1. The Reply has
+ * the Request's version and no service contexts. Its first piece is outgoing then, and giop_server_send puts
+ * out each other one. Answers
+ *   GIOP_OK;
+ *   GIOP_FAULT: *fault says why it isn't sent: FORM; VALUES; the end's own; or CALL with NOT_OPEN,
+ *     WRONG_KIND or UNFIT;
+ *   GIOP_NO_MEMORY: it can be answered again, unless the end has failed;
+ *   GIOP_CLOSED.
+ * Where it isn't sent, nothing has changed. outs are at most 2^62 octets; they may be NULL where size is
+ * 0. */
+uint32_t giop_server_answer(giop_server *server, uint32_t id, uint32_t little_endian,
+                            const uint8_t *outs, size_t size, const giop_form *form,
+                            giop_end_fault *fault);
+
+/* Answers the Request under an id by an exception of the interface: its repository id without a null, and
+ * the octets of its members, of this byte order. Answers as giop_server_answer. */
+uint32_t giop_server_answer_user(giop_server *server, uint32_t id,
+                                 const uint8_t *exception, size_t exception_size,
+                                 uint32_t little_endian, const uint8_t *members, size_t members_size,
+                                 const giop_form *form, giop_end_fault *fault);
+
+/* Answers the Request under an id, also one that couldn't be decoded, by an exception of the broker: its
+ * repository id without a null, a minor code, and whether the operation was completed: 0 yes, 1 no, any
+ * other number that it isn't known. Answers as giop_server_answer. */
+uint32_t giop_server_answer_system(giop_server *server, uint32_t id,
+                                   const uint8_t *exception, size_t exception_size,
+                                   uint32_t minor, uint32_t completion,
+                                   const giop_form *form, giop_end_fault *fault);
+
+/* Answers the LocateRequest under an id (9.4.6): that the object is here, or, where here is 0, that it isn't
+ * known. Answers GIOP_OK; GIOP_FAULT or GIOP_NO_MEMORY, and nothing has changed; or GIOP_CLOSED. */
+uint32_t giop_server_answer_locate(giop_server *server, uint32_t id, uint32_t here, uint32_t little_endian,
+                                   giop_end_fault *fault);
+
+/* Puts out the next piece of the Reply of an id. Answers GIOP_OK; GIOP_FAULT, as CALL with NOTHING_TO_SEND,
+ * or GIOP_NO_MEMORY, and nothing has changed; or GIOP_CLOSED. */
+uint32_t giop_server_send(giop_server *server, uint32_t id, giop_end_fault *fault);
+
+/* Takes what is stored for an id out of the table, where its call is over. Answers GIOP_OK, also where
+ * nothing is stored; GIOP_FAULT, as STILL_OPEN, and nothing has changed; or GIOP_CLOSED. */
+uint32_t giop_server_take(giop_server *server, uint32_t id, giop_end_fault *fault);
+
+/* Closes the connection (9.4.7): a CloseConnection is outgoing then, and the end's fault is CLOSED from now
+ * on. Answers GIOP_OK; GIOP_FAULT or GIOP_NO_MEMORY, and nothing has changed; or GIOP_CLOSED. */
+uint32_t giop_server_close(giop_server *server, giop_end_fault *fault);
+
+/* Copies the MessageError (9.4.8) that the client is to be sent after the end's fault: 12 octets. Answers
+ * GIOP_OK; GIOP_SMALL: the buffer has fewer octets than *size, and nothing was copied; GIOP_WAITS: no fault
+ * asks for one, and *size is as it was; or GIOP_CLOSED. */
+uint32_t giop_server_error_message(giop_server *server, uint8_t *buffer, size_t room, size_t *size);
+
+/* Writes how many octets are unread to *rest. Answers GIOP_OK or GIOP_CLOSED. */
+uint32_t giop_server_rest(giop_server *server, size_t *rest);
+
+/* Frees what the handle holds, which holds nothing then. A second call does nothing. */
+void giop_server_free(giop_server *server);
 
 #ifdef __cplusplus
 }

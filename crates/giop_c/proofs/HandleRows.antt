@@ -6,6 +6,7 @@ use Rattle.std.proofs.alloc.Global.TheLaws as global_laws
 use Rattle.std.specs.contracts.impls.GlobalAllocator.TheImpl.{ghosts}
 use Rattle.handle.specs.contracts.raw_box.RawBox as raw_box
 use Rattle.giop_c.specs.contracts.reader.Reader as reader
+use Rattle.giop_c.specs.contracts.server.served.Served as served
 use Rattle.giop_c.specs.contracts.shared.Shared as shared
 
 abbrev pub Heap : RattleType
@@ -21,3 +22,7 @@ RawReader = raw_box.the_row reader.the_row Heap ghosts
 -- an interface behind a pointer
 abbrev pub RawShared : RattleType
 RawShared = raw_box.the_row shared.the_row Heap ghosts
+
+-- a server's end behind a pointer
+abbrev pub RawServed : RattleType
+RawServed = raw_box.the_row served.the_row Heap ghosts

@@ -1,1 +1,2 @@
+pub mod AtLemmas
 pub mod HandleRows

@@ -31,7 +31,7 @@ small = 5
 
 -- a call at a handle: where it holds nothing it stays so, the answer is closed, and what the call
 -- would write is kept; else it holds what the call makes of what it held
-abbrev pub At : Option Reader → Option Reader → ℕ → Type 0 → (Reader → Reader → Type 0) → Type 0
+abbrev pub At : {T : Type 0} → Option T → Option T → ℕ → Type 0 → (T → T → Type 0) → Type 0
 At None None status kept does = (status ≡ closed) × kept
 At None (Some _) _ _ _ = ⊥
 At (Some _) None _ _ _ = ⊥

@@ -1,4 +1,10 @@
+pub mod Answers
 pub mod Calls
+pub mod Copying
+pub mod EndRecords
+pub mod Ends
+pub mod Entries
 pub mod Heads
 pub mod Interfaces
 pub mod Records
+pub mod Values

@@ -1,7 +1,9 @@
-//! The framer of giop_msg, the head of a Request and interfaces for C, C++ and Rust: a handle each,
-//! and one exported function for each call.
+//! The framer of giop_msg, the head of a Request, interfaces and a server's end of giop_session for
+//! C, C++ and Rust: a handle each, and one exported function for each call.
 #![tactic(auto)]
 
+mod copying;
+mod end_records;
 mod framer_calls;
 mod framer_handle;
 mod interface_calls;
@@ -9,13 +11,17 @@ mod interface_handle;
 mod reader;
 mod records;
 mod request_calls;
+mod server;
 mod shared;
 mod status;
 #[cfg(test)]
 mod tests;
+mod values;
 
+pub use end_records::{EndFault, EndLimits, SendForm};
 pub use framer_handle::{FramerHandle, Opaque};
 pub use interface_handle::InterfaceHandle;
 pub use reader::Reader;
 pub use records::{Fault, Message, Request, TextFault};
+pub use server::{Served, ServerHandle, ServerRow};
 pub use shared::Shared;

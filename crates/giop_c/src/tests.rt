@@ -1,6 +1,8 @@
 //! The exported functions in turn, on octets that are worked by hand from 9.4.1. tests/clib has the
 //! same calls from C, and what is wrong with a header.
 
+mod server;
+
 use crate::framer_calls::{
     giop_framer_feed, giop_framer_free, giop_framer_new, giop_framer_next, giop_framer_payload,
     giop_framer_rest,

@@ -168,3 +168,9 @@ iiop_written p fits held =
 -- and is read back
 pub iiop_back : (p : Profile) → iiop_layout.fits p ≡ true → iiop_layout.holds p → iiop_of (iiop_octets p) ≡ Ok p
 iiop_back p fits held = iiop_only (iiop_octets p) p (iiop_written p fits held)
+
+-- as is what was written behind an order octet
+pub appended_iiop_back : (p : Profile) (out done : Output) (octets : List ℕ) → iiop_layout.fits p ≡ true → iiop_layout.holds p
+    → out ≡ record { order = Big; at = 1; octets = 0 ∷ [] } → done ≡ iiop_layout.written p out → octets ≡ done.octets → iiop_of octets ≡ Ok p
+unfolding iiop_octets
+appended_iiop_back p out done octets fits held from put whole = rw (whole, put, from) (iiop_back p fits held)

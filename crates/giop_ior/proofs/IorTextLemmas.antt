@@ -1,12 +1,12 @@
 -- A reference as text: its grammar is that of giop_types, over the table of a reference.
-use Rattle.std.proofs.Common.{◌≡◌, ℕ, ◌<◌, true, List, [], ◌∷◌, ◌++◌, Ok, Err, IfOk, inl, inr, refl, subst, lit<}
+use Rattle.std.proofs.Common.{◌≡◌, ℕ, ◌<◌, true, List, [], ◌∷◌, ◌++◌, Ok, Err, IfOk, inl, inr, refl, ap, subst, ◌∙◌, lit<}
 use Rattle.std.proofs.lemmas.List.Elements.{All-cons, All-nil, All-tail}
 use Rattle.std.specs.Int.{w8}
 use Rattle.giop_cdr.specs.declared.order.Order.TheVariants.{Big}
 use Rattle.giop_cdr.specs.Encapsulation.Opened.{order_octet}
 use Rattle.giop_cdr.specs.Layout.{Layout, IsLawful, AreOctets}
-use Rattle.giop_cdr.specs.Writing.Output.{number_out}
-use Rattle.giop_types.specs.IorText.{IorText, ior_text_of, ReadsTexts, begun, text_written}
+use Rattle.giop_cdr.specs.Writing.Output.{Output, number_out}
+use Rattle.giop_types.specs.IorText.{IorText, ior_text_of, ReadsTexts, begun, prefixed, text_written}
 use Rattle.giop_types.specs.IorTextFault.{TextReading, AnswersOrWants, IsAnswered}
 use Rattle.giop_cdr.proofs.LayoutLemmas.{octets_of_whole}
 use Rattle.giop_types.proofs.HexLemmas.{are_octets_said}
@@ -59,3 +59,14 @@ pub text_says : (ior : Reference) → ior_layout.fits ior ≡ true → ior_layou
 text_says ior fits held are =
     let all = reference_keeps ior are begun (All-cons (λ octet. octet < 256) 0 [] (lit< tt) (All-nil (λ octet. octet < 256))) in
     value_written ior_layout.spells ior (ior_layout.written ior begun) (ior_is.written ior begun fits held) all
+
+-- and so is the text that a call makes of what it wrote
+pub appended_text_back : (ior : Reference) (out done : Output) (text : List ℕ) → ior_layout.fits ior ≡ true → ior_layout.holds ior
+    → AreOctets done.octets → out ≡ begun → done ≡ ior_layout.written ior out → text ≡ prefixed done.octets
+    → ior_text_of ior_layout.read text ≡ Ok ior
+appended_text_back ior out done text fits held all from put whole =
+    let own : done ≡ ior_layout.written ior begun = put ∙ ap (ior_layout.written ior) from in
+    let small : AreOctets (ior_layout.written ior begun).octets = subst (λ (o : Output). AreOctets o.octets) own all in
+    let said : IorText ior_layout.spells ior (prefixed (ior_layout.written ior begun).octets) =
+    value_written ior_layout.spells ior (ior_layout.written ior begun) (ior_is.written ior begun fits held) small in
+    ap (ior_text_of ior_layout.read) (whole ∙ ap (λ (o : Output). prefixed o.octets) own) ∙ iors_read.only _ ior said

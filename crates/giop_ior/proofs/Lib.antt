@@ -16,6 +16,8 @@ pub mod KeyFirstLemmas
 pub mod FirstFaultLemmas
 pub mod WritingLemmas
 pub mod WrittenLemmas
+pub mod BackLemmas
+mod HeldLemmas
 pub mod IorLemmas
 mod OctetLemmas
 pub mod IiopLemmas

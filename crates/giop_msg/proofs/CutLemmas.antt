@@ -1,5 +1,5 @@
 -- Joined octets are cut into messages, which a framer reads back and which give the octets again.
-use Rattle.std.proofs.Common.{◌≡◌, ℕ, ◌+◌, ◌-◌, ◌<◌, ◌≤◌, ◌^◌, ◌%◌, ◌==◌, nat_le, nat_lt, Bool, true, false, List, [], ◌∷◌, ◌++◌, length, take, drop, None, refl, sym, ap, subst, ◌∙◌, append-nil, length-append, arith}
+use Rattle.std.proofs.Common.{◌≡◌, ℕ, ◌+◌, ◌-◌, ◌<◌, ◌≤◌, ◌^◌, ◌%◌, ◌==◌, nat_le, nat_lt, Bool, true, false, List, [], ◌∷◌, ◌++◌, length, take, drop, ◌⊎◌, inl, inr, None, refl, sym, ap, subst, ◌∙◌, append-nil, length-append, arith}
 use Rattle.std.specs.List.{All, flat_map}
 use Rattle.std.proofs.lemmas.List.{take-append-drop, drop_at, length-take}
 use Rattle.std.proofs.lemmas.List.Elements.{All-cons, All-nil}
@@ -11,10 +11,11 @@ use Rattle.giop_msg.specs.declared.kind.Kind.TheVariants.{Request, Reply, Cancel
 use Rattle.giop_msg.specs.declared.msg.Msg.{Msg}
 use Rattle.giop_msg.specs.declared.version.Version.{Version}
 use Rattle.giop_msg.specs.declared.version.Version.TheVariants.{V12}
-use Rattle.giop_msg.specs.Cut.{continued, joined, is_continued, message_of, AreFragments, IsCut, CanCut, CutLaws}
+use Rattle.giop_msg.specs.Cut.{continued, joined, is_continued, message_of, AreFragments, IsCut, CanCut, LetsThrough, CutLaws}
 use Rattle.giop_msg.specs.Header.{fault_of}
 use Rattle.giop_msg.specs.Msg.{head_of, message_octets, IsMessage}
-use Rattle.giop_msg.specs.Stream.{BeginsWithMessage}
+use Rattle.giop_msg.specs.Stream.{BeginsWithMessage, Msgs}
+use Rattle.giop_msg.specs.Version.{has_fragments}
 use Rattle.giop_msg.proofs.HeaderLemmas.{header_fault-header_octets}
 use Rattle.giop_msg.proofs.StreamLemmas.{length-message_octets}
 
@@ -89,8 +90,8 @@ last_sound : (limit : ℕ) (order : Order) (size : ℕ) → nat_lt limit size �
     → fault_of limit (head V12 Fragment order false size) ≡ None
 last_sound limit order size small room = rw (small, room) refl
 
-not_above : (size : ℕ) → size < 2 ^ 32 → nat_lt (2 ^ 32 - 1) size ≡ false
-not_above size small = grind (arith, nat_tests)
+not_above : (limit size : ℕ) → size ≤ limit → nat_lt limit size ≡ false
+not_above limit size within = grind (arith, nat_tests)
 
 has_room : (size : ℕ) → 4 ≤ size → nat_le 4 size ≡ true
 has_room size room = grind (arith, nat_tests)
@@ -99,79 +100,102 @@ is_even : (size piece : ℕ) → size + 12 ≡ piece → piece % 8 ≡ 0 → ((s
 is_even size piece same even = rw (same, even) refl
 
 -- a message whose fields are sound
-is_message : (m : Msg) → length m.payload < 2 ^ 32 → fault_of (2 ^ 32 - 1) (head_of m) ≡ None → IsMessage (2 ^ 32 - 1) m
-is_message m sized sound = record { sized = sized; sound = header_fault-header_octets (2 ^ 32 - 1) (head_of m) sized ∙ sound }
+is_message : (limit : ℕ) (m : Msg) → length m.payload < 2 ^ 32 → fault_of limit (head_of m) ≡ None → IsMessage limit m
+is_message limit m sized sound = record { sized = sized; sound = header_fault-header_octets limit (head_of m) sized ∙ sound }
 
-whole_is_message : (version : Version) (kind : Kind) (order : Order) (octets : List ℕ) → is_continued kind ≡ true → 4 ≤ length octets → length octets < 2 ^ 32
-    → IsMessage (2 ^ 32 - 1) (message_of version kind order false octets)
-whole_is_message version kind order octets is room small =
-    is_message (message_of version kind order false octets) small
-    (whole_sound (2 ^ 32 - 1) version kind order (length octets) is (not_above (length octets) small) (has_room (length octets) room))
+whole_is_message : (limit : ℕ) (version : Version) (kind : Kind) (order : Order) (octets : List ℕ) → is_continued kind ≡ true → 4 ≤ length octets
+    → length octets < 2 ^ 32 → length octets ≤ limit
+    → IsMessage limit (message_of version kind order false octets)
+whole_is_message limit version kind order octets is room small within =
+    is_message limit (message_of version kind order false octets) small
+    (whole_sound limit version kind order (length octets) is (not_above limit (length octets) within) (has_room (length octets) room))
 
-first_is_message : (kind : Kind) (order : Order) (octets : List ℕ) (piece : ℕ) → is_continued kind ≡ true → length octets + 12 ≡ piece → piece < 2 ^ 32
-    → 24 ≤ piece → piece % 8 ≡ 0
-    → IsMessage (2 ^ 32 - 1) (message_of V12 kind order true octets)
-first_is_message kind order octets piece is same small large even =
-    let below : length octets < 2 ^ 32 = omega arith in
-    is_message (message_of V12 kind order true octets) below
-    (first_sound (2 ^ 32 - 1) kind order (length octets) is (not_above (length octets) below) (has_room (length octets) (omega arith))
+first_is_message : (limit : ℕ) (kind : Kind) (order : Order) (octets : List ℕ) (piece : ℕ) → is_continued kind ≡ true → length octets + 12 ≡ piece
+    → piece < 2 ^ 32 → 24 ≤ piece → piece % 8 ≡ 0 → piece ≤ limit + 12
+    → IsMessage limit (message_of V12 kind order true octets)
+first_is_message limit kind order octets piece is same small large even within =
+    is_message limit (message_of V12 kind order true octets) (omega arith)
+    (first_sound limit kind order (length octets) is (not_above limit (length octets) (omega arith)) (has_room (length octets) (omega arith))
     (is_even (length octets) piece same even))
 
-more_is_message : (order : Order) (payload : List ℕ) (piece : ℕ) → length payload + 12 ≡ piece → piece < 2 ^ 32 → 24 ≤ piece → piece % 8 ≡ 0
-    → IsMessage (2 ^ 32 - 1) (message_of V12 Fragment order true payload)
-more_is_message order payload piece same small large even =
-    let below : length payload < 2 ^ 32 = omega arith in
-    is_message (message_of V12 Fragment order true payload) below
-    (more_sound (2 ^ 32 - 1) order (length payload) (not_above (length payload) below) (has_room (length payload) (omega arith))
+more_is_message : (limit : ℕ) (order : Order) (payload : List ℕ) (piece : ℕ) → length payload + 12 ≡ piece → piece < 2 ^ 32 → 24 ≤ piece → piece % 8 ≡ 0
+    → piece ≤ limit + 12
+    → IsMessage limit (message_of V12 Fragment order true payload)
+more_is_message limit order payload piece same small large even within =
+    is_message limit (message_of V12 Fragment order true payload) (omega arith)
+    (more_sound limit order (length payload) (not_above limit (length payload) (omega arith)) (has_room (length payload) (omega arith))
     (is_even (length payload) piece same even))
 
-last_is_message : (order : Order) (payload : List ℕ) → 4 ≤ length payload → length payload < 2 ^ 32
-    → IsMessage (2 ^ 32 - 1) (message_of V12 Fragment order false payload)
-last_is_message order payload room small =
-    is_message (message_of V12 Fragment order false payload) small
-    (last_sound (2 ^ 32 - 1) order (length payload) (not_above (length payload) small) (has_room (length payload) room))
+last_is_message : (limit : ℕ) (order : Order) (payload : List ℕ) → 4 ≤ length payload → length payload < 2 ^ 32 → length payload ≤ limit
+    → IsMessage limit (message_of V12 Fragment order false payload)
+last_is_message limit order payload room small within =
+    is_message limit (message_of V12 Fragment order false payload) small
+    (last_sound limit order (length payload) (not_above limit (length payload) within) (has_room (length payload) room))
 
-each_fragment : (order : Order) (id : List ℕ) (piece : ℕ) (octets : List ℕ) (ms : List Msg) → length id ≡ 4 → piece < 2 ^ 32 → 24 ≤ piece → piece % 8 ≡ 0
-    → AreFragments order id piece octets ms → All (IsMessage (2 ^ 32 - 1)) ms
-each_fragment order id piece octets [] four small large even carried = absurd carried
-each_fragment order id piece octets (m ∷ []) four small large even carried =
+each_fragment : (limit : ℕ) (order : Order) (id : List ℕ) (piece : ℕ) (octets : List ℕ) (ms : List Msg) → length id ≡ 4 → piece < 2 ^ 32 → 24 ≤ piece
+    → piece % 8 ≡ 0 → piece ≤ limit + 12 → AreFragments order id piece octets ms → All (IsMessage limit) ms
+each_fragment limit order id piece octets [] four small large even within carried = absurd carried
+each_fragment limit order id piece octets (m ∷ []) four small large even within carried =
     let sizes : length (id ++ octets) ≡ 4 + length octets = length-append id octets ∙ ap (λ n. n + length octets) four in
-    All-cons (IsMessage (2 ^ 32 - 1)) m []
-    (subst (IsMessage (2 ^ 32 - 1)) (sym carried.0) (last_is_message order (id ++ octets) (omega (arith, sizes)) (omega (arith, sizes, carried.2))))
-    (All-nil (IsMessage (2 ^ 32 - 1)))
-each_fragment order id piece octets (m ∷ n ∷ ms) four small large even carried =
+    let last : IsMessage limit (message_of V12 Fragment order false (id ++ octets)) =
+    last_is_message limit order (id ++ octets) (omega (arith, sizes)) (omega (arith, sizes, carried.2)) (omega (arith, sizes, carried.2)) in
+    All-cons (IsMessage limit) m [] (subst (IsMessage limit) (sym carried.0) last) (All-nil (IsMessage limit))
+each_fragment limit order id piece octets (m ∷ n ∷ ms) four small large even within carried =
     let part : length (take (piece - 16) octets) ≡ piece - 16 = simp length-take (omega (arith, carried.1)) in
     let sizes : length (id ++ take (piece - 16) octets) + 12 ≡ piece = omega (arith, length-append id (take (piece - 16) octets), four, part) in
-    All-cons (IsMessage (2 ^ 32 - 1)) m (n ∷ ms)
-    (subst (IsMessage (2 ^ 32 - 1)) (sym carried.0) (more_is_message order (id ++ take (piece - 16) octets) piece sizes small large even))
-    (each_fragment order id piece (drop (piece - 16) octets) (n ∷ ms) four small large even carried.2)
+    All-cons (IsMessage limit) m (n ∷ ms)
+    (subst (IsMessage limit) (sym carried.0) (more_is_message limit order (id ++ take (piece - 16) octets) piece sizes small large even within))
+    (each_fragment limit order id piece (drop (piece - 16) octets) (n ∷ ms) four small large even within carried.2)
 
-each_message : (version : Version) (kind : Kind) (order : Order) (octets : List ℕ) (piece : ℕ) (messages : List Msg) →
-    CanCut kind octets piece → IsCut version kind order octets piece messages → All (IsMessage (2 ^ 32 - 1)) messages
-each_message version kind order octets piece [] can cut = absurd cut
-each_message version kind order octets piece (m ∷ []) can cut =
-    All-cons (IsMessage (2 ^ 32 - 1)) m []
-    (subst (IsMessage (2 ^ 32 - 1)) (sym cut.0) (whole_is_message version kind order octets can.continued can.id can.short))
-    (All-nil (IsMessage (2 ^ 32 - 1)))
-each_message version kind order octets piece (m ∷ n ∷ ms) can cut =
+-- a limit of which the piece is, where there are Fragments
+piece_within : (limit : ℕ) (version : Version) (octets : List ℕ) (piece : ℕ) → LetsThrough limit version octets piece → piece < length octets + 12
+    → piece ≤ limit + 12
+piece_within limit version octets piece (inl whole) more = omega arith
+piece_within limit version octets piece (inr part) more = part.1
+
+-- one of which all octets are, where there are none
+whole_within : (limit : ℕ) (version : Version) (octets : List ℕ) (piece : ℕ) → LetsThrough limit version octets piece
+    → (has_fragments version ≡ false) ⊎ (length octets + 12 ≤ piece) → length octets ≤ limit
+whole_within limit version octets piece (inl whole) one = whole
+whole_within limit version octets piece (inr part) (inl none) = absurd (cc (sym none ∙ part.0))
+whole_within limit version octets piece (inr part) (inr short) = let within : piece ≤ limit + 12 = part.1 in omega arith
+
+each_message : (limit : ℕ) (version : Version) (kind : Kind) (order : Order) (octets : List ℕ) (piece : ℕ) (messages : List Msg) →
+    CanCut kind octets piece → IsCut version kind order octets piece messages → LetsThrough limit version octets piece → All (IsMessage limit) messages
+each_message limit version kind order octets piece [] can cut lets = absurd cut
+each_message limit version kind order octets piece (m ∷ []) can cut lets =
+    All-cons (IsMessage limit) m []
+    (subst (IsMessage limit) (sym cut.0)
+    (whole_is_message limit version kind order octets can.continued can.id can.short (whole_within limit version octets piece lets cut.1)))
+    (All-nil (IsMessage limit))
+each_message limit version kind order octets piece (m ∷ n ∷ ms) can cut lets =
     let part : length (take (piece - 12) octets) ≡ piece - 12 = simp length-take (omega (arith, cut.2)) in
     let sizes : length (take (piece - 12) octets) + 12 ≡ piece = omega (arith, part, can.large) in
     let four : length (take 4 octets) ≡ 4 = simp length-take (omega (arith, can.id)) in
-    let first : IsMessage (2 ^ 32 - 1) (message_of V12 kind order true (take (piece - 12) octets)) =
-    first_is_message kind order (take (piece - 12) octets) piece can.continued sizes can.fits can.large can.multiple in
-    All-cons (IsMessage (2 ^ 32 - 1)) m (n ∷ ms)
-    (subst (IsMessage (2 ^ 32 - 1)) (sym (cut.0 ∙ ap (λ v. message_of v kind order true (take (piece - 12) octets)) cut.1)) first)
-    (each_fragment order (take 4 octets) piece (drop (piece - 12) octets) (n ∷ ms) four can.fits can.large can.multiple cut.3)
+    let within : piece ≤ limit + 12 = piece_within limit version octets piece lets cut.2 in
+    let first : IsMessage limit (message_of V12 kind order true (take (piece - 12) octets)) =
+    first_is_message limit kind order (take (piece - 12) octets) piece can.continued sizes can.fits can.large can.multiple within in
+    All-cons (IsMessage limit) m (n ∷ ms)
+    (subst (IsMessage limit) (sym (cut.0 ∙ ap (λ v. message_of v kind order true (take (piece - 12) octets)) cut.1)) first)
+    (each_fragment limit order (take 4 octets) piece (drop (piece - 12) octets) (n ∷ ms) four can.fits can.large can.multiple within cut.3)
 
 no_message_left : (limit : ℕ) → BeginsWithMessage limit [] → ⊥
 no_message_left limit (m, more, is, e) = absurd (omega (arith, ap length e, length-append (message_octets m) more, length-message_octets m))
 
+cut_framed : (limit : ℕ) (version : Version) (kind : Kind) (order : Order) (octets : List ℕ) (piece : ℕ) (messages : List Msg) →
+    CanCut kind octets piece → IsCut version kind order octets piece messages → LetsThrough limit version octets piece →
+    Msgs limit (flat_map message_octets messages) messages []
+cut_framed limit version kind order octets piece messages can cut lets = record {
+  whole = sym (append-nil (flat_map message_octets messages));
+  each = each_message limit version kind order octets piece messages can cut lets;
+  partial = no_message_left limit;
+}
+
 pub CutLaws-hold : CutLaws
 CutLaws-hold = record {
   undone = cut_undone;
-  framed = λ version kind order octets piece messages can cut. record {
-    whole = sym (append-nil (flat_map message_octets messages));
-    each = each_message version kind order octets piece messages can cut;
-    partial = no_message_left (2 ^ 32 - 1);
-  };
+  framed = λ version kind order octets piece messages can cut.
+      let short : length octets ≤ 2 ^ 32 - 1 = omega (arith, can.short) in
+      cut_framed (2 ^ 32 - 1) version kind order octets piece messages can cut (inl short);
+  within = cut_framed;
 }

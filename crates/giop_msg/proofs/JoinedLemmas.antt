@@ -8,6 +8,7 @@ use Rattle.giop_cdr.specs.declared.order.Order.{Order}
 use Rattle.giop_cdr.specs.declared.fault.CdrFault.{CdrFault}
 use Rattle.giop_cdr.specs.Reading.Cursor.{Cursor}
 use Rattle.giop_cdr.specs.Layout.{Layout, IsLawful}
+use Rattle.giop_cdr.specs.Ending.{ended}
 use Rattle.giop_cdr.proofs.Reading.Answers.{bind_elim, ok_same}
 use Rattle.giop_msg.specs.Joined.{joined_from, BeginsWith, head_of_joined, AreWhole, whole_of_joined}
 
@@ -109,3 +110,9 @@ pub whole_refused : {A : Type 0} (layout : Layout A) (order : Order) (octets : L
     → layout.read (joined_from order octets) ≡ Err e → whole_of_joined layout order octets ≡ Err e
 unfolding whole_of_joined
 whole_refused layout order octets e h = rw h refl
+
+-- what is read so is a value and nothing behind it
+pub whole_is_ended : {A : Type 0} (layout : Layout A) (order : Order) (octets : List ℕ)
+    → whole_of_joined layout order octets ≡ (ended layout).read (joined_from order octets)
+unfolding whole_of_joined ended
+whole_is_ended layout order octets = refl

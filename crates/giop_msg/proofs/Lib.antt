@@ -6,6 +6,7 @@ pub mod SplitLemmas
 pub mod ReadPiecesLemmas
 pub mod JoinedLemmas
 pub mod TableLemmas
+pub mod BackLemmas
 pub mod CutLemmas
 pub mod MeaningLemmas
 pub mod TargetLemmas

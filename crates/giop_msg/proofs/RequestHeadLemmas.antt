@@ -1,14 +1,18 @@
 -- The tables of a Request's head are lawful.
-use Rattle.std.proofs.Common.{◌≡◌, ℕ, ◌==◌, ◌||◌, Bool, true, false, List, [], refl, sym, arith}
+use Rattle.std.proofs.Common.{◌≡◌, ℕ, ◌==◌, ◌||◌, Bool, true, false, List, [], ◌<◌, ◌^◌, refl, sym, ap, subst, arith}
 use Rattle.std.proofs.lemmas.Bool.{eqb-true}
 use Rattle.std.specs.Int.{w8, w32}
 use Rattle.giop_cdr.specs.declared.order.Order.{Order}
-use Rattle.giop_cdr.specs.Layout.{IsLawful, AreOctets, number, octets, field, gives, reserved}
+use Rattle.giop_cdr.specs.Layout.{IsLawful, AreOctets, number, boolean, octets, text, such, field, gives, reserved}
 use Rattle.giop_cdr.proofs.LayoutLemmas.{number_is, boolean_is, octets_is, text_is, such_is, field_is, gives_is, reserved_is, unspelled}
+use Rattle.giop_ior.specs.declared.references.service_context.ServiceContext.{ServiceContext}
+use Rattle.giop_ior.specs.ServiceContext.{service_contexts}
 use Rattle.giop_ior.proofs.ServiceContextLemmas.{service_contexts_are}
 use Rattle.giop_msg.specs.declared.version.Version.{Version}
 use Rattle.giop_msg.specs.declared.version.Version.TheVariants.{V10, V11, V12}
 use Rattle.giop_msg.specs.RequestHead.{Head, response_flags, reserved_octet, reserved_octets, request_head_1_2, flags_expecting, is_expecting, response_expected, reserved_of, principal, early_request_head, request_head}
+use Rattle.giop_msg.specs.Meaning.{meaning}
+use Rattle.giop_msg.specs.Target.{target_layout, object_key}
 use Rattle.giop_msg.proofs.MeaningLemmas.{meaning_is}
 use Rattle.giop_msg.proofs.TargetLemmas.{target_is, object_key_is}
 
@@ -103,3 +107,36 @@ request_head_is V12 = request_head_1_2_is
 pub head_unspelled : (version : Version) (head : Head) → (request_head version).fits head ≡ false → (order : Order) (at : ℕ) (octets : List ℕ)
     → AreOctets octets → (request_head version).spells order at head octets → ⊥
 head_unspelled version = unspelled (request_head_is version)
+
+-- ---- the parts of a head hold, so it does
+
+of_version : (version : Version) (head : Head) → head.version ≡ version
+    → head ≡ record {
+      version = version;
+      id = head.id;
+      flags = head.flags;
+      target = head.target;
+      operation = head.operation;
+      contexts = head.contexts;
+    }
+of_version version head is = ap (λ (v : Version). record {
+  version = v;
+  id = head.id;
+  flags = head.flags;
+  target = head.target;
+  operation = head.operation;
+  contexts = head.contexts;
+}) is
+
+pub late_holds : (head : Head) (contexts : List ServiceContext) → contexts ≡ head.contexts → head.version ≡ V12 → head.id < 2 ^ 32 → head.flags < 2 ^ 8
+    → reserved_octets.holds 0 → target_layout.holds head.target → service_contexts.holds contexts → request_head_1_2.holds head
+unfolding request_head_1_2 response_flags field such number text gives
+late_holds head contexts shown is id flags none target held =
+    (id, (flags, (none, (target, (tt, (subst service_contexts.holds shown held, of_version V12 head is))))))
+
+pub early_holds : (version : Version) (head : Head) (contexts : List ServiceContext) → contexts ≡ head.contexts → head.version ≡ version
+    → service_contexts.holds contexts → head.id < 2 ^ 32 → (reserved_of version).holds 0 → object_key.holds head.target
+    → (early_request_head version).holds head
+unfolding early_request_head response_expected meaning boolean principal reserved field number text gives
+early_holds version head contexts shown is held id none target =
+    (subst service_contexts.holds shown held, (id, (tt, (none, (target, (tt, (refl, of_version version head is)))))))

@@ -6,5 +6,6 @@ pub mod LocateReplyLemmas
 pub mod RequestLemmas
 pub mod ReplyLemmas
 pub mod ReplyWritingLemmas
+pub mod HeldLemmas
 pub mod LawLemmas
 mod StandardReplies

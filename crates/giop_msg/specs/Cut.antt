@@ -66,6 +66,12 @@ pub record CanCut (kind : Kind) (octets : List ℕ) (piece : ℕ) : Type 0 where
   pub fits : piece < 2 ^ 32
   pub multiple : piece % 8 ≡ 0
 
+-- a limit of message sizes lets through what joined octets are cut into: it is no less than all of
+-- them, or than a piece without its header where the version has Fragments
+abbrev pub LetsThrough : ℕ → Version → List ℕ → ℕ → Type 0
+LetsThrough limit version octets piece =
+    (length octets ≤ limit) ⊎ ((has_fragments version ≡ true) × (piece ≤ limit + 12))
+
 -- what holds of messages that joined octets are cut into
 pub record CutLaws : Type 0 where
   -- their joined octets are those that were cut
@@ -73,8 +79,14 @@ pub record CutLaws : Type 0 where
       (messages : List Msg) →
       CanCut kind octets piece → IsCut version kind order octets piece messages
       → joined messages ≡ octets
-  -- a framer reads them back
+  -- a framer reads them back whose limit is the greatest there is
   pub framed : (version : Version) (kind : Kind) (order : Order) (octets : List ℕ) (piece : ℕ)
       (messages : List Msg) →
       CanCut kind octets piece → IsCut version kind order octets piece messages →
       Msgs (2 ^ 32 - 1) (flat_map message_octets messages) messages []
+  -- and so does one of any limit that lets them through
+  pub within : (limit : ℕ) (version : Version) (kind : Kind) (order : Order) (octets : List ℕ)
+      (piece : ℕ) (messages : List Msg) →
+      CanCut kind octets piece → IsCut version kind order octets piece messages →
+      LetsThrough limit version octets piece →
+      Msgs limit (flat_map message_octets messages) messages []

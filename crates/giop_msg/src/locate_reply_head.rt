@@ -2,10 +2,11 @@
 //! order of the fields: change them together.
 #![tactic(auto, unfolding(crate::specs::Locate::locate_reply_head, crate::specs::Locate::locate_status, giop_cdr::specs::Layout::field, giop_cdr::specs::Layout::such, giop_cdr::specs::Layout::number, giop_cdr::specs::Layout::gives, giop_cdr::specs::Reading::Values::such_at))]
 
-ghost use Rattle.std.specs.Prelude.{◌≡◌, ◌≤◌, ◌^◌, ◌↔◌, length, false, true, ℕ, List, Ok, IfOk, IsErrOf};
+ghost use Rattle.std.specs.Prelude.{◌≡◌, ◌≤◌, ◌^◌, ◌↔◌, length, false, true, ℕ, List, Ok, IfOk, IsErrOf, OnOk};
 ghost use Rattle.giop_cdr.specs.declared.order.Order.{Order};
 ghost use Rattle.giop_cdr.specs.Layout.{AreOctets};
 ghost use Rattle.giop_cdr.specs.Reading.Outcome.{Exactly};
+ghost use Rattle.giop_cdr.specs.RoundTrip.{IsReadBack};
 ghost use Rattle.giop_cdr.specs.Writing.Outcome.{Writes, Appends};
 ghost use Rattle.giop_msg.specs.Joined.{BeginsWith, head_of_joined, right_behind};
 ghost use Rattle.giop_msg.specs.Locate.{last_locate_status, locate_reply_head, locate_status};
@@ -77,6 +78,12 @@ impl LocateReplyHead {
             → (order : Order) (at : ℕ) (octets : List ℕ)
             → AreOctets octets
             → (locate_reply_head self.now.version).spells order at self.now octets → ⊥ }
+
+        // What was appended is in the ranges of its types, spells the head, and is read as it
+        // again, whatever octets follow.
+        ensures held { OnOk result ((locate_reply_head self.now.version).holds self.now) }
+        ensures back { OnOk result (IsReadBack (locate_reply_head self.now.version).spells
+            (locate_reply_head self.now.version).read self.now out.old out.new) }
     {
         if !self.is_writable() {
             return Err(EncodeFault::Unfit);
@@ -135,8 +142,9 @@ pub(crate) fn read_head<S: Octets>(
 #[tactic(auto, unfolding(crate::specs::Locate::locate_reply_head, crate::specs::Locate::locate_status, giop_cdr::specs::Layout::field, giop_cdr::specs::Layout::such, giop_cdr::specs::Layout::number, giop_cdr::specs::Layout::gives), using(giop_cdr::proofs::Writing::WriterLemmas::grows_then, giop_cdr::proofs::Writing::WriterLemmas::grows_not))]
 pub(crate) fn append_head(head: &LocateReplyHead, out: &mut CdrOut) -> Result<(), AllocError>
     requires { (locate_reply_head head.now.version).fits head.now ≡ true }
-    ensures { Appends out.old result out.new
+    ensures written { Appends out.old result out.new
         ((locate_reply_head head.now.version).written head.now out.old) }
+    ensures held { OnOk result ((locate_reply_head head.now.version).holds head.now) }
 {
     out.write_ulong(head.id)?;
     out.write_ulong(head.status)?;

@@ -2,10 +2,11 @@
 //! the order of the fields: change them together.
 #![tactic(auto, unfolding(crate::specs::Locate::locate_request, crate::specs::Locate::located, giop_cdr::specs::Layout::field, giop_cdr::specs::Layout::number, giop_cdr::specs::Layout::gives))]
 
-ghost use Rattle.std.specs.Prelude.{◌≡◌, ◌≤◌, ◌^◌, ◌⊎◌, ◌↔◌, length, false, true, ℕ, List, Ok, Err, IfOk, IfErr, IsOk, IsErrOf};
+ghost use Rattle.std.specs.Prelude.{◌≡◌, ◌≤◌, ◌^◌, ◌⊎◌, ◌↔◌, length, false, true, ℕ, List, Ok, Err, IfOk, IfErr, IsOk, IsErrOf, OnOk};
 ghost use Rattle.giop_cdr.specs.declared.order.Order.{Order};
 ghost use Rattle.giop_cdr.specs.Layout.{AreOctets};
 ghost use Rattle.giop_cdr.specs.Reading.Outcome.{Exactly};
+ghost use Rattle.giop_cdr.specs.RoundTrip.{IsReadBack};
 ghost use Rattle.giop_cdr.specs.Writing.Outcome.{Writes, Appends};
 ghost use Rattle.giop_msg.specs.Joined.{AreWhole, no_memory, whole_of_joined};
 ghost use Rattle.giop_msg.specs.Locate.{located, locate_request};
@@ -128,6 +129,12 @@ impl LocateRequest {
             → (order : Order) (at : ℕ) (octets : List ℕ)
             → AreOctets octets
             → (locate_request self.now.version).spells order at self.now octets → ⊥ }
+
+        // What was appended is in the ranges of its types, spells the LocateRequest, and is
+        // read as it again, whatever octets follow.
+        ensures held { OnOk result ((locate_request self.now.version).holds self.now) }
+        ensures back { OnOk result (IsReadBack (locate_request self.now.version).spells
+            (locate_request self.now.version).read self.now out.old out.new) }
     {
         if !self.is_writable() {
             return Err(EncodeFault::Unfit);
@@ -154,6 +161,12 @@ impl LocateRequest {
             → (order : Order) (at : ℕ) (octets : List ℕ)
             → AreOctets octets
             → (locate_request self.now.version).spells order at self.now octets → ⊥ }
+
+        // What was written is in the ranges of its types, and is read as the LocateRequest again.
+        ensures held { IfOk result (λ octets.
+            (locate_request self.now.version).holds self.now) }
+        ensures back { IfOk result (λ octets.
+            whole_of_joined (locate_request self.now.version) order octets.items ≡ Ok self.now) }
     {
         if !self.is_writable() {
             return Err(EncodeFault::Unfit);
@@ -212,7 +225,9 @@ fn view_request<'a, S: Octets>(
 #[tactic(auto, unfolding(crate::specs::Locate::located), using(giop_cdr::proofs::Writing::WriterLemmas::grows_then, giop_cdr::proofs::Writing::WriterLemmas::grows_not))]
 fn append_located(version: Version, target: &Target, out: &mut CdrOut) -> Result<(), AllocError>
     requires { (located version).fits target.now ≡ true }
-    ensures { Appends out.old result out.new ((located version).written target.now out.old) }
+    ensures written { Appends out.old result out.new
+        ((located version).written target.now out.old) }
+    ensures held { OnOk result ((located version).holds target.now) }
 {
     match version {
         Version::V10 | Version::V11 => append_key(target, out)?,
@@ -225,8 +240,9 @@ fn append_located(version: Version, target: &Target, out: &mut CdrOut) -> Result
 #[tactic(auto, unfolding(crate::specs::Locate::locate_request, giop_cdr::specs::Layout::field, giop_cdr::specs::Layout::number, giop_cdr::specs::Layout::gives), using(giop_cdr::proofs::Writing::WriterLemmas::grows_then, giop_cdr::proofs::Writing::WriterLemmas::grows_not))]
 fn append_request(request: &LocateRequest, out: &mut CdrOut) -> Result<(), AllocError>
     requires { (locate_request request.now.version).fits request.now ≡ true }
-    ensures { Appends out.old result out.new
+    ensures written { Appends out.old result out.new
         ((locate_request request.now.version).written request.now out.old) }
+    ensures held { OnOk result ((locate_request request.now.version).holds request.now) }
 {
     out.write_ulong(request.id)?;
     append_located(request.version, &request.target, out)?;

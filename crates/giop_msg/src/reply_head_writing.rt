@@ -2,8 +2,9 @@
 //! it, in the order of the fields: change them together.
 #![tactic(auto, unfolding(crate::specs::ReplyHead::reply_head, crate::specs::ReplyHead::reply_head_1_2, crate::specs::ReplyHead::early_reply_head, crate::specs::ReplyHead::reply_status, giop_cdr::specs::Layout::field, giop_cdr::specs::Layout::such, giop_cdr::specs::Layout::number, giop_cdr::specs::Layout::gives), using(giop_cdr::proofs::Writing::WriterLemmas::grows_then, giop_cdr::proofs::Writing::WriterLemmas::grows_not))]
 
-ghost use Rattle.std.specs.Prelude.{◌≡◌, ◌↔◌, false, true, ℕ, List, IsErrOf};
+ghost use Rattle.std.specs.Prelude.{◌≡◌, ◌↔◌, false, true, ℕ, List, IsErrOf, OnOk};
 ghost use Rattle.giop_cdr.specs.declared.order.Order.{Order};
+ghost use Rattle.giop_cdr.specs.RoundTrip.{IsReadBack};
 ghost use Rattle.giop_cdr.specs.Writing.Outcome.{Writes, Appends};
 ghost use Rattle.giop_cdr.specs.Layout.{AreOctets};
 ghost use Rattle.giop_msg.specs.declared.version.Version.TheVariants.{V12};
@@ -38,6 +39,12 @@ impl ReplyHead {
         ensures unfit { IsErrOf result EncodeFault.Unfit
             → (order : Order) (at : ℕ) (octets : List ℕ)
             → AreOctets octets → (reply_head self.now.version).spells order at self.now octets → ⊥ }
+
+        // What was appended is in the ranges of its types, spells the head, and is read as it
+        // again, whatever octets follow.
+        ensures held { OnOk result ((reply_head self.now.version).holds self.now) }
+        ensures back { OnOk result (IsReadBack (reply_head self.now.version).spells
+            (reply_head self.now.version).read self.now out.old out.new) }
     {
         if !self.is_writable() {
             return Err(EncodeFault::Unfit);
@@ -102,12 +109,18 @@ fn append_parts_1_2(
       status = status;
       contexts = contexts.now;
     }) ≡ true }
-    ensures { Appends out.old result out.new (reply_head_1_2.written (record {
+    ensures written { Appends out.old result out.new (reply_head_1_2.written (record {
       version = V12;
       id = id;
       status = status;
       contexts = contexts.now;
     }) out.old) }
+    ensures held { OnOk result (reply_head_1_2.holds (record {
+      version = V12;
+      id = id;
+      status = status;
+      contexts = contexts.now;
+    })) }
 {
     out.write_ulong(id)?;
     out.write_ulong(status)?;
@@ -129,12 +142,18 @@ fn append_early_parts(
       status = status;
       contexts = contexts.now;
     }) ≡ true }
-    ensures { Appends out.old result out.new ((early_reply_head version).written (record {
+    ensures written { Appends out.old result out.new ((early_reply_head version).written (record {
       version = version;
       id = id;
       status = status;
       contexts = contexts.now;
     }) out.old) }
+    ensures held { OnOk result ((early_reply_head version).holds (record {
+      version = version;
+      id = id;
+      status = status;
+      contexts = contexts.now;
+    })) }
 {
     append_contexts(contexts, out)?;
     out.write_ulong(id)?;
@@ -156,12 +175,18 @@ pub(crate) fn append_parts(
       status = status;
       contexts = contexts.now;
     }) ≡ true }
-    ensures { Appends out.old result out.new ((reply_head version).written (record {
+    ensures written { Appends out.old result out.new ((reply_head version).written (record {
       version = version;
       id = id;
       status = status;
       contexts = contexts.now;
     }) out.old) }
+    ensures held { OnOk result ((reply_head version).holds (record {
+      version = version;
+      id = id;
+      status = status;
+      contexts = contexts.now;
+    })) }
 {
     match version {
         Version::V10 => append_early_parts(Version::V10, id, status, contexts, out),
@@ -172,8 +197,9 @@ pub(crate) fn append_parts(
 
 fn append_head(head: &ReplyHead, out: &mut CdrOut) -> Result<(), AllocError>
     requires { (reply_head head.now.version).fits head.now ≡ true }
-    ensures { Appends out.old result out.new
+    ensures written { Appends out.old result out.new
         ((reply_head head.now.version).written head.now out.old) }
+    ensures held { OnOk result ((reply_head head.now.version).holds head.now) }
 {
     let contexts = head.contexts.as_slice();
     append_parts(head.version, head.id, head.status, contexts, out)

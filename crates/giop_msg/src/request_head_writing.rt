@@ -2,10 +2,12 @@
 //! reads it, in the order of the fields: change them together.
 #![tactic(auto, unfolding(crate::specs::RequestHead::request_head, crate::specs::RequestHead::request_head_1_2, crate::specs::RequestHead::early_request_head, crate::specs::RequestHead::response_flags, crate::specs::RequestHead::response_expected, crate::specs::RequestHead::reserved_of, crate::specs::RequestHead::reserved_octets, crate::specs::RequestHead::reserved_octet, crate::specs::RequestHead::principal, crate::specs::Meaning::meaning, giop_cdr::specs::Layout::field, giop_cdr::specs::Layout::such, giop_cdr::specs::Layout::number, giop_cdr::specs::Layout::boolean, giop_cdr::specs::Layout::octets, giop_cdr::specs::Layout::text, giop_cdr::specs::Layout::reserved, giop_cdr::specs::Layout::gives), using(giop_cdr::proofs::Writing::WriterLemmas::grows_then, giop_cdr::proofs::Writing::WriterLemmas::grows_not))]
 
-ghost use Rattle.std.specs.Prelude.{◌≡◌, ◌↔◌, false, true, ℕ, List, IsErrOf};
+ghost use Rattle.std.specs.Prelude.{◌≡◌, ◌↔◌, false, true, ℕ, List, IsErrOf, OnOk};
 ghost use Rattle.giop_cdr.specs.declared.order.Order.{Order};
+ghost use Rattle.giop_cdr.specs.RoundTrip.{IsReadBack};
 ghost use Rattle.giop_cdr.specs.Writing.Outcome.{Writes, Appends};
 ghost use Rattle.giop_cdr.specs.Layout.{is_spellable, AreOctets};
+ghost use Rattle.giop_msg.specs.declared.version.Version.TheVariants.{V12};
 ghost use Rattle.giop_msg.specs.RequestHead.{early_request_head, reserved_octets, reserved_of, request_head, request_head_1_2, response_expected};
 
 use crate::request_head::RequestHead;
@@ -44,6 +46,12 @@ impl RequestHead {
             → (order : Order) (at : ℕ) (octets : List ℕ)
             → AreOctets octets
             → (request_head self.now.version).spells order at self.now octets → ⊥ }
+
+        // What was appended is in the ranges of its types, spells the head, and is read as it
+        // again, whatever octets follow.
+        ensures held { OnOk result ((request_head self.now.version).holds self.now) }
+        ensures back { OnOk result (IsReadBack (request_head self.now.version).spells
+            (request_head self.now.version).read self.now out.old out.new) }
     {
         if !self.is_writable() {
             return Err(EncodeFault::Unfit);
@@ -83,7 +91,8 @@ pub(crate) fn is_text(octets: &[u8]) -> bool
 }
 
 fn append_reserved(out: &mut CdrOut) -> Result<(), AllocError>
-    ensures { Appends out.old result out.new (reserved_octets.written 0 out.old) }
+    ensures written { Appends out.old result out.new (reserved_octets.written 0 out.old) }
+    ensures held { OnOk result (reserved_octets.holds 0) }
 {
     out.write_octet(0)?;
     out.write_octet(0)?;
@@ -92,7 +101,8 @@ fn append_reserved(out: &mut CdrOut) -> Result<(), AllocError>
 }
 
 fn append_reserved_of(version: Version, out: &mut CdrOut) -> Result<(), AllocError>
-    ensures { Appends out.old result out.new ((reserved_of version).written 0 out.old) }
+    ensures written { Appends out.old result out.new ((reserved_of version).written 0 out.old) }
+    ensures held { OnOk result ((reserved_of version).holds 0) }
 {
     match version {
         Version::V10 => Ok(()),
@@ -103,7 +113,9 @@ fn append_reserved_of(version: Version, out: &mut CdrOut) -> Result<(), AllocErr
 // Appends the fields of 1.2 in their order. Out of memory, a part of them is left.
 fn append_head_1_2(head: &RequestHead, out: &mut CdrOut) -> Result<(), AllocError>
     requires { request_head_1_2.fits head.now ≡ true }
-    ensures { Appends out.old result out.new (request_head_1_2.written head.now out.old) }
+    ensures written { Appends out.old result out.new
+        (request_head_1_2.written head.now out.old) }
+    ensures held { head.now.version ≡ V12 → OnOk result (request_head_1_2.holds head.now) }
 {
     out.write_ulong(head.id)?;
     out.write_octet(head.flags)?;
@@ -122,8 +134,10 @@ fn append_early_head(
     out: &mut CdrOut,
 ) -> Result<(), AllocError>
     requires { (early_request_head version).fits head.now ≡ true }
-    ensures { Appends out.old result out.new
+    ensures written { Appends out.old result out.new
         ((early_request_head version).written head.now out.old) }
+    ensures held { head.now.version ≡ version
+        → OnOk result ((early_request_head version).holds head.now) }
 {
     append_contexts(head.contexts.as_slice(), out)?;
     out.write_ulong(head.id)?;
@@ -137,8 +151,9 @@ fn append_early_head(
 
 pub(crate) fn append_head(head: &RequestHead, out: &mut CdrOut) -> Result<(), AllocError>
     requires { (request_head head.now.version).fits head.now ≡ true }
-    ensures { Appends out.old result out.new
+    ensures written { Appends out.old result out.new
         ((request_head head.now.version).written head.now out.old) }
+    ensures held { OnOk result ((request_head head.now.version).holds head.now) }
 {
     match head.version {
         Version::V10 => append_early_head(Version::V10, head, out),

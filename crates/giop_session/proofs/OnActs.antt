@@ -6,3 +6,4 @@ pub mod LocalLemmas
 pub mod LocatedLemmas
 pub mod PutOutLemmas
 pub mod SidesPutOut
+pub mod WrittenLemmas

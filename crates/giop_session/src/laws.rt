@@ -44,7 +44,9 @@ pub use lane_events::{clients_hear_the_lanes_event, servers_hear_the_lanes_event
 pub use left::{what_is_left_is_unsent_at_client, what_is_left_is_unsent_at_server};
 pub use limits::{limits_in_any_order_at_client, limits_in_any_order_at_server};
 pub use running::{run_client, run_server};
-pub use sent::{what_is_on_its_way, what_is_sent_is_framed, what_is_sent_names_its_id};
+pub use sent::{
+    what_is_on_its_way, what_is_sent_is_an_item, what_is_sent_is_framed, what_is_sent_names_its_id,
+};
 pub use world::{World, run_world};
 
 /// A run of acts continues after refusals. Whatever happens to other ids in it, a call has the

@@ -3,4 +3,5 @@ pub mod NameLemmas
 pub mod LabelLemmas
 pub mod CheckLemmas
 pub mod DoubledLemmas
+pub mod SeenLemmas
 pub mod NodeLemmas

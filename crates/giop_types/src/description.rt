@@ -5,3 +5,5 @@ pub mod desc;
 pub mod desc_fault;
 pub mod label_check;
 pub mod name_check;
+pub mod named;
+pub mod taken_apart;

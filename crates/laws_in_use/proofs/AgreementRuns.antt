@@ -1,54 +1,29 @@
--- Schedules of worlds: their numbers are in range, and what the first one comes to.
-use Rattle.std.proofs.Common.{◌≡◌, ℕ, Bool, true, false, if◌then◌else◌, [], ◌∷◌, Option, Some, None, Err, refl, sym, ap, subst, ◌∙◌, inr, arith, rules}
+-- What a schedule of a world comes to.
+use Rattle.std.proofs.Common.{◌≡◌, ℕ, Bool, true, false, if◌then◌else◌, [], ◌∷◌, Option, Some, Err, refl, sym, ap, subst, inr}
 use Rattle.std.specs.FinMap as finite
 use Rattle.std.specs.Ordering.{nat_cmp}
 use Rattle.giop_types.specs.declared.json.interface.Interface.{Interface}
-use Rattle.giop_cdr.specs.Ending.{ended}
-use Rattle.giop_cdr.specs.Layout.{number, signed, octets, such, field, gives, chosen}
-use Rattle.giop_cdr.specs.Writing.Output.{number_out, octets_out, signed_out}
-use Rattle.giop_cdr.specs.declared.order.Order.TheVariants.{Big, Little}
-use Rattle.giop_msg.specs.Locate.{locate_request, located}
-use Rattle.giop_msg.specs.Meaning.{meaning}
-use Rattle.giop_msg.specs.Target.{disposition, key_target, object_key, target_by, target_layout}
-use Rattle.giop_msg.specs.declared.version.Version.TheVariants.{V10}
+use Rattle.giop_cdr.specs.declared.order.Order.TheVariants.{Big}
 use Rattle.giop_calls.specs.ClientTable as client
 use Rattle.giop_calls.specs.declared.client.entry.ClientEntry.{ClientEntry}
 use Rattle.giop_calls.specs.declared.fault.CallFault.{CallFault}
 use Rattle.giop_calls.specs.declared.fault.CallFault.TheVariants.{NotOpen}
-use Rattle.giop_session.specs.declared.acts.form.Form.{Form}
 use Rattle.giop_session.specs.declared.laws.inputs.Answered.{Answered}
 use Rattle.giop_session.specs.declared.laws.inputs.Answered.TheVariants as answer
 use Rattle.giop_session.specs.declared.laws.inputs.ClientInput.TheVariants as client_input
 use Rattle.giop_session.specs.declared.session_fault.SessionFault.TheVariants.{Call as InCall, NoMemory}
 use Rattle.giop_session.specs.declared.calls.slot.Slot.{Slot}
-use Rattle.giop_session.specs.Worlds.Agreement.{AreInRange}
 use Rattle.giop_session.specs.Calls.CallTable.{rules_of}
 use Rattle.giop_session.specs.Acts.ClientCalls.{IsCancel, cancel_fault, open_version}
 use Rattle.giop_session.specs.Runs.ClientRuns.{ClientIsGiven, client_entry}
 use Rattle.giop_session.specs.Runs.Driven.{new_end}
 use Rattle.giop_session.specs.Hearing.Heard.{in_call}
-use Rattle.giop_session.specs.Worlds.OwnLane.{InRange}
 use Rattle.giop_session.specs.Acts.Putting.{Puts}
 use Rattle.giop_session.specs.Calls.Sending.{entry_of}
 use Rattle.giop_session.specs.Worlds.World.{WorldRuns, new_world}
 use Rattle.laws_in_use.specs.Left.{new_client}
-use Rattle.laws_in_use.specs.Locating.{key, limits}
-use Rattle.laws_in_use.specs.Runs.{Forms}
-use Rattle.laws_in_use.specs.Worlds.{asked_for, unasked}
-
-pub unasked_in_range : (interface : Interface) → AreInRange interface unasked
-unasked_in_range interface = (omega arith, tt)
-
-key_in_range : InRange (ended (locate_request V10)) key (record { order = Little; piece = 64 })
-unfolding ended locate_request located object_key meaning target_layout target_by disposition key_target
-    number signed octets such field gives chosen number_out octets_out signed_out
-key_in_range = record { holds = search rules; piece = omega arith }
-
-pub asked_in_range : (interface : Interface) (forms : Forms) → AreInRange interface (asked_for forms)
-asked_in_range interface forms = (
-  subst (λ (form : Form). InRange (ended (locate_request V10)) key form) (sym forms.little_is) key_in_range,
-  (tt, tt),
-)
+use Rattle.laws_in_use.specs.Locating.{limits}
+use Rattle.laws_in_use.specs.Worlds.{unasked}
 
 -- a cancel of no call is refused
 no_fault_else : cancel_fault (open_version (client_entry (new_client limits) 9)) ≡ Some NotOpen

@@ -1,5 +1,5 @@
 -- As which acts a run takes what a client's end is given, whatever its calls are then.
-use Rattle.std.proofs.Common.{◌≡◌, ℕ, ◌+◌, ◌-◌, ◌<◌, ◌≤◌, Bool, true, false, List, [], ◌∷◌, ◌++◌, length, drop, Option, Some, None, refl, sym, ap, subst, ◌∙◌, inl, inr, arith}
+use Rattle.std.proofs.Common.{◌≡◌, ℕ, ◌+◌, ◌-◌, ◌<◌, ◌≤◌, Bool, true, false, List, [], ◌∷◌, ◌++◌, length, drop, Option, Some, None, refl, sym, ap, subst, ◌∙◌, inl, inr, arith, rules}
 use Rattle.std.proofs.Math.ListN.{length-drop}
 use Rattle.giop_cdr.specs.Ending.{ended}
 use Rattle.giop_cdr.specs.Layout.{number, signed, octets, such, field, gives, chosen}
@@ -62,7 +62,7 @@ AreActed (given ∷ inputs) acts =
 cancel_is : (id : ℕ) (order : Order) (version : Option Version) (planned : Planned ClientEvent)
     → IsCancel id order version planned → planned.event ≡ event.Cancel
 cancel_is id order None planned is = absurd is
-cancel_is id order (Some version) planned is = ap (λ (p : Planned ClientEvent). p.event) is
+cancel_is id order (Some version) planned (small, is) = ap (λ (p : Planned ClientEvent). p.event) is
 
 module _ (interface : Interface) (limits : Limits) where
   is_acted : (h : Held ClientRule ClientEntry) (given : ClientInput) (act : Input ClientEvent) → IsAct (client_deed interface limits h given) act
@@ -116,39 +116,49 @@ door_is_long = refl
 door_event : (form : Form) (planned : Planned ClientEvent) → form ≡ record { order = Big; piece = 24 } → IsLocate door form planned
     → planned.event ≡ event.Call (asked.Locate door) 2
 door_event form planned is located =
-    let (messages, cut, plans) = subst (λ (form : Form). IsLocate door form planned) is located in
+    let (messages, cut, plans) = (subst (λ (form : Form). IsLocate door form planned) is located).sent in
     ap (λ (p : Planned ClientEvent). p.event) plans
     ∙ ap (event.Call (asked.Locate door)) (two_pieces (locate_octets door Big) messages door_is_long cut)
 
 key_event : (form : Form) (planned : Planned ClientEvent) → IsLocate key form planned → planned.event ≡ event.Call (asked.Locate key) 1
 key_event form planned located =
-    ap (λ (p : Planned ClientEvent). p.event) located.2
-    ∙ ap (event.Call (asked.Locate key)) (one_piece form.order (locate_octets key form.order) form.piece located.0 located.1)
+    let (messages, cut, plans) = located.sent in
+    ap (λ (p : Planned ClientEvent). p.event) plans
+    ∙ ap (event.Call (asked.Locate key)) (one_piece form.order (locate_octets key form.order) form.piece messages cut)
 
 -- so `door` is sent, and `k`
 pub door_is_sent : (form : Form) → form ≡ record { order = Big; piece = 24 }
     → IsLocate door form (record { event = event.Call (asked.Locate door) 2; plan = Put (door_begins ∷ door_ends ∷ []) })
-unfolding locate_request located object_key meaning target_layout target_by disposition key_target
+unfolding ended locate_request located object_key meaning target_layout target_by disposition key_target
     number signed octets such field gives chosen number_out octets_out signed_out
 door_is_sent form is =
     subst (λ (form : Form). IsLocate door form (record { event = event.Call (asked.Locate door) 2; plan = Put (door_begins ∷ door_ends ∷ []) }))
-    (sym is) (door_begins ∷ door_ends ∷ [], (refl, refl, omega arith, (refl, omega arith, omega arith)), refl)
+    (sym is) (record {
+      in_range = record { holds = search rules; piece = omega arith };
+      sent = (door_begins ∷ door_ends ∷ [], (refl, refl, omega arith, (refl, omega arith, omega arith)), refl);
+    })
 
 pub key_is_sent : (form : Form) → form ≡ record { order = Little; piece = 64 }
     → IsLocate key form (record { event = event.Call (asked.Locate key) 1; plan = Put (key_little ∷ []) })
-unfolding locate_request located object_key meaning target_layout target_by disposition key_target
+unfolding ended locate_request located object_key meaning target_layout target_by disposition key_target
     number signed octets such field gives chosen number_out octets_out signed_out
 key_is_sent form is =
     subst (λ (form : Form). IsLocate key form (record { event = event.Call (asked.Locate key) 1; plan = Put (key_little ∷ []) }))
-    (sym is) (key_little ∷ [], (refl, inl refl), refl)
+    (sym is) (record {
+      in_range = record { holds = search rules; piece = omega arith };
+      sent = (key_little ∷ [], (refl, inl refl), refl);
+    })
 
 pub key_is_sent_again : (form : Form) → form ≡ record { order = Big; piece = 64 }
     → IsLocate key form (record { event = event.Call (asked.Locate key) 1; plan = Put (key_big ∷ []) })
-unfolding locate_request located object_key meaning target_layout target_by disposition key_target
+unfolding ended locate_request located object_key meaning target_layout target_by disposition key_target
     number signed octets such field gives chosen number_out octets_out signed_out
 key_is_sent_again form is =
     subst (λ (form : Form). IsLocate key form (record { event = event.Call (asked.Locate key) 1; plan = Put (key_big ∷ []) }))
-    (sym is) (key_big ∷ [], (refl, inl refl), refl)
+    (sym is) (record {
+      in_range = record { holds = search rules; piece = omega arith };
+      sent = (key_big ∷ [], (refl, inl refl), refl);
+    })
 
 -- the acts of the run, by what the client does itself
 abbrev pub run_acts : Acts → List (Input ClientEvent)

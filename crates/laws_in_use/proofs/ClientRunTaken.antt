@@ -1,5 +1,5 @@
 -- A client's end takes what it is given in a run as its acts, and refuses nothing.
-use Rattle.std.proofs.Common.{◌≡◌, ℕ, List, [], ◌∷◌, take, Some, None, Ok, refl, sym, ap, subst, ◌∙◌}
+use Rattle.std.proofs.Common.{◌≡◌, ℕ, List, [], ◌∷◌, take, Some, None, Ok, refl, sym, ap, subst, ◌∙◌, arith}
 use Rattle.giop_types.specs.declared.json.interface.Interface.{Interface}
 use Rattle.giop_cdr.specs.declared.fault.CdrKind.TheVariants.{Short}
 use Rattle.giop_cdr.specs.declared.order.Order.TheVariants.{Little}
@@ -56,7 +56,7 @@ module _ (interface : Interface) where
       let waits : client_entry (one_2 interface) 9 ≡ Some (Waiting (asked.Locate key)) =
       ap (λ (call : Call ClientEntry). entry_of call.slot) (one_at_2 interface) in
       subst (λ version. IsCancel 9 Little version (sends_one event.Cancel cancel_little)) (sym (ap open_version waits))
-      (ap (sends_one event.Cancel) (sym cancel_is))
+      (omega arith, ap (sends_one event.Cancel) (sym cancel_is))
 
   pub run_taken : (forms : Forms)
       → ClientTakesAs interface limits (client_given forms) client_answers (run_acts own_acts) (nothing_unread limits.message) left_end

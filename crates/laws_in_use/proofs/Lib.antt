@@ -29,3 +29,4 @@ mod ClientRunActs
 mod ClientRunHolds
 mod ClientRunTaken
 mod ClientRunWithin
+mod ObservedOwn

@@ -38,14 +38,16 @@ asks_again_so interface = record {
   limits = limits;
   form = record { order = Big; piece = 64 };
   is_form = record { large = omega arith; multiple = refl };
-  in_range = record { holds = search rules; piece = omega arith };
   unrefused = refl;
-  plans = (door_big ∷ [], (refl, inr (omega arith)), refl);
+  plans = record {
+    in_range = record { holds = search rules; piece = omega arith };
+    sent = (door_big ∷ [], (refl, inr (omega arith)), refl);
+  };
 }
 
 door_located : PlansLocated door true (sends_one (at_server.AnswerLocate true) here_big)
 unfolding locate_reply locate_reply_head locate_status leads made_of remainder number such field gives chosen number_out
-door_located = (7, Big, omega arith, refl)
+door_located = (7, Big, (omega arith, refl))
 
 locates_so : (q : AnyLocateRequest) → ◌≡◌ {A = Option ServerEntry} (Some (LocateAsked door)) (Some (LocateAsked q))
     → PlansLocated q true (sends_one (at_server.AnswerLocate true) here_big)

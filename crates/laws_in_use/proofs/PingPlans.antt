@@ -15,14 +15,16 @@ use Rattle.giop_ior.specs.ServiceContext.{service_context, service_contexts}
 use Rattle.giop_msg.specs.Cut.{CanCut, IsCut}
 use Rattle.giop_msg.specs.Messages.Body.{body_of, fields_in, values}
 use Rattle.giop_msg.specs.Messages.Outcome.{joined_into}
-use Rattle.giop_msg.specs.Messages.Reply.{allowed, completion, reply, reply_body, system_exception}
+use Rattle.giop_msg.specs.Messages.Reply.{allowed, completion, no_exception, reply, reply_body, system_exception}
 use Rattle.giop_msg.specs.Messages.Request.{operation_of, request, request_body}
-use Rattle.giop_msg.specs.ReplyHead.{reply_head, reply_head_1_2, reply_status}
-use Rattle.giop_msg.specs.RequestHead.{request_head, request_head_1_2, reserved_octet, reserved_octets, response_flags}
-use Rattle.giop_msg.specs.Target.{disposition, key_target, target_by, target_layout}
+use Rattle.giop_msg.specs.Meaning.{meaning}
+use Rattle.giop_msg.specs.ReplyHead.{early_reply_head, reply_head, reply_head_1_2, reply_status}
+use Rattle.giop_msg.specs.RequestHead.{early_request_head, principal, request_head, request_head_1_2, reserved_octet, reserved_octets, reserved_of}
+use Rattle.giop_msg.specs.RequestHead.{response_expected, response_flags}
+use Rattle.giop_msg.specs.Target.{disposition, key_target, object_key, target_by, target_layout}
 use Rattle.giop_msg.specs.declared.kind.Kind.TheVariants as message
 use Rattle.giop_msg.specs.declared.msg.Msg.{Msg}
-use Rattle.giop_msg.specs.declared.version.Version.TheVariants.{V12}
+use Rattle.giop_msg.specs.declared.version.Version.TheVariants.{V10, V12}
 use Rattle.giop_calls.specs.Lane.{Codec, Cut, CutsReply, pieces_of}
 use Rattle.giop_calls.specs.declared.client.call.Call.TheVariants as asked
 use Rattle.giop_calls.specs.declared.client.event.ClientEvent.TheVariants as at_client
@@ -37,7 +39,7 @@ use Rattle.giop_session.specs.Acts.Form.{is_sendable}
 use Rattle.giop_session.specs.Worlds.OwnLane.{PlansCall, PlansReply, alone, sends_cut}
 use Rattle.giop_session.specs.Calls.Refused.{unfit_unless}
 use Rattle.giop_session.specs.declared.acts.form.Form.{Form}
-use Rattle.laws_in_use.specs.Exchange.{ping}
+use Rattle.laws_in_use.specs.Exchange.{ping, pong}
 use Rattle.laws_in_use.specs.Framed.{refusing}
 use Rattle.laws_in_use.specs.Pinged.{HasPing, ping_back, ping_begins, ping_cut, ping_ends, ping_front, ping_whole, refusal_begins, refusal_cut, refusal_ends, refusal_whole, room}
 
@@ -51,6 +53,10 @@ module _ (o : Option Operation) (op : Operation) (named : o ≡ Some op) (none :
   body_holds : (request_body V12 (ping V12).head o).holds (ping V12)
   unfolding request_body made_of body_of from_multiple_of_8 ended values
   body_holds = subst (λ (o : Option Operation). (request_body V12 (ping V12).head o).holds (ping V12)) (sym named) (refl, tt)
+
+  early_body_holds : (request_body V10 (ping V10).head o).holds (ping V10)
+  unfolding request_body made_of body_of ended values
+  early_body_holds = subst (λ (o : Option Operation). (request_body V10 (ping V10).head o).holds (ping V10)) (sym named) (refl, tt)
 
   body_written : ((request_body V12 (ping V12).head o).written (ping V12) ((request_head V12).written (ping V12).head (joined_into Big))).octets
       ≡ ping_front ++ ping_back
@@ -79,6 +85,16 @@ module _ (interface : Interface) (has : HasPing interface) where
   unfolding request leads
   ping_holds = (head_holds, body_holds (operation_of interface (ping V12).head.operation) has.operation has.named has.no_ins)
 
+  early_head_holds : (request_head V10).holds (ping V10).head
+  unfolding request_head early_request_head response_expected meaning reserved_of object_key principal service_contexts service_context tagged
+      chosen field gives boolean number octets reserved sequence such text
+  early_head_holds = search rules
+
+  -- in 1.0 too
+  pub early_ping_holds : (request interface V10).holds (ping V10)
+  unfolding request leads
+  early_ping_holds = (early_head_holds, early_body_holds (operation_of interface (ping V10).head.operation) has.operation has.named has.no_ins)
+
   pub ping_written : request_octets interface (ping V12) Big ≡ ping_front ++ ping_back
   unfolding request leads
   ping_written = body_written (operation_of interface (ping V12).head.operation) has.operation has.named has.no_ins
@@ -105,9 +121,11 @@ module _ (interface : Interface) (has : HasPing interface) where
     limits = room;
     form = record { order = Big; piece = 40 };
     is_form = record { large = omega arith; multiple = refl };
-    in_range = record { holds = ping_holds; piece = omega arith };
     unrefused = ping_unrefused (record { order = Big; piece = 40 }) refl refl;
-    plans = (ping_begins ∷ ping_ends ∷ [], ping_is_cut, refl);
+    plans = record {
+      in_range = record { holds = ping_holds; piece = omega arith };
+      sent = (ping_begins ∷ ping_ends ∷ [], ping_is_cut, refl);
+    };
   }
 
   pub pings_in_one : PlansCall interface None (asked.Request (ping V12)) (sends_cut (at_client.Call (asked.Request (ping V12))) (alone ping_whole))
@@ -115,13 +133,15 @@ module _ (interface : Interface) (has : HasPing interface) where
     limits = room;
     form = record { order = Big; piece = 64 };
     is_form = record { large = omega arith; multiple = refl };
-    in_range = record { holds = ping_holds; piece = omega arith };
     unrefused = ping_unrefused (record { order = Big; piece = 64 }) refl refl;
-    plans = (
-      ping_whole ∷ [],
-      subst (λ octets. IsCut V12 message.Request Big octets 64 (ping_whole ∷ [])) (sym ping_written) (refl, inr (omega arith)),
-      refl,
-    );
+    plans = record {
+      in_range = record { holds = ping_holds; piece = omega arith };
+      sent = (
+        ping_whole ∷ [],
+        subst (λ octets. IsCut V12 message.Request Big octets 64 (ping_whole ∷ [])) (sym ping_written) (refl, inr (omega arith)),
+        refl,
+      );
+    };
   }
 
   ping_can_cut : CanCut message.Request (request_octets interface (ping V12) Big) 40
@@ -137,8 +157,13 @@ module _ (interface : Interface) (has : HasPing interface) where
   pub ping_as : IsWrittenAs (request interface V12) Big (ping V12) message.Request 40 V12 (ping_begins ∷ ping_ends ∷ [])
   ping_as = record { fits = ping_fits; holds = ping_holds; can_cut = ping_can_cut; is_cut = ping_is_cut }
 
--- the exception, whatever the interface
+-- an answer of 1.0 and the exception, whatever the interface
 module _ (interface : Interface) where
+  pub pong_holds : (reply interface (Some (ping V10)) V10).holds (pong V10)
+  unfolding reply reply_head early_reply_head reply_status service_contexts service_context tagged leads made_of allowed body_of reply_body chosen
+      no_exception values ended field gives number octets sequence such text
+  pong_holds = search rules
+
   refusal_holds : (reply interface (Some (ping V12)) V12).holds refusing
   unfolding reply reply_head reply_head_1_2 reply_status service_contexts service_context tagged leads made_of allowed body_of reply_body chosen
       system_exception completion ended from_multiple_of_8 field gives number octets sequence such text
@@ -152,9 +177,11 @@ module _ (interface : Interface) where
     limits = room;
     form = record { order = Big; piece = 32 };
     is_form = record { large = omega arith; multiple = refl };
-    in_range = record { holds = refusal_holds; piece = omega arith };
     unrefused = refl;
-    plans = (refusal_begins ∷ refusal_ends ∷ [], (refl, refl, omega arith, (refl, omega arith, omega arith)), refl);
+    plans = record {
+      in_range = record { holds = refusal_holds; piece = omega arith };
+      sent = (refusal_begins ∷ refusal_ends ∷ [], (refl, refl, omega arith, (refl, omega arith, omega arith)), refl);
+    };
   }
 
   pub refuses_in_one : PlansReply interface (ping V12) refusing (sends_cut (at_server.Answer refusing) (alone refusal_whole))
@@ -165,9 +192,11 @@ module _ (interface : Interface) where
     limits = room;
     form = record { order = Big; piece = 64 };
     is_form = record { large = omega arith; multiple = refl };
-    in_range = record { holds = refusal_holds; piece = omega arith };
     unrefused = refl;
-    plans = (refusal_whole ∷ [], (refl, inr (omega arith)), refl);
+    plans = record {
+      in_range = record { holds = refusal_holds; piece = omega arith };
+      sent = (refusal_whole ∷ [], (refl, inr (omega arith)), refl);
+    };
   }
 
   pub refusal_as : IsWrittenAs (reply interface (Some (ping V12)) V12) Big refusing message.Reply 32 V12 (refusal_begins ∷ refusal_ends ∷ [])

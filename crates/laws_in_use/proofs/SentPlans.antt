@@ -31,9 +31,11 @@ asks_key_so interface = record {
   limits = limits;
   form = record { order = Big; piece = 64 };
   is_form = record { large = omega arith; multiple = refl };
-  in_range = record { holds = search rules; piece = omega arith };
   unrefused = refl;
-  plans = (key_big ∷ [], (refl, inl refl), refl);
+  plans = record {
+    in_range = record { holds = search rules; piece = omega arith };
+    sent = (key_big ∷ [], (refl, inl refl), refl);
+  };
 }
 
 pub asks_door_so : (interface : Interface) → PlansCall interface None (asked.Locate door) asks_door
@@ -43,20 +45,22 @@ asks_door_so interface = record {
   limits = limits;
   form = record { order = Big; piece = 24 };
   is_form = record { large = omega arith; multiple = refl };
-  in_range = record { holds = search rules; piece = omega arith };
   unrefused = refl;
-  plans = (door_begins ∷ door_ends ∷ [], (refl, refl, omega arith, (refl, omega arith, omega arith)), refl);
+  plans = record {
+    in_range = record { holds = search rules; piece = omega arith };
+    sent = (door_begins ∷ door_ends ∷ [], (refl, refl, omega arith, (refl, omega arith, omega arith)), refl);
+  };
 }
 
 pub answers_it_so : IsLocateAnswer 9 false Big (Some V10) answers_key
 unfolding locate_reply locate_reply_head locate_status leads made_of remainder number such field gives chosen number_out
-answers_it_so = refl
+answers_it_so = (omega arith, refl)
 
 pub answers_so : PlansLocated key false answers_key
-answers_so = (9, Big, omega arith, answers_it_so)
+answers_so = (9, Big, answers_it_so)
 
 pub cancels_so : IsCancel 9 Little (Some V10) cancels_key
-cancels_so = refl
+cancels_so = (omega arith, refl)
 
 -- pieces that are planned are those of the cut that is told
 pub read_of : (codec : Codec) (call : Call) (cut known : Cut) → sends_cut (at_client.Call call) known ≡ sends_cut (at_client.Call call) cut

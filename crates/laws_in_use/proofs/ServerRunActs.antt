@@ -44,7 +44,7 @@ AreActed (given ∷ inputs) acts =
 event_is : (id : ℕ) (here : Bool) (order : Order) (version : Option Version) (planned : Planned ServerEvent)
     → IsLocateAnswer id here order version planned → planned.event ≡ event.AnswerLocate here
 event_is id here order None planned is = ap (λ (p : Planned ServerEvent). p.event) is
-event_is id here order (Some version) planned is = ap (λ (p : Planned ServerEvent). p.event) is
+event_is id here order (Some version) planned (small, is) = ap (λ (p : Planned ServerEvent). p.event) is
 
 module _ (interface : Interface) (limits : Limits) where
   is_acted : (h : Held ServerRule ServerEntry) (given : ServerInput) (act : Input ServerEvent) → IsAct (server_deed interface limits h given) act

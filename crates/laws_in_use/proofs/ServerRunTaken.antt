@@ -1,5 +1,5 @@
 -- A server's end takes what it is given in a run as its acts, and refuses nothing.
-use Rattle.std.proofs.Common.{◌≡◌, ℕ, true, List, [], ◌∷◌, ◌++◌, take, Some, None, Ok, refl, sym, ap, subst, ◌∙◌}
+use Rattle.std.proofs.Common.{◌≡◌, ℕ, true, List, [], ◌∷◌, ◌++◌, take, Some, None, Ok, refl, sym, ap, subst, ◌∙◌, arith}
 use Rattle.giop_types.specs.declared.json.interface.Interface.{Interface}
 use Rattle.giop_cdr.specs.Ending.{leads, made_of, remainder}
 use Rattle.giop_cdr.specs.Layout.{number, such, field, gives, chosen}
@@ -58,7 +58,7 @@ module _ (interface : Interface) where
   plans =
       let waits : server_entry (one_4 interface) 7 ≡ Some (LocateAsked door) = ap (λ (call : Call ServerEntry). entry_of call.slot) (at_4 interface) in
       subst (λ version. IsLocateAnswer 7 true Big version (sends_one (AnswerLocate true) here_big)) (sym (ap (locate_of true) waits))
-      (ap (sends_one (AnswerLocate true)) (sym here_is))
+      (omega arith, ap (sends_one (AnswerLocate true)) (sym here_is))
 
   pub run_taken : ServerTakesAs interface limits server_given server_answers (run_acts (answering here_big)) (nothing_unread limits.message) left_end
   run_taken = (

@@ -152,10 +152,11 @@ module _ (interface : Interface)
       (locate_fault limits (client_entry (new_client limits) 9) key form) (IsLocate key form) (new_client limits) [] (Ok tt) t.calls t.outgoing
       → t.outgoing ≡ message_octets key_little
   outgoing_by form t is puts =
-      let (planned, (messages, cut, plans), befell) =
+      let (planned, sends, befell) =
       planned_so (rules_of client.client_step client.is_closed client.is_gathering) in_call 9 (IsLocate key form) (new_client limits) t.calls []
       t.outgoing (locate_fault limits (client_entry (new_client limits) 9) key form)
       (ap (λ entry. locate_fault limits entry key form) (no_client_entry 9) ∙ ap (λ (form : Form). locate_fault limits None key form) is ∙ unrefused) puts in
+      let (messages, cut, plans) = sends.sent in
       let one = sent_by messages (subst (λ (form : Form). IsCut V10 LocateRequest form.order (locate_octets key form.order) form.piece messages) is cut) in
       (leaves planned t.calls t.outgoing befell).puts
       ∙ ap (λ (p : Planned ClientEvent). octets_of (message_of p.plan (unsent_of (finite.get (new_client limits).table 9)))) plans

@@ -1,5 +1,5 @@
 -- Messages in a stream, and the heads of messages with their octets.
-use Rattle.std.specs.Prelude.{ℕ, true, false, List, [], ◌∷◌, ◌++◌, codes}
+use Rattle.std.specs.Prelude.{ℕ, true, false, List, [], ◌∷◌, codes}
 use Rattle.giop_cdr.specs.declared.order.Order.TheVariants.{Big, Little}
 use Rattle.giop_msg.specs.declared.header.Header.{Header}
 use Rattle.giop_msg.specs.declared.kind.Kind.TheVariants.{CancelRequest, Fragment, LocateRequest, Request}

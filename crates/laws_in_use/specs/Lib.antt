@@ -12,6 +12,7 @@ pub mod Lanes
 pub mod Left
 pub mod Limited
 pub mod Locating
+pub mod Observed
 pub mod OwnLanes
 pub mod Pinged
 pub mod Referred

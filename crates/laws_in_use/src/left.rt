@@ -30,17 +30,18 @@ ghost use Rattle.laws_in_use.specs.Exchange.{ping, pong};
 ghost use Rattle.laws_in_use.specs.Left.{form, new_client, ping_sent, pong_sent, sends};
 ghost use Rattle.laws_in_use.specs.Limited.{new_server};
 ghost use Rattle.laws_in_use.specs.Locating.{cancel_little, door, door_begins, door_ends, here_big, limits};
+ghost use Rattle.laws_in_use.specs.Pinged.{HasPing};
 
 use giop_calls::ServerRule;
 use giop_session::laws::{
     what_an_own_act_leaves, what_is_left_is_unsent_at_client, what_is_left_is_unsent_at_server,
 };
 
-/// A client plans a Request of 1.0 in one message, a LocateRequest in two and a CancelRequest: the
-/// event says as many, whatever it is planned as. Behind the second one message is unsent, as the
-/// entry says.
+/// A client plans a Request of 1.0 in one message, where the interface has its operation, a
+/// LocateRequest in two and a CancelRequest: the event says as many, whatever it is planned as.
+/// Behind the second one message is unsent, as the entry says.
 pub fn what_a_client_plans()
-    ensures calls { (interface : Interface) → IsCall interface (ping V10) form
+    ensures calls { (interface : Interface) → HasPing interface → IsCall interface (ping V10) form
         (sends (at_client.Call (asked.Request (ping V10)) 1) (ping_sent interface ∷ [])) }
     ensures asks { IsLocate door form
         (sends (at_client.Call (asked.Locate door) 2) (door_begins ∷ door_ends ∷ [])) }

@@ -19,6 +19,7 @@ mod left;
 mod limited;
 mod locating;
 mod messages;
+mod observed;
 mod on_the_way;
 mod own_lanes;
 mod pinged;

@@ -2,8 +2,9 @@
 //! heads and the refusals of whole messages.
 ghost use Rattle.std.specs.Prelude.{◌≡◌, ◌++◌, ◌∷◌, [], ℕ, List, Ok, Err, Some, None, true};
 ghost use Rattle.std.specs.List.{flat_map};
-ghost use Rattle.giop_cdr.specs.declared.fault.CdrKind.TheVariants.{Short};
+ghost use Rattle.giop_cdr.specs.declared.fault.CdrKind.TheVariants.{Short, Trailing};
 ghost use Rattle.giop_cdr.specs.declared.order.Order.TheVariants.{Big, Little};
+ghost use Rattle.giop_cdr.specs.Ending.{ended};
 ghost use Rattle.giop_types.specs.declared.json.interface.Interface.{Interface};
 ghost use Rattle.giop_msg.specs.Cut.{CanCut, IsCut, joined};
 ghost use Rattle.giop_msg.specs.declared.fault.WireKind.TheVariants.{BadMagic};
@@ -11,8 +12,8 @@ ghost use Rattle.giop_msg.specs.declared.kind.Kind.TheVariants.{LocateRequest};
 ghost use Rattle.giop_msg.specs.declared.messages.request_fault.RequestFault.TheVariants.{Header};
 ghost use Rattle.giop_msg.specs.declared.version.Version.TheVariants.{V10, V11, V12};
 ghost use Rattle.giop_msg.specs.Header.{header_octets, header_of};
-ghost use Rattle.giop_msg.specs.Joined.{joined_from};
-ghost use Rattle.giop_msg.specs.Locate.{locate_reply_head};
+ghost use Rattle.giop_msg.specs.Joined.{joined_from, whole_of_joined};
+ghost use Rattle.giop_msg.specs.Locate.{locate_reply_head, locate_request};
 ghost use Rattle.giop_msg.specs.Messages.Outcome.{Decodes, joined_into};
 ghost use Rattle.giop_msg.specs.Messages.Reply.{reply};
 ghost use Rattle.giop_msg.specs.Messages.Request.{request};
@@ -23,12 +24,13 @@ ghost use Rattle.giop_msg.specs.RequestHead.{request_head};
 ghost use Rattle.giop_msg.specs.RequestId.{request_id_layout, request_id_of};
 ghost use Rattle.giop_msg.specs.Stream.{BeginsWithFault, Msgs};
 ghost use Rattle.laws_in_use.specs.Framed.{asked_head, asked_octets, asks, cancels, cut_begins, cut_ends, cut_octets, header, header_line, located_head, no_header, refusing, replied_head, replied_octets};
+ghost use Rattle.laws_in_use.specs.Locating.{door};
 
 use giop_msg::laws::{
     cuts_are_undone, every_stream_splits, faults_stand, header_round_trip,
     locate_reply_heads_are_spelled, one_split, refusals_are_told, replies_are_spelled,
     reply_heads_are_spelled, request_heads_are_spelled, request_ids, requests_are_spelled,
-    split_on,
+    split_on, whole_locate_requests_are_spelled,
 };
 
 /// Twelve octets are a header, and the header is these octets; the id of a message is what its
@@ -67,15 +69,31 @@ pub fn a_stream_of_two_messages()
 }
 
 /// Sixteen octets are cut into two messages of 24 octets each, which join to them again and are
-/// framed.
+/// framed, by a framer of the largest limit and of one that just lets them through: 12, and in 1.0,
+/// where they are one message, 16.
 pub fn a_message_in_two()
     ensures can { CanCut LocateRequest cut_octets 24 }
     ensures cut { IsCut V12 LocateRequest Big cut_octets 24 (cut_begins ∷ cut_ends ∷ []) }
     ensures again { joined (cut_begins ∷ cut_ends ∷ []) ≡ cut_octets }
     ensures framed { (messages : List _) → IsCut V12 LocateRequest Big cut_octets 24 messages
         → Msgs 4294967295 (flat_map message_octets messages) messages [] }
+    ensures within { (messages : List _) → IsCut V12 LocateRequest Big cut_octets 24 messages
+        → Msgs 12 (flat_map message_octets messages) messages [] }
+    ensures early { (messages : List _) → IsCut V10 LocateRequest Big cut_octets 24 messages
+        → Msgs 16 (flat_map message_octets messages) messages [] }
 {
     cuts_are_undone();
+}
+
+/// What is written of a LocateRequest is read as it, as a whole. With one octet more it is none:
+/// Trailing is reported where that octet stands.
+pub fn a_locate_request_and_an_octet()
+    ensures back { whole_of_joined (locate_request V12) Big
+        ((ended (locate_request V12)).written door (joined_into Big)).octets ≡ Ok door }
+    ensures trailing { (ended (locate_request V12)).read (joined_from Big (cut_octets ++ 9 ∷ []))
+        ≡ Err (record { at = 28; kind = Trailing }) }
+{
+    whole_locate_requests_are_spelled();
 }
 
 /// The heads of a Request in 1.2, a Reply in 1.1 and a LocateReply in 1.0 are written, and read

@@ -32,12 +32,13 @@ ghost use Rattle.laws_in_use.specs.Pinged.{refusal_begins, refusal_cut, refusal_
 
 use giop_session::laws::{
     own_lanes_come_to_replies, what_is_cut_is_carried, what_is_sent_is_a_lanes,
-    what_is_sent_is_framed, what_is_sent_is_read, what_is_sent_names_its_id,
+    what_is_sent_is_an_item, what_is_sent_is_framed, what_is_sent_is_read,
+    what_is_sent_names_its_id,
 };
 
 /// A client plans `ping` in two pieces, the first of which ends within its name: both are read back
 /// as `ping`, are framed and name the id 7; on the lane the first opens the call and the second
-/// ends it.
+/// ends it, and at a server both are the item `ping`.
 pub fn a_request_in_two_pieces()
     ensures planned { (interface : Interface) → HasPing interface
         → PlansCall interface None (asked.Request (ping V12))
@@ -52,11 +53,15 @@ pub fn a_request_in_two_pieces()
         → All IsFramed (ping_begins ∷ ping_ends ∷ []) }
     ensures named { (interface : Interface) → HasPing interface
         → AllByRecursion (Names 7) (ping_begins ∷ ping_ends ∷ []) }
+    ensures item { (interface : Interface) (there : _) → HasPing interface
+        → CarriesItem (server_telling interface) there (Got (call.Request (ping V12)))
+        (Comes ping_begins ∷ Comes ping_ends ∷ []) }
 {
     what_is_sent_is_read();
     what_is_sent_is_a_lanes();
     what_is_sent_is_framed();
     what_is_sent_names_its_id();
+    what_is_sent_is_an_item();
 }
 
 /// So a server plans an exception of the broker in two pieces, as the answer to it.
@@ -72,11 +77,15 @@ pub fn a_reply_in_two_pieces()
         → All IsFramed (refusal_begins ∷ refusal_ends ∷ []) }
     ensures named { (interface : Interface)
         → AllByRecursion (Names 7) (refusal_begins ∷ refusal_ends ∷ []) }
+    ensures item { (interface : Interface) → CarriesItem (client_telling interface)
+        (record { entry = None; latest = Some (asked.Request (ping V12)) })
+        (Got (told.Reply refusing)) (Comes refusal_begins ∷ Comes refusal_ends ∷ []) }
 {
     what_is_sent_is_read();
     what_is_sent_is_a_lanes();
     what_is_sent_is_framed();
     what_is_sent_names_its_id();
+    what_is_sent_is_an_item();
 }
 
 /// Both are written and cut so: they are series of one byte order, whose joined octets are those

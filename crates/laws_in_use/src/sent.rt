@@ -11,6 +11,10 @@ ghost use Rattle.giop_calls.specs.declared.client.heard.HeardReply.TheVariants a
 ghost use Rattle.giop_calls.specs.declared.kind.CallKind.TheVariants as kind;
 ghost use Rattle.giop_calls.specs.declared.server.heard.HeardCall.TheVariants as call;
 ghost use Rattle.giop_session.specs.Acts.ClientCalls.{IsCancel};
+ghost use Rattle.giop_session.specs.Items.Carries.{CarriesItem, Got};
+ghost use Rattle.giop_session.specs.Items.ClientCarries.{client_telling};
+ghost use Rattle.giop_session.specs.Items.ServerCarries.{server_telling};
+ghost use Rattle.giop_session.specs.Runs.Events.{Comes};
 ghost use Rattle.giop_session.specs.Worlds.Coding.{coding};
 ghost use Rattle.giop_session.specs.Worlds.LaneAtEnds.{seen};
 ghost use Rattle.giop_session.specs.Worlds.OnTheWay.{IsFramed, Names};
@@ -21,12 +25,13 @@ ghost use Rattle.laws_in_use.specs.Locating.{cancel_little, door, door_begins, d
 ghost use Rattle.laws_in_use.specs.Sent.{answers_key, asks_door, asks_key, cancels_key};
 
 use giop_session::laws::{
-    what_is_sent_is_a_lanes, what_is_sent_is_framed, what_is_sent_is_read,
+    what_is_sent_is_a_lanes, what_is_sent_is_an_item, what_is_sent_is_framed, what_is_sent_is_read,
     what_is_sent_names_its_id,
 };
 
 /// A client plans to ask where `k` is and to cancel that, and a server to answer it, in 1.0. What
-/// is sent is read back, is framed, names the id 9, and is on its lane what its header says.
+/// is sent is read back, is framed, names the id 9, is on its lane what its header says, and is an
+/// item at the other end.
 pub fn a_locate_request_of_1_0()
     ensures asks { (interface : Interface) → PlansCall interface None (asked.Locate key) asks_key }
     ensures answers { PlansLocated key false answers_key }
@@ -47,11 +52,19 @@ pub fn a_locate_request_of_1_0()
     ensures named { (interface : Interface) → AllByRecursion (Names 9) (key_big ∷ []) }
     ensures named_back { Names 9 unknown_big }
     ensures named_too { Names 9 cancel_little }
+    ensures item { (interface : Interface) (there : _)
+        → CarriesItem (server_telling interface) there (Got (call.Locate key))
+        (Comes key_big ∷ []) }
+    ensures item_back { (interface : Interface) → (told : _)
+        × CarriesItem (client_telling interface)
+        (record { entry = None; latest = Some (asked.Locate key) }) (Got (reply.Locate told))
+        (Comes unknown_big ∷ []) × (told.head.status ≡ 0) × (told.rest ≡ []) }
 {
     what_is_sent_is_read();
     what_is_sent_is_a_lanes();
     what_is_sent_is_framed();
     what_is_sent_names_its_id();
+    what_is_sent_is_an_item();
 }
 
 /// A client plans to ask where `door` is in two pieces, of which the second has nothing but octets

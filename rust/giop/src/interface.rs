@@ -45,7 +45,7 @@ impl error::Error for InterfaceError {}
 ///
 /// It stays on its thread: it is neither `Send` nor `Sync`, since neither is proved of it.
 pub struct Interface {
-    handle: Handle,
+    pub(crate) handle: Handle,
     stays: PhantomData<*mut ()>,
 }
 

@@ -17,8 +17,10 @@
 #![warn(missing_docs)]
 
 mod interface;
+mod server;
 
 pub use interface::{Interface, InterfaceError};
+pub use server::{Awaits, CallKind, EndError, EndFault, Entry, Form, Limits, Server};
 
 use std::error;
 use std::ffi::c_void;
@@ -78,9 +80,11 @@ extern "C" {
 }
 
 const OK: u32 = 0;
+const CLOSED: u32 = 1;
 const NO_MEMORY: u32 = 2;
 const WAITS: u32 = 3;
 const FAULT: u32 = 4;
+const SMALL: u32 = 5;
 
 /// What is wrong with a header, in the order in which headers are judged.
 #[derive(Clone, Copy, Debug, PartialEq, Eq)]

@@ -1,10 +1,10 @@
 //! An IIOP profile written as the octets of a tagged profile (CORBA 3.3 Part 2, 9.7.2), and whether
 //! it can be. The fields are those of `specs/Iiop.antt`, in its order: to add a field, change both.
-ghost use Rattle.std.specs.Prelude.{◌≡◌, ◌↔◌, false, true, ℕ, List, IfOk, IsErrOf};
+ghost use Rattle.std.specs.Prelude.{◌≡◌, ◌↔◌, false, true, ℕ, List, Ok, IfOk, IsErrOf, OnOk};
 ghost use Rattle.giop_cdr.specs.declared.order.Order.{Order};
 ghost use Rattle.giop_cdr.specs.Writing.Outcome.{Appends};
 ghost use Rattle.giop_cdr.specs.Layout.{sequence, AreOctets};
-ghost use Rattle.giop_ior.specs.Iiop.{tagged_component, components_of, iiop_layout, iiop_octets};
+ghost use Rattle.giop_ior.specs.Iiop.{tagged_component, components_of, iiop_layout, iiop_octets, iiop_of};
 
 use crate::references::ior_writing::{append_tagged, are_writable, is_countable, is_text};
 use crate::references::profile::IiopProfile;
@@ -39,6 +39,10 @@ pub fn iiop_profile(alloc: Global, profile: &IiopProfile) -> Result<TaggedProfil
     ensures err { IsErrOf result EncodeFault.Unfit ↔ (iiop_layout.fits profile.now ≡ false) }
     ensures unfit { IsErrOf result EncodeFault.Unfit → (order : Order) (at : ℕ) (octets : List ℕ)
         → AreOctets octets → iiop_layout.spells order at profile.now octets → ⊥ }
+
+    // What was written is in the ranges of its types, and is read as the profile again.
+    ensures held { OnOk result (iiop_layout.holds profile.now) }
+    ensures back { IfOk result (λ tagged. iiop_of tagged.octets ≡ Ok profile.now) }
 {
     if !profile.is_writable() {
         return Err(EncodeFault::Unfit);
@@ -73,8 +77,9 @@ pub fn are_components(minor: u8, components: &[TaggedComponent]) -> bool
 #[tactic(auto, unfolding(crate::specs::Iiop::tagged_component))]
 fn append_sequence(components: &[TaggedComponent], out: &mut CdrOut) -> Result<(), AllocError>
     requires { (sequence tagged_component).fits components.now ≡ true }
-    ensures { Appends out.old result out.new
+    ensures written { Appends out.old result out.new
         ((sequence tagged_component).written components.now out.old) }
+    ensures held { OnOk result ((sequence tagged_component).holds components.now) }
 {
     append_tagged(components, out)
 }
@@ -86,8 +91,9 @@ fn append_components(
     out: &mut CdrOut,
 ) -> Result<(), AllocError>
     requires { (components_of minor).fits components.now ≡ true }
-    ensures { Appends out.old result out.new
+    ensures written { Appends out.old result out.new
         ((components_of minor).written components.now out.old) }
+    ensures held { OnOk result ((components_of minor).holds components.now) }
 {
     if minor == 0 {
         return Ok(());
@@ -99,7 +105,8 @@ fn append_components(
 #[tactic(auto, unfolding(crate::specs::Iiop::iiop_layout, crate::specs::Iiop::major_version, giop_cdr::specs::Layout::field, giop_cdr::specs::Layout::such, giop_cdr::specs::Layout::number, giop_cdr::specs::Layout::octets, giop_cdr::specs::Layout::text, giop_cdr::specs::Layout::gives), using(giop_cdr::proofs::Writing::WriterLemmas::grows_then, giop_cdr::proofs::Writing::WriterLemmas::grows_not))]
 fn append_profile(profile: &IiopProfile, out: &mut CdrOut) -> Result<(), AllocError>
     requires { iiop_layout.fits profile.now ≡ true }
-    ensures { Appends out.old result out.new (iiop_layout.written profile.now out.old) }
+    ensures written { Appends out.old result out.new (iiop_layout.written profile.now out.old) }
+    ensures held { OnOk result (iiop_layout.holds profile.now) }
 {
     out.write_octet(profile.major)?;
     out.write_octet(profile.minor)?;

@@ -1,9 +1,9 @@
 //! The text of a reference (CORBA 3.3 Part 2, 7.6.9), read and written. giop_types makes octets of
 //! its digits, by its `specs/IorText.antt`; here the octets are a reference.
-ghost use Rattle.std.specs.Prelude.{◌≡◌, ◌↔◌, false, true, ℕ, List, IfOk, IsErrOf};
+ghost use Rattle.std.specs.Prelude.{◌≡◌, ◌↔◌, false, true, ℕ, List, Ok, IfOk, IsErrOf, OnOk};
 ghost use Rattle.giop_cdr.specs.declared.order.Order.{Order};
 ghost use Rattle.giop_cdr.specs.Layout.{AreOctets};
-ghost use Rattle.giop_types.specs.IorText.{IorText, encapsulated, ior_text_of, text_written};
+ghost use Rattle.giop_types.specs.IorText.{IorText, encapsulated, ior_text_of, prefixed, text_written};
 ghost use Rattle.giop_types.specs.IorTextFault.{AnswersOrWants, IsAnswered};
 ghost use Rattle.giop_ior.specs.Ior.{Reference, ior_layout};
 
@@ -12,7 +12,7 @@ use crate::references::ior_reading::view_ior;
 use crate::references::ior_writing::append_ior;
 use giop_cdr::{CdrIn, CdrOut, EncodeFault, Order, SliceOctets};
 use giop_types::{IorTextFault, ior_octets_from_text, ior_octets_to_text, open_octets};
-use std::alloc::Global;
+use std::alloc::{AllocError, Global};
 
 /// The reference that a text is, in octets (CORBA 3.3 Part 2, 7.6.9): `IOR:` in any case, and in
 /// hexadecimal digits of either case the octets of an encapsulation of the reference. Octets behind
@@ -71,6 +71,10 @@ pub fn ior_to_text(alloc: Global, ior: &Ior) -> Result<Vec<u8>, EncodeFault>
     ensures err { IsErrOf result EncodeFault.Unfit ↔ (ior_layout.fits ior.now ≡ false) }
     ensures unfit { IsErrOf result EncodeFault.Unfit → (order : Order) (at : ℕ) (octets : List ℕ)
         → AreOctets octets → ior_layout.spells order at ior.now octets → ⊥ }
+
+    // What was written is in the ranges of its types, and is read as the reference again.
+    ensures held { OnOk result (ior_layout.holds ior.now) }
+    ensures back { IfOk result (λ text. ior_text_of ior_layout.read text.items ≡ Ok ior.now) }
 {
     if !ior.is_writable() {
         return Err(EncodeFault::Unfit);
@@ -78,6 +82,14 @@ pub fn ior_to_text(alloc: Global, ior: &Ior) -> Result<Vec<u8>, EncodeFault>
     let mut out = CdrOut::new(alloc, Order::Big, 0);
     out.write_octet(0)?;
     append_ior(ior, &mut out)?;
-    let text = ior_octets_to_text(alloc, out.as_slice())?;
+    Ok(text_of_octets(alloc, out.as_slice())?)
+}
+
+// The text of octets, as giop_types makes it, and that each is below 256, as its type says.
+fn text_of_octets(alloc: Global, octets: &[u8]) -> Result<Vec<u8>, AllocError>
+    ensures written { IfOk result (λ text. text.items ≡ prefixed octets.now) }
+    ensures held { OnOk result (AreOctets octets.now) }
+{
+    let text = ior_octets_to_text(alloc, octets)?;
     Ok(text.into_bytes())
 }

@@ -1,9 +1,10 @@
 //! A reference written (CORBA 3.3 Part 2, 7.6.2), and whether it can be. The fields are those of
 //! `specs/Ior.antt`, in its order. Sequences of tagged values are written here for profiles,
 //! components and service contexts alike.
-ghost use Rattle.std.specs.Prelude.{◌≡◌, ◌↔◌, false, true, ℕ, List, IsErrOf};
-ghost use Rattle.std.specs.List.{list_all};
+ghost use Rattle.std.specs.Prelude.{◌≡◌, ◌↔◌, false, true, ℕ, List, IsErrOf, OnOk};
+ghost use Rattle.std.specs.List.{list_all, AllByRecursion};
 ghost use Rattle.giop_cdr.specs.declared.order.Order.{Order};
+ghost use Rattle.giop_cdr.specs.RoundTrip.{IsReadBack};
 ghost use Rattle.giop_cdr.specs.Writing.Output.{items_out};
 ghost use Rattle.giop_cdr.specs.Writing.Outcome.{Writes, Appends};
 ghost use Rattle.giop_cdr.specs.Layout.{sequence, tagged, is_countable, is_spellable, AreOctets};
@@ -35,6 +36,12 @@ pub fn write_ior(out: &mut CdrOut, ior: &Ior) -> Result<(), EncodeFault>
     ensures err { IsErrOf result EncodeFault.Unfit ↔ (ior_layout.fits ior.now ≡ false) }
     ensures unfit { IsErrOf result EncodeFault.Unfit → (order : Order) (at : ℕ) (octets : List ℕ)
         → AreOctets octets → ior_layout.spells order at ior.now octets → ⊥ }
+
+    // What was appended is in the ranges of its types, spells the reference, and is read as it
+    // again, whatever octets follow.
+    ensures held { OnOk result (ior_layout.holds ior.now) }
+    ensures back { OnOk result (IsReadBack ior_layout.spells ior_layout.read ior.now out.old
+        out.new) }
 {
     if !ior.is_writable() {
         return Err(EncodeFault::Unfit);
@@ -89,8 +96,9 @@ fn is_writable_item<I: TaggedParts>(item: &I) -> bool
 #[tactic(auto, unfolding(giop_cdr::specs::Layout::tagged, giop_cdr::specs::Layout::field, giop_cdr::specs::Layout::number, giop_cdr::specs::Layout::octets, giop_cdr::specs::Layout::gives), using(giop_cdr::proofs::Writing::WriterLemmas::grows_then, giop_cdr::proofs::Writing::WriterLemmas::grows_not))]
 fn append_item<I: TaggedParts>(item: &I, out: &mut CdrOut) -> Result<(), AllocError>
     requires { (tagged I.tag_of I.contents_of I.made).fits item.now ≡ true }
-    ensures { Appends out.old result out.new
+    ensures written { Appends out.old result out.new
         ((tagged I.tag_of I.contents_of I.made).written item.now out.old) }
+    ensures held { OnOk result ((tagged I.tag_of I.contents_of I.made).holds item.now) }
 {
     out.write_ulong(item.tag())?;
     out.write_octets(item.contents())?;
@@ -99,8 +107,10 @@ fn append_item<I: TaggedParts>(item: &I, out: &mut CdrOut) -> Result<(), AllocEr
 
 fn append_each<I: TaggedParts>(items: &[I], out: &mut CdrOut) -> Result<(), AllocError>
     requires { list_all (tagged I.tag_of I.contents_of I.made).fits items.now ≡ true }
-    ensures { Appends out.old result out.new
+    ensures written { Appends out.old result out.new
         (items_out (tagged I.tag_of I.contents_of I.made).written items.now out.old) }
+    ensures held { OnOk result
+        (AllByRecursion (tagged I.tag_of I.contents_of I.made).holds items.now) }
 {
     for item in items {
         append_item(item, out)?;
@@ -111,8 +121,10 @@ fn append_each<I: TaggedParts>(items: &[I], out: &mut CdrOut) -> Result<(), Allo
 #[tactic(auto, unfolding(giop_cdr::specs::Layout::sequence, giop_cdr::specs::Writing::Output::sequence_out), using(giop_cdr::proofs::Writing::WriterLemmas::grows_then, giop_cdr::proofs::Writing::WriterLemmas::grows_not))]
 pub fn append_tagged<I: TaggedParts>(items: &[I], out: &mut CdrOut) -> Result<(), AllocError>
     requires { (sequence (tagged I.tag_of I.contents_of I.made)).fits items.now ≡ true }
-    ensures { Appends out.old result out.new
+    ensures written { Appends out.old result out.new
         ((sequence (tagged I.tag_of I.contents_of I.made)).written items.now out.old) }
+    ensures held { OnOk result
+        ((sequence (tagged I.tag_of I.contents_of I.made)).holds items.now) }
 {
     out.write_ulong(items.len() as u32)?;
     append_each(items, out)?;
@@ -123,7 +135,8 @@ pub fn append_tagged<I: TaggedParts>(items: &[I], out: &mut CdrOut) -> Result<()
 #[tactic(auto, unfolding(crate::specs::Ior::ior_layout, crate::specs::Ior::tagged_profile, giop_cdr::specs::Layout::field, giop_cdr::specs::Layout::text, giop_cdr::specs::Layout::gives), using(giop_cdr::proofs::Writing::WriterLemmas::grows_then, giop_cdr::proofs::Writing::WriterLemmas::grows_not))]
 pub fn append_ior(ior: &Ior, out: &mut CdrOut) -> Result<(), AllocError>
     requires { ior_layout.fits ior.now ≡ true }
-    ensures { Appends out.old result out.new (ior_layout.written ior.now out.old) }
+    ensures written { Appends out.old result out.new (ior_layout.written ior.now out.old) }
+    ensures held { OnOk result (ior_layout.holds ior.now) }
 {
     out.write_string(ior.type_id.as_slice())?;
     append_tagged(ior.profiles.as_slice(), out)?;

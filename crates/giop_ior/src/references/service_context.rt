@@ -1,6 +1,6 @@
 //! Service contexts (CORBA 3.3 Part 2, 7.7) as values, and a list of them written. A `CdrIn` reads
 //! one by `view_tagged_list`. The layout of both is `specs/ServiceContext.antt`.
-ghost use Rattle.std.specs.Prelude.{◌≡◌, true};
+ghost use Rattle.std.specs.Prelude.{◌≡◌, true, OnOk, refl};
 ghost use Rattle.giop_cdr.specs.Writing.Outcome.{Appends};
 ghost use Rattle.giop_ior.specs.ServiceContext.{service_contexts};
 
@@ -32,6 +32,8 @@ impl TaggedParts for ServiceContext {
 
     ghost contents_of = { λ context. context.octets };
 
+    ghost is_made = { λ context. refl };
+
     fn tag(&self) -> u32 {
         self.id
     }
@@ -55,7 +57,9 @@ pub fn are_writable_contexts(contexts: &[ServiceContext]) -> bool
 #[tactic(auto, unfolding(crate::specs::ServiceContext::service_contexts, crate::specs::ServiceContext::service_context))]
 pub fn append_contexts(contexts: &[ServiceContext], out: &mut CdrOut) -> Result<(), AllocError>
     requires { service_contexts.fits contexts.now ≡ true }
-    ensures { Appends out.old result out.new (service_contexts.written contexts.now out.old) }
+    ensures written { Appends out.old result out.new
+        (service_contexts.written contexts.now out.old) }
+    ensures held { OnOk result (service_contexts.holds contexts.now) }
 {
     append_tagged(contexts, out)
 }

@@ -1,6 +1,6 @@
 //! Tagged profiles and tagged components (CORBA 3.3 Part 2, 7.6.2) as values: a tag, and octets
 //! whose meaning it says.
-ghost use Rattle.std.specs.Prelude.{◌≡◌};
+ghost use Rattle.std.specs.Prelude.{◌≡◌, refl};
 
 use giop_cdr::{OctetList, Tagged};
 
@@ -24,7 +24,7 @@ pub struct TaggedComponent {
 
 /// The number and the octets of a `Tagged` value, by which it is written.
 pub trait TaggedParts: Tagged {
-    ghost use Rattle.std.specs.Prelude.{ℕ, List};
+    ghost use Rattle.std.specs.Prelude.{◌≡◌, ℕ, List};
 
     // The number, as contracts see it.
     ghost tag_of: { Self → ℕ };
@@ -39,6 +39,9 @@ pub trait TaggedParts: Tagged {
     /// The octets.
     fn contents(&self) -> &[u8]
         ensures { result.now ≡ contents_of self.now };
+
+    // A value is what its number and its octets make.
+    ghost is_made: { (x : Self) → x ≡ Self.made (tag_of x) (contents_of x) };
 }
 
 impl Tagged for TaggedProfile {
@@ -53,6 +56,8 @@ impl TaggedParts for TaggedProfile {
     ghost tag_of = { λ profile. profile.tag };
 
     ghost contents_of = { λ profile. profile.octets };
+
+    ghost is_made = { λ profile. refl };
 
     fn tag(&self) -> u32 {
         self.tag
@@ -75,6 +80,8 @@ impl TaggedParts for TaggedComponent {
     ghost tag_of = { λ component. component.tag };
 
     ghost contents_of = { λ component. component.octets };
+
+    ghost is_made = { λ component. refl };
 
     fn tag(&self) -> u32 {
         self.tag

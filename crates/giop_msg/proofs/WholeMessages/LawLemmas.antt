@@ -1,5 +1,5 @@
 -- The laws of whole messages.
-use Rattle.std.proofs.Common.{◌≡◌, ℕ, true, inl, inr, List, Option, Some, None, Result, Ok, Err, IsOk, refl, sym, subst, ◌∙◌}
+use Rattle.std.proofs.Common.{◌≡◌, ℕ, true, inl, inr, List, Option, Some, None, Result, Ok, Err, IsOk, refl, sym, ap, subst, ◌∙◌}
 use Rattle.giop_cdr.specs.declared.order.Order.{Order}
 use Rattle.giop_cdr.specs.declared.fault.CdrFault.{CdrFault}
 use Rattle.giop_cdr.specs.Reading.Cursor.{Cursor}
@@ -45,6 +45,20 @@ read_back interface version order q fits holds =
     request_only interface version order
     ((request interface version).written q (joined_into order)).octets q
     (front_spelled (request_is interface version) order q fits holds)
+
+-- the same of the octets that a call returns
+pub message_read_back : {A : Type 0} {f : Ending A} → IsLawfulEnding f → (order : Order) (v : A) (octets : List ℕ)
+    → f.fits v ≡ true → f.holds v → octets ≡ (f.written v (joined_into order)).octets
+    → f.read (joined_from order octets) ≡ Ok v
+message_read_back {A} {f} one order v octets fits holds is =
+    ap (λ (b : List ℕ). f.read (joined_from order b)) is ∙ (whole_of one).back order v fits holds
+
+pub octets_read_back : (interface : Interface) (version : Version) (order : Order) (q : Request) (octets : List ℕ)
+    → (request interface version).fits q ≡ true → (request interface version).holds q
+    → octets ≡ ((request interface version).written q (joined_into order)).octets
+    → request_of_joined interface version order octets ≡ Ok q
+octets_read_back interface version order q octets fits holds is =
+    ap (request_of_joined interface version order) is ∙ read_back interface version order q fits holds
 
 -- ---- refusals
 

@@ -1,8 +1,12 @@
 //! Laws of whole messages, above the definitions of specs/Messages. Each function's contract is one
 //! of them; the bodies are empty, and no program calls these.
-ghost use Rattle.std.specs.Prelude.{Option};
+ghost use Rattle.std.specs.Prelude.{◌≡◌, ℕ, List, Option};
+ghost use Rattle.giop_cdr.specs.declared.order.Order.{Order};
+ghost use Rattle.giop_cdr.specs.Ending.{ended};
 ghost use Rattle.giop_types.specs.declared.json.interface.Interface.{Interface};
 ghost use Rattle.giop_msg.specs.declared.version.Version.{Version};
+ghost use Rattle.giop_msg.specs.Joined.{joined_from, whole_of_joined};
+ghost use Rattle.giop_msg.specs.Locate.{locate_request};
 ghost use Rattle.giop_msg.specs.Messages.Laws.{IsWhole, ReplyRefusalsAreTold, RequestRefusalsAreTold, RequestsAreReadBack, RequestsAreRefused};
 ghost use Rattle.giop_msg.specs.Messages.LocateReply.{locate_reply};
 ghost use Rattle.giop_msg.specs.Messages.Reply.{reply};
@@ -19,6 +23,18 @@ pub fn requests_are_spelled()
         → IsWhole (request interface version) }
     ensures refused { RequestsAreRefused }
     ensures back { RequestsAreReadBack }
+{}
+
+/// A LocateRequest as a whole message, in each version: its fields, and nothing behind them. What
+/// is read is what all octets up to the end spell. Else the first refused field is reported, or as
+/// Trailing the first octet that is left behind the target. Whatever octets spell fits. The joined
+/// octets that `encode` returns are read as that LocateRequest, in both byte orders. `read` says
+/// that `view` reads so.
+pub fn whole_locate_requests_are_spelled()
+    ensures table { (version : Version) → IsWhole (ended (locate_request version)) }
+    ensures read { (version : Version) (order : Order) (octets : List ℕ)
+        → whole_of_joined (locate_request version) order octets
+        ≡ (ended (locate_request version)).read (joined_from order octets) }
 {}
 
 /// A LocateReply, in each version. What is read is what all octets up to the end spell, and else

@@ -2,7 +2,7 @@
 //! specs/Messages/LocateReply.antt, above that of its head (locate_reply_head.rt).
 #![tactic(auto, unfolding(crate::specs::Messages::LocateReply::locate_reply, giop_cdr::specs::Ending::leads, giop_cdr::specs::Ending::made_of, giop_cdr::specs::Ending::remainder))]
 
-ghost use Rattle.std.specs.Prelude.{◌≡◌, ◌≤◌, ◌^◌, ◌↔◌, length, false, true, ℕ, List, IfOk, IsErrOf};
+ghost use Rattle.std.specs.Prelude.{◌≡◌, ◌≤◌, ◌^◌, ◌↔◌, length, false, true, ℕ, List, Ok, IfOk, IsErrOf, OnOk};
 ghost use Rattle.giop_cdr.specs.declared.order.Order.{Order};
 ghost use Rattle.giop_cdr.specs.Layout.{AreOctets};
 ghost use Rattle.giop_cdr.specs.Writing.Outcome.{Appends};
@@ -76,6 +76,13 @@ impl LocateReply {
             → (order : Order) (at : ℕ) (octets : List ℕ)
             → AreOctets octets
             → (locate_reply self.now.head.version).spells order at self.now octets → ⊥ }
+
+        // What was written is in the ranges of its types, and is read as the LocateReply again.
+        ensures held { IfOk result (λ octets.
+            (locate_reply self.now.head.version).holds self.now) }
+        ensures back { IfOk result (λ octets.
+            (locate_reply self.now.head.version).read (joined_from order octets.items)
+            ≡ Ok self.now) }
     {
         if !self.is_writable() {
             return Err(EncodeFault::Unfit);
@@ -118,8 +125,9 @@ fn read_reply<S: Octets>(
 #[tactic(auto, unfolding(crate::specs::Messages::LocateReply::locate_reply, giop_cdr::specs::Ending::leads, giop_cdr::specs::Ending::made_of, giop_cdr::specs::Ending::remainder), using(giop_cdr::proofs::Writing::WriterLemmas::grows_then, giop_cdr::proofs::Writing::WriterLemmas::grows_not))]
 fn append_reply(reply: &LocateReply, out: &mut CdrOut) -> Result<(), AllocError>
     requires { (locate_reply reply.now.head.version).fits reply.now ≡ true }
-    ensures { Appends out.old result out.new
+    ensures written { Appends out.old result out.new
         ((locate_reply reply.now.head.version).written reply.now out.old) }
+    ensures held { OnOk result ((locate_reply reply.now.head.version).holds reply.now) }
 {
     append_head(&reply.head, out)?;
     out.append_octets(reply.rest.as_slice())?;

@@ -2,7 +2,7 @@
 //! specs/Messages/Reply.antt, and reply_reading.rt reads it: change them together.
 #![tactic(auto, unfolding(crate::specs::Messages::Reply::completion, crate::specs::Messages::Reply::no_exception, crate::specs::Messages::Reply::user_exception, crate::specs::Messages::Reply::system_exception, crate::specs::Messages::Reply::forward, crate::specs::Messages::Reply::needs_addressing, crate::specs::Messages::Reply::reply_body, crate::specs::Messages::Body::values, giop_cdr::specs::Layout::field, giop_cdr::specs::Layout::such, giop_cdr::specs::Layout::number, giop_cdr::specs::Layout::signed, giop_cdr::specs::Layout::text, giop_cdr::specs::Layout::gives, giop_cdr::specs::Layout::chosen), using(giop_cdr::proofs::Writing::WriterLemmas::grows_then, giop_cdr::proofs::Writing::WriterLemmas::grows_not))]
 
-ghost use Rattle.std.specs.Prelude.{◌≡◌, true, map};
+ghost use Rattle.std.specs.Prelude.{◌≡◌, true, map, OnOk};
 ghost use Rattle.giop_cdr.specs.Ending.{ended, unless_empty};
 ghost use Rattle.giop_cdr.specs.Layout.{is_spellable};
 ghost use Rattle.giop_cdr.specs.Writing.Output.{padding_out};
@@ -83,8 +83,10 @@ fn append_user_exception(
 ) -> Result<(), AllocError>
     requires { (user_exception interface.now).fits
         (UserException id.now (map value_view members.now)) ≡ true }
-    ensures { Appends out.old result out.new ((user_exception interface.now).written
+    ensures written { Appends out.old result out.new ((user_exception interface.now).written
         (UserException id.now (map value_view members.now)) out.old) }
+    ensures held { OnOk result ((user_exception interface.now).holds
+        (UserException id.now (map value_view members.now))) }
 {
     out.write_string(id)?;
     append_values(members_of(interface, id), members, out)
@@ -98,8 +100,9 @@ fn append_system_exception(
     out: &mut CdrOut,
 ) -> Result<(), AllocError>
     requires { is_spellable id.now ≡ true }
-    ensures { Appends out.old result out.new
+    ensures written { Appends out.old result out.new
         (system_exception.written (SystemException id.now minor completion) out.old) }
+    ensures held { OnOk result (system_exception.holds (SystemException id.now minor completion)) }
 {
     out.write_string(id)?;
     out.write_ulong(minor)?;
@@ -114,8 +117,10 @@ fn append_fields(
     out: &mut CdrOut,
 ) -> Result<(), AllocError>
     requires { (reply_body interface.now outs.now (status_of body.now)).fits body.now ≡ true }
-    ensures { Appends out.old result out.new
+    ensures written { Appends out.old result out.new
         ((reply_body interface.now outs.now (status_of body.now)).written body.now out.old) }
+    ensures held { OnOk result
+        ((reply_body interface.now outs.now (status_of body.now)).holds body.now) }
 {
     match body {
         ReplyBody::NoException(values) => append_values(outs, values.as_slice(), out),
@@ -141,9 +146,11 @@ fn append_aligned(
     out: &mut CdrOut,
 ) -> Result<(), AllocError>
     requires { (reply_body interface.now outs.now (status_of body.now)).fits body.now ≡ true }
-    ensures { Appends out.old result out.new (unless_empty out.old (padding_out 8 out.old)
+    ensures written { Appends out.old result out.new (unless_empty out.old (padding_out 8 out.old)
         ((reply_body interface.now outs.now (status_of body.now)).written body.now
         (padding_out 8 out.old))) }
+    ensures held { OnOk result
+        ((reply_body interface.now outs.now (status_of body.now)).holds body.now) }
 {
     let point = out.checkpoint();
     out.align(8)?;
@@ -165,9 +172,12 @@ pub fn append_reply_body(
     out: &mut CdrOut,
 ) -> Result<(), AllocError>
     requires { (reply_body interface.now outs.now (status_of body.now)).fits body.now ≡ true }
-    ensures { Appends out.old result out.new
+    ensures written { Appends out.old result out.new
         ((body_of version (ended (reply_body interface.now outs.now (status_of body.now)))).written
         body.now out.old) }
+    ensures held { OnOk result
+        ((body_of version (ended (reply_body interface.now outs.now (status_of body.now)))).holds
+        body.now) }
 {
     match version {
         Version::V10 | Version::V11 => append_fields(interface, outs, body, out),

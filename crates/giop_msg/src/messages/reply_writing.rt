@@ -1,10 +1,11 @@
 //! Writing a whole Reply (9.4.3). The layout is specs/Messages/Reply.antt, and reply.rt reads it:
 //! change them together.
-ghost use Rattle.std.specs.Prelude.{◌≡◌, ◌↔◌, false, true, ℕ, List, IfOk, IsErrOf};
+ghost use Rattle.std.specs.Prelude.{◌≡◌, ◌↔◌, false, true, ℕ, List, Ok, IfOk, IsErrOf, OnOk};
 ghost use Rattle.std.specs.Option.{option_copied};
 ghost use Rattle.giop_cdr.specs.declared.order.Order.{Order};
 ghost use Rattle.giop_cdr.specs.Layout.{AreOctets};
 ghost use Rattle.giop_cdr.specs.Writing.Outcome.{Appends};
+ghost use Rattle.giop_msg.specs.Joined.{joined_from};
 ghost use Rattle.giop_msg.specs.Messages.Outcome.{joined_into};
 ghost use Rattle.giop_msg.specs.Messages.Reply.{outs_for, reply};
 
@@ -78,6 +79,13 @@ impl Reply {
             → AreOctets octets
             → (reply interface.now (option_copied request.entry) self.now.version).spells
             order at self.now octets → ⊥ }
+
+        // What was written is in the ranges of its types, and is read as the Reply again.
+        ensures held { IfOk result (λ octets.
+            (reply interface.now (option_copied request.entry) self.now.version).holds self.now) }
+        ensures back { IfOk result (λ octets.
+            (reply interface.now (option_copied request.entry) self.now.version).read
+            (joined_from order octets.items) ≡ Ok self.now) }
     {
         let outs = outs_for(interface, request);
         if !self.is_writable_by(interface, request, outs) {
@@ -105,9 +113,11 @@ fn append_reply(
     requires fits { (reply interface.now (option_copied request) answer.now.version).fits
         answer.now ≡ true }
     requires outs { outs.now ≡ outs_for interface.now (option_copied request) }
-    ensures { Appends out.old result out.new
+    ensures written { Appends out.old result out.new
         ((reply interface.now (option_copied request.entry) answer.now.version).written
         answer.now out.old) }
+    ensures held { OnOk result ((reply interface.now (option_copied request.entry)
+        answer.now.version).holds answer.now) }
 {
     let status = answer.body.status();
     append_parts(

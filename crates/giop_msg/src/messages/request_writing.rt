@@ -1,11 +1,12 @@
 //! Writing a whole Request (9.4.2). The layout is specs/Messages/Request.antt, and request.rt reads
 //! it: change them together.
-ghost use Rattle.std.specs.Prelude.{◌≡◌, ◌↔◌, false, true, ℕ, List, IfOk, IsErrOf};
+ghost use Rattle.std.specs.Prelude.{◌≡◌, ◌↔◌, false, true, ℕ, List, Ok, IfOk, IsErrOf, OnOk};
 ghost use Rattle.giop_cdr.specs.declared.order.Order.{Order};
 ghost use Rattle.giop_cdr.specs.Layout.{AreOctets};
 ghost use Rattle.giop_cdr.specs.Writing.Outcome.{Appends};
 ghost use Rattle.giop_msg.specs.Messages.Outcome.{joined_into};
 ghost use Rattle.giop_msg.specs.Messages.Request.{request};
+ghost use Rattle.giop_msg.specs.Messages.RequestAnswer.{request_of_joined};
 
 use crate::joined::joined_output;
 use crate::messages::body_writing::{append_body, are_fitting};
@@ -49,6 +50,13 @@ impl Request {
             → (order : Order) (at : ℕ) (octets : List ℕ)
             → AreOctets octets
             → (request interface.now self.now.head.version).spells order at self.now octets → ⊥ }
+
+        // What was written is in the ranges of its types, and is read as the Request again.
+        ensures held { IfOk result (λ octets.
+            (request interface.now self.now.head.version).holds self.now) }
+        ensures back { IfOk result (λ octets.
+            request_of_joined interface.now self.now.head.version order octets.items
+            ≡ Ok self.now) }
     {
         if !self.is_writable(interface) {
             return Err(EncodeFault::Unfit);
@@ -67,8 +75,9 @@ impl Request {
 #[tactic(auto, using(giop_cdr::proofs::Writing::WriterLemmas::grows_then, giop_cdr::proofs::Writing::WriterLemmas::grows_not))]
 fn append_request(q: &Request, interface: &Interface, out: &mut CdrOut) -> Result<(), AllocError>
     requires { (request interface.now q.now.head.version).fits q.now ≡ true }
-    ensures { Appends out.old result out.new
+    ensures written { Appends out.old result out.new
         ((request interface.now q.now.head.version).written q.now out.old) }
+    ensures held { OnOk result ((request interface.now q.now.head.version).holds q.now) }
 {
     append_head(&q.head, out)?;
     let Some(operation) = interface.operation(q.head.operation.as_slice()) else {

@@ -52,7 +52,8 @@ use Rattle.giop_session.specs.Worlds.OnTheWay.{Names, id_of}
 use Rattle.giop_session.specs.Worlds.OwnLane.{PlansCall, PlansReply, sends_cut}
 use Rattle.giop_session.specs.Acts.Sent.{cancel_request, sends_one}
 use Rattle.giop_session.specs.Acts.ServerAnswers.{IsLocateAnswer, located, reply_octets}
-use Rattle.giop_session.proofs.OnLanes.CodingLemmas.{locate_sent, reply_sent, request_sent, same_piece, same_pieces, told_fits, told_holds, told_of}
+use Rattle.giop_session.proofs.OnActs.WrittenLemmas.{locate_written, reply_written, request_written}
+use Rattle.giop_session.proofs.OnLanes.CodingLemmas.{same_piece, told_fits, told_holds, told_of}
 
 -- ---- octets that begin with the fields up to an id
 
@@ -295,24 +296,20 @@ call_named interface entry (asked.Request q) cut is =
     let version = q.head.version in
     let order = is.form.order in
     let octets = request_octets interface q order in
-    let event = at_client.Call (asked.Request q) in
-    let sent = request_sent interface entry q (sends_cut event cut) is in
+    let written = request_written interface entry q cut is in
     let whole = whole_of (request_is interface version) in
     let begins = request_begins interface version order q octets
-    ((whole.exact (joined_from order octets)).found q (whole.back order q sent.fit is.in_range.holds)) in
-    subst (AllByRecursion (Names q.head.id)) (same_pieces event cut sent.cut sent.sent)
-    (cut_named version message.Request order octets is.form.piece (pieces_of sent.cut) q.head.id refl sent.can begins sent.is_cut)
+    ((whole.exact (joined_from order octets)).found q (whole.back order q written.fits written.holds)) in
+    cut_named version message.Request order octets is.form.piece (pieces_of cut) q.head.id refl written.can_cut begins written.is_cut
 call_named interface entry (asked.Locate q) cut is =
     let version = q.version in
     let order = is.form.order in
     let octets = locate_octets q order in
-    let event = at_client.Call (asked.Locate q) in
-    let sent = locate_sent interface entry q (sends_cut event cut) is in
-    let written = (locate_request_is version).written q (joined_into order) sent.fit is.in_range.holds in
+    let written = locate_written interface entry q cut is in
+    let spelled = (locate_request_is version).written q (joined_into order) written.fits written.holds in
     let begins = locate_begins version order q octets
-    (subst (λ l. (locate_request version).spells order 12 q l) (sym written.octets) written.spells) in
-    subst (AllByRecursion (Names q.id)) (same_pieces event cut sent.cut sent.sent)
-    (cut_named version message.LocateRequest order octets is.form.piece (pieces_of sent.cut) q.id refl sent.can begins sent.is_cut)
+    (subst (λ l. (locate_request version).spells order 12 q l) (sym spelled.octets) spelled.spells) in
+    cut_named version message.LocateRequest order octets is.form.piece (pieces_of cut) q.id refl written.can_cut begins written.is_cut
 
 pub reply_named : (interface : Interface) (q : Request) (r : Reply) (cut : Cut) → PlansReply interface q r (sends_cut (at_server.Answer r) cut)
     → AllByRecursion (Names r.id) (pieces_of cut)
@@ -320,17 +317,15 @@ reply_named interface q r cut is =
     let version = r.version in
     let order = is.form.order in
     let octets = reply_octets interface (Some q) r order in
-    let event = at_server.Answer r in
-    let sent = reply_sent interface q r (sends_cut event cut) is in
+    let written = reply_written interface q r cut is in
     let whole = whole_of (reply_is interface (Some q) version) in
     let begins = reply_begins interface (Some q) version order r octets
-    ((whole.exact (joined_from order octets)).found r (whole.back order r sent.fit is.in_range.holds)) in
-    subst (AllByRecursion (Names r.id)) (same_pieces event cut sent.cut sent.sent)
-    (cut_named version message.Reply order octets is.form.piece (pieces_of sent.cut) r.id refl sent.can begins sent.is_cut)
+    ((whole.exact (joined_from order octets)).found r (whole.back order r written.fits written.holds)) in
+    cut_named version message.Reply order octets is.form.piece (pieces_of cut) r.id refl written.can_cut begins written.is_cut
 
-pub located_named : (id : ℕ) (here : Bool) (order : Order) (version : Version) (piece : Msg) → id < 2 ^ 32
+pub located_named : (id : ℕ) (here : Bool) (order : Order) (version : Version) (piece : Msg)
     → IsLocateAnswer id here order (Some version) (sends_one (at_server.AnswerLocate here) piece) → Names id piece
-located_named id here order version piece small is =
+located_named id here order version piece (small, is) =
     let told = told_of version id here in
     let octets = ((locate_reply version).written told (joined_into order)).octets in
     let whole = whole_of (locate_reply_is version) in
@@ -360,9 +355,9 @@ id_spelled order id small = record {
   value = sym (ulong_of-ulong_octets order id small);
 }
 
-pub cancel_named : (id : ℕ) (order : Order) (version : Version) (m : Msg) → id < 2 ^ 32
+pub cancel_named : (id : ℕ) (order : Order) (version : Version) (m : Msg)
     → IsCancel id order (Some version) (sends_one at_client.Cancel m) → Names id m
-cancel_named id order version m small is =
+cancel_named id order version m (small, is) =
     let octets = ulong_octets order id in
     subst (Names id) (same_piece at_client.Cancel m (cancel_request version order id) is)
     (named version message.CancelRequest order false octets id refl

@@ -1,5 +1,5 @@
 -- Why a call of the end's own program isn't sent.
-use Rattle.std.proofs.Common.{◌≡◌, ◌⊎◌, ◌↔◌, ℕ, ◌&&◌, Bool, true, false, List, Option, Some, None, Result, Ok, Err, IfOk, IfErr, IsErrOf, sym, ap, length, refl, subst, ◌∙◌, inl, inr}
+use Rattle.std.proofs.Common.{◌≡◌, ◌⊎◌, ◌↔◌, ℕ, ◌&&◌, Bool, true, false, List, Option, Some, None, Result, Ok, Err, IfOk, IfErr, IsErrOf, sym, ap, refl, ◌∙◌, inl, inr}
 use Rattle.std.specs.Option.{option_or}
 use Rattle.giop_cdr.specs.declared.encode_fault.EncodeFault.{EncodeFault}
 use Rattle.giop_cdr.specs.declared.encode_fault.EncodeFault.TheVariants as encode
@@ -10,22 +10,20 @@ use Rattle.giop_session.specs.declared.session_fault.SessionFault.TheVariants.{N
 use Rattle.giop_ids.specs.Runs.{Rules}
 use Rattle.giop_types.specs.declared.json.interface.Interface.{Interface}
 use Rattle.giop_msg.specs.declared.kind.Kind.TheVariants as message
-use Rattle.giop_msg.specs.Cut.{IsCut}
-use Rattle.giop_msg.specs.declared.msg.Msg.{Msg}
+use Rattle.giop_msg.specs.Messages.Reply.{reply}
 use Rattle.giop_msg.specs.declared.messages.reply.Reply.{Reply as Answer}
 use Rattle.giop_msg.specs.declared.messages.request.Request.{Request}
 use Rattle.giop_calls.specs.declared.server.event.ServerEvent.{ServerEvent}
 use Rattle.giop_calls.specs.declared.server.event.ServerEvent.TheVariants as event
 use Rattle.giop_session.specs.declared.acts.form.Form.{Form}
-use Rattle.giop_session.specs.declared.calls.plan.Plan.TheVariants as plan
 use Rattle.giop_session.specs.declared.limits.Limits.{Limits}
 use Rattle.giop_session.specs.declared.calls.plan.Planned.{Planned}
 use Rattle.giop_session.specs.declared.calls.table_fault.TableFault.{TableFault}
 use Rattle.giop_session.specs.Calls.CallTable.{Act, Call, Held, Reply}
 use Rattle.giop_session.specs.Hearing.Heard.{in_call, kept}
-use Rattle.giop_session.specs.Acts.Putting.{Befell, Puts}
+use Rattle.giop_session.specs.Acts.Putting.{Puts}
 use Rattle.giop_session.specs.Calls.Refused.{IsNotSent, IsRefusal, unfit_unless}
-use Rattle.giop_session.specs.Acts.Sent.{IsSent}
+use Rattle.giop_session.specs.Acts.Sent.{IsValueSent}
 use Rattle.giop_session.specs.Acts.ServerAnswers.{IsAnswer, answer_fault, is_reply_sendable, reply_octets}
 
 -- what no octets spell isn't sent, nor what the limits don't let
@@ -74,17 +72,6 @@ pub wanted_puts : {R E V A : Type 0}
     → Puts rules in_call id found Plans h out result h out
 wanted_puts rules id found Plans h out result is = inl (is, refl, refl)
 
--- what is planned so is planned as it may be
-planned_puts : {R E V A : Type 0}
-    (rules : Rules (Held R E) (Call E) (Act V) (Reply E A) (TableFault CallFault)) (id : ℕ)
-    (found : Option CallFault) (Plans : Planned V → Type 0) (p : Planned V) (h k : Held R E)
-    (out out' : List ℕ) (result : Result (Unit {0}) SessionFault) → found ≡ None → Plans p
-    → Puts rules in_call id None (λ planned. planned ≡ p) h out result k out'
-    → Puts rules in_call id found Plans h out result k out'
-planned_puts rules id found Plans p h k out out' result none plans (inl want) = inl want
-planned_puts rules id found Plans p h k out out' result none plans (inr done) =
-    rw none (inr (p, plans, subst (λ p. Befell rules in_call id p h out result k out') done.1 done.2))
-
 -- a Reply to a Request that is known to wait for it
 pub answer_puts : {R E A : Type 0}
     (rules : Rules (Held R E) (Call E) (Act ServerEvent) (Reply E A) (TableFault CallFault))
@@ -93,30 +80,12 @@ pub answer_puts : {R E A : Type 0}
     (result : Result (Unit {0}) SessionFault) → question ≡ Some q
     → Puts rules in_call answer.id
     (unfit_unless (is_reply_sendable interface limits q answer form))
-    (IsSent answer.version message.Reply form (reply_octets interface q answer form.order)
-    (event.Answer answer)) h out result k out'
+    (IsValueSent (reply interface q answer.version) answer answer.version message.Reply form
+    (reply_octets interface q answer form.order) (event.Answer answer)) h out result k out'
     → Puts rules in_call answer.id (answer_fault interface limits question answer form)
     (IsAnswer interface question answer form) h out result k out'
 answer_puts rules interface limits question q answer form h k out out' result is puts =
     rw is puts
-
--- and it is sent in the messages that it is cut into
-pub sent_puts : {R E A : Type 0}
-    (rules : Rules (Held R E) (Call E) (Act ServerEvent) (Reply E A) (TableFault CallFault))
-    (interface : Interface) (limits : Limits) (question : Option (Option Request))
-    (q : Option Request) (answer : Answer) (form : Form) (messages : List Msg) (h k : Held R E)
-    (out out' : List ℕ) (result : Result (Unit {0}) SessionFault) → question ≡ Some q
-    → unfit_unless (is_reply_sendable interface limits q answer form) ≡ None
-    → IsCut answer.version message.Reply form.order
-    (reply_octets interface q answer form.order) form.piece messages
-    → Puts rules in_call answer.id None
-    (λ planned. planned
-    ≡ record { event = event.Answer answer (length messages); plan = plan.Put messages })
-    h out result k out'
-    → Puts rules in_call answer.id (answer_fault interface limits question answer form)
-    (IsAnswer interface question answer form) h out result k out'
-sent_puts rules interface limits question q answer form messages h k out out' result is fit cut puts =
-    rw is (planned_puts rules answer.id _ _ _ h k out out' result fit (messages, cut, refl) puts)
 
 -- a Reply that no Request waits for
 pub unasked_puts : {R E A : Type 0}

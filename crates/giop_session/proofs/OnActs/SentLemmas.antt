@@ -1,6 +1,7 @@
 -- What an end sends are messages, whatever limit a framer has of the largest.
 use Rattle.std.proofs.Common.{◌≡◌, ℕ, ◌-◌, ◌<◌, ◌^◌, if◌then◌else◌, Bool, false, length, Option, Some, None, refl, ap, subst, ◌∙◌, arith}
 use Rattle.std.specs.List.{All}
+use Rattle.giop_cdr.specs.Ending.{ended}
 use Rattle.giop_cdr.specs.declared.order.Order.{Order}
 use Rattle.giop_cdr.specs.declared.order.Order.TheVariants.{Big, Little}
 use Rattle.giop_types.specs.declared.json.interface.Interface.{Interface}
@@ -27,34 +28,30 @@ use Rattle.giop_session.specs.Worlds.OnTheWay.{IsFramed}
 use Rattle.giop_session.specs.Worlds.OwnLane.{PlansCall, PlansLocated, PlansReply, sends_cut}
 use Rattle.giop_session.specs.Acts.Sent.{cancel_request, sends_one}
 use Rattle.giop_session.specs.Acts.ServerAnswers.{located, reply_octets}
-use Rattle.giop_session.proofs.OnLanes.CodingLemmas.{locate_sent, reply_sent, request_sent, same_piece, same_pieces}
+use Rattle.giop_session.proofs.OnActs.WrittenLemmas.{locate_written, reply_written, request_written}
+use Rattle.giop_session.proofs.OnLanes.CodingLemmas.{same_piece}
 use Rattle.giop_session.proofs.OnActs.LocatedLemmas.{located_eight}
 
 -- ---- what is cut
 
 pub call_framed : (interface : Interface) (entry : Option ClientEntry) (call : Call) (cut : Cut)
     → PlansCall interface entry call (sends_cut (at_client.Call call) cut) → All IsFramed (pieces_of cut)
+unfolding ended
 call_framed interface entry (asked.Request q) cut is =
-    let event = at_client.Call (asked.Request q) in
-    let sent = request_sent interface entry q (sends_cut event cut) is in
-    subst (All IsFramed) (same_pieces event cut sent.cut sent.sent)
-    (CutLaws-hold.framed q.head.version message.Request is.form.order (request_octets interface q is.form.order) is.form.piece (pieces_of sent.cut)
-    sent.can sent.is_cut).each
+    let written = request_written interface entry q cut is in
+    (CutLaws-hold.framed q.head.version message.Request is.form.order (request_octets interface q is.form.order) is.form.piece (pieces_of cut)
+    written.can_cut written.is_cut).each
 call_framed interface entry (asked.Locate q) cut is =
-    let event = at_client.Call (asked.Locate q) in
-    let sent = locate_sent interface entry q (sends_cut event cut) is in
-    subst (All IsFramed) (same_pieces event cut sent.cut sent.sent)
-    (CutLaws-hold.framed q.version message.LocateRequest is.form.order (locate_octets q is.form.order) is.form.piece (pieces_of sent.cut)
-    sent.can sent.is_cut).each
+    let written = locate_written interface entry q cut is in
+    (CutLaws-hold.framed q.version message.LocateRequest is.form.order (locate_octets q is.form.order) is.form.piece (pieces_of cut)
+    written.can_cut written.is_cut).each
 
 pub reply_framed : (interface : Interface) (q : Request) (r : Reply) (cut : Cut) → PlansReply interface q r (sends_cut (at_server.Answer r) cut)
     → All IsFramed (pieces_of cut)
 reply_framed interface q r cut is =
-    let event = at_server.Answer r in
-    let sent = reply_sent interface q r (sends_cut event cut) is in
-    subst (All IsFramed) (same_pieces event cut sent.cut sent.sent)
-    (CutLaws-hold.framed r.version message.Reply is.form.order (reply_octets interface (Some q) r is.form.order) is.form.piece (pieces_of sent.cut)
-    sent.can sent.is_cut).each
+    let written = reply_written interface q r cut is in
+    (CutLaws-hold.framed r.version message.Reply is.form.order (reply_octets interface (Some q) r is.form.order) is.form.piece (pieces_of cut)
+    written.can_cut written.is_cut).each
 
 -- ---- what is one message
 
@@ -69,7 +66,7 @@ located_size version order size is = ap (λ n. fault_of (2 ^ 32 - 1) (alone vers
 
 pub located_framed : (interface : Interface) (q : AnyLocateRequest) (here : Bool) (piece : Msg)
     → PlansLocated q here (sends_one (at_server.AnswerLocate here) piece) → IsFramed piece
-located_framed interface q here piece (id, order, small, plans) =
+located_framed interface q here piece (id, order, (small, plans)) =
     let version = q.version in
     let m = located version order id here in
     let eight : length m.payload ≡ 8 = located_eight version order id (if here then 1 else 0) in
@@ -84,7 +81,7 @@ cancel_size : (version : Version) (order : Order) (size : ℕ) → size ≡ 4 �
 cancel_size version order size is = ap (λ n. fault_of (2 ^ 32 - 1) (alone version message.CancelRequest order n)) is
 
 pub cancel_framed : (id : ℕ) (order : Order) (version : Version) (m : Msg) → IsCancel id order (Some version) (sends_one at_client.Cancel m) → IsFramed m
-cancel_framed id order version m is =
+cancel_framed id order version m (small, is) =
     let sent = cancel_request version order id in
     let four : length sent.payload ≡ 4 = four_octets order id in
     subst IsFramed (same_piece at_client.Cancel m sent is)

@@ -87,14 +87,14 @@ client_deeds : (interface : Interface) (limits : Limits) (h : Held ClientRule Cl
     → DeedIsOf is_of_client (client_deed interface limits h input)
 client_deeds interface limits h (client.Feed octets) = tt
 client_deeds interface limits h (client.Call request form) = λ planned is.
-    sent_is is_of_client _ message.Request form.form _ (client_event.Call (asked.Request request)) planned refl refl is
+    sent_is is_of_client _ message.Request form.form _ (client_event.Call (asked.Request request)) planned refl refl is.sent
 client_deeds interface limits h (client.Locate request form) =
-    λ planned is. sent_is is_of_client _ message.LocateRequest form.form _ (client_event.Call (asked.Locate request)) planned refl refl is
+    λ planned is. sent_is is_of_client _ message.LocateRequest form.form _ (client_event.Call (asked.Locate request)) planned refl refl is.sent
 client_deeds interface limits h (client.Cancel id order) = λ planned is. by_version (open_version (client_entry h id)) planned is
   where
     by_version : (version : Option Version) (planned : Planned ClientEvent) → IsCancel id order version planned → PlanIsOf is_of_client planned.plan
     by_version None planned is = absurd is
-    by_version (Some version) planned is = subst (λ p. PlanIsOf is_of_client p.plan) (sym is) (refl, tt)
+    by_version (Some version) planned (small, is) = subst (λ p. PlanIsOf is_of_client p.plan) (sym is) (refl, tt)
 client_deeds interface limits h (client.Send id) = λ planned is. subst (λ p. PlanIsOf is_of_client p.plan) (sym is) tt
 client_deeds interface limits h (client.Take id) = tt
 client_deeds interface limits h client.Close = refl
@@ -139,14 +139,14 @@ server_deeds interface limits h (server.Answer reply form) = λ planned is. by_q
     by_question None planned is = subst (λ p. PlanIsOf is_of_server p.plan) (sym is) tt
     by_question (Some question) planned is =
         sent_is is_of_server reply.version message.Reply form.form (reply_octets interface question reply form.form.order)
-        (server_event.Answer reply) planned refl refl is
+        (server_event.Answer reply) planned refl refl is.sent
 server_deeds interface limits h (server.AnswerLocate id here order) =
     λ planned is. by_version (locate_of here (server_entry h id)) planned is
   where
     by_version : (version : Option Version) (planned : Planned ServerEvent) → IsLocateAnswer id here order version planned
         → PlanIsOf is_of_server planned.plan
     by_version None planned is = subst (λ p. PlanIsOf is_of_server p.plan) (sym is) tt
-    by_version (Some version) planned is = subst (λ p. PlanIsOf is_of_server p.plan) (sym is) (refl, tt)
+    by_version (Some version) planned (small, is) = subst (λ p. PlanIsOf is_of_server p.plan) (sym is) (refl, tt)
 server_deeds interface limits h (server.Send id) = λ planned is. subst (λ p. PlanIsOf is_of_server p.plan) (sym is) tt
 server_deeds interface limits h (server.Take id) = tt
 server_deeds interface limits h server.Close = refl

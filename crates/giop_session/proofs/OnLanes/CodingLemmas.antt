@@ -182,7 +182,7 @@ request_sent interface entry q planned is =
     (unfit_unless (is_request_sendable interface is.limits q is.form)) is.unrefused in
     let fit = sendable is.limits.gathered is.limits.message version octets is.form.piece fits
     (none_is_fit (is_request_sendable interface is.limits q is.form) whole) in
-    sent_in version message.Request is.form octets fits (at_client.Call (asked.Request q)) planned refl fit is.is_form is.in_range.piece is.plans
+    sent_in version message.Request is.form octets fits (at_client.Call (asked.Request q)) planned refl fit is.is_form is.plans.in_range.piece is.plans.sent
 
 pub locate_sent : (interface : Interface) (entry : Option ClientEntry) (q : AnyLocateRequest) (planned : Planned ClientEvent)
     (is : PlansCall interface entry (asked.Locate q) planned)
@@ -196,8 +196,8 @@ locate_sent interface entry q planned is =
     (unfit_unless (is_locate_sendable is.limits q is.form)) is.unrefused in
     let fit = sendable is.limits.gathered is.limits.message version octets is.form.piece fits
     (none_is_fit (is_locate_sendable is.limits q is.form) whole) in
-    sent_in version message.LocateRequest is.form octets fits (at_client.Call (asked.Locate q)) planned refl fit is.is_form is.in_range.piece
-    is.plans
+    sent_in version message.LocateRequest is.form octets fits (at_client.Call (asked.Locate q)) planned refl fit is.is_form is.plans.in_range.piece
+    is.plans.sent
 
 pub reply_sent : (interface : Interface) (q : Request) (r : Reply) (planned : Planned ServerEvent) (is : PlansReply interface q r planned)
     → IsSentIn r.version message.Reply is.form (reply_octets interface (Some q) r is.form.order) ((reply interface (Some q) r.version).fits r)
@@ -208,7 +208,7 @@ reply_sent interface q r planned is =
     let fits = (reply interface (Some q) version).fits r in
     let fit = sendable is.limits.gathered is.limits.message version octets is.form.piece fits
     (none_is_fit (is_reply_sendable interface is.limits (Some q) r is.form) is.unrefused) in
-    sent_in version message.Reply is.form octets fits (at_server.Answer r) planned refl fit is.is_form is.in_range.piece is.plans
+    sent_in version message.Reply is.form octets fits (at_server.Answer r) planned refl fit is.is_form is.plans.in_range.piece is.plans.sent
 
 -- ---- calls
 
@@ -246,7 +246,7 @@ request_read interface entry q planned is =
       record {
         order = is.form.order;
         one_order = read.one_order;
-        read = read.as_call ∙ request_heard interface version is.form.order q sent.fit is.in_range.holds;
+        read = read.as_call ∙ request_heard interface version is.form.order q sent.fit is.plans.in_range.holds;
       },
     )
 
@@ -263,7 +263,7 @@ locate_read interface entry q planned is =
       record {
         order = is.form.order;
         one_order = read.one_order;
-        read = read.as_call ∙ locate_heard interface version is.form.order q sent.fit is.in_range.holds;
+        read = read.as_call ∙ locate_heard interface version is.form.order q sent.fit is.plans.in_range.holds;
       },
     )
 
@@ -301,7 +301,7 @@ reply_read interface q r planned is =
       record {
         order = is.form.order;
         one_order = read.one_order;
-        read = read.as_reply (asked.Request q) ∙ reply_heard interface q version is.form.order r sent.fit is.in_range.holds;
+        read = read.as_reply (asked.Request q) ∙ reply_heard interface q version is.form.order r sent.fit is.plans.in_range.holds;
       },
     )
 
@@ -333,7 +333,7 @@ pub located_read : (interface : Interface) (q : AnyLocateRequest) (here : Bool) 
     → PlansLocated q here planned
     → (piece : Piece) × (told : LocateReply) × (planned ≡ sends_one (at_server.AnswerLocate here) piece)
     × CutsLocated (coding interface) q here piece told
-located_read interface q here planned (id, order, small, plans) =
+located_read interface q here planned (id, order, (small, plans)) =
     let version = q.version in
     let told = told_of version id here in
     let octets = ((locate_reply version).written told (joined_into order)).octets in (

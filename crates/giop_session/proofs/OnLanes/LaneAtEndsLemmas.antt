@@ -223,16 +223,16 @@ sent_seen {V} k of version form octets event cut opens (messages, is, planned) =
 pub call_seen : (interface : Interface) (entry : Option ClientEntry) (call : Asked) (cut : Cut)
     → PlansCall interface entry call (sends_cut (at_client.Call call) cut) → map seen (pieces_of cut) ≡ carried (kind_of call) (version_of call) cut
 call_seen interface entry (asked.Request q) cut is =
-    sent_seen kind.Request message.Request q.head.version is.form _ (at_client.Call (asked.Request q)) cut (λ more m. refl) is.plans
+    sent_seen kind.Request message.Request q.head.version is.form _ (at_client.Call (asked.Request q)) cut (λ more m. refl) is.plans.sent
 call_seen interface entry (asked.Locate q) cut is =
-    sent_seen kind.Locate message.LocateRequest q.version is.form _ (at_client.Call (asked.Locate q)) cut (λ more m. refl) is.plans
+    sent_seen kind.Locate message.LocateRequest q.version is.form _ (at_client.Call (asked.Locate q)) cut (λ more m. refl) is.plans.sent
 
 pub reply_seen : (interface : Interface) (q : Request) (r : Reply) (cut : Cut) → PlansReply interface q r (sends_cut (at_server.Answer r) cut)
     → map seen (pieces_of cut) ≡ carried kind.Request r.version cut
-reply_seen interface q r cut is = sent_seen kind.Request message.Reply r.version is.form _ (at_server.Answer r) cut (λ more m. refl) is.plans
+reply_seen interface q r cut is = sent_seen kind.Request message.Reply r.version is.form _ (at_server.Answer r) cut (λ more m. refl) is.plans.sent
 
 pub located_seen : (interface : Interface) (q : AnyLocateRequest) (here : Bool) (piece : Msg)
     → PlansLocated q here (sends_one (at_server.AnswerLocate here) piece) → seen piece ≡ Opens kind.Locate q.version true piece
-located_seen interface q here piece (id, order, small, plans) =
+located_seen interface q here piece (id, order, (small, plans)) =
     subst (λ one. seen one ≡ Opens kind.Locate q.version true one)
     (same_piece (at_server.AnswerLocate here) piece (located q.version order id here) plans) refl

@@ -34,7 +34,7 @@ begins_none e planned same none is = sym none ∙ sym (ap begins_at_client same)
 cancelled_none : (id : ℕ) (order : Order) (version : Option Version) (planned : Planned ClientEvent) → IsCancel id order version planned
     → begins_at_client planned.event ≡ true → false ≡ true
 cancelled_none id order None planned plans = absurd plans
-cancelled_none id order (Some version) planned same = begins_none _ planned (ap (λ p. p.event) same) refl
+cancelled_none id order (Some version) planned (small, same) = begins_none _ planned (ap (λ p. p.event) same) refl
 
 suits : (interface : Interface) (limits : Limits) (h : Held ClientRule ClientEntry) (given : ClientInput)
     → Suits fed_to_client calls_under begins_at_client given (client_deed interface limits h given)

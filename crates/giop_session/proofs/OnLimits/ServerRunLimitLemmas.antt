@@ -35,12 +35,12 @@ begins_none e planned same none is = sym none ∙ sym (ap begins_at_server same)
 answered_none : (interface : Interface) (question : Option (Option Request)) (reply : Reply) (form : Form) (planned : Planned ServerEvent)
     → IsAnswer interface question reply form planned → begins_at_server planned.event ≡ true → false ≡ true
 answered_none interface None reply form planned same = begins_none _ planned (ap (λ p. p.event) same) refl
-answered_none interface (Some question) reply form planned (messages, cut, same) = begins_none _ planned (ap (λ p. p.event) same) refl
+answered_none interface (Some question) reply form planned is = begins_none _ planned (ap (λ p. p.event) is.sent.2) refl
 
 located_none : (id : ℕ) (here : Bool) (order : Order) (version : Option Version) (planned : Planned ServerEvent)
     → IsLocateAnswer id here order version planned → begins_at_server planned.event ≡ true → false ≡ true
 located_none id here order None planned same = begins_none _ planned (ap (λ p. p.event) same) refl
-located_none id here order (Some version) planned same = begins_none _ planned (ap (λ p. p.event) same) refl
+located_none id here order (Some version) planned (small, same) = begins_none _ planned (ap (λ p. p.event) same) refl
 
 suits : (interface : Interface) (limits : Limits) (h : Held ServerRule ServerEntry) (given : ServerInput)
     → Suits fed_to_server (λ i id. false) begins_at_server given (server_deed interface limits h given)

@@ -16,7 +16,7 @@ use Rattle.giop_calls.specs.declared.server.entry.ServerEntry.{ServerEntry}
 use Rattle.giop_session.specs.declared.laws.inputs.WorldEvent.{WorldEvent}
 use Rattle.giop_session.specs.declared.laws.inputs.WorldEvent.TheVariants as event
 use Rattle.giop_session.specs.declared.limits.Limits.{Limits}
-use Rattle.giop_session.specs.Worlds.Agreement.{Agreed, AreInRange, FailsByLimits, IsInRange}
+use Rattle.giop_session.specs.Worlds.Agreement.{Agreed, FailsByLimits}
 use Rattle.giop_session.specs.Calls.CallTable.{Call}
 use Rattle.giop_session.specs.Worlds.Coding.{coding}
 use Rattle.giop_session.specs.Runs.Driven.{InTurn}
@@ -95,31 +95,31 @@ module _ (interface : Interface) (are_sound : AreSound interface) (client_limits
 
   -- ---- each event
 
-  happens : (w v : WorldState) (happened : WorldEvent) (told : Told) → IsInRange interface happened → Tracked w
+  happens : (w v : WorldState) (happened : WorldEvent) (told : Told) → Tracked w
       → Happens interface client_limits server_limits w happened told v → Tracked v
-  happens w v (event.Call q form) told in_range tracks is = client_calls interface client_limits server_limits w v q form told in_range tracks is
-  happens w v (event.Locate q form) told in_range tracks is = client_locates interface client_limits server_limits w v q form told in_range tracks is
-  happens w v (event.Cancel id order) told in_range tracks is = client_cancels interface client_limits server_limits w v id order told in_range tracks is
-  happens w v (event.SendClient id) told in_range tracks is = client_sends interface client_limits server_limits w v id told tracks is
-  happens w v (event.Answer r form) told in_range tracks is =
-      server_answers interface client_limits server_limits are_sound w v r form told in_range tracks is
-  happens w v (event.AnswerLocate id here order) told in_range tracks is =
-      server_locates interface client_limits server_limits are_sound w v id here order told in_range tracks is
-  happens w v (event.SendServer id) told in_range tracks is = server_sends interface client_limits server_limits are_sound w v id told tracks is
-  happens w v (event.ToServer n) told in_range tracks is = at_server interface are_sound client_limits server_limits w v n told tracks is
-  happens w v (event.ToClient n) told in_range tracks is = at_client interface are_sound client_limits server_limits w v n told tracks is
+  happens w v (event.Call q form) told tracks is = client_calls interface client_limits server_limits w v q form told tracks is
+  happens w v (event.Locate q form) told tracks is = client_locates interface client_limits server_limits w v q form told tracks is
+  happens w v (event.Cancel id order) told tracks is = client_cancels interface client_limits server_limits w v id order told tracks is
+  happens w v (event.SendClient id) told tracks is = client_sends interface client_limits server_limits w v id told tracks is
+  happens w v (event.Answer r form) told tracks is =
+      server_answers interface client_limits server_limits are_sound w v r form told tracks is
+  happens w v (event.AnswerLocate id here order) told tracks is =
+      server_locates interface client_limits server_limits are_sound w v id here order told tracks is
+  happens w v (event.SendServer id) told tracks is = server_sends interface client_limits server_limits are_sound w v id told tracks is
+  happens w v (event.ToServer n) told tracks is = at_server interface are_sound client_limits server_limits w v n told tracks is
+  happens w v (event.ToClient n) told tracks is = at_client interface are_sound client_limits server_limits w v n told tracks is
 
-  goes_on : (w v : WorldState) (schedule : List WorldEvent) (told : List Told) → AreInRange interface schedule → Tracked w
+  goes_on : (w v : WorldState) (schedule : List WorldEvent) (told : List Told) → Tracked w
       → InTurn (Happens interface client_limits server_limits) w schedule told v → Tracked v
-  goes_on w v [] [] in_range tracks run = subst Tracked (sym run) tracks
-  goes_on w v [] (one ∷ told) in_range tracks run = absurd run
-  goes_on w v (happened ∷ schedule) [] in_range tracks run = absurd run
-  goes_on w v (happened ∷ schedule) (one ∷ told) (first, others) tracks (mid, is, rest) =
-      goes_on mid v schedule told others (happens w mid happened one first tracks is) rest
+  goes_on w v [] [] tracks run = subst Tracked (sym run) tracks
+  goes_on w v [] (one ∷ told) tracks run = absurd run
+  goes_on w v (happened ∷ schedule) [] tracks run = absurd run
+  goes_on w v (happened ∷ schedule) (one ∷ told) tracks (mid, is, rest) =
+      goes_on mid v schedule told (happens w mid happened one tracks is) rest
 
-  tracked : (w : WorldState) (schedule : List WorldEvent) (told : List Told) → AreInRange interface schedule
+  tracked : (w : WorldState) (schedule : List WorldEvent) (told : List Told)
       → WorldRuns interface client_limits server_limits schedule told w → Tracked w
-  tracked w schedule told in_range run = goes_on (new_world client_limits server_limits) w schedule told in_range begins run
+  tracked w schedule told run = goes_on (new_world client_limits server_limits) w schedule told begins run
 
   -- ---- what follows
 
@@ -133,10 +133,10 @@ module _ (interface : Interface) (are_sound : AreSound interface) (client_limits
   is_right_locate codec lane (agreed, right, located, read, heard) = located
 
   pub ends_agree : (w : WorldState) (schedule : List WorldEvent) (told : List Told)
-      → WorldRuns interface client_limits server_limits schedule told w → AreInRange interface schedule
+      → WorldRuns interface client_limits server_limits schedule told w
       → w.client.fault ≡ None → w.server.fault ≡ None → Agreed w
-  ends_agree w schedule told run in_range client_goes server_goes =
-      let tracks = tracked w schedule told in_range run in record {
+  ends_agree w schedule told run client_goes server_goes =
+      let tracks = tracked w schedule told run in record {
         outcomes = λ none_out none_back id.
             let s = tracks.shows id in
             let no_asked = nothing_left w.server.unread tracks.asked (subst (OnTheWay w.server.unread tracks.asked) none_out (tracks.to_server server_goes)) in
@@ -157,6 +157,6 @@ module _ (interface : Interface) (are_sound : AreSound interface) (client_limits
       }
 
   pub ends_fail_by_limits : (w : WorldState) (schedule : List WorldEvent) (told : List Told)
-      → WorldRuns interface client_limits server_limits schedule told w → AreInRange interface schedule → FailsByLimits client_limits server_limits w
-  ends_fail_by_limits w schedule told run in_range =
-      let tracks = tracked w schedule told in_range run in record { client = tracks.client_met; server = tracks.server_met }
+      → WorldRuns interface client_limits server_limits schedule told w → FailsByLimits client_limits server_limits w
+  ends_fail_by_limits w schedule told run =
+      let tracks = tracked w schedule told run in record { client = tracks.client_met; server = tracks.server_met }

@@ -28,13 +28,11 @@ use Rattle.giop_session.specs.declared.laws.inputs.Answered.{Answered}
 use Rattle.giop_session.specs.declared.laws.inputs.Answered.TheVariants as answer
 use Rattle.giop_session.specs.declared.laws.inputs.CheckedForm.{CheckedForm}
 use Rattle.giop_session.specs.declared.laws.inputs.ClientInput.TheVariants as given
-use Rattle.giop_session.specs.declared.laws.inputs.WorldEvent.TheVariants as event
 use Rattle.giop_session.specs.declared.limits.Limits.{Limits}
 use Rattle.giop_session.specs.declared.calls.plan.Plan.TheVariants.{Next}
 use Rattle.giop_session.specs.declared.calls.plan.Planned.{Planned}
 use Rattle.giop_session.specs.declared.session_fault.SessionFault.{SessionFault}
 use Rattle.giop_session.specs.Acts.Acting.{IsAccepted}
-use Rattle.giop_session.specs.Worlds.Agreement.{IsInRange}
 use Rattle.giop_session.specs.Calls.CallTable.{Held, at, rules_of}
 use Rattle.giop_session.specs.Acts.ClientCalls.{IsCall, IsCancel, IsLocate, call_fault, cancel_fault, locate_fault, open_version}
 use Rattle.giop_session.specs.Hearing.ClientHears.{client_befalls, client_breaks}
@@ -243,13 +241,13 @@ module _ (interface : Interface) (id : ℕ) (h k : Held ClientRule ClientEntry) 
         unanswered = refl;
         to_client = refl;
         to_server = refl;
-        each = (cancel_for id order version (cancel_request version order id) small refl, tt);
+        each = (cancel_for id order version (cancel_request version order id) (small, refl), tt);
       }
 
-  pub cancels : (order : Order) (version : Option Version) (planned : Planned ClientEvent) → id < 2 ^ 32 → IsCancel id order version planned
+  pub cancels : (order : Order) (version : Option Version) (planned : Planned ClientEvent) → IsCancel id order version planned
       → IsAccepted client_step id planned h out k out' → ClientActs interface id lane k (listed (message_of planned.plan slot_before))
-  cancels order None planned small plans is = absurd plans
-  cancels order (Some version) planned small plans is =
+  cancels order None planned plans is = absurd plans
+  cancels order (Some version) planned (small, plans) is =
       subst (λ one. ClientActs interface id lane k (listed (message_of one.plan slot_before))) (sym plans)
       (cancels_in order version small (subst (λ one. IsAccepted client_step id one h out k out') plans is))
 
@@ -307,35 +305,35 @@ module _ (interface : Interface) (client_limits server_limits : Limits) where
       by_fault (Some why) failed (refused, stays) = subst Tracked (λ i. record { client = sym stays i; server = sym same i }) tracks
       by_fault None sound done = by_answer answered sound done
 
-  pub client_calls : (w v : WorldState) (q : Request) (form : CheckedForm) (told : Told) → IsInRange interface (event.Call q form) → Tracked w
+  pub client_calls : (w v : WorldState) (q : Request) (form : CheckedForm) (told : Told) → Tracked w
       → AtClient interface client_limits server_limits w (given.Call q form) told v → Tracked v
-  client_calls w v q form told in_range tracks (answered, is, tells, same) =
+  client_calls w v q form told tracks (answered, is, tells, same) =
       let id = q.head.id in
       let entry = client_entry w.client.calls id in
       puts_on w v id (call_fault interface client_limits entry q form.form) (IsCall interface q form.form) answered tracks is same
       (λ acted. calls interface id w.client.calls v.client.calls w.client.outgoing v.client.outgoing (tracks.shows id).lane (tracks.shows id).client
       (asked.Request q) acted.planned refl
-      (record { limits = client_limits; form = form.form; is_form = form.sound; in_range = in_range; unrefused = acted.unrefused; plans = acted.plans })
+      (record { limits = client_limits; form = form.form; is_form = form.sound; unrefused = acted.unrefused; plans = acted.plans })
       acted.is)
 
-  pub client_locates : (w v : WorldState) (q : AnyLocateRequest) (form : CheckedForm) (told : Told) → IsInRange interface (event.Locate q form)
+  pub client_locates : (w v : WorldState) (q : AnyLocateRequest) (form : CheckedForm) (told : Told)
       → Tracked w → AtClient interface client_limits server_limits w (given.Locate q form) told v → Tracked v
-  client_locates w v q form told in_range tracks (answered, is, tells, same) =
+  client_locates w v q form told tracks (answered, is, tells, same) =
       let id = q.id in
       let entry = client_entry w.client.calls id in
       puts_on w v id (locate_fault client_limits entry q form.form) (IsLocate q form.form) answered tracks is same
       (λ acted. calls interface id w.client.calls v.client.calls w.client.outgoing v.client.outgoing (tracks.shows id).lane (tracks.shows id).client
       (asked.Locate q) acted.planned refl
-      (record { limits = client_limits; form = form.form; is_form = form.sound; in_range = in_range; unrefused = acted.unrefused; plans = acted.plans })
+      (record { limits = client_limits; form = form.form; is_form = form.sound; unrefused = acted.unrefused; plans = acted.plans })
       acted.is)
 
-  pub client_cancels : (w v : WorldState) (id : ℕ) (order : Order) (told : Told) → id < 2 ^ 32 → Tracked w
+  pub client_cancels : (w v : WorldState) (id : ℕ) (order : Order) (told : Told) → Tracked w
       → AtClient interface client_limits server_limits w (given.Cancel id order) told v → Tracked v
-  client_cancels w v id order told small tracks (answered, is, tells, same) =
+  client_cancels w v id order told tracks (answered, is, tells, same) =
       let version = open_version (client_entry w.client.calls id) in
       puts_on w v id (cancel_fault version) (IsCancel id order version) answered tracks is same
       (λ acted. cancels interface id w.client.calls v.client.calls w.client.outgoing v.client.outgoing (tracks.shows id).lane (tracks.shows id).client
-      order version acted.planned small acted.plans acted.is)
+      order version acted.planned acted.plans acted.is)
 
   pub client_sends : (w v : WorldState) (id : ℕ) (told : Told) → Tracked w
       → AtClient interface client_limits server_limits w (given.Send id) told v → Tracked v

@@ -1,6 +1,7 @@
 -- Each message that an end plans to send is one of its call, to the other end.
-use Rattle.std.proofs.Common.{◌≡◌, ℕ, ◌-◌, ◌<◌, ◌^◌, Bool, true, List, [], ◌∷◌, Option, Some, None, is_none, refl, subst}
+use Rattle.std.proofs.Common.{◌≡◌, ℕ, ◌-◌, ◌^◌, Bool, true, List, [], ◌∷◌, Option, Some, None, is_none, refl, subst}
 use Rattle.std.specs.List.{All, AllByRecursion}
+use Rattle.giop_cdr.specs.Ending.{ended}
 use Rattle.giop_cdr.specs.declared.order.Order.{Order}
 use Rattle.giop_types.specs.declared.json.interface.Interface.{Interface}
 use Rattle.giop_msg.specs.Locate.{AnyLocateRequest}
@@ -27,7 +28,8 @@ use Rattle.giop_session.specs.Acts.Sent.{cancel_request, sends_one}
 use Rattle.giop_session.specs.Acts.ServerAnswers.{IsLocateAnswer, located, reply_octets}
 use Rattle.giop_session.specs.Hearing.ServerHears as server_hears
 use Rattle.giop_session.specs.Worlds.Tracks.{IsFor, IsToClient, IsToServer}
-use Rattle.giop_session.proofs.OnLanes.CodingLemmas.{locate_sent, reply_sent, request_sent, same_piece, same_pieces}
+use Rattle.giop_session.proofs.OnActs.WrittenLemmas.{locate_written, reply_written, request_written}
+use Rattle.giop_session.proofs.OnLanes.CodingLemmas.{same_piece}
 use Rattle.giop_session.proofs.OnActs.IdLemmas.{call_named, cancel_named, located_named, reply_named}
 use Rattle.giop_session.proofs.OnActs.PutOutLemmas.{cut_are}
 use Rattle.giop_session.proofs.OnActs.SentLemmas.{call_framed, cancel_framed, located_framed, reply_framed}
@@ -53,46 +55,38 @@ are_for by id (m ∷ messages) framed (name, named) (one, own) = (
 
 pub call_for : (interface : Interface) (entry : Option ClientEntry) (call : Call) (cut : Cut)
     → PlansCall interface entry call (sends_cut (at_client.Call call) cut) → AllByRecursion (IsToServer (id_of call)) (pieces_of cut)
+unfolding ended
 call_for interface entry (asked.Request q) cut is =
-    let event = at_client.Call (asked.Request q) in
-    let sent = request_sent interface entry q (sends_cut event cut) is in
     are_for server_hears.breaks_by q.head.id (pieces_of cut) (call_framed interface entry (asked.Request q) cut is)
     (call_named interface entry (asked.Request q) cut is)
-    (subst (AreOf to_server) (same_pieces event cut sent.cut sent.sent)
-    (cut_are to_server q.head.version message.Request is.form.order (request_octets interface q is.form.order) is.form.piece (pieces_of sent.cut)
-    refl refl sent.is_cut))
+    (cut_are to_server q.head.version message.Request is.form.order (request_octets interface q is.form.order) is.form.piece (pieces_of cut)
+    refl refl (request_written interface entry q cut is).is_cut)
 call_for interface entry (asked.Locate q) cut is =
-    let event = at_client.Call (asked.Locate q) in
-    let sent = locate_sent interface entry q (sends_cut event cut) is in
     are_for server_hears.breaks_by q.id (pieces_of cut) (call_framed interface entry (asked.Locate q) cut is)
     (call_named interface entry (asked.Locate q) cut is)
-    (subst (AreOf to_server) (same_pieces event cut sent.cut sent.sent)
-    (cut_are to_server q.version message.LocateRequest is.form.order (locate_octets q is.form.order) is.form.piece (pieces_of sent.cut)
-    refl refl sent.is_cut))
+    (cut_are to_server q.version message.LocateRequest is.form.order (locate_octets q is.form.order) is.form.piece (pieces_of cut)
+    refl refl (locate_written interface entry q cut is).is_cut)
 
 pub reply_for : (interface : Interface) (q : Request) (r : Reply) (cut : Cut) → PlansReply interface q r (sends_cut (at_server.Answer r) cut)
     → AllByRecursion (IsToClient r.id) (pieces_of cut)
 reply_for interface q r cut is =
-    let event = at_server.Answer r in
-    let sent = reply_sent interface q r (sends_cut event cut) is in
     are_for client_hears.breaks_by r.id (pieces_of cut) (reply_framed interface q r cut is) (reply_named interface q r cut is)
-    (subst (AreOf to_client) (same_pieces event cut sent.cut sent.sent)
-    (cut_are to_client r.version message.Reply is.form.order (reply_octets interface (Some q) r is.form.order) is.form.piece (pieces_of sent.cut)
-    refl refl sent.is_cut))
+    (cut_are to_client r.version message.Reply is.form.order (reply_octets interface (Some q) r is.form.order) is.form.piece (pieces_of cut)
+    refl refl (reply_written interface q r cut is).is_cut)
 
-pub located_for : (interface : Interface) (q : AnyLocateRequest) (id : ℕ) (here : Bool) (order : Order) (piece : Msg) → id < 2 ^ 32
+pub located_for : (interface : Interface) (q : AnyLocateRequest) (id : ℕ) (here : Bool) (order : Order) (piece : Msg)
     → IsLocateAnswer id here order (Some q.version) (sends_one (at_server.AnswerLocate here) piece) → IsToClient id piece
-located_for interface q id here order piece small is = record {
-  framed = located_framed interface q here piece (id, order, small, is);
-  names = located_named id here order q.version piece small is;
+located_for interface q id here order piece (small, is) = record {
+  framed = located_framed interface q here piece (id, order, (small, is));
+  names = located_named id here order q.version piece (small, is);
   unbroken = subst (λ m. client_hears.client_breaks m ≡ None)
       (same_piece (at_server.AnswerLocate here) piece (located q.version order id here) is) refl;
 }
 
-pub cancel_for : (id : ℕ) (order : Order) (version : Version) (m : Msg) → id < 2 ^ 32
+pub cancel_for : (id : ℕ) (order : Order) (version : Version) (m : Msg)
     → IsCancel id order (Some version) (sends_one at_client.Cancel m) → IsToServer id m
-cancel_for id order version m small is = record {
-  framed = cancel_framed id order version m is;
-  names = cancel_named id order version m small is;
+cancel_for id order version m (small, is) = record {
+  framed = cancel_framed id order version m (small, is);
+  names = cancel_named id order version m (small, is);
   unbroken = subst (λ m. server_hears.server_breaks m ≡ None) (same_piece at_client.Cancel m (cancel_request version order id) is) refl;
 }

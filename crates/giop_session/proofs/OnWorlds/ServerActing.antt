@@ -1,11 +1,10 @@
 -- What a server's own program does in a world is an act of the lane of its id.
-use Rattle.std.proofs.Common.{◌≡◌, ℕ, ◌-◌, ◌==◌, ◌^◌, ◌<◌, ◌&&◌, Bool, true, false, if◌then◌else◌, List, [], ◌∷◌, ◌++◌, length, map, Option, Some, None, Result, Ok, Err, IsOk, refl, sym, ap, subst, ◌∙◌, ◌⊎◌, inl, inr}
+use Rattle.std.proofs.Common.{◌≡◌, ℕ, ◌-◌, ◌==◌, ◌^◌, ◌<◌, Bool, true, false, if◌then◌else◌, List, [], ◌∷◌, ◌++◌, map, Option, Some, None, Result, Ok, Err, IsOk, refl, sym, ap, subst, ◌∙◌, ◌⊎◌, inl, inr}
 use Rattle.std.specs.FinMap as finite
 use Rattle.std.specs.List.{AllByRecursion, flat_map}
 use Rattle.giop_cdr.specs.declared.order.Order.{Order}
 use Rattle.giop_types.specs.declared.json.interface.Interface.{Interface}
 use Rattle.giop_msg.specs.Locate.{AnyLocateRequest}
-use Rattle.giop_msg.specs.Messages.Reply.{reply}
 use Rattle.giop_msg.specs.Msg.{message_octets}
 use Rattle.giop_msg.specs.declared.messages.reply.Reply.{Reply}
 use Rattle.giop_msg.specs.declared.messages.request.Request.{Request}
@@ -30,25 +29,21 @@ use Rattle.giop_session.specs.declared.laws.inputs.Answered.{Answered}
 use Rattle.giop_session.specs.declared.laws.inputs.Answered.TheVariants as answer
 use Rattle.giop_session.specs.declared.laws.inputs.CheckedForm.{CheckedForm}
 use Rattle.giop_session.specs.declared.laws.inputs.ServerInput.TheVariants as given
-use Rattle.giop_session.specs.declared.laws.inputs.WorldEvent.TheVariants as event
 use Rattle.giop_session.specs.declared.limits.Limits.{Limits}
 use Rattle.giop_session.specs.declared.calls.plan.Plan.TheVariants.{Next}
 use Rattle.giop_session.specs.declared.calls.plan.Planned.{Planned}
 use Rattle.giop_session.specs.declared.session_fault.SessionFault.{SessionFault}
 use Rattle.giop_session.specs.Acts.Acting.{IsAccepted}
-use Rattle.giop_session.specs.Worlds.Agreement.{IsInRange}
 use Rattle.giop_session.specs.Calls.CallTable.{Held, at, rules_of}
 use Rattle.giop_session.specs.Worlds.Coding.{coding}
 use Rattle.giop_session.specs.Runs.Driven.{IsDoneBy, IsGiven, IsGivenBy, PutsOut}
-use Rattle.giop_session.specs.Acts.Form.{is_sendable}
 use Rattle.giop_session.specs.Hearing.Heard.{in_call, kept}
 use Rattle.giop_session.specs.Worlds.LaneAtEnds.{seen}
 use Rattle.giop_session.specs.Worlds.OwnLane.{PlansLocated, PlansReply, sends_cut}
 use Rattle.giop_session.specs.Acts.Putting.{Puts}
-use Rattle.giop_session.specs.Calls.Refused.{unfit_unless}
 use Rattle.giop_session.specs.Calls.Sending.{entry_of, message_of, slot_of, unsent_after, unsent_of}
 use Rattle.giop_session.specs.Acts.Sent.{sends_one}
-use Rattle.giop_session.specs.Acts.ServerAnswers.{IsAnswer, IsLocateAnswer, answer_fault, locate_of, located, question_of, reply_octets}
+use Rattle.giop_session.specs.Acts.ServerAnswers.{IsAnswer, IsLocateAnswer, answer_fault, locate_of, located, question_of}
 use Rattle.giop_session.specs.Hearing.ServerHears.{server_befalls, server_breaks}
 use Rattle.giop_session.specs.Runs.ServerRuns.{server_entry}
 use Rattle.giop_session.specs.Worlds.Tracks.{IsToClient, ServerShows}
@@ -170,11 +165,6 @@ locates_it id here order (Some (entries.Delivered q)) planned decoded plans ok =
 locates_it id here order (Some (entries.Cancelled answered left)) planned decoded plans ok =
     let wrong = refused_so (Some (entries.Cancelled answered left)) (at_server.AnswerLocate here) planned plans ok in absurd cc
 
--- what isn't refused fits
-first_of_both : (one other : Bool) → unfit_unless (one && other) ≡ None → one ≡ true
-first_of_both true other none = refl
-first_of_both false other none = absurd cc
-
 -- ---- one act
 
 module _ (interface : Interface) (id : ℕ) (h k : Held ServerRule ServerEntry) (out out' : List ℕ) (lane : Lane) (shows : ServerShows id (at h id) lane) where
@@ -249,7 +239,7 @@ module _ (interface : Interface) (id : ℕ) (h k : Held ServerRule ServerEntry) 
       let piece = located q.version order id here in
       let ok = accepts_too one is.outcome in
       let step = server_step lane.server.entry one in
-      let plans : PlansLocated q here (sends_one one piece) = (id, order, small, refl) in
+      let plans : PlansLocated q here (sends_one one piece) = (id, order, (small, refl)) in
       let after : Lane = record lane {
         server = record lane.server { entry = step.entry };
         to_client = lane.to_client ++ lanes.located (coding interface) (lanes.asked_in lane.server.entry) piece;
@@ -268,17 +258,17 @@ module _ (interface : Interface) (id : ℕ) (h k : Held ServerRule ServerEntry) 
         to_server = refl;
         to_client = ap (λ entry. lane.to_client ++ lanes.located (coding interface) (lanes.asked_in entry) piece) stands
             ∙ ap (λ m. lane.to_client ++ m ∷ []) (sym (located_seen interface q here piece plans));
-        each = (located_for interface q id here order piece small refl, tt);
+        each = (located_for interface q id here order piece (small, refl), tt);
       }
     where
       same_located : (q other : AnyLocateRequest) → ◌≡◌ {A = Option ServerEntry} (Some (entries.LocateAsked q)) (Some (entries.LocateAsked other))
           → q ≡ other
       same_located q other is = cc
 
-  pub locates : (q : AnyLocateRequest) (here : Bool) (order : Order) (planned : Planned ServerEvent) → id < 2 ^ 32
+  pub locates : (q : AnyLocateRequest) (here : Bool) (order : Order) (planned : Planned ServerEvent)
       → lane.server.entry ≡ Some (entries.LocateAsked q) → IsLocateAnswer id here order (Some q.version) planned
       → IsAccepted server_step id planned h out k out' → ServerActs interface id lane k (listed (message_of planned.plan slot_before))
-  locates q here order planned small stands plans is =
+  locates q here order planned stands (small, plans) is =
       subst (λ one. ServerActs interface id lane k (listed (message_of one.plan slot_before))) (sym plans)
       (locates_one q here order small stands (subst (λ one. IsAccepted server_step id one h out k out') plans is))
 
@@ -368,37 +358,33 @@ module _ (interface : Interface) (client_limits server_limits : Limits) (are_sou
       let s = tracks.shows id in
       (read_of (coding interface) s.lane (are_sound s.acts s.lane s.runs)).1 call (sym s.server.entry ∙ is)
 
-  pub server_answers : (w v : WorldState) (r : Reply) (form : CheckedForm) (told : Told) → IsInRange interface (event.Answer r form) → Tracked w
+  pub server_answers : (w v : WorldState) (r : Reply) (form : CheckedForm) (told : Told) → Tracked w
       → AtServer interface client_limits server_limits w (given.Answer r form) told v → Tracked v
-  server_answers w v r form told in_range tracks (answered, is, tells, same) =
+  server_answers w v r form told tracks (answered, is, tells, same) =
       let id = r.id in
       let entry = server_entry w.server.calls id in
       puts_on w v id (answer_fault interface server_limits (question_of entry) r form.form) (IsAnswer interface (question_of entry) r form.form)
       answered tracks is same (λ acted.
       let found = answers_it interface server_limits entry r form.form acted.planned (all_decoded w tracks id) acted.unrefused acted.plans
       acted.is.outcome in
-      let fits = first_of_both ((reply interface (Some found.q) r.version).fits r)
-      (is_sendable server_limits.gathered server_limits.message r.version
-      (length (reply_octets interface (Some found.q) r form.form.order)) form.form.piece) found.unrefused in
       answers interface id w.server.calls v.server.calls w.server.outgoing v.server.outgoing (tracks.shows id).lane (tracks.shows id).server
       found.q r acted.planned refl (sym (tracks.shows id).server.entry ∙ found.stands)
       (record {
         limits = server_limits;
         form = form.form;
         is_form = form.sound;
-        in_range = in_range found.q fits;
         unrefused = found.unrefused;
         plans = found.plans;
       }) acted.is)
 
-  pub server_locates : (w v : WorldState) (id : ℕ) (here : Bool) (order : Order) (told : Told) → id < 2 ^ 32 → Tracked w
+  pub server_locates : (w v : WorldState) (id : ℕ) (here : Bool) (order : Order) (told : Told) → Tracked w
       → AtServer interface client_limits server_limits w (given.AnswerLocate id here order) told v → Tracked v
-  server_locates w v id here order told small tracks (answered, is, tells, same) =
+  server_locates w v id here order told tracks (answered, is, tells, same) =
       let entry = server_entry w.server.calls id in
       puts_on w v id None (IsLocateAnswer id here order (locate_of here entry)) answered tracks is same (λ acted.
       let found = locates_it id here order entry acted.planned (all_decoded w tracks id) acted.plans acted.is.outcome in
       locates interface id w.server.calls v.server.calls w.server.outgoing v.server.outgoing (tracks.shows id).lane (tracks.shows id).server
-      found.q here order acted.planned small (sym (tracks.shows id).server.entry ∙ found.stands) found.plans acted.is)
+      found.q here order acted.planned (sym (tracks.shows id).server.entry ∙ found.stands) found.plans acted.is)
 
   pub server_sends : (w v : WorldState) (id : ℕ) (told : Told) → Tracked w
       → AtServer interface client_limits server_limits w (given.Send id) told v → Tracked v

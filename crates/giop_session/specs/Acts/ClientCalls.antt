@@ -1,6 +1,7 @@
 -- What a client's own program calls, asks for and cancels (CORBA 3.3 Part 2, 9.4.2, 9.4.4, 9.4.5).
-use Rattle.std.specs.Prelude.{◌≡◌, ℕ, ◌&&◌, Bool, not, if◌then◌else◌, List, length, Option, Some, None, is_none}
+use Rattle.std.specs.Prelude.{◌≡◌, ℕ, ◌<◌, ◌^◌, ◌&&◌, Bool, not, if◌then◌else◌, List, length, Option, Some, None, is_none}
 use Rattle.std.specs.Option.{option_or}
+use Rattle.giop_cdr.specs.Ending.{ended}
 use Rattle.giop_cdr.specs.declared.order.Order.{Order}
 use Rattle.giop_types.specs.declared.json.interface.Interface.{Interface}
 use Rattle.giop_msg.specs.declared.kind.Kind.TheVariants as message
@@ -23,7 +24,7 @@ use Rattle.giop_session.specs.declared.limits.Limits.{Limits}
 use Rattle.giop_session.specs.declared.calls.plan.Planned.{Planned}
 use Rattle.giop_session.specs.Acts.Form.{is_sendable}
 use Rattle.giop_session.specs.Calls.Refused.{unfit_unless}
-use Rattle.giop_session.specs.Acts.Sent.{IsSent, cancel_request, sends_one}
+use Rattle.giop_session.specs.Acts.Sent.{IsValueSent, cancel_request, sends_one}
 
 -- the joined octets of a Request
 abbrev pub request_octets : Interface → Request → Order → List ℕ
@@ -62,10 +63,10 @@ call_fault interface limits entry q form =
     option_or (begin_fault interface entry q)
     (unfit_unless (is_request_sendable interface limits q form))
 
--- a Request is sent
+-- a Request is sent, and its numbers are in range
 abbrev pub IsCall : Interface → Request → Form → Planned ClientEvent → Type 0
-IsCall interface q form = IsSent q.head.version message.Request form
-    (request_octets interface q form.order) (event.Call (asked.Request q))
+IsCall interface q form = IsValueSent (request interface q.head.version) q q.head.version
+    message.Request form (request_octets interface q form.order) (event.Call (asked.Request q))
 
 -- why a LocateRequest is refused
 abbrev pub locate_fault : Limits → Option ClientEntry → AnyLocateRequest → Form → Option CallFault
@@ -73,10 +74,10 @@ locate_fault limits entry q form =
     option_or (if is_free entry then None else Some IdInUse)
     (unfit_unless (is_locate_sendable limits q form))
 
--- it is sent
+-- it is sent, and its numbers are in range
 abbrev pub IsLocate : AnyLocateRequest → Form → Planned ClientEvent → Type 0
-IsLocate q form = IsSent q.version message.LocateRequest form (locate_octets q form.order)
-    (event.Call (asked.Locate q))
+IsLocate q form = IsValueSent (ended (locate_request q.version)) q q.version
+    message.LocateRequest form (locate_octets q form.order) (event.Call (asked.Locate q))
 
 -- the version of a call
 abbrev pub version_of : Call → Version
@@ -100,8 +101,9 @@ abbrev pub cancel_fault : Option Version → Option CallFault
 cancel_fault None = Some NotOpen
 cancel_fault (Some version) = None
 
--- a CancelRequest is sent in the version of its call, and no further piece of the call
+-- a CancelRequest is sent in the version of its call, and no further piece of the call; the id is
+-- in range
 abbrev pub IsCancel : ℕ → Order → Option Version → Planned ClientEvent → Type 0
 IsCancel id order None planned = ⊥
 IsCancel id order (Some version) planned =
-    planned ≡ sends_one event.Cancel (cancel_request version order id)
+    (id < 2 ^ 32) × (planned ≡ sends_one event.Cancel (cancel_request version order id))

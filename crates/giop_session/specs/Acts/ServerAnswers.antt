@@ -1,5 +1,5 @@
 -- What a server's own program answers (CORBA 3.3 Part 2, 9.4.3, 9.4.6).
-use Rattle.std.specs.Prelude.{◌≡◌, ℕ, ◌&&◌, Bool, false, if◌then◌else◌, List, [], length, Option, Some, None}
+use Rattle.std.specs.Prelude.{◌≡◌, ℕ, ◌<◌, ◌^◌, ◌&&◌, Bool, false, if◌then◌else◌, List, [], length, Option, Some, None}
 use Rattle.giop_cdr.specs.declared.order.Order.{Order}
 use Rattle.giop_types.specs.declared.json.interface.Interface.{Interface}
 use Rattle.giop_msg.specs.declared.kind.Kind.TheVariants as message
@@ -25,7 +25,7 @@ use Rattle.giop_session.specs.declared.calls.plan.Planned.{Planned}
 use Rattle.giop_session.specs.Acts.Form.{is_sendable}
 use Rattle.giop_session.specs.Hearing.Heard.{kept}
 use Rattle.giop_session.specs.Calls.Refused.{unfit_unless}
-use Rattle.giop_session.specs.Acts.Sent.{IsSent, sends_one}
+use Rattle.giop_session.specs.Acts.Sent.{IsValueSent, sends_one}
 
 -- the joined octets of a Reply to a Request, which is known where it could be decoded
 abbrev pub reply_octets : Interface → Option Request → Reply → Order → List ℕ
@@ -64,13 +64,13 @@ answer_fault interface limits None answer form = None
 answer_fault interface limits (Some question) answer form =
     unfit_unless (is_reply_sendable interface limits question answer form)
 
--- it is sent, where one is waited for; else the table is asked alone
+-- it is sent, where one is waited for, and its numbers are in range; else the table is asked alone
 abbrev pub IsAnswer : Interface → Option (Option Request) → Reply → Form → Planned ServerEvent
     → Type 0
 IsAnswer interface None answer form planned = planned ≡ kept (event.Answer answer 1)
 IsAnswer interface (Some question) answer form planned =
-    IsSent answer.version message.Reply form (reply_octets interface question answer form.order)
-    (event.Answer answer) planned
+    IsValueSent (reply interface question answer.version) answer answer.version message.Reply form
+    (reply_octets interface question answer form.order) (event.Answer answer) planned
 
 -- the version of a LocateRequest that couldn't be decoded, where it waits for this LocateReply: no
 -- object of it is here
@@ -101,8 +101,8 @@ located version order id here =
     })
     (joined_into order)).octets
 
--- it is sent, where one is waited for; else the table refuses it
+-- it is sent, where one is waited for, and the id is in range; else the table refuses it
 abbrev pub IsLocateAnswer : ℕ → Bool → Order → Option Version → Planned ServerEvent → Type 0
 IsLocateAnswer id here order None planned = planned ≡ kept (event.AnswerLocate here)
 IsLocateAnswer id here order (Some version) planned =
-    planned ≡ sends_one (event.AnswerLocate here) (located version order id here)
+    (id < 2 ^ 32) × (planned ≡ sends_one (event.AnswerLocate here) (located version order id here))

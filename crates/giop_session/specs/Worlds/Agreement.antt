@@ -1,16 +1,11 @@
 -- What two ends that hear one another agree on, call by call, and why one of them may fail (CORBA
 -- 3.3 Part 2, 9.4).
-use Rattle.std.specs.Prelude.{◌≡◌, ℕ, ◌+◌, ◌<◌, ◌^◌, true, if◌then◌else◌, Bool, List, [], Option, Some}
+use Rattle.std.specs.Prelude.{◌≡◌, ℕ, ◌+◌, ◌<◌, if◌then◌else◌, Bool, [], Option, Some}
 use Rattle.std.specs.FinMap as finite
-use Rattle.std.specs.List.{AllByRecursion}
 use Rattle.std.specs.Option.{option_map}
-use Rattle.giop_cdr.specs.Ending.{ended}
 use Rattle.giop_frag.specs.Gathered.{total_of}
-use Rattle.giop_types.specs.declared.json.interface.Interface.{Interface}
 use Rattle.giop_msg.specs.Fault.{fault}
-use Rattle.giop_msg.specs.Locate.{AnyLocateRequest, locate_request}
-use Rattle.giop_msg.specs.Messages.Reply.{reply}
-use Rattle.giop_msg.specs.Messages.Request.{request}
+use Rattle.giop_msg.specs.Locate.{AnyLocateRequest}
 use Rattle.giop_msg.specs.Stream.{BeginsWithFault, Unread}
 use Rattle.giop_msg.specs.declared.fault.WireKind.TheVariants.{TooLarge}
 use Rattle.giop_msg.specs.declared.messages.locate_reply.LocateReply.{LocateReply}
@@ -22,14 +17,11 @@ use Rattle.giop_calls.specs.declared.client.entry.ClientEntry.TheVariants.{Done,
 use Rattle.giop_calls.specs.declared.outcome.Outcome.{Outcome}
 use Rattle.giop_calls.specs.declared.server.entry.ServerEntry.TheVariants.{Answered, LocateAnswered}
 use Rattle.giop_calls.specs.declared.server.question.Question.TheVariants as question
-use Rattle.giop_session.specs.declared.laws.inputs.WorldEvent.{WorldEvent}
-use Rattle.giop_session.specs.declared.laws.inputs.WorldEvent.TheVariants as event
 use Rattle.giop_session.specs.declared.limits.Limits.{Limits}
 use Rattle.giop_session.specs.declared.session_fault.SessionFault.{SessionFault}
 use Rattle.giop_session.specs.declared.session_fault.SessionFault.TheVariants.{GatherFull, TooManyCalls, Wire}
 use Rattle.giop_session.specs.Calls.CallTable.{Held}
 use Rattle.giop_session.specs.Runs.ClientRuns.{client_entry}
-use Rattle.giop_session.specs.Worlds.OwnLane.{InRange}
 use Rattle.giop_session.specs.Runs.ServerRuns.{server_entry}
 use Rattle.giop_session.specs.Worlds.World.{WorldState}
 
@@ -71,20 +63,3 @@ pub record FailsByLimits (client_limits server_limits : Limits) (w : WorldState)
       → IsMet client_limits w.client.unread w.client.calls why
   pub server : (why : SessionFault) → w.server.fault ≡ Some why
       → IsMet server_limits w.server.unread w.server.calls why
-
--- what a program passes by value in an event is in range: each number of a message, which a Reply
--- has by the Request that it fits, and a request id
-abbrev pub IsInRange : Interface → WorldEvent → Type 0
-IsInRange interface (event.Call q form) =
-    InRange (request interface q.head.version) q form.form
-IsInRange interface (event.Locate q form) = InRange (ended (locate_request q.version)) q form.form
-IsInRange interface (event.Cancel id order) = id < 2 ^ 32
-IsInRange interface (event.Answer r form) = (q : Request)
-    → (reply interface (Some q) r.version).fits r ≡ true
-    → InRange (reply interface (Some q) r.version) r form.form
-IsInRange interface (event.AnswerLocate id here order) = id < 2 ^ 32
-IsInRange interface _ = Unit {0}
-
--- each event of a schedule is
-abbrev pub AreInRange : Interface → List WorldEvent → Type 0
-AreInRange interface schedule = AllByRecursion (IsInRange interface) schedule

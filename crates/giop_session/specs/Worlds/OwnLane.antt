@@ -1,12 +1,9 @@
 -- What the session's own ends put on a lane: the calls and replies that they plan to send (CORBA
 -- 3.3 Part 2, 9.4.2, 9.4.3, 9.4.5, 9.4.6 and 9.4.9).
-use Rattle.std.specs.Prelude.{◌≡◌, ℕ, ◌<◌, ◌^◌, Bool, List, [], ◌∷◌, Option, Some, None}
-use Rattle.giop_cdr.specs.Ending.{Ending, ended}
+use Rattle.std.specs.Prelude.{◌≡◌, ℕ, Bool, List, [], ◌∷◌, Option, Some, None}
 use Rattle.giop_cdr.specs.declared.order.Order.{Order}
 use Rattle.giop_types.specs.declared.json.interface.Interface.{Interface}
-use Rattle.giop_msg.specs.Locate.{AnyLocateRequest, locate_request}
-use Rattle.giop_msg.specs.Messages.Reply.{reply}
-use Rattle.giop_msg.specs.Messages.Request.{request}
+use Rattle.giop_msg.specs.Locate.{AnyLocateRequest}
 use Rattle.giop_msg.specs.declared.messages.reply.Reply.{Reply}
 use Rattle.giop_msg.specs.declared.messages.request.Request.{Request}
 use Rattle.giop_calls.specs.Lane.{Act, Cut, Lane, Piece, count, pieces_of, step}
@@ -34,41 +31,31 @@ use Rattle.giop_session.specs.Acts.ServerAnswers.{IsAnswer, IsLocateAnswer, answ
 abbrev pub sends_cut : {V : Type 0} → (ℕ → V) → Cut → Planned V
 sends_cut event cut = record { event = event (count cut); plan = Put (pieces_of cut) }
 
--- what a program passes by value is in range: each number of the message, and the size of a piece
-pub record InRange {A : Type 0} (layout : Ending A) (value : A) (form : Form) : Type 0 where
-  pub holds : layout.holds value
-  pub piece : form.piece < 2 ^ 32
-
 -- a message is planned to be sent: within some limits and in some form, where nothing refuses it
-pub record IsPlanned {A V : Type 0} (layout : Ending A) (value : A)
-    (fault : Limits → Form → Option CallFault) (Plans : Form → Planned V → Type 0)
-    (planned : Planned V) : Type 0 where
+pub record IsPlanned {V : Type 0} (fault : Limits → Form → Option CallFault)
+    (Plans : Form → Planned V → Type 0) (planned : Planned V) : Type 0 where
   pub limits : Limits
   pub form : Form
   pub is_form : IsForm form
-  pub in_range : InRange layout value form
   pub unrefused : fault limits form ≡ None
   pub plans : Plans form planned
 
 -- a client's end plans a call, where this stands under its id
 abbrev pub PlansCall : Interface → Option ClientEntry → Call → Planned ClientEvent → Type 0
 PlansCall interface entry (asked.Request q) =
-    IsPlanned (request interface q.head.version) q
-    (λ limits. call_fault interface limits entry q) (IsCall interface q)
+    IsPlanned (λ limits. call_fault interface limits entry q) (IsCall interface q)
 PlansCall interface entry (asked.Locate q) =
-    IsPlanned (ended (locate_request q.version)) q (λ limits. locate_fault limits entry q)
-    (IsLocate q)
+    IsPlanned (λ limits. locate_fault limits entry q) (IsLocate q)
 
 -- a server's end plans a Reply to a Request
 abbrev pub PlansReply : Interface → Request → Reply → Planned ServerEvent → Type 0
 PlansReply interface q r =
-    IsPlanned (reply interface (Some q) r.version) r
-    (λ limits. answer_fault interface limits (Some (Some q)) r)
+    IsPlanned (λ limits. answer_fault interface limits (Some (Some q)) r)
     (IsAnswer interface (Some (Some q)) r)
 
 -- and a LocateReply to a LocateRequest
 abbrev pub PlansLocated : AnyLocateRequest → Bool → Planned ServerEvent → Type 0
-PlansLocated q here planned = (id : ℕ) × (order : Order) × (id < 2 ^ 32)
+PlansLocated q here planned = (id : ℕ) × (order : Order)
     × IsLocateAnswer id here order (Some q.version) planned
 
 -- an act of a lane is what the session's own ends plan there

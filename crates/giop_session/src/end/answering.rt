@@ -5,6 +5,7 @@ ghost use Rattle.std.specs.FinMap as finite;
 ghost use Rattle.std.specs.Option.{option_map};
 ghost use Rattle.giop_msg.specs.declared.kind.Kind.TheVariants as message;
 ghost use Rattle.giop_msg.specs.Cut.{IsCut};
+ghost use Rattle.giop_msg.specs.Messages.Reply as replies;
 ghost use Rattle.giop_calls.specs.ServerTable as table;
 ghost use Rattle.giop_calls.specs.declared.server.event.ServerEvent.TheVariants as event;
 ghost use Rattle.giop_calls.specs.Outcomes.{copied};
@@ -15,6 +16,7 @@ ghost use Rattle.giop_session.specs.Hearing.Heard.{in_call};
 ghost use Rattle.giop_session.specs.Acts.Putting.{Puts};
 ghost use Rattle.giop_session.specs.Calls.Refused.{IsRefusal, unfit_unless};
 ghost use Rattle.giop_session.specs.Calls.Sending.{entry_of};
+ghost use Rattle.giop_session.specs.Acts.Sent.{InRange};
 ghost use Rattle.giop_session.specs.Acts.ServerAnswers.{answer_fault, IsAnswer, IsLocateAnswer, is_reply_sendable, locate_in, locate_of, located, question_in, question_of, reply_octets};
 
 use crate::acts::form::Form;
@@ -208,6 +210,8 @@ impl<'a> ServerEnd<'a> {
         ensures cut { IfOk result (λ messages. IsCut reply.now.version message.Reply form.order
             (reply_octets self.now.interface.now (option_copied question.entry) reply.now
             form.order) form.piece messages) }
+        ensures held { IfOk result (λ messages. InRange (replies.reply self.now.interface.now
+            (option_copied question.entry) reply.now.version) reply.now form) }
         ensures few { IfOk result (λ messages. length messages < 2 ^ 32) }
         ensures err { IfErr result (IsRefusal reply.now.id (unfit_unless
             (is_reply_sendable self.now.interface.now self.now.limits

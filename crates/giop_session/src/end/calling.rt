@@ -4,8 +4,11 @@
 ghost use Rattle.std.specs.Prelude.{◌≡◌, ◌⊎◌, ◌<◌, ◌^◌, [], ◌∷◌, Some, None, Err, length, IfErr, IfOk, IfSome, option_copied};
 ghost use Rattle.std.specs.FinMap as finite;
 ghost use Rattle.std.specs.Option.{option_map};
+ghost use Rattle.giop_cdr.specs.Ending.{ended};
 ghost use Rattle.giop_msg.specs.declared.kind.Kind.TheVariants as message;
 ghost use Rattle.giop_msg.specs.Cut.{IsCut};
+ghost use Rattle.giop_msg.specs.Locate.{locate_request};
+ghost use Rattle.giop_msg.specs.Messages.Request as requests;
 ghost use Rattle.giop_calls.specs.ClientTable as table;
 ghost use Rattle.giop_calls.specs.declared.client.event.ClientEvent.TheVariants as event;
 ghost use Rattle.giop_calls.specs.Outcomes.{copied};
@@ -18,7 +21,7 @@ ghost use Rattle.giop_session.specs.Hearing.Heard.{in_call};
 ghost use Rattle.giop_session.specs.Acts.Putting.{Puts};
 ghost use Rattle.giop_session.specs.Calls.Refused.{IsRefusal};
 ghost use Rattle.giop_session.specs.Calls.Sending.{entry_of};
-ghost use Rattle.giop_session.specs.Acts.Sent.{cancel_request};
+ghost use Rattle.giop_session.specs.Acts.Sent.{cancel_request, InRange};
 
 use crate::acts::form::Form;
 use crate::acts::local::{done, sent};
@@ -219,6 +222,9 @@ impl<'a> ClientEnd<'a> {
         ensures cut { IfOk result (λ messages. IsCut request.now.head.version message.Request
             form.order (request_octets self.now.interface.now request.now form.order) form.piece
             messages) }
+        ensures held { IfOk result (λ messages. InRange
+            (requests.request self.now.interface.now request.now.head.version) request.now
+            form) }
         ensures few { IfOk result (λ messages. length messages < 2 ^ 32) }
         ensures err { IfErr result (IsRefusal request.now.head.id
             (call_fault self.now.interface.now self.now.limits
@@ -242,7 +248,7 @@ impl<'a> ClientEnd<'a> {
     }
 
     // The messages that a LocateRequest is sent in.
-    #[tactic(auto, using(crate::proofs::OnActs::LocalLemmas::refused_unsent))]
+    #[tactic(auto, unfolding(giop_cdr::specs::Ending::ended), using(crate::proofs::OnActs::LocalLemmas::refused_unsent))]
     fn pieces_of_locate(
         &self,
         request: &LocateRequest,
@@ -254,6 +260,8 @@ impl<'a> ClientEnd<'a> {
             ≡ None) }
         ensures cut { IfOk result (λ messages. IsCut request.now.version message.LocateRequest
             form.order (locate_octets request.now form.order) form.piece messages) }
+        ensures held { IfOk result (λ messages. InRange
+            (ended (locate_request request.now.version)) request.now form) }
         ensures few { IfOk result (λ messages. length messages < 2 ^ 32) }
         ensures err { IfErr result (IsRefusal request.now.id
             (locate_fault self.now.limits

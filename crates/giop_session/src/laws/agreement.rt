@@ -2,7 +2,7 @@
 //! program calls it; docs/AGREEMENT.md reads it aloud.
 ghost use Rattle.std.specs.Prelude.{◌≡◌, List, None};
 ghost use Rattle.giop_types.specs.declared.json.interface.Interface.{Interface};
-ghost use Rattle.giop_session.specs.Worlds.Agreement.{Agreed, AreInRange, FailsByLimits};
+ghost use Rattle.giop_session.specs.Worlds.Agreement.{Agreed, FailsByLimits};
 ghost use Rattle.giop_session.specs.Worlds.World.{WorldRuns, WorldState};
 ghost use Rattle.giop_session.specs.declared.laws.inputs.WorldEvent.{WorldEvent};
 ghost use Rattle.giop_session.specs.declared.limits.Limits.{Limits};
@@ -15,18 +15,15 @@ use super::coding::own_ends_of_one_lane_agree;
 ///
 /// And an end fails for its own limits alone: at a message that is too large, for want of room for
 /// one more call, or of room to gather.
-///
-/// Both hold of a schedule whose numbers are in the ranges of their types.
 pub fn two_ends_agree()
     ensures agreed { (interface : Interface) (client_limits server_limits : Limits)
         (schedule : List WorldEvent) (told : _) (w : WorldState)
         → WorldRuns interface client_limits server_limits schedule told w
-        → AreInRange interface schedule → w.client.fault ≡ None → w.server.fault ≡ None
-        → Agreed w }
+        → w.client.fault ≡ None → w.server.fault ≡ None → Agreed w }
     ensures fails { (interface : Interface) (client_limits server_limits : Limits)
         (schedule : List WorldEvent) (told : _) (w : WorldState)
         → WorldRuns interface client_limits server_limits schedule told w
-        → AreInRange interface schedule → FailsByLimits client_limits server_limits w }
+        → FailsByLimits client_limits server_limits w }
 {
     own_ends_of_one_lane_agree();
 }

@@ -29,10 +29,8 @@ use giop_calls::laws::ends_of_one_lane_agree;
 
 /// What an end plans to send is what the other end reads: a call of `ClientEnd::call` or `locate`,
 /// a Reply of `ServerEnd::answer`, a LocateReply of `answer_locate`, in any of the three versions,
-/// in either byte order and in pieces of any size. The pieces have one byte order.
-///
-/// It is read as the value that was sent, where each number of that value and the size of a piece
-/// are in the range of their types.
+/// in either byte order and in pieces of any size. The pieces have one byte order, and it is read as
+/// the value that was sent.
 pub fn what_is_sent_is_read()
     ensures call { (interface : Interface) (entry call : _) (planned : _)
         → PlansCall interface entry call planned

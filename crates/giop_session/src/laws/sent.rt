@@ -1,6 +1,6 @@
 //! What ends send, and what of it is on its way to the other end. Each function's contract is a
 //! law; the bodies are empty, and no program calls these.
-ghost use Rattle.std.specs.Prelude.{◌≡◌, ◌++◌, ◌<◌, ◌^◌, [], All, length, List, Some};
+ghost use Rattle.std.specs.Prelude.{◌≡◌, ◌++◌, ◌<◌, ◌∷◌, [], All, if◌then◌else◌, length, List, map, Some};
 ghost use Rattle.std.specs.List.{AllByRecursion};
 ghost use Rattle.giop_types.specs.declared.json.interface.Interface.{Interface};
 ghost use Rattle.giop_msg.specs.Fault.{fault};
@@ -9,13 +9,22 @@ ghost use Rattle.giop_msg.specs.Stream.{BeginsWithFault};
 ghost use Rattle.giop_msg.specs.declared.fault.WireKind.TheVariants.{TooLarge};
 ghost use Rattle.giop_msg.specs.declared.msg.Msg.{Msg};
 ghost use Rattle.giop_calls.specs.Lane.{Cut, pieces_of};
+ghost use Rattle.giop_calls.specs.declared.client.call.Call.TheVariants as question;
 ghost use Rattle.giop_calls.specs.declared.client.event.ClientEvent.TheVariants as at_client;
+ghost use Rattle.giop_calls.specs.declared.client.heard.HeardReply.TheVariants as answer;
 ghost use Rattle.giop_calls.specs.declared.server.event.ServerEvent.TheVariants as at_server;
+ghost use Rattle.giop_calls.specs.declared.server.heard.HeardCall.TheVariants as call;
 ghost use Rattle.giop_session.specs.Acts.ClientCalls.{IsCancel};
+ghost use Rattle.giop_session.specs.Items.Carries.{CarriesItem, Got};
+ghost use Rattle.giop_session.specs.Items.ClientCarries.{answered, client_telling};
+ghost use Rattle.giop_session.specs.Items.ServerCarries.{server_telling};
+ghost use Rattle.giop_session.specs.Runs.Events.{Comes};
 ghost use Rattle.giop_session.specs.Worlds.OnTheWay.{id_of, IsFramed, Names, OnTheWay};
 ghost use Rattle.giop_session.specs.Worlds.OwnLane.{PlansCall, PlansLocated, PlansReply, sends_cut};
 ghost use Rattle.giop_session.specs.Acts.Sent.{sends_one};
 ghost use Rattle.giop_session.specs.Acts.ServerAnswers.{IsLocateAnswer};
+
+use super::headline::what_is_cut_is_carried;
 
 /// What an end plans to send are messages that a framer of the largest limit reads: the pieces of a
 /// call or a Reply, a LocateReply, a CancelRequest.
@@ -33,8 +42,7 @@ pub fn what_is_sent_is_framed()
 {}
 
 /// Each message that an end plans to send names the id of its call: a Fragment too, and before 1.2,
-/// where a head has its id behind the service contexts. The id of a LocateReply or a CancelRequest
-/// is below 2^32, as each `u32`.
+/// where a head has its id behind the service contexts.
 pub fn what_is_sent_names_its_id()
     ensures call { (interface : Interface) (entry call : _) (cut : Cut)
         → PlansCall interface entry call (sends_cut (at_client.Call call) cut)
@@ -42,12 +50,43 @@ pub fn what_is_sent_names_its_id()
     ensures reply { (interface : Interface) (q r : _) (cut : Cut)
         → PlansReply interface q r (sends_cut (at_server.Answer r) cut)
         → AllByRecursion (Names r.id) (pieces_of cut) }
-    ensures located { (id : _) (here : _) (order version : _) (m : Msg) → id < 2 ^ 32
+    ensures located { (id : _) (here : _) (order version : _) (m : Msg)
         → IsLocateAnswer id here order (Some version) (sends_one (at_server.AnswerLocate here) m)
         → Names id m }
-    ensures cancelled { (id : _) (order version : _) (m : Msg) → id < 2 ^ 32
+    ensures cancelled { (id : _) (order version : _) (m : Msg)
         → IsCancel id order (Some version) (sends_one at_client.Cancel m) → Names id m }
 {}
+
+/// What an end sends is one item at the other end (docs/HEADLINE.md): the pieces of a call are that
+/// Request or LocateRequest at a server, whatever stands there; those of a Reply are that Reply at a
+/// client whose Request it answers; and a LocateReply is one that says what the server said.
+///
+/// Of the values a caller has nothing to show: that they are planned so is what `ClientEnd::call`
+/// and `locate`, and `ServerEnd::answer` and `answer_locate`, say of what they put out.
+pub fn what_is_sent_is_an_item()
+    ensures request { (interface : Interface) (entry asked : _) (cut : Cut) (there : _)
+        → PlansCall interface entry (question.Request asked)
+        (sends_cut (at_client.Call (question.Request asked)) cut)
+        → CarriesItem (server_telling interface) there (Got (call.Request asked))
+        (map Comes (pieces_of cut)) }
+    ensures locate { (interface : Interface) (entry asked : _) (cut : Cut) (there : _)
+        → PlansCall interface entry (question.Locate asked)
+        (sends_cut (at_client.Call (question.Locate asked)) cut)
+        → CarriesItem (server_telling interface) there (Got (call.Locate asked))
+        (map Comes (pieces_of cut)) }
+    ensures reply { (interface : Interface) (asked told : _) (cut : Cut) (known : _)
+        → answered known.entry known.latest ≡ Some (question.Request asked)
+        → PlansReply interface asked told (sends_cut (at_server.Answer told) cut)
+        → CarriesItem (client_telling interface) known (Got (answer.Reply told))
+        (map Comes (pieces_of cut)) }
+    ensures located { (interface : Interface) (asked here : _) (m : Msg) (known : _)
+        → answered known.entry known.latest ≡ Some (question.Locate asked)
+        → PlansLocated asked here (sends_one (at_server.AnswerLocate here) m) → (told : _)
+        × CarriesItem (client_telling interface) known (Got (answer.Locate told)) (Comes m ∷ [])
+        × (told.head.status ≡ (if here then 1 else 0)) × (told.rest ≡ []) }
+{
+    what_is_cut_is_carried();
+}
 
 /// Messages are on their way to an end where their octets are what it has unread, and what is
 /// outgoing at the other. They are one list of messages; there are none, where nothing is outgoing

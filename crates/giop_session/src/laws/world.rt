@@ -3,7 +3,7 @@
 //! `Agreed` and `FailsByLimits` in specs/Worlds/Agreement.antt: change both.
 ghost use Rattle.std.specs.Prelude.{◌≡◌, ◌≤◌, ◌^◌, IfOk, length, None, take, drop};
 ghost use Rattle.giop_types.specs.declared.json.interface.Interface.{Interface};
-ghost use Rattle.giop_session.specs.Worlds.Agreement.{Agreed, AreInRange, FailsByLimits};
+ghost use Rattle.giop_session.specs.Worlds.Agreement.{Agreed, FailsByLimits};
 ghost use Rattle.giop_session.specs.Worlds.World.{AreJoined, ArriveAtClient, ArriveAtServer, AtClient, AtServer};
 ghost use Rattle.giop_session.specs.Worlds.World.{ends_of, GoesBy, told_of_answer, WorldRuns};
 
@@ -38,8 +38,7 @@ pub struct World<'a> {
 /// The ends agree, where neither failed. Once nothing is outgoing, each id has the same outcome at
 /// both. At any time, a Reply that the client has is the one that the server gave to that very
 /// Request, and a LocateReply likewise. And an end fails for its own limits alone: at a message
-/// that is too large, for want of a free id or of room to gather. Both hold of a schedule whose
-/// numbers are in the ranges of their types, as each one that a program hands in is.
+/// that is too large, for want of a free id or of room to gather.
 ///
 /// `alloc` gives the memory of the ends and of what is returned for the events. Where it is out of
 /// memory, AllocError is returned in place of both.
@@ -58,11 +57,10 @@ pub fn run_world<'a>(
         GoesBy interface.now client_limits server_limits run.0) }
     ensures joined { IfOk result (λ run.
         AreJoined interface.now client_limits server_limits (ends_of run.0)) }
-    ensures agreed { IfOk result (λ run. AreInRange interface.now schedule.items
-        → (ends_of run.0).client.fault ≡ None → (ends_of run.0).server.fault ≡ None
-        → Agreed (ends_of run.0)) }
-    ensures fails { IfOk result (λ run. AreInRange interface.now schedule.items
-        → FailsByLimits client_limits server_limits (ends_of run.0)) }
+    ensures agreed { IfOk result (λ run. (ends_of run.0).client.fault ≡ None
+        → (ends_of run.0).server.fault ≡ None → Agreed (ends_of run.0)) }
+    ensures fails { IfOk result (λ run.
+        FailsByLimits client_limits server_limits (ends_of run.0)) }
 {
     two_ends_agree();
     let mut world = World {

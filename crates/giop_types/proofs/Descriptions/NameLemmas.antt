@@ -1,5 +1,5 @@
--- Names of members and cases, one after the other.
-use Rattle.std.proofs.Common.{ℕ, Bool, List, map, refl}
+-- Names of items, one after the other.
+use Rattle.std.proofs.Common.{◌≡◌, ℕ, List, [], ◌∷◌, map, refl, ap}
 use Rattle.std.specs.List.{list_any}
 use Rattle.giop_types.specs.declared.description.desc.NamedDesc.{NamedDesc}
 use Rattle.giop_types.specs.declared.description.desc.CaseDesc.{CaseDesc}
@@ -8,34 +8,20 @@ use Rattle.giop_types.specs.Values.Views.{named_view, case_view, fields_of, bran
 use Rattle.giop_types.proofs.Values.ViewLemmas.{view-Named, view-Case}
 use Rattle.giop_types.proofs.Coding.ListLoops.{IsSome}
 
--- whether a member has this name
-abbrev pub is_member : List ℕ → List NamedDesc → Bool
-is_member name ms = list_any (λ other. same_name other name) (field_names (fields_of (map named_view ms)))
+-- whether an item has this name
+pub is_named-some : {X : Type 0} (named : X → List ℕ) (name : List ℕ)
+    → IsSome (λ x _. same_name (named x) name) (λ xs. list_any (λ other. same_name other name) (map named xs))
+is_named-some named name = record { none = refl; more = λ x xs. refl }
 
-pub is_member-some : (name : List ℕ) → IsSome (λ m _. same_name m.name name) (is_member name)
-is_member-some name = record { none = refl; more = λ m ms. rw (view-Named m) refl }
+-- whether two items have the same name
+pub doubled-some : {X : Type 0} (named : X → List ℕ)
+    → IsSome (λ x xs. list_any (λ other. same_name other (named x)) (map named xs)) (λ xs. has_doubled same_name (map named xs))
+doubled-some named = record { none = refl; more = λ x xs. refl }
 
--- whether two members have the same name
-abbrev pub doubled_members : List NamedDesc → Bool
-doubled_members ms = has_doubled same_name (field_names (fields_of (map named_view ms)))
+pub field_names_of : (ms : List NamedDesc) → field_names (fields_of (map named_view ms)) ≡ map (λ m. m.name) ms
+field_names_of [] = refl
+field_names_of (m ∷ ms) = rw (view-Named m) (ap (λ names. m.name ∷ names) (field_names_of ms))
 
-pub doubled_members-some : IsSome (λ m ms. is_member m.name ms) doubled_members
-doubled_members-some = record { none = refl; more = λ m ms. rw (view-Named m) refl }
-
--- whether a case has this name
-abbrev pub is_case : List ℕ → List CaseDesc → Bool
-is_case name bs = list_any (λ other. same_name other name) (branch_names (branches_of (map case_view bs)))
-
-pub is_case-some : (name : List ℕ) → IsSome (λ b _. same_name b.name name) (is_case name)
-is_case-some name = record { none = refl; more = λ b bs. rw (view-Case b) refl }
-
--- whether two cases have the same name
-abbrev pub doubled_cases : List CaseDesc → Bool
-doubled_cases bs = has_doubled same_name (branch_names (branches_of (map case_view bs)))
-
-pub doubled_cases-some : IsSome (λ b bs. is_case b.name bs) doubled_cases
-doubled_cases-some = record { none = refl; more = λ b bs. rw (view-Case b) refl }
-
--- whether two names of a list are the same
-pub doubled_names-some : IsSome (λ name names. list_any (λ other. same_name other name) names) (has_doubled same_name)
-doubled_names-some = record { none = refl; more = λ name names. refl }
+pub branch_names_of : (bs : List CaseDesc) → branch_names (branches_of (map case_view bs)) ≡ map (λ b. b.name) bs
+branch_names_of [] = refl
+branch_names_of (b ∷ bs) = rw (view-Case b) (ap (λ names. b.name ∷ names) (branch_names_of bs))

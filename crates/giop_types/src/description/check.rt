@@ -72,13 +72,16 @@ fn has_doubles(desc: &Desc) -> bool
     ensures { result ≡ has_doubles (desc_view desc.now) }
 {
     match desc {
-        Desc::Labels(names) => has_doubled_name(names),
-        Desc::Members(members) => has_doubled_member(members),
+        Desc::Labels(names) => has_doubled_name(*names.allocator(), names),
+        Desc::Members(members) => has_doubled_member(*members.allocator(), members),
         Desc::Choice {
             cases,
             fallback,
             ..
-        } => has_doubled_choice(cases, fallback) || has_doubled_label(cases),
+        } => {
+            let alloc = *cases.allocator();
+            has_doubled_choice(alloc, cases, fallback) || has_doubled_label(alloc, cases)
+        }
         _ => false,
     }
 }

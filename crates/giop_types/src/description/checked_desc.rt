@@ -8,6 +8,7 @@ ghost use Rattle.giop_types.specs.Values.Views.{desc_view};
 use crate::description::check::check_desc;
 use crate::description::desc::Desc;
 use crate::description::desc_fault::DescFault;
+use crate::description::taken_apart::take_apart;
 
 /// A description that was checked. Nothing of it is empty, and no name or label is there twice. The
 /// labels of each union are values of its discriminant. It is nested no more than 32 deep. So each
@@ -26,16 +27,22 @@ impl CheckedDesc {
     /// cases in their order, then the default. Of one node the first of these faults is returned:
     /// TooDeep, Empty, BadDiscriminant, Doubled.
     ///
-    /// It takes no memory, and looks 33 nodes deep at most. To drop a description takes as much
-    /// stack as it is deep. The time grows with the square of the names, or of the labels, of one
-    /// node.
+    /// It looks 33 nodes deep at most, and what is refused is dropped in a loop: the stack doesn't
+    /// grow with the description. The names and the labels of one node are looked up in an order,
+    /// which takes memory from where the description lies. Where it is refused the same is
+    /// returned, and the time grows with the square of the names, or labels, of that node.
     pub fn check(desc: Desc) -> Result<CheckedDesc, DescFault>
         ensures ok { IfOk result (λ checked.
             (desc_fault 1 (desc_view desc) ≡ None) × (checked_shape checked ≡ desc_view desc)) }
         ensures err { IfErr result (λ fault. desc_fault 1 (desc_view desc) ≡ Some fault) }
     {
-        check_desc(&desc, 1)?;
-        Ok(CheckedDesc { desc })
+        match check_desc(&desc, 1) {
+            Ok(()) => Ok(CheckedDesc { desc }),
+            Err(fault) => {
+                take_apart(desc);
+                Err(fault)
+            }
+        }
     }
 
     /// The description that was checked.

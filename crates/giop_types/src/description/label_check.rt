@@ -1,6 +1,6 @@
 //! The labels of a union (CORBA 3.3 Part 2, 9.3.2.3): whether each is a value of the discriminant,
 //! and whether two are equal.
-ghost use Rattle.std.specs.Prelude.{◌≡◌, ◌≢◌, ◌↔◌, map, false};
+ghost use Rattle.std.specs.Prelude.{◌≡◌, ◌≢◌, ◌↔◌, map, false, IfSome};
 ghost use Rattle.std.specs.List.{list_all, AllPairs};
 ghost use Rattle.std.specs.Ordering.{int_eq};
 ghost use Rattle.giop_types.specs.Coding.Decoding.{is_label};
@@ -9,6 +9,8 @@ ghost use Rattle.giop_types.specs.Values.Views.{desc_view, case_view, branches_o
 
 use crate::codec::reading::has_label;
 use crate::description::desc::{CaseDesc, Desc};
+use std::alloc::Global;
+use std::collections::BTreeSet;
 
 // Whether a label is from the first number to the last.
 fn is_between(first: &i128, last: &i128, label: &i128) -> bool
@@ -92,8 +94,52 @@ fn is_repeated(labels: &[i128], later: &[CaseDesc]) -> bool
     false
 }
 
-/// Whether two labels of a union are equal.
-pub fn has_doubled_label(cases: &[CaseDesc]) -> bool
+/// Whether two labels of a union are equal. It takes memory for the labels, and then as much time
+/// as there are of them, but for a logarithm. Where memory is refused it returns the same, but its
+/// time grows with the square of their number.
+pub fn has_doubled_label(alloc: Global, cases: &[CaseDesc]) -> bool
+    ensures value { result
+        ≡ has_doubled int_eq (all_labels (branches_of (map case_view cases.now))) }
+    ensures apart { (result ≡ false)
+        ↔ AllPairs (λ one other. one ≢ other) (all_labels (branches_of (map case_view cases.now))) }
+{
+    match is_doubled_in_order(alloc, cases) {
+        Some(doubled) => doubled,
+        None => is_doubled_in_pairs(cases),
+    }
+}
+
+// The same, by the labels so far in their order. None where memory is refused.
+fn is_doubled_in_order(alloc: Global, cases: &[CaseDesc]) -> Option<bool>
+    ensures { IfSome result (λ doubled.
+        doubled ≡ has_doubled int_eq (all_labels (branches_of (map case_view cases.now)))) }
+{
+    let mut labels = Vec::new(alloc);
+    for case in cases {
+        if labels.extend_from_slice(&case.labels).is_err() {
+            return None;
+        }
+    }
+    has_doubled_number(alloc, &labels)
+}
+
+// Whether two of the numbers are equal. None where memory is refused.
+fn has_doubled_number(alloc: Global, numbers: &[i128]) -> Option<bool>
+    ensures { IfSome result (λ doubled. doubled ≡ has_doubled int_eq numbers.now) }
+{
+    let mut seen = BTreeSet::new(alloc);
+    for number in numbers {
+        match seen.insert(number) {
+            Ok(true) => {}
+            Ok(false) => return Some(true),
+            Err(_) => return None,
+        }
+    }
+    Some(false)
+}
+
+// Whether two labels are equal, by all pairs. It takes no memory.
+fn is_doubled_in_pairs(cases: &[CaseDesc]) -> bool
     ensures value { result
         ≡ has_doubled int_eq (all_labels (branches_of (map case_view cases.now))) }
     ensures apart { (result ≡ false)

@@ -168,7 +168,7 @@ fn parameters_of(alloc: Global, json: &Json) -> Result<ParametersForm, FormFault
     ensures { Shows parameters_form_view result (parameters_in (view json.now)) }
 {
     let list = members_of(alloc, json, LEVELS)?;
-    if has_doubled_member(&list) || has_null_name(&list) {
+    if has_doubled_member(alloc, &list) || has_null_name(&list) {
         return Err(FormFault::BadShape);
     }
     Ok(ParametersForm { list })

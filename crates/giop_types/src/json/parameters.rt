@@ -1,10 +1,10 @@
 //! The parameters of an operation, or the members of an exception: checked descriptions with names,
 //! of which no two are the same.
 ghost use Rattle.std.specs.Prelude.{◌≡◌, map, true, false, IfSome, IfNone};
-ghost use Rattle.std.specs.List.{list_any};
 ghost use Rattle.giop_types.specs.Descriptions.Checked.{has_doubled, same_name};
 
 use crate::description::checked_desc::CheckedDesc;
+use crate::description::named::{Named, is_any_doubled};
 use giop_cdr::OctetList;
 
 /// A parameter of an operation, its result, or a member of an exception.
@@ -16,6 +16,14 @@ pub struct Parameter {
     pub desc: CheckedDesc,
 }
 
+impl Named for Parameter {
+    ghost name_of = { λ parameter. parameter.name };
+
+    fn name(&self) -> &OctetList {
+        &self.name
+    }
+}
+
 /// Parameters in their order, no two of the same name.
 #[derive(Debug, Drop)]
 pub struct Parameters {
@@ -24,13 +32,14 @@ pub struct Parameters {
 }
 
 impl Parameters {
-    /// These parameters, or None where two have the same name. It takes no memory. Its time grows
-    /// with the square of their number.
+    /// These parameters, or None where two have the same name. The names are looked up in an order,
+    /// which takes memory from where the list lies. Where it is refused the same is returned, and
+    /// the time grows with the square of their number.
     pub fn new(list: Vec<Parameter>) -> Option<Parameters>
         ensures some { IfSome result (λ parameters. parameters.list ≡ list) }
         ensures none { IfNone result (has_doubled same_name (map (λ p. p.name) list.items) ≡ true) }
     {
-        if has_doubled_parameter(&list) {
+        if is_any_doubled(*list.allocator(), &list) {
             None
         } else {
             Some(Parameters { list })
@@ -44,28 +53,4 @@ impl Parameters {
     {
         self.list.as_slice()
     }
-}
-
-// Whether two parameters have the same name.
-fn has_doubled_parameter(list: &[Parameter]) -> bool
-    ensures { result ≡ has_doubled same_name (map (λ p. p.name) list.now) }
-{
-    for (i, parameter) in list.iter().enumerate() {
-        if has_parameter(&list[i + 1..], &parameter.name) {
-            return true;
-        }
-    }
-    false
-}
-
-// Whether a parameter has this name.
-fn has_parameter(list: &[Parameter], name: &OctetList) -> bool
-    ensures { result ≡ list_any (λ other. same_name other name.now) (map (λ p. p.name) list.now) }
-{
-    for parameter in list {
-        if parameter.name == *name {
-            return true;
-        }
-    }
-    false
 }

@@ -1,4 +1,4 @@
-use Rattle.std.proofs.Common.{◌≡◌, [], ◌∷◌, Some, refl, inl}
+use Rattle.std.proofs.Common.{◌≡◌, [], ◌∷◌, Some, refl, inl, arith}
 use Rattle.giop_cdr.specs.declared.order.Order.TheVariants.{Little}
 use Rattle.giop_msg.specs.declared.version.Version.TheVariants.{V10}
 use Rattle.giop_calls.specs.declared.client.call.Call.TheVariants as asked
@@ -10,11 +10,15 @@ use Rattle.laws_in_use.specs.Left.{form, ping_sent, sends}
 use Rattle.laws_in_use.specs.Locating.{door, limits}
 use Rattle.laws_in_use.proofs.AskingRuns.{one_1, one_asks}
 use Rattle.laws_in_use.proofs.ClientRunActs.{door_is_sent}
+use Rattle.laws_in_use.proofs.PingPlans.{early_ping_holds}
 use Rattle.laws_in_use.proofs.SentPlans.{cancels_so}
 use Rattle.laws_in_use.proofs.left.what_a_client_plans.Goals as goal
 
 pub returns-clause-calls : goal.returns-clause-calls
-returns-clause-calls c = λ interface. (ping_sent interface ∷ [], (refl, inl refl), refl)
+returns-clause-calls c = λ interface has. record {
+  in_range = record { holds = early_ping_holds interface has; piece = omega arith };
+  sent = (ping_sent interface ∷ [], (refl, inl refl), refl);
+}
 
 pub returns-clause-asks : goal.returns-clause-asks
 returns-clause-asks c = door_is_sent form refl

@@ -1,4 +1,6 @@
+use Rattle.std.proofs.Common.{Some, None, refl}
 use Rattle.giop_msg.specs.declared.version.Version.TheVariants.{V12}
+use Rattle.giop_calls.specs.declared.client.call.Call.TheVariants as asked
 use Rattle.giop_calls.specs.declared.server.event.ServerEvent.TheVariants as at_server
 use Rattle.giop_session.specs.Worlds.Coding.{coding}
 use Rattle.giop_session.specs.Worlds.OwnLane.{sends_cut}
@@ -28,3 +30,8 @@ returns-clause-framed c = λ interface.
 pub returns-clause-named : goal.returns-clause-named
 returns-clause-named c = λ interface.
     c.what_is_sent_names_its_id.ensures.reply interface (ping V12) refusing refusal_cut (refuses_in_two interface)
+
+pub returns-clause-item : goal.returns-clause-item
+returns-clause-item c = λ interface.
+    c.what_is_sent_is_an_item.ensures.reply interface (ping V12) refusing refusal_cut
+    (record { entry = None; latest = Some (asked.Request (ping V12)) }) refl (refuses_in_two interface)

@@ -30,3 +30,7 @@ returns-clause-framed c = λ interface has.
 pub returns-clause-named : goal.returns-clause-named
 returns-clause-named c = λ interface has.
     c.what_is_sent_names_its_id.ensures.call interface None (asked.Request (ping V12)) ping_cut (pings_in_two interface has)
+
+pub returns-clause-item : goal.returns-clause-item
+returns-clause-item c = λ interface there has.
+    c.what_is_sent_is_an_item.ensures.request interface None (ping V12) ping_cut there (pings_in_two interface has)

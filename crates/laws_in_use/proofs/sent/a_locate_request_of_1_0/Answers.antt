@@ -1,4 +1,4 @@
-use Rattle.std.proofs.Common.{◌≡◌, ap, false, None, [], ◌∷◌, subst, arith}
+use Rattle.std.proofs.Common.{◌≡◌, ap, false, Some, None, [], ◌∷◌, refl, subst}
 use Rattle.giop_cdr.specs.declared.order.Order.TheVariants.{Big, Little}
 use Rattle.giop_msg.specs.declared.msg.Msg.{Msg}
 use Rattle.giop_msg.specs.declared.version.Version.TheVariants.{V10}
@@ -61,7 +61,16 @@ returns-clause-named c = λ interface.
     c.what_is_sent_names_its_id.ensures.call interface None (asked.Locate key) (alone key_big) (asks_key_so interface)
 
 pub returns-clause-named_back : goal.returns-clause-named_back
-returns-clause-named_back c = c.what_is_sent_names_its_id.ensures.located 9 false Big V10 unknown_big (omega arith) answers_it_so
+returns-clause-named_back c = c.what_is_sent_names_its_id.ensures.located 9 false Big V10 unknown_big answers_it_so
 
 pub returns-clause-named_too : goal.returns-clause-named_too
-returns-clause-named_too c = c.what_is_sent_names_its_id.ensures.cancelled 9 Little V10 cancel_little (omega arith) cancels_so
+returns-clause-named_too c = c.what_is_sent_names_its_id.ensures.cancelled 9 Little V10 cancel_little cancels_so
+
+pub returns-clause-item : goal.returns-clause-item
+returns-clause-item c = λ interface there.
+    c.what_is_sent_is_an_item.ensures.locate interface None key (alone key_big) there (asks_key_so interface)
+
+pub returns-clause-item_back : goal.returns-clause-item_back
+returns-clause-item_back c = λ interface.
+    c.what_is_sent_is_an_item.ensures.located interface key false unknown_big
+    (record { entry = None; latest = Some (asked.Locate key) }) refl answers_so

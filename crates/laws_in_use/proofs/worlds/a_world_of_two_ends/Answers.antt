@@ -1,15 +1,12 @@
-use Rattle.std.proofs.Common.{[], ◌∷◌, sym, ap, subst, ◌∙◌, List}
+use Rattle.std.proofs.Common.{[], ◌∷◌, ap, ◌∙◌}
 use Rattle.std.specs.Option.{option_map}
 use Rattle.giop_calls.specs.ServerTable as server
 use Rattle.giop_calls.specs.declared.fault.CallFault.TheVariants.{NotOpen}
-use Rattle.giop_session.specs.declared.laws.inputs.WorldEvent.{WorldEvent}
 use Rattle.giop_session.specs.declared.session_fault.SessionFault.TheVariants.{Call as InCall}
-use Rattle.giop_session.specs.Worlds.Agreement.{AreInRange}
 use Rattle.giop_session.specs.Hearing.Heard.{in_call}
 use Rattle.laws_in_use.specs.Left.{new_client}
 use Rattle.laws_in_use.specs.Limited.{new_server}
 use Rattle.laws_in_use.specs.Locating.{key_little, limits}
-use Rattle.laws_in_use.proofs.AgreementRuns.{asked_in_range, unasked_in_range}
 use Rattle.laws_in_use.proofs.PutOutKinds.{client_puts_none}
 use Rattle.laws_in_use.proofs.WorldRuns.{asked_stands_by, unasked_told_by}
 use Rattle.laws_in_use.proofs.worlds.a_world_of_two_ends.Goals as goal
@@ -36,13 +33,9 @@ returns-clause-joined c = (
 
 pub returns-clause-agreed : goal.returns-clause-agreed
 returns-clause-agreed c = λ forms given client_stands server_stands client_sent server_sent stands.
-    (c.in_ok-run_world.ensures.agreed
-    (subst (λ (schedule : List WorldEvent). AreInRange c.args.interface.now schedule) (sym given) (asked_in_range c.args.interface.now forms))
-    client_stands server_stands).outcomes client_sent server_sent 9
+    (c.in_ok-run_world.ensures.agreed client_stands server_stands).outcomes client_sent server_sent 9
     ∙ ap (option_map server.outcome) stands
 
 pub returns-clause-stands : goal.returns-clause-stands
 returns-clause-stands c = λ given is.
-    (c.in_ok-run_world.ensures.fails
-    (subst (λ (schedule : List WorldEvent). AreInRange c.args.interface.now schedule) (sym given) (unasked_in_range c.args.interface.now))).client
-    (InCall 9 NotOpen) is
+    c.in_ok-run_world.ensures.fails.client (InCall 9 NotOpen) is

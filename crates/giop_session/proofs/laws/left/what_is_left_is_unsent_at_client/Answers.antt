@@ -14,13 +14,13 @@ use Rattle.giop_session.proofs.OnRuns.ClientLeftLemmas.{heard_of, own_of}
 use Rattle.giop_session.proofs.laws.left.what_is_left_is_unsent_at_client.Goals as goal
 
 pub returns-clause-called : goal.returns-clause-called
-returns-clause-called c = λ interface asked form planned sent. rw sent.2 refl
+returns-clause-called c = λ interface asked form planned sent. rw sent.sent.2 refl
 
 pub returns-clause-located : goal.returns-clause-located
-returns-clause-located c = λ asked form planned sent. rw sent.2 refl
+returns-clause-located c = λ asked form planned sent. rw sent.sent.2 refl
 
 pub returns-clause-cancelled : goal.returns-clause-cancelled
-returns-clause-cancelled c = λ id order version planned sent. rw sent refl
+returns-clause-cancelled c = λ id order version planned sent. rw sent.1 refl
 
 pub returns-clause-left : goal.returns-clause-left
 returns-clause-left c = λ interface limits events k met planned id.

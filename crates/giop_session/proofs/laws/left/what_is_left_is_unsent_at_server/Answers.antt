@@ -14,10 +14,10 @@ use Rattle.giop_session.proofs.OnRuns.LeftLemmas.{heard_of, own_of}
 use Rattle.giop_session.proofs.laws.left.what_is_left_is_unsent_at_server.Goals as goal
 
 pub returns-clause-answered : goal.returns-clause-answered
-returns-clause-answered c = λ interface question answer form planned sent. rw sent.2 refl
+returns-clause-answered c = λ interface question answer form planned sent. rw sent.sent.2 refl
 
 pub returns-clause-located : goal.returns-clause-located
-returns-clause-located c = λ id here order version planned sent. rw sent refl
+returns-clause-located c = λ id here order version planned sent. rw sent.1 refl
 
 pub returns-clause-left : goal.returns-clause-left
 returns-clause-left c = λ interface limits events k met planned id.

@@ -1,0 +1,17 @@
+use Rattle.std.proofs.Common.{subst}
+use Rattle.giop_c.specs.Answers.{AnswersOuts, TellsAnswer, form_of}
+use Rattle.giop_c.specs.EndRecords.{c_order_of}
+use Rattle.giop_c.proofs.AtLemmas.{at_open}
+use Rattle.giop_c.proofs.server.answer_calls.giop_server_answer.Goals as goal
+
+pub returns : goal.returns
+returns c =
+    let call = c.answer_outs-answer in
+    let outs = c.args.outs.now in
+    let form = form_of c.args.form.now in
+    let done = subst (λ order. AnswersOuts c.args.id order outs form c.in-Some.served.value call.result call.new.self) c.order_of.ensures
+    (subst (λ given. AnswersOuts c.args.id c.order_of.result outs given c.in-Some.served.value call.result call.new.self) c.form_of.ensures
+    (subst (λ held. AnswersOuts c.args.id c.order_of.result outs c.form_of.result held call.result call.new.self) c.deref_mut.ensures.value call.ensures)) in
+    at_open _ _ c.in-Some.served.value call.new.self _ _
+    (λ old new. TellsAnswer (λ answer. AnswersOuts c.args.id (c_order_of c.args.little_endian) outs form old answer new) c.args.fault.now c.answered.new.fault c.answered.result)
+    c.in-Some.ensures.held c.of.ensures (call.result, done, c.answered.ensures)

@@ -1,0 +1,147 @@
+-- What the calls of a server's end do to what its handle holds. Each says of the end that is held what
+-- giop_session's own call says.
+use Rattle.std.specs.Prelude.{◌≡◌, ◌⊎◌, ℕ, Bool, ◌≤◌, ◌<◌, ◌^◌, ◌++◌, List, Option, Some, None, Result, Ok, Err, drop, length, false}
+use Rattle.std.specs.FinMap as finite
+use Rattle.std.specs.Option.{option_map}
+use Rattle.std_alloc.specs.Arc.{arc_value}
+use Rattle.giop_cdr.specs.declared.order.Order.{Order}
+use Rattle.giop_cdr.specs.declared.order.Order.TheVariants.{Big}
+use Rattle.giop_ids.specs.ById.{put}
+use Rattle.giop_msg.specs.Msg.{message_octets}
+use Rattle.giop_calls.specs.declared.fault.CallFault.{CallFault}
+use Rattle.giop_calls.specs.declared.server.event.ServerEvent.{ServerEvent}
+use Rattle.giop_calls.specs.declared.server.event.ServerEvent.TheVariants as event
+use Rattle.giop_calls.specs.ServerTable as server
+use Rattle.giop_session.specs.declared.calls.plan.Planned.{Planned}
+use Rattle.giop_session.specs.declared.calls.plan.Plan.TheVariants.{Next}
+use Rattle.giop_session.specs.declared.limits.Limits.{Limits}
+use Rattle.giop_session.specs.declared.session_fault.SessionFault.{SessionFault}
+use Rattle.giop_session.specs.declared.session_fault.SessionFault.TheVariants.{Closed, NoMemory, StillOpen}
+use Rattle.giop_session.specs.Acts.Putting.{Puts}
+use Rattle.giop_session.specs.Acts.Sent.{close_connection}
+use Rattle.giop_session.specs.Acts.ServerAnswers.{IsLocateAnswer, locate_of}
+use Rattle.giop_session.specs.Calls.CallTable.{rules_of}
+use Rattle.giop_session.specs.Hearing.Feeding.{Fed, standing, with_octets}
+use Rattle.giop_session.specs.Hearing.Heard.{hears_by, in_call}
+use Rattle.giop_session.specs.Hearing.ServerHears.{server_befalls, server_breaks}
+use Rattle.giop_session.specs.Runs.Driven.{end_state, new_end}
+use Rattle.giop_session.specs.Runs.ServerRuns.{server_entry}
+use Rattle.giop_c.specs.declared.server.served.Served.{Served}
+use Rattle.giop_c.specs.declared.shared.Shared.{Shared}
+use Rattle.giop_c.specs.declared.end_records.EndFault.{EndFault}
+use Rattle.giop_c.specs.declared.end_records.EndLimits.{EndLimits}
+use Rattle.giop_c.specs.Calls.{ok, closed, no_memory, fault, small}
+use Rattle.giop_c.specs.EndRecords.{c_end_fault, end_status}
+
+-- what a call of an end answers, as C is told: a status; and the fault where it is refused
+abbrev pub IsTold : Result (Unit {0}) SessionFault → EndFault → EndFault → ℕ → Type 0
+IsTold (Ok done) f f' status = (status ≡ ok) × (f' ≡ f)
+IsTold (Err why) f f' status = (status ≡ end_status why) × (f' ≡ c_end_fault why)
+
+-- C is told what a call answers that does this
+abbrev pub Tells : (Result (Unit {0}) SessionFault → Type 0) → EndFault → EndFault → ℕ → Type 0
+Tells Does f f' status =
+    (answer : Result (Unit {0}) SessionFault) × Does answer × IsTold answer f f' status
+
+-- a failed end answers its fault, and stays
+abbrev pub Fails : Served → Result (Unit {0}) SessionFault → Served → Type 0
+Fails old answer new =
+    (why : SessionFault) → old.end.fault ≡ Some why → (answer ≡ Err why) × (new ≡ old)
+
+-- what a server's end is that hears nothing yet, by this interface and within these limits
+abbrev pub IsNewServer : Shared → Limits → Served → Type 0
+IsNewServer shared limits new =
+    (arc_value new.interface ≡ arc_value shared.interface)
+    × (end_state new.end.framer new.end.calls new.end.outgoing new.end.fault
+    ≡ new_end (record {}) limits)
+    × (new.end.limits ≡ limits)
+
+-- the limits that C says
+abbrev pub limits_of : EndLimits → Limits
+limits_of limits =
+    record { calls = limits.calls; message = limits.message; gathered = limits.gathered }
+
+-- a handle is opened, by the interface that another holds, whatever it held; or the limit of gathered
+-- octets is refused, or memory ran out, or there is no interface, and it is as it was
+abbrev pub OpensServer : Option Shared → EndLimits → Option Served → Option Served → ℕ → Type 0
+OpensServer None limits old new status = (status ≡ closed) × (new ≡ old)
+OpensServer (Some shared) limits old new status =
+    ((status ≡ ok)
+    × (served : Served) × (new ≡ Some served) × IsNewServer shared (limits_of limits) served)
+    ⊎ (((status ≡ no_memory) ⊎ ((status ≡ fault) × (2 ^ 62 < limits.gathered))) × (new ≡ old))
+
+-- octets of the client are fed
+abbrev pub FeedsServer : List ℕ → Served → Result (Unit {0}) SessionFault → Served → Type 0
+FeedsServer octets old answer new =
+    Fails old answer new
+    × (old.end.fault ≡ None
+    → Fed (hears_by (λ rule. server.server_step) (λ rule. server.is_closed) server.is_gathering
+    in_call server_breaks (server_befalls (arc_value old.interface)))
+    (with_octets old.end.framer octets) old.end.calls answer new.end.framer new.end.calls)
+    × (old.end.fault ≡ None → new.end.fault ≡ standing answer)
+    × (new ≡ record old {
+      end = record old.end {
+        framer = new.end.framer;
+        calls = new.end.calls;
+        fault = new.end.fault;
+      };
+    })
+
+-- something is done to the call of an id: that is refused for this, or else an event that is planned
+-- so befalls the call, and what it sends is put out
+abbrev pub PutsAtServer : ℕ → Option CallFault → (Planned ServerEvent → Type 0) → Served
+    → Result (Unit {0}) SessionFault → Served → Type 0
+PutsAtServer id refusal Plans old answer new =
+    Fails old answer new
+    × (old.end.fault ≡ None
+    → Puts (rules_of server.server_step server.is_closed server.is_gathering) in_call id refusal
+    Plans old.end.calls old.end.outgoing answer new.end.calls new.end.outgoing)
+    × (new ≡ record old {
+      end = record old.end {
+        calls = new.end.calls;
+        outgoing = new.end.outgoing;
+      };
+    })
+
+-- the next piece of a Reply is put out
+abbrev pub SendsAtServer : ℕ → Served → Result (Unit {0}) SessionFault → Served → Type 0
+SendsAtServer id =
+    PutsAtServer id None (λ planned. planned ≡ record { event = event.Send; plan = Next })
+
+-- a LocateRequest is answered
+abbrev pub LocatesAtServer : ℕ → Bool → Order → Served
+    → Result (Unit {0}) SessionFault → Served → Type 0
+LocatesAtServer id here order old =
+    PutsAtServer id None
+    (IsLocateAnswer id here order (locate_of here (server_entry old.end.calls id))) old
+
+-- the connection is closed: a CloseConnection is put out, and the end answers Closed from then on
+abbrev pub ClosesServer : Served → Result (Unit {0}) SessionFault → Served → Type 0
+ClosesServer old (Ok done) new = (old.end.fault ≡ None) × (new ≡ record old {
+  end = record old.end {
+    outgoing = old.end.outgoing ++ message_octets (close_connection Big);
+    fault = Some Closed;
+  };
+})
+ClosesServer old (Err why) new =
+    ((old.end.fault ≡ Some why) ⊎ ((old.end.fault ≡ None) × (why ≡ NoMemory))) × (new ≡ old)
+
+-- what is stored for an id is taken out and dropped, unless its call is open
+abbrev pub TakesAtServer : ℕ → Served → Result (Unit {0}) SessionFault → Served → Type 0
+TakesAtServer id old (Ok done) new =
+    (old.end.fault ≡ None) × (new ≡ record old {
+      end = record old.end {
+        calls = record old.end.calls { table = put old.end.calls.table id None };
+      };
+    })
+TakesAtServer id old (Err why) new =
+    ((old.end.fault ≡ Some why) ⊎ ((old.end.fault ≡ None) × (why ≡ StillOpen)
+    × (option_map (λ slot. server.is_closed slot.entry) (finite.get old.end.calls.table id)
+    ≡ Some false))) × (new ≡ old)
+
+-- so many of the outgoing octets are written, and are outgoing no longer; or fewer are outgoing
+abbrev pub WritesAtServer : ℕ → Served → Served → ℕ → Type 0
+WritesAtServer n old new status =
+    ((status ≡ ok) × (n ≤ length old.end.outgoing)
+    × (new ≡ record old { end = record old.end { outgoing = drop n old.end.outgoing } }))
+    ⊎ ((status ≡ small) × (length old.end.outgoing < n) × (new ≡ old))

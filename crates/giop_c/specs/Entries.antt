@@ -1,0 +1,136 @@
+-- What is stored for the id of a call at a server, as C sees it.
+use Rattle.std.specs.Prelude.{ℕ, if◌then◌else◌, Option, Some, None, List, length}
+use Rattle.giop_msg.specs.declared.messages.reply.Reply.{Reply}
+use Rattle.giop_msg.specs.declared.messages.request.Request.{Request}
+use Rattle.giop_msg.specs.declared.version.Version.{Version}
+use Rattle.giop_msg.specs.declared.version.Version.TheVariants.{V12}
+use Rattle.giop_msg.specs.Messages.Reply.{status_of}
+use Rattle.giop_msg.specs.Target.{key_of}
+use Rattle.giop_calls.specs.declared.kind.CallKind.{CallKind}
+use Rattle.giop_calls.specs.declared.kind.CallKind.TheVariants as kind
+use Rattle.giop_calls.specs.declared.outcome.Outcome.{Outcome}
+use Rattle.giop_calls.specs.declared.outcome.Outcome.TheVariants as ended
+use Rattle.giop_calls.specs.declared.server.entry.ServerEntry.{ServerEntry}
+use Rattle.giop_calls.specs.declared.server.entry.ServerEntry.TheVariants.{Gathering, Asked, Undecoded, LocateAsked, Answered, LocateAnswered, Delivered, Cancelled}
+use Rattle.giop_calls.specs.declared.server.question.Question.{Question}
+use Rattle.giop_calls.specs.declared.server.question.Question.TheVariants as question
+use Rattle.giop_calls.specs.ServerTable.{is_closed, left_of, outcome}
+use Rattle.giop_c.specs.declared.server.entries.ServerRow.{ServerRow}
+
+-- the Request that an answered call was, where it could be decoded
+abbrev pub request_asked : Question → Option Request
+request_asked (question.Request q) = Some q
+request_asked (question.Undecoded e) = None
+
+-- the Request of an entry, where it has one that could be decoded
+abbrev pub request_in : ServerEntry → Option Request
+request_in (Asked q) = Some q
+request_in (Delivered q) = Some q
+request_in (Answered asked reply left) = request_asked asked
+request_in _ = None
+
+-- the Request under an id
+abbrev pub request_of : Option ServerEntry → Option Request
+request_of None = None
+request_of (Some entry) = request_in entry
+
+-- its operation and the key of its object, which is empty where the target is no key
+abbrev pub operation_in : Option Request → Option (List ℕ)
+operation_in None = None
+operation_in (Some q) = Some q.head.operation
+
+abbrev pub key_in : Option Request → Option (List ℕ)
+key_in None = None
+key_in (Some q) = Some (key_of q.head.target)
+
+-- its response flags, and how long both are; 0 where there is no Request
+abbrev pub flags_in : Option Request → ℕ
+flags_in None = 0
+flags_in (Some q) = q.head.flags
+
+abbrev pub operation_size : Option Request → ℕ
+operation_size None = 0
+operation_size (Some q) = length q.head.operation
+
+abbrev pub key_size : Option Request → ℕ
+key_size None = 0
+key_size (Some q) = length (key_of q.head.target)
+
+-- what is stored: 0 for nothing
+abbrev pub kind_of : Option ServerEntry → ℕ
+kind_of None = 0
+kind_of (Some (Gathering k)) = 1
+kind_of (Some (Asked q)) = 2
+kind_of (Some (Undecoded call)) = 3
+kind_of (Some (LocateAsked q)) = 4
+kind_of (Some (Answered asked reply left)) = 5
+kind_of (Some (LocateAnswered target here)) = 6
+kind_of (Some (Delivered q)) = 7
+kind_of (Some (Cancelled answered left)) = 8
+
+-- what a call that couldn't be decoded waits for
+abbrev pub awaits_undecoded : Option CallKind → ℕ
+awaits_undecoded None = 0
+awaits_undecoded (Some kind.Request) = 1
+awaits_undecoded (Some kind.Locate) = 2
+
+-- what a call waits for: 1 a Reply, 2 a LocateReply, 0 nothing
+abbrev pub awaits : Option ServerEntry → ℕ
+awaits (Some (Asked q)) = 1
+awaits (Some (LocateAsked q)) = 2
+awaits (Some (Undecoded call)) = awaits_undecoded call.expects
+awaits _ = 0
+
+-- whether the call is over, so that it may be taken out
+abbrev pub over : Option ServerEntry → ℕ
+over None = 0
+over (Some entry) = if is_closed entry then 1 else 0
+
+-- how many pieces of the reply aren't sent yet
+abbrev pub left : Option ServerEntry → ℕ
+left None = 0
+left (Some entry) = left_of entry
+
+-- the number of an outcome
+abbrev pub outcome_number : Outcome Reply → ℕ
+outcome_number ended.Pending = 0
+outcome_number ended.Cancelled = 1
+outcome_number ended.OneWay = 2
+outcome_number (ended.Replied reply) = 3
+outcome_number (ended.Located status) = 4
+outcome_number ended.Undecoded = 5
+
+-- what a call came to, by its number
+abbrev pub came_to : Option ServerEntry → ℕ
+came_to None = 0
+came_to (Some entry) = outcome_number (outcome entry)
+
+-- the reply status of an answered call
+abbrev pub reply_status : Option ServerEntry → ℕ
+reply_status (Some (Answered asked reply left)) = status_of reply.body
+reply_status (Some (LocateAnswered target here)) = if here then 1 else 0
+reply_status _ = 0
+
+-- what is stored for an id
+abbrev pub c_server_row : Option ServerEntry → ServerRow
+c_server_row entry = record {
+  operation = operation_size (request_of entry);
+  key = key_size (request_of entry);
+  left = left entry;
+  status = reply_status entry;
+  kind = kind_of entry;
+  awaits = awaits entry;
+  over = over entry;
+  outcome = came_to entry;
+  flags = flags_in (request_of entry);
+}
+
+-- the version in which a call is answered; 1.2 where none waits for a Reply
+abbrev pub version_in : ServerEntry → Version
+version_in (Asked q) = q.head.version
+version_in (Undecoded call) = call.version
+version_in _ = V12
+
+abbrev pub version_asked : Option ServerEntry → Version
+version_asked None = V12
+version_asked (Some entry) = version_in entry

@@ -1,0 +1,142 @@
+//! The exported functions by which a server's program answers.
+ghost use Rattle.std.specs.Prelude.{◌≡◌, ◌==◌, ◌≤◌, ◌^◌, length, not};
+ghost use Rattle.giop_msg.specs.Messages.Reply.{completion_of};
+ghost use Rattle.giop_c.specs.Answers.{AnswersOuts, AnswersSystem, AnswersUser, TellsAnswer, form_of};
+ghost use Rattle.giop_c.specs.Calls.{At};
+ghost use Rattle.giop_c.specs.EndRecords.{c_order_of};
+ghost use Rattle.giop_c.specs.Ends.{LocatesAtServer, Tells};
+
+use crate::end_records::{EndFault, SendForm, order_of, told};
+use crate::server::answers::answered;
+use crate::server::server_handle::ServerHandle;
+use crate::status::CLOSED;
+use giop_msg::Completion;
+use giop_session::Form;
+use std::alloc::Global;
+
+/// Answers a Request without an exception: by its outs, as octets of a byte order of which the first
+/// is at offset 0. It answers OK; FAULT or NO_MEMORY, and writes the fault, and nothing has changed;
+/// or CLOSED.
+#[unsafe(no_mangle)]
+pub extern "C" fn giop_server_answer(
+    alloc: Global,
+    server: &mut ServerHandle,
+    id: u32,
+    little_endian: u32,
+    outs: &[u8],
+    form: &SendForm,
+    fault: &mut EndFault,
+) -> u32
+    requires { length outs.now ≤ 2 ^ 62 }
+    ensures { At server.old.value server.new.value result (fault.new ≡ fault.old)
+        (λ old new. TellsAnswer (λ answer. AnswersOuts id (c_order_of little_endian) outs.now
+        (form_of form.now) old answer new) fault.old fault.new result) }
+{
+    let Some(mut served) = server.take(alloc) else {
+        return CLOSED;
+    };
+    let answer = served.answer_outs(alloc, id, order_of(little_endian), outs, form_of(form));
+    *server = ServerHandle::of(served);
+    answered(answer, fault)
+}
+
+/// Answers a Request by an exception of the interface: its repository id without a null, and its
+/// members as octets of a byte order of which the first is at offset 0. It answers as
+/// `giop_server_answer`.
+#[unsafe(no_mangle)]
+pub extern "C" fn giop_server_answer_user(
+    alloc: Global,
+    server: &mut ServerHandle,
+    id: u32,
+    exception: &[u8],
+    little_endian: u32,
+    members: &[u8],
+    form: &SendForm,
+    fault: &mut EndFault,
+) -> u32
+    requires { length members.now ≤ 2 ^ 62 }
+    ensures { At server.old.value server.new.value result (fault.new ≡ fault.old)
+        (λ old new. TellsAnswer (λ answer. AnswersUser id exception.now
+        (c_order_of little_endian) members.now (form_of form.now) old answer new)
+        fault.old fault.new result) }
+{
+    let Some(mut served) = server.take(alloc) else {
+        return CLOSED;
+    };
+    let order = order_of(little_endian);
+    let answer = served.answer_user(alloc, id, exception, order, members, form_of(form));
+    *server = ServerHandle::of(served);
+    answered(answer, fault)
+}
+
+/// Answers a Request by an exception of the broker: its repository id without a null, a minor code,
+/// and whether the operation was completed: 0 yes, 1 no, else it isn't known. It answers as
+/// `giop_server_answer`.
+#[unsafe(no_mangle)]
+pub extern "C" fn giop_server_answer_system(
+    alloc: Global,
+    server: &mut ServerHandle,
+    id: u32,
+    exception: &[u8],
+    minor: u32,
+    completion: u32,
+    form: &SendForm,
+    fault: &mut EndFault,
+) -> u32
+    ensures { At server.old.value server.new.value result (fault.new ≡ fault.old)
+        (λ old new. TellsAnswer (λ answer. AnswersSystem id exception.now minor
+        (completion_of completion) (form_of form.now) old answer new)
+        fault.old fault.new result) }
+{
+    let Some(mut served) = server.take(alloc) else {
+        return CLOSED;
+    };
+    let completion = completion_of(completion);
+    let answer = served.answer_system(alloc, id, exception, minor, completion, form_of(form));
+    *server = ServerHandle::of(served);
+    answered(answer, fault)
+}
+
+/// Answers a LocateRequest: that the object is here, or, for `here` 0, that it isn't known. It
+/// answers OK; FAULT or NO_MEMORY, and writes the fault, and nothing has changed; or CLOSED.
+#[unsafe(no_mangle)]
+pub extern "C" fn giop_server_answer_locate(
+    alloc: Global,
+    server: &mut ServerHandle,
+    id: u32,
+    here: u32,
+    little_endian: u32,
+    fault: &mut EndFault,
+) -> u32
+    ensures { At server.old.value server.new.value result (fault.new ≡ fault.old)
+        (λ old new. Tells (λ answer. LocatesAtServer id (not (here == 0))
+        (c_order_of little_endian) old answer new) fault.old fault.new result) }
+{
+    let Some(mut served) = server.take(alloc) else {
+        return CLOSED;
+    };
+    let answer = served.answer_locate(alloc, id, here != 0, order_of(little_endian));
+    *server = ServerHandle::of(served);
+    told(answer, fault)
+}
+
+// The form that C says.
+fn form_of(form: &SendForm) -> Form
+    ensures { result ≡ form_of form.now }
+{
+    Form {
+        order: order_of(form.little_endian),
+        piece: form.piece,
+    }
+}
+
+// The completion of a number.
+fn completion_of(number: u32) -> Completion
+    ensures { result ≡ completion_of number }
+{
+    match number {
+        0 => Completion::Yes,
+        1 => Completion::No,
+        _ => Completion::Maybe,
+    }
+}

@@ -1,0 +1,244 @@
+//! What is stored for the id of a call at a server, as C sees it.
+ghost use Rattle.std.specs.Prelude.{◌≡◌, option_copied, Some};
+ghost use Rattle.std.specs.Option.{option_map};
+ghost use Rattle.giop_calls.specs.Outcomes.{copied};
+ghost use Rattle.giop_msg.specs.Target.{key_of};
+ghost use Rattle.giop_c.specs.Entries.{awaits, awaits_undecoded, c_server_row, came_to, flags_in, key_in, key_size, kind_of, left, operation_in, operation_size, outcome_number, over, reply_status, request_asked, request_in, request_of, version_asked, version_in};
+
+use giop_calls::{CallKind, Outcome, Question, ServerEntry};
+use giop_msg::{Reply, Request, Target, Version};
+
+/// What is stored for the id of a call at a server, as C sees it: `giop_server_entry`.
+#[repr(C)]
+#[derive(Clone, Copy, Debug, PartialEq, Eq)]
+pub struct ServerRow {
+    /// The number of octets of the operation's name, without its null; 0 where no Request is known.
+    pub operation: usize,
+    /// The number of octets of the object's key; 0 where the target is no key.
+    pub key: usize,
+    /// How many pieces of the reply aren't sent yet.
+    pub left: u32,
+    /// The status of the Reply or the LocateReply, where one was answered; else 0.
+    pub status: u32,
+    /// What is stored, 1 to 8; 0 for nothing.
+    pub kind: u8,
+    /// What the call waits for: 1 a Reply, 2 a LocateReply, 0 nothing.
+    pub awaits: u8,
+    /// 1 where the call is over, and may be taken out; else 0.
+    pub over: u8,
+    /// What the call came to, 0 to 5.
+    pub outcome: u8,
+    /// The response flags of the Request; 0 where none is known.
+    pub flags: u8,
+}
+
+impl ServerRow {
+    /// What is stored. It takes no memory.
+    pub fn of(entry: Option<&ServerEntry>) -> ServerRow
+        ensures { result ≡ c_server_row (option_copied entry.entry) }
+    {
+        let request = request_of(entry);
+        ServerRow {
+            operation: operation_size(request),
+            key: key_size(request),
+            left: left(entry),
+            status: reply_status(entry),
+            kind: kind_of(entry),
+            awaits: awaits(entry),
+            over: over(entry),
+            outcome: came_to(entry),
+            flags: flags_in(request),
+        }
+    }
+}
+
+/// The Request under an id, where it has one that could be decoded.
+pub fn request_of(entry: Option<&ServerEntry>) -> Option<&Request>
+    ensures { option_copied result ≡ request_of (option_copied entry.entry) }
+{
+    request_in(entry?)
+}
+
+fn request_in(entry: &ServerEntry) -> Option<&Request>
+    ensures { option_copied result ≡ request_in entry.now }
+{
+    match entry {
+        ServerEntry::Asked { request } => Some(request),
+        ServerEntry::Delivered { request } => Some(request),
+        ServerEntry::Answered { asked, .. } => request_asked(asked),
+        _ => None,
+    }
+}
+
+fn request_asked(asked: &Question) -> Option<&Request>
+    ensures { option_copied result ≡ request_asked asked.now }
+{
+    match asked {
+        Question::Request(request) => Some(request),
+        Question::Undecoded(_) => None,
+    }
+}
+
+/// The operation of a Request.
+pub fn operation_in(request: Option<&Request>) -> Option<&[u8]>
+    ensures { option_map (λ octets. octets.now) result ≡ operation_in (option_copied request.entry) }
+{
+    match request {
+        Some(request) => Some(request.head.operation.as_slice()),
+        None => None,
+    }
+}
+
+/// The key of the object of a Request.
+pub fn key_in(request: Option<&Request>) -> Option<&[u8]>
+    ensures { option_map (λ octets. octets.now) result ≡ key_in (option_copied request.entry) }
+{
+    match request {
+        Some(request) => Some(key_of(&request.head.target)),
+        None => None,
+    }
+}
+
+// The octets of an object's key; none of another target.
+fn key_of(target: &Target) -> &[u8]
+    ensures { result.now ≡ key_of target.now }
+{
+    match target {
+        Target::Key(key) => key.as_slice(),
+        _ => &[],
+    }
+}
+
+fn operation_size(request: Option<&Request>) -> usize
+    ensures { result ≡ operation_size (option_copied request.entry) }
+{
+    match request {
+        Some(request) => request.head.operation.len(),
+        None => 0,
+    }
+}
+
+fn key_size(request: Option<&Request>) -> usize
+    ensures { result ≡ key_size (option_copied request.entry) }
+{
+    match request {
+        Some(request) => key_of(&request.head.target).len(),
+        None => 0,
+    }
+}
+
+fn flags_in(request: Option<&Request>) -> u8
+    ensures { result ≡ flags_in (option_copied request.entry) }
+{
+    match request {
+        Some(request) => request.head.flags,
+        None => 0,
+    }
+}
+
+fn kind_of(entry: Option<&ServerEntry>) -> u8
+    ensures { result ≡ kind_of (option_copied entry.entry) }
+{
+    match entry {
+        None => 0,
+        Some(ServerEntry::Gathering { .. }) => 1,
+        Some(ServerEntry::Asked { .. }) => 2,
+        Some(ServerEntry::Undecoded { .. }) => 3,
+        Some(ServerEntry::LocateAsked { .. }) => 4,
+        Some(ServerEntry::Answered { .. }) => 5,
+        Some(ServerEntry::LocateAnswered { .. }) => 6,
+        Some(ServerEntry::Delivered { .. }) => 7,
+        Some(ServerEntry::Cancelled { .. }) => 8,
+    }
+}
+
+fn awaits(entry: Option<&ServerEntry>) -> u8
+    ensures { result ≡ awaits (option_copied entry.entry) }
+{
+    match entry {
+        Some(ServerEntry::Asked { .. }) => 1,
+        Some(ServerEntry::LocateAsked { .. }) => 2,
+        Some(ServerEntry::Undecoded { call }) => awaits_undecoded(call.expects),
+        _ => 0,
+    }
+}
+
+fn awaits_undecoded(expects: Option<CallKind>) -> u8
+    ensures { result ≡ awaits_undecoded expects }
+{
+    match expects {
+        None => 0,
+        Some(CallKind::Request) => 1,
+        Some(CallKind::Locate) => 2,
+    }
+}
+
+fn over(entry: Option<&ServerEntry>) -> u8
+    ensures { result ≡ over (option_copied entry.entry) }
+{
+    match entry {
+        Some(entry) if entry.is_closed() => 1,
+        _ => 0,
+    }
+}
+
+fn left(entry: Option<&ServerEntry>) -> u32
+    ensures { result ≡ left (option_copied entry.entry) }
+{
+    match entry {
+        Some(entry) => entry.left(),
+        None => 0,
+    }
+}
+
+fn came_to(entry: Option<&ServerEntry>) -> u8
+    ensures { result ≡ came_to (option_copied entry.entry) }
+{
+    match entry {
+        Some(entry) => outcome_number(entry.outcome()),
+        None => 0,
+    }
+}
+
+fn outcome_number(outcome: Outcome<&Reply>) -> u8
+    ensures { result ≡ outcome_number (copied outcome.entry) }
+{
+    match outcome {
+        Outcome::Pending => 0,
+        Outcome::Cancelled => 1,
+        Outcome::OneWay => 2,
+        Outcome::Replied(_) => 3,
+        Outcome::Located(_) => 4,
+        Outcome::Undecoded => 5,
+    }
+}
+
+fn reply_status(entry: Option<&ServerEntry>) -> u32
+    ensures { result ≡ reply_status (option_copied entry.entry) }
+{
+    match entry {
+        Some(ServerEntry::Answered { reply, .. }) => reply.body.status(),
+        Some(ServerEntry::LocateAnswered { here, .. }) => u32::from(*here),
+        _ => 0,
+    }
+}
+
+/// The version in which a call is answered; 1.2 where none waits for a Reply.
+pub fn version_asked(entry: Option<&ServerEntry>) -> Version
+    ensures { result ≡ version_asked (option_copied entry.entry) }
+{
+    match entry {
+        Some(entry) => version_in(entry),
+        None => Version::V12,
+    }
+}
+
+fn version_in(entry: &ServerEntry) -> Version
+    ensures { result ≡ version_in entry.now }
+{
+    match entry {
+        ServerEntry::Asked { request } => request.head.version,
+        ServerEntry::Undecoded { call } => call.version,
+        _ => Version::V12,
+    }
+}

@@ -1,0 +1,111 @@
+//! The exported functions that say what is stored for the id of a call at a server's end.
+ghost use Rattle.std.specs.Prelude.{◌≡◌};
+ghost use Rattle.std_alloc.specs.Arc.{arc_value};
+ghost use Rattle.giop_session.specs.Runs.ServerRuns.{server_entry};
+ghost use Rattle.giop_c.specs.Calls.{At, ok};
+ghost use Rattle.giop_c.specs.EndRecords.{c_order_of};
+ghost use Rattle.giop_c.specs.Entries.{c_server_row, key_in, operation_in, request_of};
+ghost use Rattle.giop_c.specs.Copying.{CopiesOctets};
+ghost use Rattle.giop_c.specs.Values.{CopiesIns};
+
+use crate::end_records::order_of;
+use crate::server::entries::ServerRow;
+use crate::server::server_handle::ServerHandle;
+use crate::status::{CLOSED, OK};
+use std::alloc::Global;
+
+/// Writes what is stored for an id: kind 0 where nothing is. It answers OK or CLOSED.
+#[unsafe(no_mangle)]
+pub extern "C" fn giop_server_entry_of(
+    alloc: Global,
+    server: &mut ServerHandle,
+    id: u32,
+    entry: &mut ServerRow,
+) -> u32
+    ensures { At server.old.value server.new.value result (entry.new ≡ entry.old)
+        (λ old new. (result ≡ ok) × (new ≡ old)
+        × (entry.new ≡ c_server_row (server_entry old.end.calls id))) }
+{
+    let Some(mut served) = server.take(alloc) else {
+        return CLOSED;
+    };
+    *entry = served.row(alloc, id);
+    *server = ServerHandle::of(served);
+    OK
+}
+
+/// Copies the operation of the Request under an id, without its null, and writes its size. It
+/// answers OK; SMALL, where the buffer has no room for it; WAITS, where no Request is known; or
+/// CLOSED.
+#[unsafe(no_mangle)]
+pub extern "C" fn giop_server_operation(
+    alloc: Global,
+    server: &mut ServerHandle,
+    id: u32,
+    buffer: &mut [u8],
+    size: &mut usize,
+) -> u32
+    ensures { At server.old.value server.new.value result
+        ((buffer.new ≡ buffer.old) × (size.new ≡ size.old))
+        (λ old new. (new ≡ old)
+        × CopiesOctets (operation_in (request_of (server_entry old.end.calls id)))
+        buffer.old buffer.new size.old size.new result) }
+{
+    let Some(mut served) = server.take(alloc) else {
+        return CLOSED;
+    };
+    let status = served.operation(alloc, id, buffer, size);
+    *server = ServerHandle::of(served);
+    status
+}
+
+/// Copies the key of the object of the Request under an id, and writes its size; none where the
+/// target is no key. It answers as `giop_server_operation`.
+#[unsafe(no_mangle)]
+pub extern "C" fn giop_server_key(
+    alloc: Global,
+    server: &mut ServerHandle,
+    id: u32,
+    buffer: &mut [u8],
+    size: &mut usize,
+) -> u32
+    ensures { At server.old.value server.new.value result
+        ((buffer.new ≡ buffer.old) × (size.new ≡ size.old))
+        (λ old new. (new ≡ old)
+        × CopiesOctets (key_in (request_of (server_entry old.end.calls id)))
+        buffer.old buffer.new size.old size.new result) }
+{
+    let Some(mut served) = server.take(alloc) else {
+        return CLOSED;
+    };
+    let status = served.key(alloc, id, buffer, size);
+    *server = ServerHandle::of(served);
+    status
+}
+
+/// Copies the ins of the Request under an id as octets of a byte order, the first of them at offset
+/// 0, and writes their number. It answers OK; SMALL, where the buffer has no room for them; WAITS,
+/// where no Request is known; NO_MEMORY; FAULT, where they aren't values of the operation; or
+/// CLOSED.
+#[unsafe(no_mangle)]
+pub extern "C" fn giop_server_ins(
+    alloc: Global,
+    server: &mut ServerHandle,
+    id: u32,
+    little_endian: u32,
+    buffer: &mut [u8],
+    size: &mut usize,
+) -> u32
+    ensures { At server.old.value server.new.value result
+        ((buffer.new ≡ buffer.old) × (size.new ≡ size.old))
+        (λ old new. (new ≡ old)
+        × CopiesIns (arc_value old.interface) (request_of (server_entry old.end.calls id))
+        (c_order_of little_endian) buffer.old buffer.new size.old size.new result) }
+{
+    let Some(mut served) = server.take(alloc) else {
+        return CLOSED;
+    };
+    let status = served.ins(alloc, id, order_of(little_endian), buffer, size);
+    *server = ServerHandle::of(served);
+    status
+}

@@ -1,0 +1,16 @@
+use Rattle.std.specs.Option.{option_copied}
+use Rattle.giop_msg.specs.Messages.Reply.{reply}
+use Rattle.giop_msg.proofs.BackLemmas.{held_where_ok, joined_written}
+use Rattle.giop_msg.proofs.WholeMessages.LawLemmas.{message_read_back}
+use Rattle.giop_msg.proofs.WholeMessages.ReplyLemmas.{reply_is}
+use Rattle.giop_msg.proofs.messages.reply.Reply.encode.Goals as goal
+
+pub returns-clause-back : goal.returns-clause-back
+returns-clause-back c =
+    let answer = c.args.self.now in
+    let asked = option_copied c.args.request in
+    let message = reply c.args.interface.now asked answer.version in
+    message_read_back (reply_is c.args.interface.now asked answer.version) c.args.order answer c.into_bytes.result.items (cc)
+    (held_where_ok c.append_reply.result (message.holds answer) (cc) c.append_reply.ensures.held)
+    (joined_written c.append_reply.result (message.written answer) c.args.order c.in-Ok.out c.append_reply.new.out
+    c.into_bytes.result.items (cc) c.append_reply.ensures.written c.in-Ok.ensures c.into_bytes.ensures)

@@ -1,6 +1,0 @@
-use Rattle.std.proofs.Common.{◌≡◌, drop}
-use Rattle.giop_types.proofs.Descriptions.LabelLemmas.{doubled_labels}
-use Rattle.giop_types.proofs.description.label_check.has_doubled_label.Given as goal
-
-abbrev pub invariant-loop-i : goal.invariant-loop-i
-invariant-loop-i l = doubled_labels (drop l.i l.cases) ≡ doubled_labels l.cases

@@ -1,0 +1,530 @@
+//! The end of a connection that answers calls.
+use crate::{Handle, Interface, CLOSED, FAULT, NO_MEMORY, OK, SMALL};
+use std::error;
+use std::fmt;
+use std::marker::PhantomData;
+use std::ptr;
+
+/// What an end may hold at most. A limit is met where the next message would pass it.
+#[repr(C)]
+#[derive(Clone, Copy, Debug, PartialEq, Eq)]
+pub struct Limits {
+    /// The octets of all messages of which a piece is still to come: at most 2^62.
+    pub gathered: u64,
+    /// Entries in the table, those of calls that are over and not taken out included.
+    pub calls: u32,
+    /// The size of a message in octets, without its header.
+    pub message: u32,
+}
+
+impl Default for Limits {
+    /// 8 MiB of gathered octets, 1,024 entries and messages of 1 MiB.
+    fn default() -> Limits {
+        Limits { gathered: 8 << 20, calls: 1 << 10, message: 1 << 20 }
+    }
+}
+
+#[repr(C)]
+struct CForm {
+    piece: u32,
+    little_endian: u32,
+}
+
+/// How a message is sent.
+#[derive(Clone, Copy, Debug, PartialEq, Eq)]
+pub struct Form {
+    /// How many octets a piece has at most, its header counted: a multiple of 8, and 24 at least.
+    pub piece: u32,
+    /// Whether the message is little endian.
+    pub little_endian: bool,
+}
+
+impl Default for Form {
+    /// Big endian, in pieces of 4,096 octets.
+    fn default() -> Form {
+        Form { piece: 4096, little_endian: false }
+    }
+}
+
+impl Form {
+    fn written(self) -> CForm {
+        CForm { piece: self.piece, little_endian: self.little_endian.into() }
+    }
+}
+
+/// Why an end fails, or refuses a call of its program: the numbers are `GIOP_END_` in giop.h.
+#[repr(C)]
+#[derive(Clone, Copy, Debug, Default, PartialEq, Eq)]
+pub struct EndFault {
+    /// The place of what is wrong with octets; else 0.
+    pub at: usize,
+    /// What is wrong.
+    pub number: u32,
+    /// What is wrong in the part that the fault is of; else 0.
+    pub part: u32,
+    /// The request id of the call that it is of; else 0.
+    pub id: u32,
+}
+
+/// Why a call of an end did nothing.
+#[derive(Clone, Copy, Debug, PartialEq, Eq)]
+pub enum EndError {
+    /// Memory ran out. Where it did so in `feed`, the end has failed for good.
+    NoMemory,
+    /// It is refused, or the end has failed.
+    Fault(EndFault),
+}
+
+impl fmt::Display for EndError {
+    fn fmt(&self, f: &mut fmt::Formatter<'_>) -> fmt::Result {
+        match self {
+            EndError::NoMemory => f.write_str("out of memory"),
+            EndError::Fault(fault) => write!(
+                f,
+                "fault {}.{} of call {} at {}",
+                fault.number, fault.part, fault.id, fault.at
+            ),
+        }
+    }
+}
+
+impl error::Error for EndError {}
+
+#[repr(C)]
+#[derive(Clone, Copy, Default)]
+struct CEntry {
+    operation: usize,
+    key: usize,
+    left: u32,
+    status: u32,
+    kind: u8,
+    awaits: u8,
+    over: u8,
+    outcome: u8,
+    flags: u8,
+}
+
+/// What is stored for the id of a call.
+#[derive(Clone, Copy, Debug, PartialEq, Eq)]
+#[non_exhaustive]
+pub enum CallKind {
+    /// Nothing.
+    Nothing,
+    /// A first piece of it came, its last didn't.
+    Gathering,
+    /// A Request that expects a reply came whole, and isn't answered.
+    Asked,
+    /// A Request or a LocateRequest came whole that can't be decoded.
+    Undecoded,
+    /// A LocateRequest came whole, and isn't answered.
+    LocateAsked,
+    /// A Request was answered.
+    Answered,
+    /// A LocateRequest was answered.
+    LocateAnswered,
+    /// A Request without a reply came whole.
+    Delivered,
+    /// A CancelRequest came for it.
+    Cancelled,
+}
+
+/// What a call waits for.
+#[derive(Clone, Copy, Debug, PartialEq, Eq)]
+pub enum Awaits {
+    /// Nothing.
+    Nothing,
+    /// A Reply.
+    Reply,
+    /// A LocateReply.
+    LocateReply,
+}
+
+/// What is stored for an id, but its octets.
+#[derive(Clone, Copy, Debug, PartialEq, Eq)]
+pub struct Entry {
+    /// What it is.
+    pub kind: CallKind,
+    /// What the call waits for.
+    pub awaits: Awaits,
+    /// Whether the call is over, and may be taken out.
+    pub is_over: bool,
+    /// How many pieces of the reply aren't sent yet.
+    pub left: u32,
+    /// The reply status of an answered Request, or the locate status; else 0.
+    pub status: u32,
+    /// The response flags of the Request; 0 where none is known.
+    pub flags: u8,
+}
+
+extern "C" {
+    fn giop_server_new(server: *mut Handle, interface: *mut Handle, limits: *const Limits) -> u32;
+    fn giop_server_feed(server: *mut Handle, octets: *const u8, size: usize, fault: *mut EndFault) -> u32;
+    fn giop_server_outgoing(server: *mut Handle, buffer: *mut u8, room: usize, size: *mut usize) -> u32;
+    fn giop_server_wrote(server: *mut Handle, size: usize) -> u32;
+    fn giop_server_ids(server: *mut Handle, ids: *mut u32, room: usize, count: *mut usize) -> u32;
+    fn giop_server_entry_of(server: *mut Handle, id: u32, entry: *mut CEntry) -> u32;
+    fn giop_server_operation(server: *mut Handle, id: u32, buffer: *mut u8, room: usize, size: *mut usize) -> u32;
+    fn giop_server_key(server: *mut Handle, id: u32, buffer: *mut u8, room: usize, size: *mut usize) -> u32;
+    fn giop_server_ins(
+        server: *mut Handle,
+        id: u32,
+        little_endian: u32,
+        buffer: *mut u8,
+        room: usize,
+        size: *mut usize,
+    ) -> u32;
+    fn giop_server_answer(
+        server: *mut Handle,
+        id: u32,
+        little_endian: u32,
+        outs: *const u8,
+        size: usize,
+        form: *const CForm,
+        fault: *mut EndFault,
+    ) -> u32;
+    fn giop_server_answer_user(
+        server: *mut Handle,
+        id: u32,
+        exception: *const u8,
+        exception_size: usize,
+        little_endian: u32,
+        members: *const u8,
+        members_size: usize,
+        form: *const CForm,
+        fault: *mut EndFault,
+    ) -> u32;
+    fn giop_server_answer_system(
+        server: *mut Handle,
+        id: u32,
+        exception: *const u8,
+        exception_size: usize,
+        minor: u32,
+        completion: u32,
+        form: *const CForm,
+        fault: *mut EndFault,
+    ) -> u32;
+    fn giop_server_answer_locate(
+        server: *mut Handle,
+        id: u32,
+        here: u32,
+        little_endian: u32,
+        fault: *mut EndFault,
+    ) -> u32;
+    fn giop_server_send(server: *mut Handle, id: u32, fault: *mut EndFault) -> u32;
+    fn giop_server_take(server: *mut Handle, id: u32, fault: *mut EndFault) -> u32;
+    fn giop_server_close(server: *mut Handle, fault: *mut EndFault) -> u32;
+    fn giop_server_error_message(server: *mut Handle, buffer: *mut u8, room: usize, size: *mut usize) -> u32;
+    fn giop_server_rest(server: *mut Handle, rest: *mut usize) -> u32;
+    fn giop_server_free(server: *mut Handle);
+}
+
+// Octets that a call copies into a buffer: it is asked for their size first.
+fn copied(mut call: impl FnMut(*mut u8, usize, *mut usize) -> u32) -> Result<Option<Vec<u8>>, u32> {
+    let (mut octets, mut size) = (Vec::new(), 0);
+    loop {
+        match call(octets.as_mut_ptr(), octets.len(), &mut size) {
+            OK => {
+                octets.truncate(size);
+                return Ok(Some(octets));
+            }
+            SMALL => octets.resize(size, 0),
+            crate::WAITS => return Ok(None),
+            other => return Err(other),
+        }
+    }
+}
+
+/// The end of a connection that answers calls, without IO: it is fed what was read of the client, keeps the
+/// calls by their request ids, and says what is to be written.
+///
+/// Values cross as CDR octets that stand by themselves: each aligned as if the first octet had the offset 0.
+/// It stays on its thread: it is neither `Send` nor `Sync`, since neither is proved of it.
+///
+/// ```
+/// use giop::{Awaits, Form, Interface, Limits, Server};
+///
+/// let json = br#"{"operations":{"twice":{"ins":[["n","long"]],"outs":[["r","long"]]}}}"#;
+/// let mut server = Server::new(&mut Interface::from_json(json)?, Limits::default())?;
+/// // A Request of 1.2, big endian, of id 5 to the key "k": twice 21. It comes in two reads.
+/// server.feed(b"GIOP\x01\x02\0\0\0\0\0\x28\0\0\0\x05\x03\0\0\0\0\0\0\0\0\0\0\x01k\0\0\0")?;
+/// server.feed(b"\0\0\0\x06twice\0\0\0\0\0\0\0\0\0\0\x15")?;
+/// assert_eq!(server.ids()?, [5]);
+/// assert_eq!(server.entry(5).awaits, Awaits::Reply);
+/// assert_eq!(server.operation(5).as_deref(), Some(&b"twice"[..]));
+/// assert_eq!(server.ins(5, false)?.as_deref(), Some(&[0, 0, 0, 21][..]));
+/// server.answer(5, false, &[0, 0, 0, 42], Form::default())?;
+/// let written = server.outgoing().len();
+/// assert_eq!(written, 28);
+/// assert!(server.wrote(written));
+/// server.take(5)?;
+/// # Ok::<(), Box<dyn std::error::Error>>(())
+/// ```
+pub struct Server {
+    handle: Handle,
+    octets: Vec<u8>,
+    stays: PhantomData<*mut ()>,
+}
+
+impl Server {
+    /// A server's end without calls, which keeps a share of the interface.
+    ///
+    /// # Errors
+    /// `NoMemory`; or a `Fault` of number 0, where the limit `gathered` is above 2^62.
+    pub fn new(interface: &mut Interface, limits: Limits) -> Result<Server, EndError> {
+        let mut server = Server { handle: Handle { at: ptr::null_mut() }, octets: Vec::new(), stays: PhantomData };
+        // SAFETY: the handle is zeroed, which is one that holds nothing, and the interface's was opened.
+        let status = unsafe { giop_server_new(&mut server.handle, &mut interface.handle, &limits) };
+        told(status, EndFault::default()).map(|()| server)
+    }
+
+    /// Takes in octets of the client, any number of them.
+    ///
+    /// # Errors
+    /// The fault that has failed the end, which it has from then on.
+    pub fn feed(&mut self, octets: &[u8]) -> Result<(), EndError> {
+        let mut fault = EndFault::default();
+        // SAFETY: the handle was opened, and the slice is that long.
+        let status = unsafe { giop_server_feed(&mut self.handle, octets.as_ptr(), octets.len(), &mut fault) };
+        told(status, fault)
+    }
+
+    /// The octets that are to be written, which stay until `wrote`.
+    pub fn outgoing(&mut self) -> &[u8] {
+        let mut size = 0;
+        // SAFETY: the handle was opened, and nothing is copied where there is no room.
+        unsafe { giop_server_outgoing(&mut self.handle, ptr::null_mut(), 0, &mut size) };
+        self.octets.resize(size, 0);
+        // SAFETY: the handle was opened, and the buffer has so much room.
+        unsafe { giop_server_outgoing(&mut self.handle, self.octets.as_mut_ptr(), size, &mut size) };
+        &self.octets
+    }
+
+    /// The first octets that are to be written were, so many of them. False, where fewer are to be written,
+    /// and nothing has changed.
+    #[must_use]
+    pub fn wrote(&mut self, size: usize) -> bool {
+        // SAFETY: the handle was opened.
+        unsafe { giop_server_wrote(&mut self.handle, size) == OK }
+    }
+
+    /// The request ids for which something is stored, ascending.
+    ///
+    /// # Errors
+    /// `NoMemory`.
+    pub fn ids(&mut self) -> Result<Vec<u32>, EndError> {
+        let (mut ids, mut count) = (Vec::new(), 0);
+        loop {
+            // SAFETY: the handle was opened, and the array has so much room.
+            let status = unsafe { giop_server_ids(&mut self.handle, ids.as_mut_ptr(), ids.len(), &mut count) };
+            told(status, EndFault::default())?;
+            if count <= ids.len() {
+                ids.truncate(count);
+                return Ok(ids);
+            }
+            ids.resize(count, 0);
+        }
+    }
+
+    /// What is stored for an id.
+    pub fn entry(&mut self, id: u32) -> Entry {
+        let mut entry = CEntry::default();
+        // SAFETY: the handle was opened, and the struct is written.
+        unsafe { giop_server_entry_of(&mut self.handle, id, &mut entry) };
+        let kind = match entry.kind {
+            1 => CallKind::Gathering,
+            2 => CallKind::Asked,
+            3 => CallKind::Undecoded,
+            4 => CallKind::LocateAsked,
+            5 => CallKind::Answered,
+            6 => CallKind::LocateAnswered,
+            7 => CallKind::Delivered,
+            8 => CallKind::Cancelled,
+            _ => CallKind::Nothing,
+        };
+        let awaits = match entry.awaits {
+            1 => Awaits::Reply,
+            2 => Awaits::LocateReply,
+            _ => Awaits::Nothing,
+        };
+        let CEntry { over, left, status, flags, .. } = entry;
+        Entry { kind, awaits, is_over: over == 1, left, status, flags }
+    }
+
+    /// The operation of the Request under an id, without its null; `None` where no Request is known.
+    pub fn operation(&mut self, id: u32) -> Option<Vec<u8>> {
+        // SAFETY: the handle was opened, and the buffer has so much room.
+        let call = |at, room, size| unsafe { giop_server_operation(&mut self.handle, id, at, room, size) };
+        copied(call).ok().flatten()
+    }
+
+    /// The key of the object of the Request under an id, empty where the target is no key; `None` where no
+    /// Request is known.
+    pub fn key(&mut self, id: u32) -> Option<Vec<u8>> {
+        // SAFETY: the handle was opened, and the buffer has so much room.
+        let call = |at, room, size| unsafe { giop_server_key(&mut self.handle, id, at, room, size) };
+        copied(call).ok().flatten()
+    }
+
+    /// The ins of the Request under an id; `None` where no Request is known.
+    ///
+    /// # Errors
+    /// `NoMemory`.
+    pub fn ins(&mut self, id: u32, little_endian: bool) -> Result<Option<Vec<u8>>, EndError> {
+        let order = little_endian.into();
+        // SAFETY: the handle was opened, and the buffer has so much room.
+        let call = |at, room, size| unsafe { giop_server_ins(&mut self.handle, id, order, at, room, size) };
+        copied(call).map_err(|status| error_of(status, EndFault::default()))
+    }
+
+    /// Answers a Request without an exception, by the octets of its outs in a byte order. The first piece of
+    /// the Reply is outgoing then, and `send` puts out each other one.
+    ///
+    /// # Errors
+    /// Why it isn't sent; nothing has changed then.
+    pub fn answer(&mut self, id: u32, little_endian: bool, outs: &[u8], form: Form) -> Result<(), EndError> {
+        let (mut fault, order, form) = (EndFault::default(), little_endian.into(), form.written());
+        // SAFETY: the handle was opened, and the slice is that long.
+        let status = unsafe {
+            giop_server_answer(&mut self.handle, id, order, outs.as_ptr(), outs.len(), &form, &mut fault)
+        };
+        told(status, fault)
+    }
+
+    /// Answers a Request by an exception of the interface: its repository id, and the octets of its members
+    /// in a byte order.
+    ///
+    /// # Errors
+    /// Why it isn't sent; nothing has changed then.
+    pub fn answer_user(
+        &mut self,
+        id: u32,
+        exception: &[u8],
+        little_endian: bool,
+        members: &[u8],
+        form: Form,
+    ) -> Result<(), EndError> {
+        let (mut fault, form) = (EndFault::default(), form.written());
+        // SAFETY: the handle was opened, and both slices are that long.
+        let status = unsafe {
+            giop_server_answer_user(
+                &mut self.handle,
+                id,
+                exception.as_ptr(),
+                exception.len(),
+                little_endian.into(),
+                members.as_ptr(),
+                members.len(),
+                &form,
+                &mut fault,
+            )
+        };
+        told(status, fault)
+    }
+
+    /// Answers a Request by an exception of the broker: its repository id, a minor code, and whether the
+    /// operation was completed, where that is known.
+    ///
+    /// # Errors
+    /// Why it isn't sent; nothing has changed then.
+    pub fn answer_system(
+        &mut self,
+        id: u32,
+        exception: &[u8],
+        minor: u32,
+        completed: Option<bool>,
+        form: Form,
+    ) -> Result<(), EndError> {
+        let (mut fault, form) = (EndFault::default(), form.written());
+        let completion = completed.map_or(2, |yes| u32::from(!yes));
+        let (at, size) = (exception.as_ptr(), exception.len());
+        // SAFETY: the handle was opened, and the slice is that long.
+        let status = unsafe {
+            giop_server_answer_system(&mut self.handle, id, at, size, minor, completion, &form, &mut fault)
+        };
+        told(status, fault)
+    }
+
+    /// Answers a LocateRequest: whether the object is here.
+    ///
+    /// # Errors
+    /// Why it isn't sent; nothing has changed then.
+    pub fn answer_locate(&mut self, id: u32, here: bool, little_endian: bool) -> Result<(), EndError> {
+        let mut fault = EndFault::default();
+        // SAFETY: the handle was opened.
+        let status = unsafe {
+            giop_server_answer_locate(&mut self.handle, id, here.into(), little_endian.into(), &mut fault)
+        };
+        told(status, fault)
+    }
+
+    /// Puts out the next piece of a Reply.
+    ///
+    /// # Errors
+    /// Why there is none; nothing has changed then.
+    pub fn send(&mut self, id: u32) -> Result<(), EndError> {
+        let mut fault = EndFault::default();
+        // SAFETY: the handle was opened.
+        let status = unsafe { giop_server_send(&mut self.handle, id, &mut fault) };
+        told(status, fault)
+    }
+
+    /// Takes what is stored for an id out of the table, where its call is over.
+    ///
+    /// # Errors
+    /// That it isn't over; nothing has changed then.
+    pub fn take(&mut self, id: u32) -> Result<(), EndError> {
+        let mut fault = EndFault::default();
+        // SAFETY: the handle was opened.
+        let status = unsafe { giop_server_take(&mut self.handle, id, &mut fault) };
+        told(status, fault)
+    }
+
+    /// Closes the connection: a CloseConnection is outgoing then.
+    ///
+    /// # Errors
+    /// The fault that the end has.
+    pub fn close(&mut self) -> Result<(), EndError> {
+        let mut fault = EndFault::default();
+        // SAFETY: the handle was opened.
+        let status = unsafe { giop_server_close(&mut self.handle, &mut fault) };
+        told(status, fault)
+    }
+
+    /// The MessageError that the client is to be sent after the end's fault, where that asks for one.
+    pub fn error_message(&mut self) -> Option<Vec<u8>> {
+        // SAFETY: the handle was opened, and the buffer has so much room.
+        let call = |at, room, size| unsafe { giop_server_error_message(&mut self.handle, at, room, size) };
+        copied(call).ok().flatten()
+    }
+
+    /// The number of octets that are unread.
+    pub fn rest(&mut self) -> usize {
+        let mut rest = 0;
+        // SAFETY: the handle was opened, and the number is written.
+        unsafe { giop_server_rest(&mut self.handle, &mut rest) };
+        rest
+    }
+}
+
+impl Drop for Server {
+    fn drop(&mut self) {
+        // SAFETY: the handle was opened, or holds nothing.
+        unsafe { giop_server_free(&mut self.handle) }
+    }
+}
+
+fn told(status: u32, fault: EndFault) -> Result<(), EndError> {
+    match status {
+        OK => Ok(()),
+        other => Err(error_of(other, fault)),
+    }
+}
+
+fn error_of(status: u32, fault: EndFault) -> EndError {
+    match status {
+        FAULT => EndError::Fault(fault),
+        NO_MEMORY => EndError::NoMemory,
+        CLOSED => unreachable!("the handle was opened"),
+        other => unreachable!("an end answered {other}"),
+    }
+}
