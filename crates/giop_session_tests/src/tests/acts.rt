@@ -13,6 +13,8 @@ use std::alloc::{AllocError, Global};
 pub enum Client {
     /// `ping` is called, as id 1.
     Ping,
+    /// `add` of 2 and 5 is called, as id 4 and in one piece.
+    Add,
     /// It is asked where an object is, as id 6.
     Locate,
     Cancel(u32),
@@ -42,17 +44,25 @@ fn target(alloc: Global) -> Result<Target, AllocError> {
     Ok(Target::Key(OctetList::from_slice(alloc, b"k")?))
 }
 
-fn ping(alloc: Global) -> Result<Request, AllocError> {
+fn request(alloc: Global, id: u32, operation: &[u8], ins: &[i32]) -> Result<Request, AllocError> {
     let head = RequestHead {
         version: Version::V12,
-        id: 1,
+        id,
         flags: 3,
         target: target(alloc)?,
-        operation: OctetList::from_slice(alloc, b"ping")?,
+        operation: OctetList::from_slice(alloc, operation)?,
         contexts: ServiceContexts::new(alloc),
     };
-    let body = ValueList::new(alloc);
+    let body = longs(alloc, ins)?;
     Ok(Request { head, body })
+}
+
+fn longs(alloc: Global, numbers: &[i32]) -> Result<ValueList, AllocError> {
+    let mut values = ValueList::new(alloc);
+    for number in numbers {
+        values.push(Value::Long(*number))?;
+    }
+    Ok(values)
 }
 
 fn locate(alloc: Global) -> Result<LocateRequest, AllocError> {
@@ -63,16 +73,12 @@ fn locate(alloc: Global) -> Result<LocateRequest, AllocError> {
     })
 }
 
-fn reply(alloc: Global, id: u32, longs: &[i32]) -> Result<Reply, AllocError> {
-    let mut outs = ValueList::new(alloc);
-    for long in longs {
-        outs.push(Value::Long(*long))?;
-    }
+fn reply(alloc: Global, id: u32, outs: &[i32]) -> Result<Reply, AllocError> {
     Ok(Reply {
         version: Version::V12,
         id,
         contexts: ServiceContexts::new(alloc),
-        body: ReplyBody::NoException(outs),
+        body: ReplyBody::NoException(longs(alloc, outs)?),
     })
 }
 
@@ -83,7 +89,18 @@ pub fn at_client(
     what: Client,
 ) -> Option<Result<(), SessionFault>> {
     Some(match what {
-        Client::Ping => end.call(ping(alloc).ok()?, form(Order::Big).form),
+        Client::Ping => {
+            let ping = request(alloc, 1, b"ping", &[]).ok()?;
+            end.call(ping, form(Order::Big).form)
+        }
+        Client::Add => {
+            let add = request(alloc, 4, b"add", &[2, 5]).ok()?;
+            let whole = Form {
+                order: Order::Big,
+                piece: 56,
+            };
+            end.call(add, whole)
+        }
         Client::Locate => end.locate(locate(alloc).ok()?, form(Order::Big).form),
         Client::Cancel(id) => end.cancel(id, Order::Big),
         Client::Send(id) => end.send(id),

@@ -1,7 +1,8 @@
 //! An end between readers and writers in memory, some of which fail: octets written by hand.
+use super::acts::{Client, at_client};
 use super::sessions::{interface, table};
 use giop_cdr::Order;
-use giop_session::{Limits, PumpFault, ServerEnd, SessionFault, pump, turn, write_out};
+use giop_session::{ClientEnd, Limits, PumpFault, ServerEnd, SessionFault, pump, turn, write_out};
 use std::io;
 use std::io::{ErrorKind, Read, Write};
 use std::test::Fail;
@@ -9,6 +10,10 @@ use std::test::Fail;
 // A Request of `ping`, as id 1: 48 octets.
 const PING: &str =
     "47494f500102000000000024000000010300000000000000000000016b0000000000000570696e670000000000000000";
+
+// A Request of `add` with 2 and 5, as id 4: 56 octets.
+const ADD: &str =
+    "47494f50010200000000002c000000040300000000000000000000016b000000000000046164640000000000000000000000000200000005";
 
 // A LocateRequest, as id 6: 25 octets.
 const LOCATE: &str = "47494f50010200030000000d0000000600000000000000016b";
@@ -40,19 +45,29 @@ impl Read for Halting<'_> {
     }
 }
 
-// A writer that takes so many octets at a time, and fails once it took so many.
+// A writer that takes so many octets at a time. Once it took so many in all it fails, or takes none.
 #[derive(Drop)]
 struct Full {
     piece: usize,
     room: usize,
+    fails: bool,
     taken: Vec<u8>,
     writes: u64,
 }
 
+// At most how many octets a write; whether the writer fails once it is full; and the kind of error
+// that is told.
+const ENDS: [(usize, bool, ErrorKind); 4] = [
+    (1, true, ErrorKind::StorageFull),
+    (5, true, ErrorKind::StorageFull),
+    (1, false, ErrorKind::WriteZero),
+    (5, false, ErrorKind::WriteZero),
+];
+
 impl Write for Full {
     fn write(&mut self, buf: &[u8]) -> io::Result<usize> {
         self.writes = self.writes.saturating_add(1);
-        if self.room == 0 {
+        if self.room == 0 && self.fails {
             return Err(io::Error::from(ErrorKind::StorageFull));
         }
         let n = buf.len().min(self.piece).min(self.room);
@@ -136,6 +151,7 @@ fn a_turn_writes_before_it_reads(rt: HostRuntime) -> Result<(), Fail> {
     let mut writer = Full {
         piece: 1,
         room: 100,
+        fails: true,
         taken: Vec::new(alloc),
         writes: 0,
     };
@@ -172,26 +188,26 @@ fn a_failed_end_writes_and_answers_its_fault(rt: HostRuntime) -> Result<(), Fail
 fn a_write_that_fails_has_written_a_prefix(rt: HostRuntime) -> Result<(), Fail> {
     let alloc = rt.alloc();
     let interface = interface(alloc)?;
-    let octets = hex::decode(alloc, PING)?;
-    let close = hex::decode(alloc, CLOSE)?;
-    // How many octets in all, and at most how many a write.
-    for room in 0..close.len() {
-        for piece in [1, 5] {
-            let mut end = ServerEnd::new(alloc, &interface, Limits::default());
-            assert!(rt; end.close().is_ok());
-            let mut reader = octets.as_slice();
+    let octets = hex::decode(alloc, ADD)?;
+    // How many octets in all; at most how many a write, and what the writer says then.
+    for room in 0..octets.len() {
+        for (piece, fails, kind) in ENDS {
+            let mut end = ClientEnd::new(alloc, &interface, Limits::default());
+            assert!(rt; matches!(at_client(alloc, &mut end, Client::Add), Some(Ok(()))));
+            let mut reader: &[u8] = b"unread";
             let mut writer = Full {
                 piece,
                 room,
+                fails,
                 taken: Vec::new(alloc),
                 writes: 0,
             };
             let answered = pump(&mut end, &mut reader, &mut writer, 10);
             let fault = answered.err().map(|fault| told(&fault));
-            assert_eq!(rt; fault, Some((2, Some(ErrorKind::StorageFull))), "{room}");
-            assert_eq!(rt; writer.taken.as_slice(), &close[..room]);
-            assert_eq!(rt; end.outgoing(), &close[room..]);
-            assert_eq!(rt; reader.len(), 48);
+            assert_eq!(rt; fault, Some((2, Some(kind))), "{room}");
+            assert_eq!(rt; writer.taken.as_slice(), &octets[..room]);
+            assert_eq!(rt; end.outgoing(), &octets[room..]);
+            assert_eq!(rt; reader.len(), 6);
         }
     }
     Ok(())
@@ -206,6 +222,7 @@ fn a_write_of_no_octets_is_a_fault(rt: HostRuntime) -> Result<(), Fail> {
     let mut writer = Full {
         piece: 0,
         room: 1,
+        fails: true,
         taken: Vec::new(alloc),
         writes: 0,
     };
