@@ -28,6 +28,9 @@ const ASK: [u8; 56] = [
     5,
 ];
 
+// Its ins, little endian.
+const TWO_AND_FIVE: &[u8] = &[2, 0, 0, 0, 5, 0, 0, 0];
+
 // The Reply to it in 1.2, big endian: 7, at offset 24 (9.4.3).
 const SEVEN: [u8; 28] = [
     b'G', b'I', b'O', b'P', 1, 2, 0, 1, 0, 0, 0, 16, 0, 0, 0, 1, 0, 0, 0, 0, 0, 0, 0, 0, 0, 0, 0, 7,
@@ -121,7 +124,8 @@ fn a_request_is_heard_answered_and_taken_out(rt: HostRuntime) {
         giop_server_operation(alloc, &mut server, 1, &mut buffer, &mut size),
         OK
     );
-    assert_eq!(rt; (&buffer[..4], size), (b"add\x09".as_slice(), 3));
+    assert_eq!(rt; &buffer[..4], b"add\x09".as_slice());
+    assert_eq!(rt; size, 3);
     assert_eq!(rt;
         giop_server_key(alloc, &mut server, 1, &mut buffer, &mut size),
         OK
@@ -135,10 +139,8 @@ fn a_request_is_heard_answered_and_taken_out(rt: HostRuntime) {
         giop_server_ins(alloc, &mut server, 1, 1, &mut buffer, &mut size),
         OK
     );
-    assert_eq!(rt;
-        (&buffer[..8], size),
-        ([2, 0, 0, 0, 5, 0, 0, 0].as_slice(), 8)
-    );
+    assert_eq!(rt; &buffer[..8], TWO_AND_FIVE);
+    assert_eq!(rt; size, 8);
     assert_eq!(rt; giop_server_take(alloc, &mut server, 1, &mut fault), FAULT);
     assert_eq!(rt; fault.number, 9);
     assert_eq!(rt;
