@@ -123,8 +123,8 @@ The interface is a JSON object of operations, each with its ins and outs:
 
 Exit statuses:
   0  no octets are left, or the client closed the connection
-  1  octets are left, or there is another fault; or the interface is refused; with --strict, or
-     anything is Undecoded
+  1  octets are left, or there is another fault; or the interface is refused; with --strict also
+     where anything is Undecoded
   2  usage
   3  reading or writing failed
   4  out of memory

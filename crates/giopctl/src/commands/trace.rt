@@ -18,7 +18,7 @@ use crate::failure::Failure;
 use crate::status::Status;
 use giop_trace::{Direction, Observer};
 use giop_types::Interface;
-use std::alloc::Global;
+use std::alloc::{AllocError, Global};
 use std::io;
 use std::io::{ErrorKind, Read, Write};
 
@@ -69,13 +69,7 @@ pub fn trace_stream<C: Read, S: Read, W: Write>(
         → IsAtEnd (S.remaining server.new)) }
     ensures alone { heard ≡ Heard.Client → S.remaining server.new ≡ S.remaining server.old }
 {
-    let mut tracing = Tracing {
-        form,
-        observer: Observer::new(alloc, heard == Heard::Client),
-        client: Incoming::new(alloc, limit)?,
-        server: Incoming::new(alloc, limit)?,
-        held: None,
-    };
+    let mut tracing = begun(alloc, limit, form, heard)?;
     if heard == Heard::Client {
         hear_client(alloc, interface, &mut tracing, client, writer)?;
         write_open(alloc, interface, &tracing, writer)?;
@@ -86,6 +80,21 @@ pub fn trace_stream<C: Read, S: Read, W: Write>(
     let client = tracing.client.write_end(form, Direction::Client, writer)?;
     let server = tracing.server.write_end(form, Direction::Server, writer)?;
     Ok(status_of_both(client, server))
+}
+
+// Nothing of a connection is read. Messages of both directions may have this size.
+fn begun(alloc: Global, limit: u32, form: LineForm, heard: Heard) -> Result<Tracing, AllocError>
+    ensures client { IfOk result (λ tracing. tracing.client.framer.limit ≡ limit) }
+    ensures server { IfOk result (λ tracing. tracing.server.framer.limit ≡ limit) }
+    ensures form { IfOk result (λ tracing. tracing.form ≡ form) }
+{
+    Ok(Tracing {
+        form,
+        observer: Observer::new(alloc, heard == Heard::Client),
+        client: Incoming::new(alloc, limit)?,
+        server: Incoming::new(alloc, limit)?,
+        held: None,
+    })
 }
 
 // The status of two directions: done where both are; a limit that was passed is told first.

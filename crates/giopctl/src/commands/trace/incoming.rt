@@ -36,7 +36,10 @@ pub struct Brought {
 
 impl Incoming {
     /// Nothing is read. Messages may have this size, the header not counted.
-    pub fn new(alloc: Global, limit: u32) -> Result<Incoming, AllocError> {
+    pub fn new(alloc: Global, limit: u32) -> Result<Incoming, AllocError>
+        ensures limit { IfOk result (λ incoming. incoming.framer.limit ≡ limit) }
+        ensures ok { IfOk result (λ incoming. incoming.fault ≡ None) }
+    {
         Ok(Incoming {
             framer: Framer::new(alloc, limit),
             fault: None,
