@@ -30,9 +30,12 @@ octet_json octet =
     else if is_printable_octet octet then octet ∷ []
     else 0x5C ∷ 0x75 ∷ 0x30 ∷ 0x30 ∷ hex_text (octet ∷ [])
 
--- octets as a text of JSON
+-- octets between the quotes of a text of JSON, and with them
+abbrev pub octets_json : List ℕ → List ℕ
+octets_json octets = flat_map octet_json octets
+
 abbrev pub text_json : List ℕ → List ℕ
-text_json octets = 0x22 ∷ flat_map octet_json octets ++ 0x22 ∷ []
+text_json octets = 0x22 ∷ octets_json octets ++ 0x22 ∷ []
 
 -- octets in hexadecimal, as a text of JSON
 abbrev pub hex_json : List ℕ → List ℕ

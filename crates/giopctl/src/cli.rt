@@ -152,8 +152,9 @@ and it came to
 A message without a place in a call is told by itself, as Client KIND OCTETS or Server KIND OCTETS.
 Calls that are open at the end follow in ascending order of their ids. The last lines tell how many
 octets of each direction are left, or what is wrong with the header that stands there.
-With --json each call is {\"id\":ID,\"asked\":{..},\"outcome\":{..}}, in which \"what\" says what each is; the
-last lines are {\"end\":\"client\",\"rest\":N} or {\"end\":\"client\",\"fault\":{..}}, and of \"server\" the same.
+With --json each call is {\"id\":ID,\"asked\":{..},\"outcome\":{..}}, in which \"what\" says
+what each is; the last lines are {\"end\":\"client\",\"rest\":N} or
+{\"end\":\"client\",\"fault\":{..}}, and of \"server\" the same.
 After each message of CLIENT those of SERVER are read up to the first Reply to a call whose request
 hasn't been read; that one waits.
 

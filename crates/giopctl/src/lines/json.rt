@@ -32,6 +32,24 @@ impl fmt::Display for OctetJson {
     }
 }
 
+// Octets between the quotes of a text of JSON.
+#[derive(Clone, Copy)]
+struct OctetsJson<'a>(&'a [u8]);
+
+impl fmt::Display for OctetsJson<'_> {
+    ghost use Rattle.std.specs.Prelude.{Some};
+    ghost use Rattle.giopctl.specs.JsonLines.{octets_json};
+
+    ghost output = { λ t. Some (octets_json t.0.now) };
+
+    fn fmt<W: fmt::Write>(&self, f: &mut fmt::Formatter<W>) -> fmt::Result {
+        for octet in self.0 {
+            write!(f, "{}", OctetJson(*octet))?;
+        }
+        Ok(())
+    }
+}
+
 /// Octets as a text of JSON, in which the characters U+0000 to U+00FF stand for them.
 #[derive(Clone, Copy)]
 pub struct TextJson<'a>(pub &'a [u8]);
@@ -43,11 +61,7 @@ impl fmt::Display for TextJson<'_> {
     ghost output = { λ t. Some (text_json t.0.now) };
 
     fn fmt<W: fmt::Write>(&self, f: &mut fmt::Formatter<W>) -> fmt::Result {
-        f.write_str("\"")?;
-        for octet in self.0 {
-            write!(f, "{}", OctetJson(*octet))?;
-        }
-        f.write_str("\"")
+        write!(f, "\"{}\"", OctetsJson(self.0))
     }
 }
 
@@ -99,14 +113,8 @@ impl fmt::Display for CdrFaultJson {
     ghost output = { λ t. Some (cdr_fault_json t.0) };
 
     fn fmt<W: fmt::Write>(&self, f: &mut fmt::Formatter<W>) -> fmt::Result {
-        let fault = self.0;
-        write!(
-            f,
-            "{{\"number\":{},\"name\":\"{}\",\"at\":{}}}",
-            fault.number(),
-            fault.kind,
-            fault.at
-        )
+        let (number, kind, at) = (self.0.number(), self.0.kind, self.0.at);
+        write!(f, "{{\"number\":{number},\"name\":\"{kind}\",\"at\":{at}}}")
     }
 }
 
@@ -121,14 +129,9 @@ impl fmt::Display for WireFaultJson {
     ghost output = { λ t. Some (wire_fault_json t.0) };
 
     fn fmt<W: fmt::Write>(&self, f: &mut fmt::Formatter<W>) -> fmt::Result {
-        let fault = self.0;
-        write!(
-            f,
-            "{{\"number\":{},\"name\":\"{}\",\"at\":{}}}",
-            fault.number(),
-            fault.kind,
-            fault.at
-        )
+        let WireFault { at, kind } = self.0;
+        let number = kind.number();
+        write!(f, "{{\"number\":{number},\"name\":\"{kind}\",\"at\":{at}}}")
     }
 }
 

@@ -69,7 +69,8 @@ fn write_system_exception<W: Write>(
     let completion = CompletionText(completion);
     write!(
         writer,
-        "{{\"what\":\"system_exception\",\"exception\":{id},\"minor\":{minor},\"minor_hex\":\"0x{hex}\",\"completion\":{completion}}}"
+        "{{\"what\":\"system_exception\",\"exception\":{id},\"minor\":{minor},\
+         \"minor_hex\":\"0x{hex}\",\"completion\":{completion}}}"
     )?;
     Ok(())
 }
