@@ -22,8 +22,8 @@ _giopctl() {
             case "$path:$word" in
                 'giopctl:-'*) words='-h --help -V --version' ;;
                 'giopctl dump:-'*) words='--message-limit -h --help' ;;
-                'giopctl check:-'*) words='--interface --message-limit --calls-limit --gathered-limit -h --help' ;;
-                'giopctl trace:-'*) words='--interface --message-limit -h --help' ;;
+                'giopctl check:-'*) words='--interface --strict --message-limit --calls-limit --gathered-limit -h --help' ;;
+                'giopctl trace:-'*) words='--interface --json --message-limit -h --help' ;;
                 'giopctl convert:-'*) words='-h --help' ;;
                 'giopctl convert ior:-'*) words='-h --help' ;;
                 'giopctl convert corbaloc:-'*) words='-h --help' ;;

@@ -1,5 +1,5 @@
 -- An end that hears what a reader gives, and what is told of it.
-use Rattle.std.proofs.Common.{◌≡◌, ℕ, ◌+◌, ◌≤◌, List, [], ◌++◌, length, length-append, Option, Some, None, Result, Ok, Err, IfOk, OnOk, refl, sym, ap, subst, ◌∙◌, inl, inr, append_assoc, arith}
+use Rattle.std.proofs.Common.{◌≡◌, ℕ, ◌+◌, ◌≤◌, Bool, false, List, [], ◌++◌, length, length-append, Option, Some, None, Result, Ok, Err, IfOk, OnOk, refl, sym, ap, subst, ◌∙◌, inl, inr, append_assoc, arith}
 use Rattle.std.specs.List.{flat_map}
 use Rattle.std.specs.Io.KnownBytes.{Appends, Consumes, IsAtEnd}
 use Rattle.std.proofs.lemmas.List.{append-nil}
@@ -18,8 +18,8 @@ use Rattle.giop_session.specs.Calls.Begun.{no_calls}
 use Rattle.giop_session.specs.Calls.CallTable.{Held}
 use Rattle.giopctl.specs.declared.failure.Failure.{Failure}
 use Rattle.giopctl.specs.declared.status.Status.{Status}
-use Rattle.giopctl.specs.declared.status.Status.TheVariants.{Done, Refused, Usage, InputOutput, Memory}
-use Rattle.giopctl.specs.Check.{Checks, ChecksKnown, HeardKnown, Hears, IsChecked, last_status, nothing_read, server_hears}
+use Rattle.giopctl.specs.declared.status.Status.TheVariants.{Done, Refused, LimitPassed, Usage, InputOutput, Memory}
+use Rattle.giopctl.specs.Check.{Checks, ChecksKnown, HeardKnown, Hears, IsChecked, last_status, nothing_read, server_hears, strict_status}
 use Rattle.giopctl.specs.Dump.{ended}
 use Rattle.giopctl.specs.SessionLines.{last_line}
 use Rattle.giopctl.specs.Table.{server_entry_line, table_text}
@@ -184,24 +184,26 @@ module _ {S : Type 0} (hears : Msg → S → Result (Unit {0}) SessionFault → 
 -- ---- what is told
 
 pub of_status : (interface : Interface) (limits : Limits) (octets : List ℕ) (old new : Option (List ℕ)) (status : Status)
-    → IsChecked interface limits octets old new status → Checks interface limits octets old new status
+    → IsChecked interface limits false octets old new status → Checks interface limits octets old new status
 of_status interface limits octets old new Done is = is
 of_status interface limits octets old new Refused is = is
+of_status interface limits octets old new (LimitPassed limit) is = is
 of_status interface limits octets old new Usage is = is
 of_status interface limits octets old new InputOutput is = tt
 of_status interface limits octets old new Memory is = tt
 
 -- the table and the last line of an end that heard what a reader gave
-pub checked : (interface : Interface) (limits : Limits) (all old middle new : Option (List ℕ)) (fault : Option SessionFault) (left : Unread)
-    (calls : Held ServerRule ServerEntry) (r : Result Status Failure)
+pub checked : (interface : Interface) (limits : Limits) (strict : Bool) (all old middle new : Option (List ℕ)) (fault : Option SessionFault) (left : Unread)
+    (calls : Held ServerRule ServerEntry) (s : Status) (r : Result Status Failure)
     → HeardKnown (server_hears interface) all (nothing_read limits) (no_calls (record {}) limits) fault left calls
     → Appends old middle (table_text (server_entry_line interface) calls.table)
-    → OnOk r (Appends middle new (ended (last_line fault (length left.octets))))
-    → IfOk r (λ status. status ≡ last_status fault (length left.octets))
-    → IfOk r (ChecksKnown interface limits all old new)
-checked interface limits all old middle new fault left calls (Err failure) heard table line status = tt
-checked interface limits None old middle new fault left calls (Ok s) heard table line status = tt
-checked interface limits (Some octets) old middle new fault left calls (Ok s) heard table line status = record {
+    → Appends middle new (ended (last_line fault (length left.octets)))
+    → s ≡ last_status fault (length left.octets)
+    → IfOk r (λ status. status ≡ strict_status strict calls.table s)
+    → IfOk r (ChecksKnown interface limits strict all old new)
+checked interface limits strict all old middle new fault left calls s (Err failure) heard table line last status = tt
+checked interface limits strict None old middle new fault left calls s (Ok t) heard table line last status = tt
+checked interface limits strict (Some octets) old middle new fault left calls s (Ok t) heard table line last status = record {
   fault = fault;
   left = left;
   calls = calls;
@@ -209,5 +211,5 @@ checked interface limits (Some octets) old middle new fault left calls (Ok s) he
   text =
       Appends-append old middle new (table_text (server_entry_line interface) calls.table) (ended (last_line fault (length left.octets)))
       table line;
-  is = status;
+  is = status ∙ ap (strict_status strict calls.table) last;
 }

@@ -10,7 +10,8 @@ use Rattle.std.specs.List.{All, flat_map}
 use Rattle.std.specs.Io.KnownBytes.{Appends, Consumes, IsAtEnd, Keeps}
 use Rattle.giop_msg.specs.declared.msg.Msg.{Msg}
 use Rattle.giop_msg.specs.declared.fault.WireFault.{WireFault}
-use Rattle.giop_msg.specs.declared.fault.WireKind.TheVariants.{NoMemory}
+use Rattle.giop_msg.specs.declared.fault.WireKind.{WireKind}
+use Rattle.giop_msg.specs.declared.fault.WireKind.TheVariants.{BadMagic, BadVersion, ReservedFlags, BadKind, TooLarge, BadSize, FragmentSize, NotFragmentable, NoMemory}
 use Rattle.giop_msg.specs.Header.{header_fault}
 use Rattle.giop_msg.specs.Msg.{message_octets, IsMessage}
 use Rattle.giop_msg.specs.Stream.{Unread, IsRefusal, Waits, TakesMessage, BeginsWithMessage, BeginsWithFault}
@@ -18,8 +19,9 @@ use Rattle.giop_msg.proofs.StreamLemmas.{length-message_octets, message_or_fault
 use Rattle.giopctl.specs.declared.failure.Failure.{Failure}
 use Rattle.giopctl.specs.declared.status.Status.{Status}
 use Rattle.giopctl.specs.declared.status.Status.TheVariants.{Done, Refused}
-use Rattle.giopctl.specs.Dump.{Dumps, DumpsKnown, Prints, messages_text, message_text, end_line, rest_fault, ended}
+use Rattle.giopctl.specs.Dump.{Dumps, DumpsKnown, Leaves, Prints, messages_text, message_text, end_line, rest_fault, ended}
 use Rattle.giopctl.specs.Lines.{rest_line, fault_line}
+use Rattle.giopctl.specs.Status.{header_status}
 
 -- a writer's contents that grew by xs and then by ys grew by both
 pub Appends-append : (a b c : Option (List ℕ)) (xs ys : List ℕ) → Appends a b xs → Appends b c ys → Appends a c (xs ++ ys)
@@ -151,11 +153,12 @@ nothing_left (x ∷ rest) none = absurd (omega (arith, none))
 
 -- the status tells whether something is left
 pub dumps_rest : (limit : ℕ) (octets : List ℕ) (start next : Option (List ℕ)) (messages : List Msg) (rest : List ℕ)
-    → Prints limit octets start next messages rest → Dumps limit octets start next (if length rest == 0 then Done else Refused)
-dumps_rest limit octets start next messages rest prints =
+    → Prints limit octets start next messages rest → rest_fault limit rest ≡ None
+    → Dumps limit octets start next (if length rest == 0 then Done else Refused)
+dumps_rest limit octets start next messages rest prints none =
     elim (eqb_tells (length rest) 0) as (λ _. Dumps limit octets start next (if length rest == 0 then Done else Refused)) [
       | inl h ↦ rw h.0 (messages, subst (Prints limit octets start next messages) (nothing_left rest h.1) prints)
-      | inr h ↦ rw h.0 (messages, rest, prints, λ none. h.1 (ap length none))
+      | inr h ↦ rw h.0 (messages, rest, prints, λ empty. h.1 (ap length empty), rw none refl)
     ]
 
 -- where nothing more is fed and no message and no fault stands at the front, the rest is told
@@ -172,15 +175,29 @@ ends_at_rest {limit} {octets} {start} {now} {at} {messages} unread left next (Ok
     let no_message : BeginsWithMessage limit unread.octets → ⊥ = subst (λ n. BeginsWithMessage n unread.octets → ⊥) same waits.no_message in
     let no_fault : (e : WireFault) → BeginsWithFault limit unread.octets e → ⊥ =
     subst (λ n. (e : WireFault) → BeginsWithFault n unread.octets e → ⊥) same waits.no_fault in
-    let prints = prints_end unread.octets next None shown whole no_message (rest_fault-none limit unread.octets no_fault) text in
-    subst (Dumps limit octets start next) (sym status) (dumps_rest limit octets start next messages unread.octets prints)
+    let sound = rest_fault-none limit unread.octets no_fault in
+    let prints = prints_end unread.octets next None shown whole no_message sound text in
+    subst (Dumps limit octets start next) (sym status) (dumps_rest limit octets start next messages unread.octets prints sound)
+
+-- where octets are left at a header with a fault, the status is one of two
+dumps_left : (limit : ℕ) (octets : List ℕ) (start next : Option (List ℕ)) (kind : WireKind)
+    → Leaves limit octets start next (header_status kind) → Dumps limit octets start next (header_status kind)
+dumps_left limit octets start next BadMagic leaves = leaves
+dumps_left limit octets start next BadVersion leaves = leaves
+dumps_left limit octets start next ReservedFlags leaves = leaves
+dumps_left limit octets start next BadKind leaves = leaves
+dumps_left limit octets start next TooLarge leaves = leaves
+dumps_left limit octets start next BadSize leaves = leaves
+dumps_left limit octets start next FragmentSize leaves = leaves
+dumps_left limit octets start next NotFragmentable leaves = leaves
+dumps_left limit octets start next NoMemory leaves = leaves
 
 -- a fault at the front is told, and something is left
 pub ends_at_fault : {limit : ℕ} {octets : List ℕ} {start now : Option (List ℕ)} {at : ℕ} {messages : List Msg}
     (unread : Unread) (left : List ℕ) (next : Option (List ℕ)) (e : WireFault) (r : Result Status Failure)
     → Shown limit octets start now unread.octets left at messages → unread.limit ≡ limit → IsRefusal unread e
     → OnOk r (Appends now next (ended (fault_line at e)))
-    → IfOk r (λ s. (s ≡ Refused) × (e.kind ≢ NoMemory))
+    → IfOk r (λ s. (s ≡ header_status e.kind) × (e.kind ≢ NoMemory))
     → IfOk r (Dumps limit octets start next)
 ends_at_fault {limit} {octets} {start} {now} {at} {messages} unread left next e (Err f) shown same refusal text status = tt
 ends_at_fault {limit} {octets} {start} {now} {at} {messages} unread left next e (Ok s) shown same (inr memory) text status =
@@ -189,9 +206,11 @@ ends_at_fault {limit} {octets} {start} {now} {at} {messages} unread left next e 
     let front : BeginsWithFault limit unread.octets e = subst (λ n. BeginsWithFault n unread.octets e) same stands in
     let rest = unread.octets ++ left in
     let there : BeginsWithFault limit rest e = fault_stands limit unread.octets left e front in
-    let prints = prints_end rest next (Some e) shown refl (λ m. message_or_fault limit rest e m there) (rest_fault-stands limit rest e there) text in
+    let wrong = rest_fault-stands limit rest e there in
+    let prints = prints_end rest next (Some e) shown refl (λ m. message_or_fault limit rest e m there) wrong text in
     subst (Dumps limit octets start next) (sym status.0)
-    (messages, rest, prints, λ none. let twelve : 12 ≤ length rest = there.0 in absurd (omega (arith, twelve, ap length none)))
+    (dumps_left limit octets start next e.kind
+    (messages, rest, prints, (λ none. let twelve : 12 ≤ length rest = there.0 in absurd (omega (arith, twelve, ap length none))), rw wrong refl))
 
 -- the same of a reader whose octets may be known, from the octets that it had at first to those that
 -- it has left
@@ -279,7 +298,7 @@ of_rest {limit} {all} {left} {start} {now} {at} unread next (Ok s) shown same en
 known_fault : (limit : ℕ) (start now : Option (List ℕ)) (at : ℕ) (all left : Option (List ℕ)) (unread : Unread) (next : Option (List ℕ)) (e : WireFault)
     (s : Status)
     → Known limit all left start now unread.octets at → unread.limit ≡ limit → IsRefusal unread e
-    → Appends now next (ended (fault_line at e)) → (s ≡ Refused) × (e.kind ≢ NoMemory)
+    → Appends now next (ended (fault_line at e)) → (s ≡ header_status e.kind) × (e.kind ≢ NoMemory)
     → DumpsKnown limit all start next s
 unfolding Known
 known_fault limit start now at None left unread next e s shown same refusal text status = tt
@@ -291,7 +310,7 @@ known_fault limit start now at (Some octets) (Some left) unread next e s shown s
 pub of_fault : {limit : ℕ} {all left start now : Option (List ℕ)} {at : ℕ} (unread : Unread) (next : Option (List ℕ)) (e : WireFault)
     (r : Result Status Failure)
     → ShownOf limit all left start now unread.octets at → unread.limit ≡ limit → IsRefusal unread e
-    → OnOk r (Appends now next (ended (fault_line at e))) → IfOk r (λ s. (s ≡ Refused) × (e.kind ≢ NoMemory))
+    → OnOk r (Appends now next (ended (fault_line at e))) → IfOk r (λ s. (s ≡ header_status e.kind) × (e.kind ≢ NoMemory))
     → IfOk r (DumpsKnown limit all start next)
 of_fault unread next e (Err f) shown same refusal text status = tt
 of_fault {limit} {all} {left} {start} {now} {at} unread next e (Ok s) shown same refusal text status =

@@ -8,7 +8,7 @@ use Rattle.giop_session.specs.Pumping.{Between, between}
 use Rattle.giop_types.specs.declared.json.interface.Interface.{Interface}
 use Rattle.giopctl.specs.declared.failure.Failure.{Failure}
 use Rattle.giopctl.specs.declared.status.Status.{Status}
-use Rattle.giopctl.specs.declared.status.Status.TheVariants.{Done, Refused, Usage, InputOutput, Memory}
+use Rattle.giopctl.specs.declared.status.Status.TheVariants.{Done, Refused, LimitPassed, Usage, InputOutput, Memory}
 use Rattle.giopctl.specs.Acts.{Outbox}
 use Rattle.giopctl.specs.Calling.{Asked, CallsAll, ClientCalls, Converses, ConversesIf, Talks, are_over, begun, client_hears, new_box}
 use Rattle.giopctl.specs.Dump.{ended}
@@ -24,7 +24,7 @@ pub called : (asked : Asked) (before after : Wire) (old new : Option (List ℕ))
     → CallsAll asked None (new_box asked.limits) refused box
     → Talks asked.interface refused (begun asked.limits before.input before.output box) (between after.input after.output outgoing unread left fault)
     → OnOk r (Appends old new (session_text (client_entry_line asked.interface) left.table (told refused fault)))
-    → IfOk r (λ status. status ≡ call_status refused left.table) → IfOk r (IsCalled asked before after old new)
+    → IfOk r (λ status. status ≡ call_status refused fault left.table) → IfOk r (IsCalled asked before after old new)
 called asked before after old new refused box outgoing unread left fault (Err failure) calls talks text is = tt
 called asked before after old new refused box outgoing unread left fault (Ok status) calls talks text is = record {
   refused = refused;
@@ -44,6 +44,7 @@ pub calls_told : (asked : Asked) (before after : Wire) (old new : Option (List �
     → Calls asked before after old new status
 calls_told asked before after old new Done is = is
 calls_told asked before after old new Refused is = is
+calls_told asked before after old new (LimitPassed limit) is = is
 calls_told asked before after old new Usage is = is
 calls_told asked before after old new InputOutput is = tt
 calls_told asked before after old new Memory is = tt
@@ -71,6 +72,7 @@ pub serves_told : (number : ℕ) (it : Served) (before after : Wire) (old new : 
     → IsServed number it before after old new status → Serves number it before after old new status
 serves_told number it before after old new Done is = is
 serves_told number it before after old new Refused is = is
+serves_told number it before after old new (LimitPassed limit) is = is
 serves_told number it before after old new Usage is = is
 serves_told number it before after old new InputOutput is = tt
 serves_told number it before after old new Memory is = tt

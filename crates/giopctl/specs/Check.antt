@@ -1,6 +1,9 @@
 -- What a run of `check` does: a server's end hears the octets of a file.
-use Rattle.std.specs.Prelude.{◌≡◌, ◌≤◌, ◌^◌, ◌⊎◌, ℕ, ◌==◌, List, [], ◌++◌, Option, Some, None, Result, Ok, Err, ⊤, if◌then◌else◌, length}
+use Rattle.std.specs.Prelude.{◌≡◌, ◌≤◌, ◌^◌, ◌⊎◌, ℕ, ◌==◌, Bool, true, false, List, [], ◌++◌, Option, Some, None, Result, Ok, Err, ⊤, if◌then◌else◌, length}
+use Rattle.std.specs.FinMap as finite
+use Rattle.std.specs.List.{list_all}
 use Rattle.std.specs.Io.KnownBytes.{Appends}
+use Rattle.giop_ids.specs.ById.{ById}
 use Rattle.giop_msg.specs.declared.msg.Msg.{Msg}
 use Rattle.giop_msg.specs.Stream.{Unread}
 use Rattle.giop_types.specs.declared.json.form_fault.FormFault.{FormFault}
@@ -8,13 +11,16 @@ use Rattle.giop_types.specs.declared.json.interface.Interface.{Interface}
 use Rattle.giop_types.specs.JsonForms.DescFromJson.{json_in}
 use Rattle.giop_types.specs.JsonForms.InterfaceFromJson.{interface_told, interface_view}
 use Rattle.giop_calls.specs.declared.server.entry.ServerEntry.{ServerEntry}
+use Rattle.giop_calls.specs.declared.server.entry.ServerEntry.TheVariants.{Undecoded}
 use Rattle.giop_calls.specs.declared.server.rule.ServerRule.{ServerRule}
 use Rattle.giop_calls.specs.ServerTable.{server_step, is_closed, is_gathering}
 use Rattle.giop_session.specs.declared.limits.Limits.{Limits}
 use Rattle.giop_session.specs.declared.session_fault.SessionFault.{SessionFault}
 use Rattle.giop_session.specs.declared.session_fault.SessionFault.TheVariants.{Closed}
+use Rattle.giop_session.specs.declared.calls.slot.Slot.{Slot}
 use Rattle.giop_session.specs.Calls.Begun.{no_calls}
 use Rattle.giop_session.specs.Calls.CallTable.{Held}
+use Rattle.giop_session.specs.Calls.Sending.{entry_of}
 use Rattle.giop_session.specs.Hearing.Feeding.{Fed, with_octets}
 use Rattle.giop_session.specs.Hearing.Heard.{hears_by, in_call}
 use Rattle.giop_session.specs.Hearing.ServerHears.{server_befalls, server_breaks}
@@ -24,17 +30,32 @@ use Rattle.giopctl.specs.declared.lines.refusal.RefusalLine.TheVariants.{Form}
 use Rattle.giopctl.specs.Convert.{Tells}
 use Rattle.giopctl.specs.Dump.{ended}
 use Rattle.giopctl.specs.SessionLines.{last_line}
+use Rattle.giopctl.specs.Status.{broken_status}
 use Rattle.giopctl.specs.Table.{server_entry_line, table_text}
 
 -- the status of a session that ended with a fault: an orderly end is none of its own
 abbrev pub fault_status : SessionFault → Status
 fault_status Closed = Done
-fault_status _ = Refused
+fault_status why = broken_status why
 
 -- the status of an end with this fault, or with so many octets unread
 abbrev pub last_status : Option SessionFault → ℕ → Status
 last_status (Some why) unread = fault_status why
 last_status None unread = if unread == 0 then Done else Refused
+
+-- whether what stands for an id was decoded, as far as it is there
+abbrev pub is_decoded : Option ServerEntry → Bool
+is_decoded (Some (Undecoded call)) = false
+is_decoded _ = true
+
+-- whether all that stands in a table was decoded
+abbrev pub all_decoded : ById (Slot ServerEntry) → Bool
+all_decoded table = list_all (λ id. is_decoded (entry_of (finite.get table id))) (finite.keys table)
+
+-- the status of a check where it is strict: what can't be decoded is refused too
+abbrev pub strict_status : Bool → ById (Slot ServerEntry) → Status → Status
+strict_status true table Done = if all_decoded table then Done else Refused
+strict_status _ table status = status
 
 -- what an end answers at which this fault stands
 abbrev pub answer_of : Option SessionFault → Result (Unit {0}) SessionFault
@@ -83,8 +104,8 @@ end_text interface calls fault unread =
     table_text (server_entry_line interface) calls.table ++ ended (last_line fault unread)
 
 -- a new server's end of an interface, with these limits, heard these octets, the writer's contents
--- grew by its text, and this is its status
-pub record IsChecked (interface : Interface) (limits : Limits) (octets : List ℕ)
+-- grew by its text, and this is its status, strictly or not
+pub record IsChecked (interface : Interface) (limits : Limits) (strict : Bool) (octets : List ℕ)
     (old new : Option (List ℕ)) (status : Status) : Type 0 where
   pub fault : Option SessionFault
   pub left : Unread
@@ -93,27 +114,29 @@ pub record IsChecked (interface : Interface) (limits : Limits) (octets : List �
       Hears (server_hears interface) octets (nothing_read limits) (no_calls (record {}) limits) fault
       left calls
   pub text : Appends old new (end_text interface calls fault (length left.octets))
-  pub is : status ≡ last_status fault (length left.octets)
+  pub is : status ≡ strict_status strict calls.table (last_status fault (length left.octets))
 
--- what a check of these octets does to the writer's contents, by the status that it answers
+-- what a check of these octets that isn't strict does to the writer's contents, by the status that
+-- it answers
 abbrev pub Checks : Interface → Limits → List ℕ → Option (List ℕ) → Option (List ℕ) → Status
     → Type 0
 Checks interface limits octets old new InputOutput = ⊤
 Checks interface limits octets old new Memory = ⊤
-Checks interface limits octets old new status = IsChecked interface limits octets old new status
+Checks interface limits octets old new status =
+    IsChecked interface limits false octets old new status
 
 -- what a check does of the octets that a reader gives, where they are known and nothing failed
-abbrev pub ChecksKnown : Interface → Limits → Option (List ℕ) → Option (List ℕ) → Option (List ℕ)
-    → Status → Type 0
-ChecksKnown interface limits None old new status = ⊤
-ChecksKnown interface limits (Some octets) old new status =
-    IsChecked interface limits octets old new status
+abbrev pub ChecksKnown : Interface → Limits → Bool → Option (List ℕ) → Option (List ℕ)
+    → Option (List ℕ) → Status → Type 0
+ChecksKnown interface limits strict None old new status = ⊤
+ChecksKnown interface limits strict (Some octets) old new status =
+    IsChecked interface limits strict octets old new status
 
 -- such a check by the interface that a JSON text is; where it is none, its fault is reported alone
-abbrev pub ChecksText : List ℕ → Limits → Option (List ℕ) → Option (List ℕ) → Option (List ℕ)
-    → Status → Type 0
-ChecksText text limits octets old new status =
+abbrev pub ChecksText : List ℕ → Limits → Bool → Option (List ℕ) → Option (List ℕ)
+    → Option (List ℕ) → Status → Type 0
+ChecksText text limits strict octets old new status =
     ((interface : Interface) × (interface_told (json_in text) ≡ Ok (interface_view interface))
-    × ChecksKnown interface limits octets old new status)
+    × ChecksKnown interface limits strict octets old new status)
     ⊎ ((status ≡ Refused) × ((e : FormFault) × (interface_told (json_in text) ≡ Err e)
     × Tells old new (Form e)))

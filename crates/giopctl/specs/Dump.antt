@@ -1,5 +1,5 @@
 -- The whole text of `dump`, and what a run of it does.
-use Rattle.std.specs.Prelude.{◌≢◌, ℕ, ◌+◌, ◌-◌, List, [], ◌∷◌, ◌++◌, Option, Some, None, length, take, nat_le, if◌then◌else◌, Result, Ok, Err, ⊤}
+use Rattle.std.specs.Prelude.{◌≡◌, ◌≢◌, ℕ, ◌+◌, ◌-◌, List, [], ◌∷◌, ◌++◌, Option, Some, None, length, take, nat_le, if◌then◌else◌, Result, Ok, Err, ⊤}
 use Rattle.std.specs.List.{flat_map}
 use Rattle.std.specs.Io.KnownBytes.{Appends}
 use Rattle.giop_cdr.specs.declared.fault.CdrFault.{CdrFault}
@@ -17,9 +17,10 @@ use Rattle.giop_msg.specs.Msg.{message_octets}
 use Rattle.giop_msg.specs.RequestId.{request_id_of}
 use Rattle.giop_msg.specs.Stream.{Msgs}
 use Rattle.giopctl.specs.declared.status.Status.{Status}
-use Rattle.giopctl.specs.declared.status.Status.TheVariants.{Done, Refused, Usage, InputOutput, Memory}
+use Rattle.giopctl.specs.declared.status.Status.TheVariants.{Done, Refused, LimitPassed, Usage, InputOutput, Memory}
 use Rattle.giopctl.specs.Lines.{message_line, request_line, reply_line, locate_request_line, locate_reply_line, head_fault_line}
 use Rattle.giopctl.specs.Lines.{fault_line, rest_line}
+use Rattle.giopctl.specs.Status.{header_status}
 
 -- a line and its newline
 abbrev pub ended : List ℕ → List ℕ
@@ -95,13 +96,24 @@ pub record Prints (limit : ℕ) (octets : List ℕ) (old new : Option (List ℕ)
   pub split : Msgs limit octets messages rest
   pub text : Appends old new (dump_text limit messages rest)
 
+-- the status where octets are left: that of the fault in the header that begins them, if there is one
+abbrev pub left_status : Option WireFault → Status
+left_status (Some e) = header_status e.kind
+left_status None = Refused
+
+-- octets are left behind the messages, and the status says why
+abbrev pub Leaves : ℕ → List ℕ → Option (List ℕ) → Option (List ℕ) → Status → Type 0
+Leaves limit octets old new status =
+    (messages : List Msg) × (rest : List ℕ) × Prints limit octets old new messages rest
+    × (rest ≢ []) × (status ≡ left_status (rest_fault limit rest))
+
 -- what a dump of these octets does to the writer's contents, by the status that it answers: it is
 -- done exactly where the octets are messages and nothing else
 abbrev pub Dumps : ℕ → List ℕ → Option (List ℕ) → Option (List ℕ) → Status → Type 0
 Dumps limit octets old new Done = (messages : List Msg) × Prints limit octets old new messages []
-Dumps limit octets old new Refused =
-    (messages : List Msg) × (rest : List ℕ) × Prints limit octets old new messages rest
-    × (rest ≢ [])
+Dumps limit octets old new Refused = Leaves limit octets old new Refused
+Dumps limit octets old new (LimitPassed passed) =
+    Leaves limit octets old new (LimitPassed passed)
 Dumps limit octets old new Usage = ⊥
 Dumps limit octets old new InputOutput = ⊤
 Dumps limit octets old new Memory = ⊤

@@ -10,6 +10,7 @@ pub mod Bodies
 pub mod Table
 pub mod Check
 pub mod TraceLines
+pub mod JsonLines
 pub mod Trace
 pub mod Steps
 pub mod Acts

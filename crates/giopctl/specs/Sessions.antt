@@ -24,6 +24,7 @@ use Rattle.giopctl.specs.Dump.{ended}
 use Rattle.giopctl.specs.Serving as serving
 use Rattle.giopctl.specs.Serving.{Served, ServerCalls, new_server}
 use Rattle.giopctl.specs.SessionLines.{session_fault_line}
+use Rattle.giopctl.specs.Status.{broken_status}
 use Rattle.giopctl.specs.Table.{client_entry_line, server_entry_line, table_text}
 
 -- ---- what is printed
@@ -59,10 +60,17 @@ is_well None = true
 abbrev pub all_well : ById (Slot ClientEntry) → Bool
 all_well table = list_all (λ id. is_well (entry_of (finite.get table id))) (finite.keys table)
 
--- the status of calls: done where none was refused at this end and all went well
-abbrev pub call_status : Option SessionFault → ById (Slot ClientEntry) → Status
-call_status None table = if all_well table then Done else Refused
-call_status (Some why) table = Refused
+-- the status of calls that didn't go well, in a session with this fault or without
+abbrev pub unwell_status : Option SessionFault → Status
+unwell_status (Some why) = broken_status why
+unwell_status None = Refused
+
+-- the status of calls, by the fault of a refused one and the end's own: done where none was refused
+-- at this end and all went well
+abbrev pub call_status : Option SessionFault → Option SessionFault → ById (Slot ClientEntry)
+    → Status
+call_status None fault table = if all_well table then Done else unwell_status fault
+call_status (Some why) fault table = broken_status why
 
 -- the fault that is reported: that of the call which was refused at this end, else the end's own
 abbrev pub told : Option SessionFault → Option SessionFault → Option SessionFault
@@ -94,7 +102,7 @@ pub record IsCalled (asked : Asked) (before after : Wire) (old new : Option (Lis
       (between after.input after.output outgoing unread left fault)
   pub text : Appends old new
       (session_text (client_entry_line asked.interface) left.table (told refused fault))
-  pub is : status ≡ call_status refused left.table
+  pub is : status ≡ call_status refused fault left.table
 
 -- what `call` did, by the status that the calls end with
 abbrev pub Calls : Asked → Wire → Wire → Option (List ℕ) → Option (List ℕ) → Status → Type 0

@@ -1,10 +1,21 @@
 -- What a run of `trace` comes to.
-use Rattle.std.specs.Prelude.{ℕ, ◌==◌, Option, Some, None, if◌then◌else◌}
+use Rattle.std.specs.Prelude.{ℕ, ◌==◌, List, Option, Some, None, if◌then◌else◌}
 use Rattle.giop_msg.specs.declared.fault.WireFault.{WireFault}
+use Rattle.giop_trace.specs.declared.direction.Direction.{Direction}
+use Rattle.giopctl.specs.declared.commands.trace.call_line.LineForm.{LineForm}
+use Rattle.giopctl.specs.declared.commands.trace.call_line.LineForm.TheVariants.{Text, Json}
 use Rattle.giopctl.specs.declared.status.Status.{Status}
 use Rattle.giopctl.specs.declared.status.Status.TheVariants.{Done, Refused}
+use Rattle.giopctl.specs.JsonLines.{direction_end_json}
+use Rattle.giopctl.specs.Status.{header_status}
+use Rattle.giopctl.specs.TraceLines.{direction_end}
 
 -- the status of a direction that ends with this fault in a header, or with so many octets left
 abbrev pub direction_status : Option WireFault → ℕ → Status
-direction_status (Some fault) rest = Refused
+direction_status (Some fault) rest = header_status fault.kind
 direction_status None rest = if rest == 0 then Done else Refused
+
+-- how a direction ends, in a line of a form
+abbrev pub direction_end_in : LineForm → Direction → Option WireFault → ℕ → List ℕ
+direction_end_in Text = direction_end
+direction_end_in Json = direction_end_json

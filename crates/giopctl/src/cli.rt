@@ -3,9 +3,10 @@
 //! and tests/program too.
 ghost use Rattle.giopctl.specs.Check.{AreLimits};
 
-use crate::commands::Way;
 use crate::commands::session::words::{call, call_words, serve, serve_words};
 pub use crate::commands::session::words::{CallWords, ServeWords};
+use crate::commands::{LineForm, Way};
+use crate::files::apart;
 use crate::limit_words::{limited, limits_of, message_limit, message_limit_of};
 use clap::error::ErrorKind;
 use clap::{Arg, ArgAction, ArgMatches, Command, Error};
@@ -49,6 +50,8 @@ pub struct CheckWords<'a> {
     pub file: &'a str,
     /// What the end that hears it holds at most.
     pub limits: Limits,
+    /// Whether what can't be decoded is refused.
+    pub strict: bool,
     pub ghost bounded: { AreLimits limits },
 }
 
@@ -63,6 +66,8 @@ pub struct TraceWords<'a> {
     pub server: Option<&'a str>,
     /// The greatest message size, the header not counted.
     pub limit: u32,
+    /// The form of its lines.
+    pub form: LineForm,
 }
 
 /// The kinds of `convert`.
@@ -118,7 +123,8 @@ The interface is a JSON object of operations, each with its ins and outs:
 
 Exit statuses:
   0  no octets are left, or the client closed the connection
-  1  octets are left, or there is another fault; or the interface is refused
+  1  octets are left, or there is another fault; or the interface is refused; with --strict also
+     where anything is Undecoded
   2  usage
   3  reading or writing failed
   4  out of memory
@@ -146,6 +152,9 @@ and it came to
 A message without a place in a call is told by itself, as Client KIND OCTETS or Server KIND OCTETS.
 Calls that are open at the end follow in ascending order of their ids. The last lines tell how many
 octets of each direction are left, or what is wrong with the header that stands there.
+With --json each call is {\"id\":ID,\"asked\":{..},\"outcome\":{..}}, in which \"what\" says
+what each is; the last lines are {\"end\":\"client\",\"rest\":N} or
+{\"end\":\"client\",\"fault\":{..}}, and of \"server\" the same.
 After each message of CLIENT those of SERVER are read up to the first Reply to a call whose request
 hasn't been read; that one waits.
 
@@ -257,7 +266,10 @@ pub fn task_of<'a>(alloc: Global, words: &'a [String]) -> Result<Option<Task<'a>
         };
     }
     match matches.subcommand_matches("convert") {
-        Some(convert) => Ok(conversion(convert)),
+        Some(convert) => match conversion(convert) {
+            Ok(task) => Ok(task),
+            Err(wrong) => Err(misused(alloc, wrong)?),
+        },
         None => Ok(None),
     }
 }
@@ -268,18 +280,30 @@ fn misused(alloc: Global, wrong: &str) -> Result<Error, AllocError> {
     command.error(ErrorKind::ValueValidation, wrong)
 }
 
-fn conversion<'a>(convert: &ArgMatches<'a>) -> Option<Task<'a>> {
+fn conversion<'a>(convert: &ArgMatches<'a>) -> Result<Option<Task<'a>>, &'static str> {
     if let Some(ior) = convert.subcommand_matches("ior") {
-        return converted(ior, Some(ConvertKind::Ior));
+        return Ok(converted(ior, Some(ConvertKind::Ior)));
     }
     if let Some(corbaloc) = convert.subcommand_matches("corbaloc") {
-        return converted(corbaloc, Some(ConvertKind::Corbaloc));
+        return Ok(converted(corbaloc, Some(ConvertKind::Corbaloc)));
     }
     if let Some(encode) = convert.subcommand_matches("encode") {
-        return converted(encode, value_of(encode, Way::Encode));
+        return value_conversion(encode, Way::Encode);
     }
-    let decode = convert.subcommand_matches("decode")?;
-    converted(decode, value_of(decode, Way::Decode))
+    match convert.subcommand_matches("decode") {
+        Some(decode) => value_conversion(decode, Way::Decode),
+        None => Ok(None),
+    }
+}
+
+fn value_conversion<'a>(
+    matches: &ArgMatches<'a>,
+    way: Way,
+) -> Result<Option<Task<'a>>, &'static str> {
+    if let (Some(desc), Some(file)) = (matches.get_str("desc"), matches.get_str("FILE")) {
+        apart(desc, file)?;
+    }
+    Ok(converted(matches, value_of(matches, way)))
 }
 
 fn dumped<'a>(matches: &ArgMatches<'a>) -> Result<Option<Task<'a>>, &'static str> {
@@ -296,10 +320,13 @@ fn checked<'a>(matches: &ArgMatches<'a>) -> Result<Option<Task<'a>>, &'static st
     else {
         return Ok(None);
     };
+    apart(interface, file)?;
+    let strict = matches.get_flag("strict");
     Ok(Some(Task::Check(CheckWords {
         interface,
         file,
         limits,
+        strict,
     })))
 }
 
@@ -309,11 +336,22 @@ fn traced<'a>(matches: &ArgMatches<'a>) -> Result<Option<Task<'a>>, &'static str
     else {
         return Ok(None);
     };
+    let server = matches.get_str("SERVER");
+    apart(interface, client)?;
+    if let Some(server) = server {
+        apart(interface, server)?;
+        apart(client, server)?;
+    }
+    let form = match matches.get_flag("json") {
+        true => LineForm::Json,
+        false => LineForm::Text,
+    };
     Ok(Some(Task::Trace(TraceWords {
         interface,
         client,
-        server: matches.get_str("SERVER"),
+        server,
         limit,
+        form,
     })))
 }
 
@@ -367,13 +405,18 @@ fn check<'a>(alloc: Global) -> Result<Command<'a>, AllocError> {
         .required(true)
         .value_name("FILE")
         .help("The file of the interface, in JSON");
+    let strict = Arg::new(alloc, "strict")
+        .long("strict")
+        .action(ArgAction::SetTrue)
+        .help("What can't be decoded is refused: status 1");
     let file = Arg::new(alloc, "FILE").required(true).help(
         "A file of what a client sent, or - for the standard input",
     );
     let command = Command::new(alloc, "check")
         .about("Shows what becomes of the calls of a file")
         .after_help(CHECK_HELP)
-        .arg(interface)?;
+        .arg(interface)?
+        .arg(strict)?;
     limited(alloc, command)?.arg(file)
 }
 
@@ -383,6 +426,10 @@ fn trace<'a>(alloc: Global) -> Result<Command<'a>, AllocError> {
         .required(true)
         .value_name("FILE")
         .help("The file of the interface, in JSON");
+    let json = Arg::new(alloc, "json")
+        .long("json")
+        .action(ArgAction::SetTrue)
+        .help("Each line is an object of JSON");
     let client = Arg::new(alloc, "CLIENT").required(true).help(
         "A file of what the client sent, or - for the standard input",
     );
@@ -391,6 +438,7 @@ fn trace<'a>(alloc: Global) -> Result<Command<'a>, AllocError> {
         .about("Shows each call of a connection, and what it came to")
         .after_help(TRACE_HELP)
         .arg(interface)?
+        .arg(json)?
         .arg(message_limit(alloc))?
         .arg(client)?
         .arg(server)

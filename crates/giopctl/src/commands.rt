@@ -23,5 +23,6 @@ pub use serve::given::Serving;
 pub use serve::{serve_over, serve_session};
 pub use session::table::{Tabled, write_table};
 pub use session::target::{Endpoint, Targeted, target_of};
+pub use trace::call_line::LineForm;
 pub use trace::text::trace_text;
 pub use trace::{Heard, trace_stream};

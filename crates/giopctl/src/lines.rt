@@ -1,10 +1,11 @@
 //! The lines that the commands write, without their newlines. Each is pinned to a text in
-//! specs/Lines.antt, TableLines.antt, SessionLines.antt, ConvertLines.antt or TraceLines.antt, and
-//! docs/giopctl.md shows it: change all three.
+//! specs/Lines.antt, TableLines.antt, SessionLines.antt, ConvertLines.antt, TraceLines.antt or
+//! JsonLines.antt, and docs/giopctl.md or docs/FORMATS.md shows it: change all three.
 
 mod cdr_fault;
 mod client_entry;
 mod end;
+mod json;
 mod locate;
 mod message;
 mod octets;
@@ -20,6 +21,9 @@ mod traced;
 pub use cdr_fault::CdrFaultText;
 pub use client_entry::{ClientEntryLine, CompletionText};
 pub use end::{FaultLine, HeadFaultLine, RestLine};
+pub use json::{
+    CdrFaultJson, DirectionEndJson, HexJson, IdJson, RefusedJson, TargetJson, TextJson,
+};
 pub use locate::{LocateReplyLine, LocateRequestLine};
 pub use message::MessageLine;
 pub use octets::{EscapedText, HexText};

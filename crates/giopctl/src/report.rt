@@ -5,7 +5,7 @@ ghost use Rattle.clap.specs.Words.{kind_of};
 ghost use Rattle.giopctl.specs.Status.{answered_status, usage_status};
 
 use crate::failure::Failure;
-use crate::status::Status;
+use crate::status::{Limit, Status};
 use clap::error::ErrorKind as UsageKind;
 use giop_types::{FormFault, Interface};
 use serde_json::Value as Json;
@@ -41,12 +41,16 @@ pub fn usage(rt: &(impl Print + Eprint), error: &clap::Error) -> Status
     }
 }
 
-/// The status of what a command on this file returned. A failure is printed.
+/// The status of what a command on this file returned. A failure is printed, and where a limit was
+/// passed the option that raises it.
 pub fn answer(rt: &impl Eprint, file: &str, answered: Result<Status, Failure>) -> Status
     ensures { result ≡ answered_status answered }
 {
     let failure = match answered {
-        Ok(status) => return status,
+        Ok(status) => {
+            passed(rt, file, status);
+            return status;
+        }
         Err(failure) => failure,
     };
     match &failure {
@@ -59,6 +63,22 @@ pub fn answer(rt: &impl Eprint, file: &str, answered: Result<Status, Failure>) -
         Failure::Output(error) => output_failed(rt, error),
     }
     failure.status()
+}
+
+// Prints the option that raises the limit that was passed, if one was.
+fn passed(rt: &impl Eprint, file: &str, status: Status) {
+    if let Status::LimitPassed(limit) = status {
+        let _ = eprintln!(rt; "giopctl: {file}: {}; raise it by {limit}", above(limit));
+    }
+}
+
+// What is said of a limit that was passed.
+fn above(limit: Limit) -> &'static str {
+    match limit {
+        Limit::Message => "a message is larger than its limit",
+        Limit::Calls => "there are more calls than the limit",
+        Limit::Gathered => "unfinished messages have more octets than the limit",
+    }
 }
 
 /// Prints what is wrong with the text of an interface, and where, as far as that is known; nothing

@@ -2,6 +2,37 @@
 //! docs/giopctl.md and the help list them: change all of these.
 ghost use Rattle.std.specs.Prelude.{◌≡◌};
 
+use giop_msg::WireKind;
+use giop_session::SessionFault;
+use std::fmt;
+
+/// A limit of what is held, as an option gives it.
+#[derive(Clone, Copy, Debug, PartialEq, Eq)]
+pub enum Limit {
+    /// The octets of a message, its header not counted: `--message-limit`.
+    Message,
+    /// The calls in the table: `--calls-limit`.
+    Calls,
+    /// The octets of all messages of which a piece is still to come: `--gathered-limit`.
+    Gathered,
+}
+
+/// The option by which a limit is given.
+impl fmt::Display for Limit {
+    ghost use Rattle.std.specs.Prelude.{Some};
+    ghost use Rattle.giopctl.specs.Status.{limit_option};
+
+    ghost output = { λ l. Some (limit_option l) };
+
+    fn fmt<W: fmt::Write>(&self, f: &mut fmt::Formatter<W>) -> fmt::Result {
+        f.write_str(match self {
+            Limit::Message => "--message-limit",
+            Limit::Calls => "--calls-limit",
+            Limit::Gathered => "--gathered-limit",
+        })
+    }
+}
+
 /// How a run of the program ends: its exit status.
 #[derive(Clone, Copy, Debug, PartialEq, Eq)]
 pub enum Status {
@@ -9,6 +40,8 @@ pub enum Status {
     Done,
     /// The input was read and refused.
     Refused,
+    /// The input was read and refused, since it passes a limit.
+    LimitPassed(Limit),
     /// The words on the command line are none that the program knows.
     Usage,
     /// Reading the input or writing the output failed, or a connection did, or a session took all
@@ -20,7 +53,29 @@ pub enum Status {
 
 impl Status {
     ghost use Rattle.std.specs.Prelude.{max};
-    ghost use Rattle.giopctl.specs.Status.{status_number};
+    ghost use Rattle.giopctl.specs.Status.{broken_status, header_status, status_number};
+
+    /// The status of what ends at a header with a fault of this kind.
+    pub fn of_header(kind: WireKind) -> Status
+        ensures { result ≡ header_status kind }
+    {
+        match kind {
+            WireKind::TooLarge => Status::LimitPassed(Limit::Message),
+            _ => Status::Refused,
+        }
+    }
+
+    /// The status of a session that a fault broke off.
+    pub fn broken_by(fault: SessionFault) -> Status
+        ensures { result ≡ broken_status fault }
+    {
+        match fault {
+            SessionFault::Wire(fault) => Status::of_header(fault.kind),
+            SessionFault::TooManyCalls => Status::LimitPassed(Limit::Calls),
+            SessionFault::GatherFull => Status::LimitPassed(Limit::Gathered),
+            _ => Status::Refused,
+        }
+    }
 
     /// The number that the process ends with, 0 to 4.
     pub fn number(self) -> u8
@@ -28,7 +83,7 @@ impl Status {
     {
         match self {
             Status::Done => 0,
-            Status::Refused => 1,
+            Status::Refused | Status::LimitPassed(_) => 1,
             Status::Usage => 2,
             Status::InputOutput => 3,
             Status::Memory => 4,

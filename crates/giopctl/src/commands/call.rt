@@ -44,8 +44,8 @@ use std::io::{Read, Write};
 /// written to the peer, and the fault is that of the call. A peer that breaks the protocol is sent
 /// a MessageError.
 ///
-/// It is `Done` where no call was refused and each got its result, or was sent and has none; else
-/// `Refused`. Where reading or writing fails, or 65,536 turns are taken, it is `InputOutput`. Where
+/// It is `Done` where no call was refused and each got its result, or was sent and has none;
+/// `LimitPassed` where a limit kept one from it; else `Refused`. Where reading or writing fails, or 65,536 turns are taken, it is `InputOutput`. Where
 /// it is out of memory, it is `Memory`. After either, a part of the text may be written.
 pub fn call_session<R: Read, W: Write, O: Write>(
     alloc: Global,
@@ -117,7 +117,8 @@ fn tell<O: Write>(
     ensures text { OnOk result (Appends (O.contents out.old) (O.contents out.new)
         (session_text (client_entry_line interface.now) end.now.calls.table
         (told refused end.now.fault))) }
-    ensures ok { IfOk result (λ status. status ≡ call_status refused end.now.calls.table) }
+    ensures ok { IfOk result (λ status. status
+        ≡ call_status refused end.now.fault end.now.calls.table) }
 {
     let fault = told(refused, end.fault());
     write_session(alloc, interface, end, fault, out)?;
@@ -354,23 +355,26 @@ fn call_status(
     refused: Option<SessionFault>,
     end: &ClientEnd<'_>,
 ) -> Result<Status, Failure>
-    ensures { IfOk result (λ status. status ≡ call_status refused end.now.calls.table) }
+    ensures { IfOk result (λ status. status
+        ≡ call_status refused end.now.fault end.now.calls.table) }
 {
     match refused {
-        Some(_) => Ok(Status::Refused),
+        Some(fault) => Ok(Status::broken_by(fault)),
         None => own_status(alloc, end),
     }
 }
 
 // The status of the calls where none was refused.
 fn own_status(alloc: Global, end: &ClientEnd<'_>) -> Result<Status, Failure>
-    ensures { IfOk result (λ status. status ≡ call_status None end.now.calls.table) }
+    ensures { IfOk result (λ status. status ≡ call_status None end.now.fault end.now.calls.table) }
 {
     if all_well(alloc, end)? {
-        Ok(Status::Done)
-    } else {
-        Ok(Status::Refused)
+        return Ok(Status::Done);
     }
+    Ok(match end.fault() {
+        Some(fault) => Status::broken_by(fault),
+        None => Status::Refused,
+    })
 }
 
 // Whether all calls went well.

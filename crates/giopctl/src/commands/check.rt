@@ -8,8 +8,10 @@ ghost use Rattle.giopctl.specs.Dump.{ended};
 ghost use Rattle.giopctl.specs.SessionLines.{last_line, session_fault_line};
 
 pub mod files;
+pub mod strict;
 pub mod text;
 
+use crate::commands::check::strict::strictly;
 use crate::commands::dump::BehindFault;
 use crate::commands::dump::messages::write_rest;
 use crate::commands::session::table::write_table;
@@ -25,8 +27,8 @@ use std::io::{ErrorKind, Read, Write};
 
 /// Writes the table of a server's end that hears the octets of a file, a line for each of its
 /// calls, and then how many octets are left, or the fault that ends it. It is `Done` where no
-/// octets are left, and where the one fault is that the client closed the connection; else
-/// `Refused`.
+/// octets are left, and where the one fault is that the client closed the connection; `LimitPassed`
+/// where a limit ended it; else `Refused`.
 ///
 /// Where writing fails, it is `InputOutput`. Where it is out of memory, it is `Memory`. After
 /// either, a part of the text may be written.
@@ -44,6 +46,7 @@ pub fn check_octets<W: Write>(
         alloc,
         interface,
         Limits::default(),
+        false,
         &mut left,
         writer,
         BehindFault::Read,
@@ -54,25 +57,28 @@ pub fn check_octets<W: Write>(
 }
 
 /// Does what `check_octets` does, for the octets that a reader gives and an end with these limits.
-/// Where something fails, what failed is returned in place of a status. No more octets are held
-/// than a message, a piece, and the calls. Nothing is written before all is heard.
+/// Where it is strict, it is `Refused` also where anything can't be decoded. Where something fails,
+/// what failed is returned in place of a status. No more octets are held than a message, a piece,
+/// and the calls. Nothing is written before all is heard.
 pub fn check_stream<R: Read, W: Write>(
     alloc: Global,
     interface: &Interface,
     limits: Limits,
+    strict: bool,
     reader: &mut R,
     writer: &mut W,
     behind: BehindFault,
 ) -> Result<Status, Failure>
     requires { AreLimits limits }
-    ensures text { IfOk result (ChecksKnown interface.now limits (R.remaining reader.old)
+    ensures text { IfOk result (ChecksKnown interface.now limits strict (R.remaining reader.old)
         (W.contents writer.old) (W.contents writer.new)) }
     ensures end { OnOk result (behind ≡ BehindFault.Read → IsAtEnd (R.remaining reader.new)) }
 {
     let mut end = ServerEnd::new(alloc, interface, limits);
     hear(alloc, &mut end, reader, behind)?;
     write_table(alloc, interface, &end, writer)?;
-    write_last(&end, writer)
+    let status = write_last(&end, writer)?;
+    strictly(alloc, strict, &end, status)
 }
 
 // Feeds an end with what a reader gives, to its end or to the first fault.
@@ -132,6 +138,6 @@ fn write_fault<W: Write>(fault: SessionFault, writer: &mut W) -> Result<Status, 
     writeln!(writer, "{}", SessionFaultLine(fault))?;
     Ok(match fault {
         SessionFault::Closed => Status::Done,
-        _ => Status::Refused,
+        fault => Status::broken_by(fault),
     })
 }

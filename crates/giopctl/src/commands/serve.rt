@@ -42,8 +42,8 @@ use std::io::{Read, Write};
 /// A peer that breaks the protocol is sent a MessageError. An answer that can't be sent, such as
 /// one that passes a limit, ends the session with its fault.
 ///
-/// It is `Done` where there is no fault, or the peer closed the connection; else `Refused`. Where
-/// reading or writing fails, or 65,536 turns are taken, it is `InputOutput`. Where it is out of
+/// It is `Done` where there is no fault, or the peer closed the connection; `LimitPassed` where a
+/// limit ended it; else `Refused`. Where reading or writing fails, or 65,536 turns are taken, it is `InputOutput`. Where it is out of
 /// memory, it is `Memory`. After either, a part of the text may be written.
 pub fn serve_session<R: Read, W: Write, O: Write>(
     alloc: Global,
@@ -135,7 +135,7 @@ fn serve_status(fault: Option<SessionFault>) -> Status
 {
     match fault {
         Some(SessionFault::Closed) | None => Status::Done,
-        Some(_) => Status::Refused,
+        Some(fault) => Status::broken_by(fault),
     }
 }
 

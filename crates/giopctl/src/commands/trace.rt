@@ -3,19 +3,22 @@ ghost use Rattle.std.specs.Prelude.{◌≡◌, None, IfNone, IfOk, OnOk, false};
 ghost use Rattle.std.specs.Io.KnownBytes.{IsAtEnd};
 
 mod answer_part;
+mod answered;
+mod asked;
 mod asked_part;
-mod call_line;
+pub mod call_line;
 pub mod files;
 mod incoming;
+mod json;
 pub mod text;
 
-use crate::commands::trace::call_line::{Unanswered, write_call};
+use crate::commands::trace::call_line::{LineForm, Unanswered, write_call};
 use crate::commands::trace::incoming::{Brought, Incoming};
 use crate::failure::Failure;
 use crate::status::Status;
 use giop_trace::{Direction, Observer};
 use giop_types::Interface;
-use std::alloc::Global;
+use std::alloc::{AllocError, Global};
 use std::io;
 use std::io::{ErrorKind, Read, Write};
 
@@ -32,6 +35,7 @@ pub enum Heard {
 // waits for its request.
 #[derive(Drop)]
 struct Tracing {
+    form: LineForm,
     observer: Observer,
     client: Incoming,
     server: Incoming,
@@ -42,7 +46,8 @@ struct Tracing {
 /// the octets that two readers give: what the client sent, and what the server sent. Where the
 /// client alone is heard, nothing is read from the other reader, and a call is over when its
 /// request is whole. The last lines are how many octets of each direction are left, or the fault
-/// that ends it. It is `Done` where none are left, else `Refused`.
+/// that ends it. It is `Done` where none are left, `LimitPassed` where a message is larger than the
+/// limit, else `Refused`. Each line has this form.
 ///
 /// After each message of the client, those of the server are read up to the first Reply whose
 /// request isn't whole yet; that one waits. At the end of the client's, what is left of the
@@ -52,6 +57,7 @@ pub fn trace_stream<C: Read, S: Read, W: Write>(
     alloc: Global,
     interface: &Interface,
     limit: u32,
+    form: LineForm,
     heard: Heard,
     client: &mut C,
     server: &mut S,
@@ -63,25 +69,43 @@ pub fn trace_stream<C: Read, S: Read, W: Write>(
         → IsAtEnd (S.remaining server.new)) }
     ensures alone { heard ≡ Heard.Client → S.remaining server.new ≡ S.remaining server.old }
 {
-    let mut tracing = Tracing {
+    let mut tracing = begun(alloc, limit, form, heard)?;
+    if heard == Heard::Client {
+        hear_client(alloc, interface, &mut tracing, client, writer)?;
+        write_open(alloc, interface, &tracing, writer)?;
+        return tracing.client.write_end(form, Direction::Client, writer);
+    }
+    hear_both(alloc, interface, &mut tracing, client, server, writer)?;
+    write_open(alloc, interface, &tracing, writer)?;
+    let client = tracing.client.write_end(form, Direction::Client, writer)?;
+    let server = tracing.server.write_end(form, Direction::Server, writer)?;
+    Ok(status_of_both(client, server))
+}
+
+// Nothing of a connection is read. Messages of both directions may have this size.
+fn begun(alloc: Global, limit: u32, form: LineForm, heard: Heard) -> Result<Tracing, AllocError>
+    ensures client { IfOk result (λ tracing. tracing.client.framer.limit ≡ limit) }
+    ensures server { IfOk result (λ tracing. tracing.server.framer.limit ≡ limit) }
+    ensures form { IfOk result (λ tracing. tracing.form ≡ form) }
+{
+    Ok(Tracing {
+        form,
         observer: Observer::new(alloc, heard == Heard::Client),
         client: Incoming::new(alloc, limit)?,
         server: Incoming::new(alloc, limit)?,
         held: None,
-    };
-    if heard == Heard::Client {
-        hear_client(alloc, interface, &mut tracing, client, writer)?;
-        write_open(alloc, interface, &tracing.observer, writer)?;
-        return tracing.client.write_end(Direction::Client, writer);
-    }
-    hear_both(alloc, interface, &mut tracing, client, server, writer)?;
-    write_open(alloc, interface, &tracing.observer, writer)?;
-    let client = tracing.client.write_end(Direction::Client, writer)?;
-    let server = tracing.server.write_end(Direction::Server, writer)?;
-    Ok(match client {
-        Status::Done => server,
-        _ => client,
     })
+}
+
+// The status of two directions: done where both are; a limit that was passed is told first.
+fn status_of_both(client: Status, server: Status) -> Status
+    ensures { result ≡ Status.Done → (client ≡ Status.Done) × (server ≡ Status.Done) }
+{
+    match (client, server) {
+        (Status::Done, _) => server,
+        (Status::Refused, Status::LimitPassed(_)) => server,
+        _ => client,
+    }
 }
 
 // Hears all messages of the client.
@@ -204,6 +228,7 @@ fn tell<W: Write>(
     ensures server { tracing.new.server ≡ tracing.old.server }
 {
     let told = tracing.observer.hear(direction, brought.message)?;
+    let form = tracing.form;
     let unanswered = if tracing.observer.alone {
         Unanswered::Untold
     } else {
@@ -211,10 +236,10 @@ fn tell<W: Write>(
     };
     if let Some(flow) = &told.earlier {
         let open = still_open(&tracing.observer);
-        write_call(alloc, interface, told.id, flow, open, writer)?;
+        write_call(alloc, interface, form, told.id, flow, open, writer)?;
     }
     if let Some(flow) = &told.over {
-        write_call(alloc, interface, told.id, flow, unanswered, writer)?;
+        write_call(alloc, interface, form, told.id, flow, unanswered, writer)?;
     }
     Ok(())
 }
@@ -223,14 +248,15 @@ fn tell<W: Write>(
 fn write_open<W: Write>(
     alloc: Global,
     interface: &Interface,
-    observer: &Observer,
+    tracing: &Tracing,
     writer: &mut W,
 ) -> Result<(), Failure> {
+    let (observer, form) = (&tracing.observer, tracing.form);
     let ids = observer.ids(alloc)?;
     let open = still_open(observer);
     for id in &ids {
         if let Some(flow) = observer.flow(*id) {
-            write_call(alloc, interface, Some(*id), flow, open, writer)?;
+            write_call(alloc, interface, form, Some(*id), flow, open, writer)?;
         }
     }
     Ok(())

@@ -4,9 +4,9 @@ use giop_msg::{Target, WireFault};
 use giop_trace::Direction;
 use std::fmt;
 
-// The name of a direction: `client` or `server`.
+/// The name of a direction: `client` or `server`.
 #[derive(Clone, Copy)]
-struct DirectionText(Direction);
+pub struct DirectionText(pub Direction);
 
 impl fmt::Display for DirectionText {
     ghost use Rattle.std.specs.Prelude.{Some};

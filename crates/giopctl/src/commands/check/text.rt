@@ -24,17 +24,20 @@ pub fn check_text<R: Read, W: Write>(
     alloc: Global,
     interface: &[u8],
     limits: Limits,
+    strict: bool,
     reader: &mut R,
     writer: &mut W,
     behind: BehindFault,
 ) -> Result<Status, Failure>
     requires { AreLimits limits }
-    ensures text { IfOk result (ChecksText interface.now limits (R.remaining reader.old)
+    ensures text { IfOk result (ChecksText interface.now limits strict (R.remaining reader.old)
         (W.contents writer.old) (W.contents writer.new)) }
     ensures end { OnOk result (behind ≡ BehindFault.Read → IsAtEnd (R.remaining reader.new)) }
 {
     match Interface::from_json(alloc, interface) {
-        Ok(interface) => check_stream(alloc, &interface, limits, reader, writer, behind),
+        Ok(interface) => {
+            check_stream(alloc, &interface, limits, strict, reader, writer, behind)
+        },
         Err(fault) => {
             let line = form_refusal(fault)?;
             read_on(alloc, reader, behind)?;

@@ -4,6 +4,7 @@ ghost use Rattle.std.specs.Io.KnownBytes.{Appends};
 ghost use Rattle.giop_msg.specs.declared.fault.WireKind.TheVariants.{NoMemory};
 ghost use Rattle.giopctl.specs.Dump.{ended, message_text};
 ghost use Rattle.giopctl.specs.Lines.{fault_line, rest_line};
+ghost use Rattle.giopctl.specs.Status.{header_status};
 
 use crate::commands::dump::heads::write_second;
 use crate::failure::Failure;
@@ -44,11 +45,11 @@ pub fn write_rest<W: Write>(rest: usize, writer: &mut W) -> Result<Status, Failu
 pub fn write_fault<W: Write>(at: usize, fault: WireFault, writer: &mut W) -> Result<Status, Failure>
     ensures text { OnOk result
         (Appends (W.contents writer.old) (W.contents writer.new) (ended (fault_line at fault))) }
-    ensures ok { IfOk result (λ s. (s ≡ Status.Refused) × (fault.kind ≢ NoMemory)) }
+    ensures ok { IfOk result (λ s. (s ≡ header_status fault.kind) × (fault.kind ≢ NoMemory)) }
 {
     if fault.kind == WireKind::NoMemory {
         return Err(Failure::Memory);
     }
     writeln!(writer, "{}", FaultLine { at, fault })?;
-    Ok(Status::Refused)
+    Ok(Status::of_header(fault.kind))
 }

@@ -4,6 +4,7 @@ ghost use Rattle.std.specs.Prelude.{IfOk};
 ghost use Rattle.giop_session.specs.Acts.Form.{IsForm};
 ghost use Rattle.giopctl.specs.Check.{AreLimits};
 
+use crate::files::apart;
 use crate::limit_words::{limited, limits_of};
 use clap::builder::ValueParser;
 use clap::{Arg, ArgAction, ArgMatches, Command};
@@ -194,6 +195,7 @@ pub fn call_words<'a>(matches: &ArgMatches<'a>) -> Result<CallWords<'a>, &'stati
     ) else {
         return Err("--target, --interface and FILE are wanted");
     };
+    apart(interface, file)?;
     Ok(CallWords {
         target,
         interface,
@@ -220,6 +222,7 @@ pub fn serve_words<'a>(matches: &ArgMatches<'a>) -> Result<ServeWords<'a>, &'sta
     ) else {
         return Err("--interface, --answers and --key are wanted");
     };
+    apart(interface, answers)?;
     if !is_hexadecimal(key) {
         return Err("--key is pairs of hexadecimal digits");
     }

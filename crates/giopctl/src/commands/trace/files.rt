@@ -77,8 +77,17 @@ fn traced<C: Read, S: Read>(
     server: &mut S,
 ) -> Result<Status, Failure> {
     let mut writer = BufWriter::with_capacity(rt.alloc(), OUTPUT_BUFFER, io::writer(rt))?;
-    let (alloc, limit) = (rt.alloc(), words.limit);
-    let status = trace_text(alloc, interface, limit, heard, client, server, &mut writer)?;
+    let (alloc, limit, form) = (rt.alloc(), words.limit, words.form);
+    let status = trace_text(
+        alloc,
+        interface,
+        limit,
+        form,
+        heard,
+        client,
+        server,
+        &mut writer,
+    )?;
     writer.flush()?;
     Ok(status)
 }

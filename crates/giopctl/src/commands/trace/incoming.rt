@@ -2,11 +2,11 @@
 ghost use Rattle.std.specs.Prelude.{◌≡◌, ◌^◌, ◌<◌, None, IfNone, IfOk, OnOk, length};
 ghost use Rattle.std.specs.Io.KnownBytes.{Appends, IsAtEnd};
 ghost use Rattle.giopctl.specs.Dump.{ended};
-ghost use Rattle.giopctl.specs.Trace.{direction_status};
-ghost use Rattle.giopctl.specs.TraceLines.{direction_end};
+ghost use Rattle.giopctl.specs.Trace.{direction_end_in, direction_status};
 
+use crate::commands::trace::call_line::LineForm;
 use crate::failure::Failure;
-use crate::lines::DirectionEndLine;
+use crate::lines::{DirectionEndJson, DirectionEndLine};
 use crate::pieces::PieceBuffer;
 use crate::status::Status;
 use giop_msg::{Framer, Msg, WireFault, WireKind};
@@ -36,7 +36,10 @@ pub struct Brought {
 
 impl Incoming {
     /// Nothing is read. Messages may have this size, the header not counted.
-    pub fn new(alloc: Global, limit: u32) -> Result<Incoming, AllocError> {
+    pub fn new(alloc: Global, limit: u32) -> Result<Incoming, AllocError>
+        ensures limit { IfOk result (λ incoming. incoming.framer.limit ≡ limit) }
+        ensures ok { IfOk result (λ incoming. incoming.fault ≡ None) }
+    {
         Ok(Incoming {
             framer: Framer::new(alloc, limit),
             fault: None,
@@ -77,28 +80,53 @@ impl Incoming {
     }
 
     /// The last line of a direction: how many octets are left, or what is wrong with the header
-    /// that stands there. It is `Done` where none are left and nothing is wrong, else `Refused`.
+    /// that stands there. It is `Done` where none are left and nothing is wrong, `LimitPassed` where
+    /// a message is larger than the limit, else `Refused`.
     pub fn write_end<W: Write>(
         &self,
+        form: LineForm,
         direction: Direction,
         writer: &mut W,
     ) -> Result<Status, Failure>
         ensures text { OnOk result (Appends (W.contents writer.old) (W.contents writer.new)
-            (ended (direction_end direction self.now.fault (length self.now.framer.octets)))) }
+            (ended (direction_end_in form direction self.now.fault
+            (length self.now.framer.octets)))) }
         ensures ok { IfOk result (λ status. status
             ≡ direction_status self.now.fault (length self.now.framer.octets)) }
         ensures done { IfOk result (λ status. status ≡ Status.Done → self.now.fault ≡ None) }
     {
-        let rest = self.framer.rest();
-        let line = DirectionEndLine {
-            direction,
-            fault: self.fault,
-            rest,
-        };
-        writeln!(writer, "{line}")?;
-        Ok(match self.fault {
-            None if rest == 0 => Status::Done,
-            _ => Status::Refused,
-        })
+        let (fault, rest) = (self.fault, self.framer.rest());
+        match form {
+            LineForm::Text => writeln!(
+                writer,
+                "{}",
+                DirectionEndLine {
+                    direction,
+                    fault,
+                    rest
+                }
+            )?,
+            LineForm::Json => writeln!(
+                writer,
+                "{}",
+                DirectionEndJson {
+                    direction,
+                    fault,
+                    rest
+                }
+            )?,
+        }
+        Ok(direction_status(fault, rest))
+    }
+}
+
+// The status of a direction that ends with this fault in a header, or with so many octets left.
+fn direction_status(fault: Option<WireFault>, rest: usize) -> Status
+    ensures { result ≡ direction_status fault rest }
+{
+    match fault {
+        Some(fault) => Status::of_header(fault.kind),
+        None if rest == 0 => Status::Done,
+        None => Status::Refused,
     }
 }

@@ -1,22 +1,28 @@
 //! `trace` by the text of an interface.
-ghost use Rattle.std.specs.Prelude.{◌≡◌, IfOk};
-ghost use Rattle.std.specs.Io.KnownBytes.{IsAtEnd};
+ghost use Rattle.std.specs.Prelude.{◌≡◌, IfOk, OnOk};
+ghost use Rattle.std.specs.Io.KnownBytes.{Appends, IsAtEnd};
+ghost use Rattle.giopctl.specs.Dump.{ended};
+ghost use Rattle.giopctl.specs.JsonLines.{refused_json};
 
 use crate::commands::convert::refuse;
 use crate::commands::convert::value::form_refusal;
+use crate::commands::trace::call_line::LineForm;
 use crate::commands::trace::{Heard, trace_stream};
 use crate::failure::Failure;
+use crate::lines::RefusedJson;
 use crate::status::Status;
-use giop_types::Interface;
+use giop_types::{FormFault, Interface};
 use std::alloc::Global;
 use std::io::{Read, Write};
 
 /// Traces the octets that two readers give by an interface in JSON, as `trace_stream` says. Where
-/// the text is no interface, the line of its fault is written, and nothing is read; `Refused`.
+/// the text is no interface, the line of its fault is written in this form, and nothing is read;
+/// `Refused`.
 pub fn trace_text<C: Read, S: Read, W: Write>(
     alloc: Global,
     interface: &[u8],
     limit: u32,
+    form: LineForm,
     heard: Heard,
     client: &mut C,
     server: &mut S,
@@ -29,7 +35,25 @@ pub fn trace_text<C: Read, S: Read, W: Write>(
     ensures alone { heard ≡ Heard.Client → S.remaining server.new ≡ S.remaining server.old }
 {
     match Interface::from_json(alloc, interface) {
-        Ok(interface) => trace_stream(alloc, &interface, limit, heard, client, server, writer),
-        Err(fault) => refuse(form_refusal(fault)?, writer),
+        Ok(interface) => trace_stream(
+            alloc, &interface, limit, form, heard, client, server, writer,
+        ),
+        Err(fault) => match form {
+            LineForm::Text => refuse(form_refusal(fault)?, writer),
+            LineForm::Json => refuse_json(fault, writer),
+        },
     }
+}
+
+// Writes the JSON line of the fault of an interface.
+fn refuse_json<W: Write>(fault: FormFault, writer: &mut W) -> Result<Status, Failure>
+    ensures text { OnOk result (Appends (W.contents writer.old) (W.contents writer.new)
+        (ended (refused_json fault))) }
+    ensures ok { IfOk result (λ status. status ≡ Status.Refused) }
+{
+    if fault == FormFault::NoMemory {
+        return Err(Failure::Memory);
+    }
+    writeln!(writer, "{}", RefusedJson(fault))?;
+    Ok(Status::Refused)
 }
