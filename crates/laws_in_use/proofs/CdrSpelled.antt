@@ -87,6 +87,9 @@ no_octets = record { first = 0; front = 0 ∷ 0 ∷ 0 ∷ 0 ∷ []; back = []; w
 pub octet_of_two : SpellsOctets Big 0 (2 ∷ []) (0 ∷ 0 ∷ 0 ∷ 1 ∷ 2 ∷ [])
 octet_of_two = record { first = 1; front = 0 ∷ 0 ∷ 0 ∷ 1 ∷ []; back = 2 ∷ []; whole = refl; spells_front = one_big; spells_back = (refl, refl) }
 
+pub two_octets : SpellsOctets Big 0 (1 ∷ 0 ∷ []) (0 ∷ 0 ∷ 0 ∷ 2 ∷ 1 ∷ 0 ∷ [])
+two_octets = record { first = 2; front = 0 ∷ 0 ∷ 0 ∷ 2 ∷ []; back = 1 ∷ 0 ∷ []; whole = refl; spells_front = two_big; spells_back = (refl, refl) }
+
 pub hi : SpellsString Little 0 (codes "hi") (3 ∷ 0 ∷ 0 ∷ 0 ∷ 104 ∷ 105 ∷ 0 ∷ [])
 hi = record { first = 3; front = 3 ∷ 0 ∷ 0 ∷ 0 ∷ []; back = 104 ∷ 105 ∷ 0 ∷ []; whole = refl; spells_front = three_little; spells_back = (refl, refl, refl) }
 

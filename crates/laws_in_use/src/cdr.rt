@@ -4,17 +4,19 @@ ghost use Rattle.std.specs.Prelude.{◌≡◌, ◌<◌, ◌++◌, ◌∷◌, [],
 ghost use Rattle.std.specs.Int.{w8, w16, w32, w64};
 ghost use Rattle.giop_cdr.specs.declared.fault.CdrKind.TheVariants.{BadBoolean, BadCount, BadOrder, BadString, BoundPassed, Short};
 ghost use Rattle.giop_cdr.specs.declared.order.Order.TheVariants.{Big, Little};
-ghost use Rattle.giop_cdr.specs.Encapsulation.OfLayout.{encapsulation};
+ghost use Rattle.giop_cdr.specs.Encapsulation.OfLayout.{encapsulation, IsShortTest, IsShortInside};
 ghost use Rattle.giop_cdr.specs.Encapsulation.Opened.{closed, content_of, encapsulation_at, opened, place_opened};
-ghost use Rattle.giop_cdr.specs.Layout.{AreOctets, number};
+ghost use Rattle.giop_cdr.specs.Layout.{AreOctets, IsLawful, number};
 ghost use Rattle.giop_cdr.specs.Reading.Cursor.{pad};
 ghost use Rattle.giop_cdr.specs.Reading.Values.{boolean_at, number_at, octets_at, signed_at, string_at};
 ghost use Rattle.giop_cdr.specs.Spelling.{SpellsBoolean, SpellsNumber, SpellsOctets, SpellsString};
 
 use giop_cdr::laws::{
-    booleans_are_spelled, encapsulations_are_opened_again, numbers_are_spelled, octets_are_spelled,
-    padding_is_least, primitives_are_lawful, strings_are_spelled, written_values_are_read_back,
+    Laid, booleans_are_spelled, encapsulations_are_lawful, encapsulations_are_opened_again,
+    numbers_are_spelled, octets_are_spelled, padding_is_least, primitives_are_lawful,
+    strings_are_spelled, written_values_are_read_back,
 };
+use std::marker::Model;
 
 /// Three octets lead from 13 to the next multiple of 8, and no fewer.
 pub fn three_octets_of_padding()
@@ -143,6 +145,40 @@ pub fn an_encapsulation_in_another_order()
     }) ≡ Err (record { at = 4; kind = BadOrder }) }
 {
     encapsulations_are_opened_again();
+}
+
+/// An unsigned long, of which the layout is that of an unsigned long.
+pub struct Counter {
+    value: u32,
+}
+
+impl Model for Counter {
+    ghost Value = { ℕ };
+
+    ghost view = { λ counter. counter.value };
+}
+
+impl Laid for Counter {
+    ghost layout = { number w32 };
+}
+
+/// A little-endian unsigned long in an encapsulation stands at offset 4 of it, wherever that begins
+/// and whatever the order outside. It is read back; one whose last octet is missing is too short.
+pub fn a_number_within_an_encapsulation()
+    ensures lawful { IsLawful (number w32) }
+    ensures short { IsShortTest Little (λ n. true) (number w32) }
+    ensures inside { IsShortInside Little (number w32) 258 (record { order = Big; at = 6; octets = [] }) }
+    ensures back { (encapsulation Little (λ n. true) (number w32)).read (record {
+      order = Big;
+      at = 6;
+      rest = 0 ∷ 0 ∷ 0 ∷ 0 ∷ 0 ∷ 8 ∷ 1 ∷ 0 ∷ 0 ∷ 0 ∷ 2 ∷ 1 ∷ 0 ∷ 0 ∷ 9 ∷ [];
+    }) ≡ Ok (258, record { order = Big; at = 20; rest = 9 ∷ [] }) }
+    ensures refused { (encapsulation Big (λ n. true) (number w32)).read
+        (record { order = Big; at = 0; rest = 0 ∷ 0 ∷ 0 ∷ 2 ∷ 1 ∷ 0 ∷ [] })
+        ≡ Err (record { at = 4; kind = Short }) }
+{
+    primitives_are_lawful();
+    encapsulations_are_lawful::<Counter>();
 }
 
 /// Layouts in use: what is read is what is spelled, what is written is spelled, and a number that

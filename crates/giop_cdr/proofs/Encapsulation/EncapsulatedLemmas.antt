@@ -15,10 +15,10 @@ use Rattle.giop_cdr.specs.Writing.Output.{Output, octets_of, number_out}
 use Rattle.giop_cdr.specs.Encapsulation.Opened.{order_octet, content_of, opened, place_opened, closed}
 use Rattle.giop_cdr.specs.RoundTrip.{IsSpelled}
 use Rattle.giop_cdr.specs.Layout.{Layout, IsLawful, AreOctets, number}
-use Rattle.giop_cdr.specs.Encapsulation.OfLayout.{Encapsulates, RefusedInside, inside_at, encapsulation, IsShortTest}
+use Rattle.giop_cdr.specs.Encapsulation.OfLayout.{Encapsulates, RefusedInside, inside_at, encapsulation, IsShortTest, IsShortInside, IsBackFromInside}
 use Rattle.giop_cdr.proofs.Reading.Answers.{bind_elim, bind_fails, exact_by, follow_exact, ok_same}
 use Rattle.giop_cdr.proofs.Encapsulation.EncapsulationLemmas.{ended_to, ended_from, closed_is_octets}
-use Rattle.giop_cdr.proofs.Writing.RoundTripLemmas.{octets_back}
+use Rattle.giop_cdr.proofs.Writing.RoundTripLemmas.{octets_back, spelled_is_read_back}
 use Rattle.giop_cdr.proofs.Writing.WrittenNumbers.{length-octets_of}
 use Rattle.giop_cdr.proofs.LayoutLemmas.{any_octets, both, and_true, octets_of_whole, octets_count}
 
@@ -114,17 +114,17 @@ inside_exact P R read exact at (suc (suc k) ∷ octets) behind = record {
 
 -- ---- counted octets
 
-encapsulation_written : {A : Type 0} (order : Order) (is_short : A → Bool) (f : Layout A) → IsShortTest order is_short f → IsLawful f
-    → (v : A) (out : Output) → (f.fits v ≡ true) × (is_short v ≡ true) → f.holds v
+encapsulation_written : {A : Type 0} (order : Order) (f : Layout A) → IsLawful f
+    → (v : A) (out : Output) → f.fits v ≡ true → f.holds v → IsShortInside order f v out
     → IsSpelled (Then SpellsOctets (λ octets o at w b. Encapsulates f.spells octets w × (b ≡ []))) v out
     (closed (place_opened out) (f.written v (opened order out)))
 unfolding opened
-encapsulation_written {A} order is_short f short one v out fits holds =
+encapsulation_written {A} order f one v out fits holds short =
     let now : Output = f.written v (opened order out) in
-    let s = one.written v (opened order out) fits.0 holds in
+    let s = one.written v (opened order out) fits holds in
     let long : length now.octets ≡ length (opened order out).octets + length s.part = ap length s.octets ∙ length-append (opened order out).octets s.part in
     let inside : List ℕ = order_octet order ∷ s.part in
-    let b = octets_back inside out (omega (arith, long, short.written v out fits.0 holds fits.1)) in
+    let b = octets_back inside out (omega (arith, long, short)) in
     subst (λ (done : Output). IsSpelled (Then SpellsOctets (λ octets o at w b. Encapsulates f.spells octets w × (b ≡ []))) v out done)
     (sym (closed_is_octets order out now s.part s.octets))
     (record {
@@ -151,17 +151,34 @@ encapsulation_written {A} order is_short f short one v out fits holds =
       };
     })
 
+encapsulated_exact : {A : Type 0} (order : Order) (is_short : A → Bool) (f : Layout A) → IsExact (Took f.spells) f.refused f.read
+    → IsExact (Took (encapsulation order is_short f).spells) (encapsulation order is_short f).refused (encapsulation order is_short f).read
+unfolding encapsulation
+encapsulated_exact {A} order is_short f exact c = exact_by (InTurn (Took SpellsOctets) (λ octets d v e. Encapsulates f.spells octets v × (e ≡ d)) c) _ _ _ _
+    (λ v e m. ended_to SpellsOctets (Encapsulates f.spells) c v e m) (λ v e t. ended_from SpellsOctets (Encapsulates f.spells) c v e t) (λ e why. why)
+    (λ e why. why)
+    (follow_exact (Took SpellsOctets) (RefusedOctets 0) (λ octets d v e. Encapsulates f.spells octets v × (e ≡ d))
+    (λ octets d. RefusedInside f.refused (place 4 c + 4) octets) c (octets_at 0 c) (λ octets d. inside_at f.read (place 4 c + 4) octets d)
+    (any_octets c) (λ octets d t. inside_exact f.spells f.refused f.read exact (place 4 c + 4) octets d))
+
+-- what is written inside is read back, in the order and the alignment of inside
+pub encapsulated_back : {A : Type 0} (order : Order) {f : Layout A} → IsLawful f → (v : A) (out : Output) → f.fits v ≡ true → f.holds v
+    → IsShortInside order f v out → IsBackFromInside order f v out
+unfolding encapsulation
+encapsulated_back {A} order {f} one v out fits holds short =
+    let s = encapsulation_written order f one v out fits holds short in
+    let e = encapsulation order (λ w. true) f in
+    spelled_is_read_back e.spells e.refused e.read (encapsulated_exact order (λ w. true) f one.exact) v out
+    (closed (place_opened out) (f.written v (opened order out))) s.part s.octets s.order s.at s.spells
+
 pub encapsulation_is : {A : Type 0} (order : Order) (is_short : A → Bool) {f : Layout A} → IsShortTest order is_short f → IsLawful f
     → IsLawful (encapsulation order is_short f)
 unfolding encapsulation
 encapsulation_is {A} order is_short {f} short one = record {
-  exact = λ c. exact_by (InTurn (Took SpellsOctets) (λ octets d v e. Encapsulates f.spells octets v × (e ≡ d)) c) _ _ _ _
-      (λ v e m. ended_to SpellsOctets (Encapsulates f.spells) c v e m) (λ v e t. ended_from SpellsOctets (Encapsulates f.spells) c v e t) (λ e why. why)
-      (λ e why. why)
-      (follow_exact (Took SpellsOctets) (RefusedOctets 0) (λ octets d v e. Encapsulates f.spells octets v × (e ≡ d))
-      (λ octets d. RefusedInside f.refused (place 4 c + 4) octets) c (octets_at 0 c) (λ octets d. inside_at f.read (place 4 c + 4) octets d)
-      (any_octets c) (λ octets d t. inside_exact f.spells f.refused f.read one.exact (place 4 c + 4) octets d));
-  written = λ v out fits holds. encapsulation_written order is_short f short one v out (both _ _ fits) holds;
+  exact = encapsulated_exact order is_short f one.exact;
+  written = λ v out fits holds.
+      let fit = both _ _ fits in
+      encapsulation_written order f one v out fit.0 holds (short.written v out fit.0 holds fit.1);
   fitting = λ o at v octets all s.
       let e = s.spells_back.0 in
       let parts = octets_of_whole octets s.front s.back s.whole all in

@@ -11,6 +11,7 @@ use Rattle.giop_cdr.specs.Reading.Exactness.{Refusal, FirstRefused, Took, Refuse
 use Rattle.giop_cdr.specs.Writing.Output.{Output}
 use Rattle.giop_cdr.specs.Encapsulation.Opened.{order_octet, opened_of, Opens, opened, place_opened, closed}
 use Rattle.giop_cdr.specs.Layout.{Layout, AreOctets}
+use Rattle.giop_cdr.specs.RoundTrip.{IsReadBack}
 
 -- octets are a byte order, a spelling of the value from offset 1 in that order, and any rest
 pub record Encapsulates {A : Type 0} (P : Spelling A) (octets : List ℕ) (v : A) : Type 0 where
@@ -57,3 +58,16 @@ pub record IsShortTest {A : Type 0} (order : Order) (is_short : A → Bool)
       < length (opened order out).octets + (2 ^ 32 - 1)
   pub spelled : (o : Order) (v : A) (octets : List ℕ) → AreOctets octets → f.spells o 1 v octets
       → length octets + 1 < 2 ^ 32 → is_short v ≡ true
+
+-- what is written of a value between the beginning and the end of an encapsulation, with the byte
+-- order, is fewer octets than an unsigned long counts
+abbrev pub IsShortInside : {A : Type 0} → Order → Layout A → A → Output → Type 0
+IsShortInside order f v out =
+    length (f.written v (opened order out)).octets < length (opened order out).octets + (2 ^ 32 - 1)
+
+-- what is written so is read back, in the order and the alignment of the encapsulation, whatever
+-- order and offset the output has outside
+abbrev pub IsBackFromInside : {A : Type 0} → Order → Layout A → A → Output → Type 0
+IsBackFromInside order f v out =
+    IsReadBack (encapsulation order (λ w. true) f).spells (encapsulation order (λ w. true) f).read
+    v out (closed (place_opened out) (f.written v (opened order out)))
