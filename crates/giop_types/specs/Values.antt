@@ -4,5 +4,6 @@ pub mod Views
 pub mod Leaves
 pub mod Fits
 pub mod TreeCode
+pub mod Arriving
 pub mod Same
 pub mod SameLaws

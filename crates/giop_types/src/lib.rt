@@ -13,9 +13,11 @@ mod value;
 mod value_list;
 mod without_memory;
 
+pub use codec::arriving::ArrivingValues;
 pub use codec::decoder::decode;
 pub use codec::encoder::encode;
 pub use codec::fitting::fits;
+pub use codec::value_memory::ValueMemory;
 pub use description::checked_desc::CheckedDesc;
 pub use description::desc::{CaseDesc, Desc, NamedDesc};
 pub use description::desc_fault::DescFault;

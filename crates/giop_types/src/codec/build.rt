@@ -1,8 +1,7 @@
 //! Reading a value in one pass, as long as memory is there. The value and the fault are
 //! specs/Coding/Decoding.antt; skip.rt refuses the same octets without memory, so change them
 //! together.
-ghost use Rattle.std.specs.Prelude.{◌≡◌, ◌≤◌, ◌/◌, true, min, length, map, [], IfOk};
-ghost use Rattle.std.specs.Vec.{vec_capacity};
+ghost use Rattle.std.specs.Prelude.{◌≡◌, ◌≤◌, true, length, map};
 ghost use Rattle.giop_cdr.specs.Reading.Values.{items_at};
 ghost use Rattle.giop_cdr.specs.Reading.Outcome.{Follows};
 ghost use Rattle.giop_types.specs.Coding.Decoding.{decode_at, fields_at, branches_at, bounded_at, row_at};
@@ -12,34 +11,38 @@ ghost use Rattle.giop_types.specs.Values.Views.{desc_view, named_view, case_view
 
 use crate::codec::leaf::{build_leaf, is_primitive, read_primitive};
 use crate::codec::reading::{has_label, read_label, row_length};
+use crate::codec::value_memory::ValueMemory;
 use crate::description::desc::{CaseDesc, Desc, NamedDesc};
 use crate::value::Value;
 use giop_cdr::{CdrFault, CdrIn, CdrKind, Octets};
-use std::alloc::{AllocError, Global};
 
 /// Reads a value of a description, one part after the other.
 #[cycle(build)]
 #[tactic(auto, unfolding(crate::specs::Coding::Decoding::decode_at))]
-pub fn build<S: Octets>(alloc: Global, desc: &Desc, input: &mut CdrIn<S>) -> Result<Value, CdrFault>
+pub fn build<S: Octets>(
+    memory: ValueMemory,
+    desc: &Desc,
+    input: &mut CdrIn<S>,
+) -> Result<Value, CdrFault>
     ensures { Follows value_view result input.new (decode_at (desc_view desc.now) input.old) }
 {
     match desc {
-        Desc::Members(members) => Ok(Value::Members(build_members(alloc, members, input)?)),
+        Desc::Members(members) => Ok(Value::Members(build_members(memory, members, input)?)),
         Desc::Choice {
             disc,
             cases,
             fallback,
         } => {
             let label = read_label(disc, input)?;
-            if let Some(member) = build_case(alloc, &label, cases, input)? {
-                return choice(alloc, &label, Some(member), input);
+            if let Some(member) = build_case(memory, &label, cases, input)? {
+                return choice(memory, &label, Some(member), input);
             }
-            let member = build_fallback(alloc, fallback, input)?;
-            choice(alloc, &label, member, input)
+            let member = build_fallback(memory, fallback, input)?;
+            choice(memory, &label, member, input)
         }
-        Desc::Items(item, bound) => Ok(Value::Items(build_items(alloc, item, *bound, input)?)),
-        Desc::Row(item, n) => Ok(Value::Row(build_row(alloc, item, *n, input)?)),
-        _ => build_leaf(alloc, desc, input),
+        Desc::Items(item, bound) => Ok(Value::Items(build_items(memory, item, *bound, input)?)),
+        Desc::Row(item, n) => Ok(Value::Row(build_row(memory, item, *n, input)?)),
+        _ => build_leaf(memory, desc, input),
     }
 }
 
@@ -47,7 +50,7 @@ pub fn build<S: Octets>(alloc: Global, desc: &Desc, input: &mut CdrIn<S>) -> Res
 #[cycle(build)]
 #[inline(always)]
 pub fn build_part<S: Octets>(
-    alloc: Global,
+    memory: ValueMemory,
     desc: &Desc,
     input: &mut CdrIn<S>,
 ) -> Result<Value, CdrFault>
@@ -56,7 +59,7 @@ pub fn build_part<S: Octets>(
     if is_primitive(desc) {
         return read_primitive(desc, input);
     }
-    build(alloc, desc, input)
+    build(memory, desc, input)
 }
 
 // Out of memory, reported where the reader is.
@@ -72,7 +75,7 @@ fn wanting<S: Octets>(input: &CdrIn<S>) -> CdrFault
 // A union's value: its discriminant, and its member where it has one.
 #[tactic(auto, using(crate::proofs::Values::ViewLemmas::chosen_view, crate::proofs::Values::ViewLemmas::bare_view))]
 fn choice<S: Octets>(
-    alloc: Global,
+    memory: ValueMemory,
     label: &i128,
     member: Option<Value>,
     input: &CdrIn<S>,
@@ -85,7 +88,7 @@ fn choice<S: Octets>(
             member: None,
         });
     };
-    match Box::new(alloc, member) {
+    match memory.in_box(member) {
         Ok(member) => Ok(Value::Choice {
             disc: *label,
             member: Some(member),
@@ -97,7 +100,7 @@ fn choice<S: Octets>(
 // The values of the members of a struct.
 #[cycle(build)]
 fn build_members<S: Octets>(
-    alloc: Global,
+    memory: ValueMemory,
     members: &[NamedDesc],
     input: &mut CdrIn<S>,
 ) -> Result<Vec<Value>, CdrFault>
@@ -105,22 +108,22 @@ fn build_members<S: Octets>(
         (fields_at (fields_of (map named_view members.now)) input.old) }
 {
     let wanting = wanting(input);
-    let Ok(mut values) = Vec::with_capacity(alloc, members.len()) else {
+    let Ok(mut values) = memory.begin_members(members) else {
         return Err(wanting);
     };
     for member in members {
-        let value = build_part(alloc, &member.desc, input)?;
+        let value = build_part(memory, &member.desc, input)?;
         if values.push(value).is_err() {
             return Err(wanting);
         }
     }
-    Ok(values)
+    Ok(values.into_vec())
 }
 
 // The value of the member that the label selects by a case, where one does.
 #[cycle(build)]
 fn build_case<S: Octets>(
-    alloc: Global,
+    memory: ValueMemory,
     label: &i128,
     cases: &[CaseDesc],
     input: &mut CdrIn<S>,
@@ -131,7 +134,7 @@ fn build_case<S: Octets>(
 {
     for case in cases {
         if has_label(&case.labels, label) {
-            let value = build(alloc, &case.desc, input)?;
+            let value = build(memory, &case.desc, input)?;
             return Ok(Some(value));
         }
     }
@@ -141,7 +144,7 @@ fn build_case<S: Octets>(
 // The value of the member that is there by default, where there is one.
 #[cycle(build)]
 fn build_fallback<S: Octets>(
-    alloc: Global,
+    memory: ValueMemory,
     fallback: &Option<Box<NamedDesc>>,
     input: &mut CdrIn<S>,
 ) -> Result<Option<Value>, CdrFault>
@@ -149,7 +152,7 @@ fn build_fallback<S: Octets>(
         (fields_at (fallback_view fallback.now) input.old) }
 {
     match fallback {
-        Some(member) => Ok(Some(build(alloc, &member.desc, input)?)),
+        Some(member) => Ok(Some(build(memory, &member.desc, input)?)),
         None => Ok(None),
     }
 }
@@ -157,7 +160,7 @@ fn build_fallback<S: Octets>(
 #[cycle(build)]
 #[tactic(auto, unfolding(crate::specs::Coding::Decoding::bounded_at, giop_cdr::specs::Reading::Values::octet_count_at))]
 fn build_items<S: Octets>(
-    alloc: Global,
+    memory: ValueMemory,
     item: &Desc,
     bound: u32,
     input: &mut CdrIn<S>,
@@ -166,13 +169,13 @@ fn build_items<S: Octets>(
         (bounded_at (decode_at (desc_view item.now)) bound input.old) }
 {
     let count = input.read_bounded_count(bound)?;
-    build_counted(alloc, item, count, input)
+    build_counted(memory, item, count, input)
 }
 
 #[cycle(build)]
 #[tactic(auto, unfolding(crate::specs::Coding::Decoding::row_at))]
 fn build_row<S: Octets>(
-    alloc: Global,
+    memory: ValueMemory,
     item: &Desc,
     n: u32,
     input: &mut CdrIn<S>,
@@ -181,24 +184,12 @@ fn build_row<S: Octets>(
         (row_at (decode_at (desc_view item.now)) n input.old) }
 {
     let count = row_length(n, input)?;
-    build_counted(alloc, item, count, input)
-}
-
-// Room for values of which a message claims so many. It is room for one value in eight octets that
-// are left at most, since a value takes many more octets in memory than on the wire. More room is
-// made as values come.
-fn room<S: Octets>(alloc: Global, count: usize, input: &CdrIn<S>) -> Result<Vec<Value>, AllocError>
-    requires { count ≤ length input.now.rest }
-    ensures none { IfOk result (λ values. values.items ≡ []) }
-    ensures room { IfOk result (λ values.
-        vec_capacity values ≡ min count (length input.now.rest / 8)) }
-{
-    Vec::with_capacity(alloc, count.min(input.remaining() / 8))
+    build_counted(memory, item, count, input)
 }
 
 // Reads `count` numbers, chars or booleans, without a call for each.
 fn build_primitives<S: Octets>(
-    alloc: Global,
+    memory: ValueMemory,
     item: &Desc,
     count: usize,
     input: &mut CdrIn<S>,
@@ -209,7 +200,7 @@ fn build_primitives<S: Octets>(
         (items_at (decode_at (desc_view item.now)) count input.old) }
 {
     let wanting = wanting(input);
-    let Ok(mut values) = room(alloc, count, input) else {
+    let Ok(mut values) = memory.begin(count, input) else {
         return Err(wanting);
     };
     for _ in 0..count {
@@ -218,13 +209,13 @@ fn build_primitives<S: Octets>(
             return Err(wanting);
         }
     }
-    Ok(values)
+    Ok(values.into_vec())
 }
 
 // Reads `count` values of one description.
 #[cycle(build)]
 fn build_counted<S: Octets>(
-    alloc: Global,
+    memory: ValueMemory,
     item: &Desc,
     count: usize,
     input: &mut CdrIn<S>,
@@ -234,17 +225,17 @@ fn build_counted<S: Octets>(
         (items_at (decode_at (desc_view item.now)) count input.old) }
 {
     if is_primitive(item) {
-        return build_primitives(alloc, item, count, input);
+        return build_primitives(memory, item, count, input);
     }
     let wanting = wanting(input);
-    let Ok(mut values) = room(alloc, count, input) else {
+    let Ok(mut values) = memory.begin(count, input) else {
         return Err(wanting);
     };
     for _ in 0..count {
-        let value = build(alloc, item, input)?;
+        let value = build(memory, item, input)?;
         if values.push(value).is_err() {
             return Err(wanting);
         }
     }
-    Ok(values)
+    Ok(values.into_vec())
 }

@@ -11,6 +11,7 @@ ghost use Rattle.giop_types.specs.Values.Views.{desc_view, value_view};
 
 use crate::codec::build::build_part;
 use crate::codec::skip::skip;
+use crate::codec::value_memory::ValueMemory;
 use crate::description::checked_desc::CheckedDesc;
 use crate::description::desc::Desc;
 use crate::value::Value;
@@ -63,7 +64,7 @@ pub fn value_of<S: Octets>(
     ensures { Decodes input.old result input.new (decode_at (desc_view desc.now) input.old) }
 {
     let mut ahead = input.fork();
-    let fault = match build_part(alloc, desc, &mut ahead) {
+    let fault = match build_part(ValueMemory::new(alloc), desc, &mut ahead) {
         Ok(value) => {
             *input = ahead;
             return Ok(value);

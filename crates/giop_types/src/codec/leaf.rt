@@ -7,10 +7,10 @@ ghost use Rattle.giop_types.specs.Descriptions.Shape.{is_primitive, is_leaf};
 ghost use Rattle.giop_types.specs.Values.Views.{desc_view, value_view};
 
 use crate::codec::reading::read_ordinal;
+use crate::codec::value_memory::ValueMemory;
 use crate::description::desc::Desc;
 use crate::value::Value;
-use giop_cdr::{CdrFault, CdrIn, OctetList, Octets};
-use std::alloc::Global;
+use giop_cdr::{CdrFault, CdrIn, Octets};
 
 /// Whether a description is that of a number, a char or a boolean, which is read without memory.
 #[inline(always)]
@@ -56,7 +56,7 @@ pub fn read_primitive<S: Octets>(desc: &Desc, input: &mut CdrIn<S>) -> Result<Va
 /// Reads a value that holds no other value.
 #[tactic(auto, unfolding(crate::specs::Coding::Decoding::decode_at))]
 pub fn build_leaf<S: Octets>(
-    alloc: Global,
+    memory: ValueMemory,
     desc: &Desc,
     input: &mut CdrIn<S>,
 ) -> Result<Value, CdrFault>
@@ -64,10 +64,8 @@ pub fn build_leaf<S: Octets>(
     ensures { Follows value_view result input.new (decode_at (desc_view desc.now) input.old) }
 {
     match desc {
-        Desc::Text(bound) => Ok(Value::Text(OctetList::from(input.read_string(alloc, *bound)?))),
-        Desc::Octets(bound) => Ok(Value::Octets(OctetList::from(input.read_octets(
-            alloc, *bound,
-        )?))),
+        Desc::Text(bound) => Ok(Value::Text(memory.read_text(*bound, input)?)),
+        Desc::Octets(bound) => Ok(Value::Octets(memory.read_octets(*bound, input)?)),
         Desc::Labels(names) => Ok(Value::Label(read_ordinal(names.len(), input)?)),
         _ => read_primitive(desc, input),
     }

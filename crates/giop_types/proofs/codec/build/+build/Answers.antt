@@ -6,7 +6,7 @@ use Rattle.giop_cdr.specs.Reading.Values.{items_at}
 use Rattle.giop_cdr.proofs.Reading.ItemLoops.{goes_on, ends, is_done}
 use Rattle.giop_types.specs.Coding.Decoding.{decode_at, fields_at, branches_at, is_label, label_at}
 use Rattle.giop_types.specs.Values.Views.{desc_view, named_view, case_view, fallback_view, value_view, fields_of, branches_of}
-use Rattle.giop_types.proofs.Coding.MemberLoops.{members_read_on, members_read_end, members_read, one_more}
+use Rattle.giop_types.proofs.Coding.MemberLoops.{members_read_on, members_read_end, members_read}
 use Rattle.giop_types.proofs.Coding.MemberLoops.{default_read, nothing_read, case_found, case_passed, no_case}
 use Rattle.giop_types.proofs.Coding.MemberLoops.{value_absent, choice_read, choice_refused, choice_follows}
 use Rattle.giop_types.proofs.Values.ViewLemmas.{view-Choice}
@@ -21,7 +21,7 @@ build_counted-returns-in_err-value g t c =
     let p = err_from_is_err_and c.from_residual.result c.from_residual.ensures.1 in
     let item = decode_at (desc_view c.args.item.now) in
     rw (p.1, p.2) (elim c.in_err-value.ensures [
-      | inl refused ↦ inl (ends item (map value_view c.loop.values.items) c.args.count c.loop.counter c.loop.input c.in_err-value.field-0.0
+      | inl refused ↦ inl (ends item c.loop.values.come c.args.count c.loop.counter c.loop.input c.in_err-value.field-0.0
           (items_at item c.args.count c.args.input.now) c.loop-test.true refused c.loop.invariant)
       | inr memory ↦ inr memory
     ])
@@ -29,21 +29,21 @@ build_counted-returns-in_err-value g t c =
 pub build_counted-loop-preserved : goal.build_counted-loop-preserved
 build_counted-loop-preserved g t c =
     let item = decode_at (desc_view c.args.item.now) in
-    let pushed : c.push.new.self.items ≡ c.loop.values.items ++ c.in_ok-value.value ∷ [] = grind (arith, common_steps) in
-    rw (pushed, one_more c.loop.values.items c.in_ok-value.value) (goes_on item (map value_view c.loop.values.items) c.args.count c.loop.counter c.loop.input
+    let pushed : c.push.new.self.come ≡ c.loop.values.come ++ value_view c.in_ok-value.value ∷ [] = grind (arith, common_steps) in
+    rw pushed (goes_on item c.loop.values.come c.args.count c.loop.counter c.loop.input
     (value_view c.in_ok-value.value) c.build.new.input (items_at item c.args.count c.args.input.now) c.loop-test.true c.in_ok-value.ensures c.loop.invariant)
 
 pub build_counted-returns : goal.build_counted-returns
 build_counted-returns g t c =
     let item = decode_at (desc_view c.args.item.now) in
-    is_done item (map value_view c.loop.values.items) c.args.count c.loop.counter c.loop.input (items_at item c.args.count c.args.input.now)
-    c.loop-test.false c.loop.invariant
+    rw c.into_vec.ensures (is_done item c.loop.values.come c.args.count c.loop.counter c.loop.input (items_at item c.args.count c.args.input.now)
+    c.loop-test.false c.loop.invariant)
 
 pub build_members-returns-in_err-value : goal.build_members-returns-in_err-value
 build_members-returns-in_err-value g t c =
     let p = err_from_is_err_and c.from_residual.result c.from_residual.ensures.1 in
     rw (p.1, p.2) (elim c.in_err-value.ensures [
-      | inl refused ↦ inl (members_read_end (map value_view c.loop-member.values.items) c.args.members.now c.loop-member.member-index c.member-item.result
+      | inl refused ↦ inl (members_read_end c.loop-member.values.come c.args.members.now c.loop-member.member-index c.member-item.result
           c.loop-member.input c.in_err-value.field-0.0 (fields_at (fields_of (map named_view c.args.members.now)) c.args.input.now)
           c.loop-member-test.true c.member-item.is refused c.loop-member.invariant)
       | inr memory ↦ inr memory
@@ -51,15 +51,15 @@ build_members-returns-in_err-value g t c =
 
 pub build_members-loop-member-preserved : goal.build_members-loop-member-preserved
 build_members-loop-member-preserved g t c =
-    let pushed : c.push.new.self.items ≡ c.loop-member.values.items ++ c.in_ok-value.value ∷ [] = grind (arith, common_steps) in
-    rw (pushed, one_more c.loop-member.values.items c.in_ok-value.value) (members_read_on (map value_view c.loop-member.values.items) c.args.members.now
+    let pushed : c.push.new.self.come ≡ c.loop-member.values.come ++ value_view c.in_ok-value.value ∷ [] = grind (arith, common_steps) in
+    rw pushed (members_read_on c.loop-member.values.come c.args.members.now
     c.loop-member.member-index c.member-item.result c.loop-member.input (value_view c.in_ok-value.value) c.build_part.new.input
     (fields_at (fields_of
     (map named_view c.args.members.now)) c.args.input.now) c.loop-member-test.true c.member-item.is c.in_ok-value.ensures c.loop-member.invariant)
 
 pub build_members-returns : goal.build_members-returns
-build_members-returns g t c = members_read (map value_view c.loop-member.values.items) c.args.members.now c.loop-member.member-index c.loop-member.input
-    (fields_at (fields_of (map named_view c.args.members.now)) c.args.input.now) c.loop-member-test.false c.loop-member.invariant
+build_members-returns g t c = rw c.into_vec.ensures (members_read c.loop-member.values.come c.args.members.now c.loop-member.member-index c.loop-member.input
+    (fields_at (fields_of (map named_view c.args.members.now)) c.args.input.now) c.loop-member-test.false c.loop-member.invariant)
 
 pub build_fallback-returns-in-None : goal.build_fallback-returns-in-None
 build_fallback-returns-in-None g t c = rw (c.in-None.is, nothing_read c.args.input.now) refl
