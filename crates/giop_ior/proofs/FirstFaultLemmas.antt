@@ -20,10 +20,10 @@ use Rattle.giop_ior.proofs.PartLemmas.{host_found}
 use Rattle.giop_ior.proofs.StepLemmas.{step_err, then_err}
 use Rattle.giop_ior.proofs.StopLemmas.{Stopped, stopped_in, nothing_done, before_address}
 
-abbrev with_key : List Address → List ℕ → Read Corbaloc
+abbrev pub with_key : List Address → List ℕ → Read Corbaloc
 with_key addresses key = Ok (record { addresses = addresses; key = key })
 
-err_is : {A : Type 0} {d e : CorbalocFault} → ◌≡◌ {A = Read A} (Err d) (Err e) → d ≡ e
+pub err_is : {A : Type 0} {d e : CorbalocFault} → ◌≡◌ {A = Read A} (Err d) (Err e) → d ≡ e
 err_is is = cc
 
 list_first : (list text : List ℕ) (e : CorbalocFault) → (text ≡ list) ⊎ ((key : List ℕ) × (text ≡ list ++ 47 ∷ key))

@@ -39,7 +39,7 @@ each_found at one (two ∷ more) addresses is =
     onto a [] first back here there = absurd there
     onto a (b ∷ rest) first back here there = (first, back, sym (append_assoc first (44 ∷ []) back), here, there)
 
-addresses_found : (at : ℕ) (text : List ℕ) (addresses : List Address) → addresses_at at text ≡ Ok addresses → AddressesText addresses text
+pub addresses_found : (at : ℕ) (text : List ℕ) (addresses : List Address) → addresses_at at text ≡ Ok addresses → AddressesText addresses text
 addresses_found at text addresses is = go (slice_split (λ x. x == 44) text) refl
   where
     go : (pieces : List (List ℕ)) → slice_split (λ x. x == 44) text ≡ pieces → AddressesText addresses text
@@ -56,7 +56,7 @@ lacks_comma text a is = address_lacks 44 text a refl refl refl refl refl (lacks_
 lacks_slash : (text : List ℕ) (a : Address) → AddressText a text → Lacks 47 text
 lacks_slash text a is = address_lacks 47 text a refl refl refl refl refl (lacks_literal 47 (codes "iiop:") refl) is
 
-addresses_only : (at : ℕ) (text : List ℕ) (addresses : List Address) → AddressesText addresses text → addresses_at at text ≡ Ok addresses
+pub addresses_only : (at : ℕ) (text : List ℕ) (addresses : List Address) → AddressesText addresses text → addresses_at at text ≡ Ok addresses
 addresses_only at text [] is = absurd is
 addresses_only at text (a ∷ []) is =
     rw (slice_split_none (λ x. x == 44) text (lacks_comma text a is), address_only at text a is) refl
@@ -94,7 +94,7 @@ escaped_found x y z text escape rest =
     rw (percent_decode_escape x y z text mark (ltb-true (digit_value y) 16 two.1) (ltb-true (digit_value z) 16 one.1))
     (x ∷ y ∷ z ∷ [], text, refl, inr (record { high = y; low = z; parts = ap (λ u. u ∷ y ∷ z ∷ []) mark; is_high = two.1; is_low = one.1; value = refl }), rest)
 
-key_found : (at : ℕ) (text : List ℕ) → key_fault at text ≡ None → KeyText (percent_decode text) text
+pub key_found : (at : ℕ) (text : List ℕ) → key_fault at text ≡ None → KeyText (percent_decode text) text
 key_found at [] is = rw percent_decode-nil refl
 key_found at (x ∷ []) is =
     let here = then_none (is_key_octet x) None (fault at (wrong_key_octet x)) is in
@@ -114,7 +114,7 @@ key_found at (x ∷ y ∷ z ∷ text) is = go (key_found (at + 1) (y ∷ z ∷ t
         let here = then_none (is_escape x y z) (key_fault (at + 3) text) (fault at (wrong_key_octet x)) h in
         escaped_found x y z text here.0 (three here.1)
 
-key_only : (at : ℕ) (text key : List ℕ) → KeyText key text → (key_fault at text ≡ None) × (percent_decode text ≡ key)
+pub key_only : (at : ℕ) (text key : List ℕ) → KeyText key text → (key_fault at text ≡ None) × (percent_decode text ≡ key)
 key_only at text [] is = rw is (refl, percent_decode-nil)
 key_only at text (octet ∷ key) is = go (λ k. key_only k is.1 key is.4) is.3
   where

@@ -1,5 +1,5 @@
 -- The table of the IIOP profile is lawful, and what follows for the octets of a tagged profile.
-use Rattle.std.proofs.Common.{◌≡◌, ◌≢◌, ℕ, ◌+◌, ◌==◌, Bool, true, false, List, [], ◌∷◌, ◌++◌, length, drop, if◌then◌else◌, Result, Ok, Err, IfOk, IfErr, IsOk, ◌⊎◌, append-nil, inl, inr, refl, sym, ap, subst, ◌∙◌, arith}
+use Rattle.std.proofs.Common.{◌≡◌, ◌≢◌, ℕ, zero, suc, ◌+◌, ◌==◌, Bool, true, false, List, [], ◌∷◌, ◌++◌, length, drop, if◌then◌else◌, Result, Ok, Err, IfOk, IfErr, IsOk, ◌⊎◌, append-nil, inl, inr, refl, sym, ap, subst, ◌∙◌, arith}
 use Rattle.std.specs.Int.{w8, w16}
 use Rattle.std.proofs.lemmas.Bool.{eqb-true, ne_eqb}
 use Rattle.giop_cdr.specs.declared.order.Order.{Order}
@@ -8,10 +8,12 @@ use Rattle.giop_cdr.specs.declared.fault.CdrFault.{CdrFault}
 use Rattle.giop_cdr.specs.declared.fault.CdrKind.TheVariants.{BadOrder}
 use Rattle.giop_cdr.specs.Reading.Cursor.{Cursor}
 use Rattle.giop_cdr.specs.Encapsulation.Opened.{order_octet, content_of}
+use Rattle.giop_cdr.specs.Encapsulation.OfLayout.{RefusedInside, inside_at}
 use Rattle.giop_cdr.specs.Layout.{IsLawful, AreOctets, field, gives, chosen, sequence}
 use Rattle.giop_cdr.specs.Writing.Output.{Output, number_out}
 use Rattle.giop_cdr.specs.Reading.Exactness.{TakesOctets}
 use Rattle.giop_cdr.specs.Reading.Values.{fault, ◌>>=◌}
+use Rattle.giop_cdr.proofs.Encapsulation.EncapsulatedLemmas.{inside_exact}
 use Rattle.giop_cdr.proofs.LayoutLemmas.{number_is, octets_is, text_is, such_is, field_is, gives_is, chosen_is, sequence_is, tagged_is, tagged_takes, unspelled}
 use Rattle.giop_ior.specs.declared.references.tagged_profile.TaggedComponent.{TaggedComponent}
 use Rattle.giop_ior.specs.Iiop.{Profile, major_version, tagged_component, no_components, components_of, iiop_layout, IiopOctets, order_in, iiop_of, iiop_octets, no_memory, IsAnswered}
@@ -100,9 +102,9 @@ order_found (x ∷ xs) order is = go (x == 0) (x == 1) refl refl (rw (some_lengt
     go : (p q : Bool) → (x == 0) ≡ p → (x == 1) ≡ q
         → ◌≡◌ {A = Result Order CdrFault} (if p then Ok Big else if q then Ok Little else Err (fault 0 BadOrder)) (Ok order)
         → x ∷ xs ≡ order_octet order ∷ xs
-    go true q zero one h = ap (λ u. u ∷ xs) (eqb-true x 0 zero ∙ ap order_octet (answer_is h))
-    go false true zero one h = ap (λ u. u ∷ xs) (eqb-true x 1 one ∙ ap order_octet (answer_is h))
-    go false false zero one h = absurd (cc)
+    go true q none one h = ap (λ u. u ∷ xs) (eqb-true x 0 none ∙ ap order_octet (answer_is h))
+    go false true none one h = ap (λ u. u ∷ xs) (eqb-true x 1 one ∙ ap order_octet (answer_is h))
+    go false false none one h = absurd (cc)
 
 order_only : (order : Order) (contents : List ℕ) → order_in (order_octet order ∷ contents) ≡ Ok order
 order_only Big contents = rw (some_length 0 contents) refl
@@ -134,6 +136,51 @@ iiop_only contents p is =
     (iiop_is.exact (content_of is.order (is.front ++ is.rest))).only p after
     (record { octets = is.front; front = refl; at = refl; order = refl; spells = is.spells }) in
     rw (is.whole, order_only is.order (is.front ++ is.rest), read) refl
+
+-- ---- what is refused
+
+-- the reader outside, where there is none
+abbrev nowhere : Cursor
+nowhere = record { order = Big; at = 0; rest = [] }
+
+then_err : {A B : Type 0} (r : Result A CdrFault) (f : A → B) (e : CdrFault) → (r >>= λ x. Ok (f x)) ≡ Err e → r ≡ Err e
+then_err (Ok x) f e is = absurd (cc)
+then_err (Err d) f e is = cc
+
+err_is : {A : Type 0} {d e : CdrFault} → ◌≡◌ {A = Result A CdrFault} (Err d) (Err e) → d ≡ e
+err_is is = cc
+
+order_none : (k : ℕ) (xs : List ℕ) → order_in (suc (suc k) ∷ xs) ≡ Err (fault 0 BadOrder)
+order_none k xs =
+    rw (some_length (suc (suc k)) xs, ne_eqb (suc (suc k)) 0 (λ h. omega (arith, h)), ne_eqb (suc (suc k)) 1 (λ h. omega (arith, h))) refl
+
+inside_err : (contents : List ℕ) (e : CdrFault) → iiop_of contents ≡ Err e → inside_at iiop_layout.read 0 contents nowhere ≡ Err e
+unfolding iiop_of inside_at
+inside_err [] e is = cc
+inside_err (zero ∷ xs) e is =
+    let refused = then_err (iiop_layout.read (content_of Big xs)) _ e (rw (some_length 0 xs) at is) in rw refused refl
+inside_err (suc zero ∷ xs) e is =
+    let refused = then_err (iiop_layout.read (content_of Little xs)) _ e (rw (some_length 1 xs) at is) in rw refused refl
+inside_err (suc (suc k) ∷ xs) e is = ap Err (err_is {A = Profile} (rw (order_none k xs) at is))
+
+err_inside : (contents : List ℕ) (e : CdrFault) → inside_at iiop_layout.read 0 contents nowhere ≡ Err e → iiop_of contents ≡ Err e
+unfolding iiop_of inside_at
+err_inside [] e is = cc
+err_inside (zero ∷ xs) e is =
+    let refused = then_err (iiop_layout.read (content_of Big xs)) _ e is in rw (some_length 0 xs, refused) refl
+err_inside (suc zero ∷ xs) e is =
+    let refused = then_err (iiop_layout.read (content_of Little xs)) _ e is in rw (some_length 1 xs, refused) refl
+err_inside (suc (suc k) ∷ xs) e is = rw (order_none k xs) (ap Err (err_is {A = Profile × Cursor} is))
+
+-- what is refused is no encapsulation of a profile, for this reason
+pub iiop_refused : (contents : List ℕ) (e : CdrFault) → iiop_of contents ≡ Err e → RefusedInside iiop_layout.refused 0 contents e
+iiop_refused contents e is =
+    (inside_exact iiop_layout.spells iiop_layout.refused iiop_layout.read iiop_is.exact 0 contents nowhere).refused e (inside_err contents e is)
+
+pub iiop_refuses : (contents : List ℕ) (e : CdrFault) → RefusedInside iiop_layout.refused 0 contents e → iiop_of contents ≡ Err e
+iiop_refuses contents e why =
+    err_inside contents e
+    ((inside_exact iiop_layout.spells iiop_layout.refused iiop_layout.read iiop_is.exact 0 contents nowhere).refuses e why)
 
 pub view_found : (contents : List ℕ) (r : Result Profile CdrFault) → IfOk r (λ p. iiop_of contents ≡ Ok p) → IfOk r (λ p. IiopOctets p contents)
 view_found contents (Ok p) is = iiop_found contents p is

@@ -18,13 +18,13 @@ use Rattle.giop_ior.proofs.PieceLemmas.{head_is}
 
 -- the octets of a key before one that is wrong
 pub record KeyStops (at : ℕ) (text : List ℕ) (e : CorbalocFault) : Type 0 where
-  good : List ℕ
-  wrong : ℕ
-  back : List ℕ
-  whole : text ≡ good ++ wrong ∷ back
-  goes_on : (more : List ℕ) → key_fault at (good ++ more) ≡ key_fault (at + length good) more
-  none : key_octet_len (wrong ∷ back) ≡ 0
-  is : e ≡ fault (at + length good) (wrong_key_octet wrong)
+  pub good : List ℕ
+  pub wrong : ℕ
+  pub back : List ℕ
+  pub whole : text ≡ good ++ wrong ∷ back
+  pub goes_on : (more : List ℕ) → key_fault at (good ++ more) ≡ key_fault (at + length good) more
+  pub none : key_octet_len (wrong ∷ back) ≡ 0
+  pub is : e ≡ fault (at + length good) (wrong_key_octet wrong)
 
 stops_here : (at x : ℕ) (text : List ℕ) (e : CorbalocFault) → key_octet_len (x ∷ text) ≡ 0 → e ≡ fault at (wrong_key_octet x) → KeyStops at (x ∷ text) e
 stops_here at x text e none is = record {
@@ -53,10 +53,10 @@ stops_later at n first text e size passes s =
       is = s.is ∙ ap (λ k. fault k (wrong_key_octet s.wrong)) place;
     }
 
-kept_passes : (at x : ℕ) → is_key_octet x ≡ true → (more : List ℕ) → key_fault at (x ∷ more) ≡ key_fault (at + 1) more
+pub kept_passes : (at x : ℕ) → is_key_octet x ≡ true → (more : List ℕ) → key_fault at (x ∷ more) ≡ key_fault (at + 1) more
 kept_passes at x kept more = (kept_goes_on at (x ∷ more) (omega arith) kept).1
 
-escape_passes : (at x y z : ℕ) → is_key_octet x ≡ false → is_escape x y z ≡ true → (more : List ℕ)
+pub escape_passes : (at x y z : ℕ) → is_key_octet x ≡ false → is_escape x y z ≡ true → (more : List ℕ)
     → key_fault at (x ∷ y ∷ z ∷ more) ≡ key_fault (at + 3) more
 escape_passes at x y z not_kept escape more = (escape_goes_on at (x ∷ y ∷ z ∷ more) not_kept escape).1
 
@@ -64,18 +64,18 @@ some_fault : {d e : CorbalocFault} → ◌≡◌ {A = Option CorbalocFault} (Som
 some_fault is = cc
 
 -- one octet, or none
-short_len : (x y z : ℕ) → is_key_octet x ≡ false → is_escape x y z ≡ false
+pub short_len : (x y z : ℕ) → is_key_octet x ≡ false → is_escape x y z ≡ false
     → spelling_len (is_key_octet x) (is_escape x y z) ≡ 0
 short_len x y z not_kept no_escape = rw (not_kept, no_escape) refl
 
-no_escape_one : (x : ℕ) → is_escape x 0 0 ≡ false
+pub no_escape_one : (x : ℕ) → is_escape x 0 0 ≡ false
 no_escape_one x = go (x == 37)
   where
     go : (p : Bool) → (p && is_digit 0 16 && is_digit 0 16) ≡ false
     go true = refl
     go false = refl
 
-no_escape_two : (x y : ℕ) → is_escape x y 0 ≡ false
+pub no_escape_two : (x y : ℕ) → is_escape x y 0 ≡ false
 no_escape_two x y = go (x == 37) (is_digit y 16)
   where
     go : (p q : Bool) → (p && q && is_digit 0 16) ≡ false

@@ -14,6 +14,9 @@ pub mod VersionFaultLemmas
 pub mod AddressFaultLemmas
 pub mod KeyFirstLemmas
 pub mod FirstFaultLemmas
+pub mod RefusedAddressLemmas
+pub mod RefusedKeyLemmas
+pub mod RefusedLemmas
 pub mod WritingLemmas
 pub mod WrittenLemmas
 pub mod BackLemmas

@@ -9,3 +9,4 @@ pub mod Iiop
 pub mod ToIor
 pub mod ServiceContext
 pub mod FirstFault
+pub mod Refused

@@ -4,7 +4,10 @@ mod addresses;
 mod ior_texts;
 mod references;
 
-pub use addresses::{corbalocs_are_read, faults_are_the_first, written_corbalocs_are_read_back};
+pub use addresses::{
+    corbalocs_are_read, corbalocs_are_refused, faults_are_the_first,
+    written_corbalocs_are_read_back,
+};
 pub use ior_texts::{reference_texts_are_read, written_reference_texts_are_read_back};
 pub use references::{
     addresses_are_profiles, profiles_are_read, references_are_spelled,

@@ -2,24 +2,29 @@
 //! an address.
 ghost use Rattle.std.specs.Prelude.{◌≡◌, ◌++◌, ◌∷◌, [], ℕ, List, Ok, Err, true, codes};
 ghost use Rattle.giop_cdr.specs.Layout.{AreOctets};
-ghost use Rattle.giop_cdr.specs.declared.fault.CdrKind.TheVariants.{BadLabel};
+ghost use Rattle.giop_cdr.specs.declared.fault.CdrKind.TheVariants.{BadLabel, BadOrder, Short};
 ghost use Rattle.giop_cdr.specs.declared.order.Order.TheVariants.{Big};
+ghost use Rattle.giop_cdr.specs.Encapsulation.OfLayout.{RefusedInside};
 ghost use Rattle.giop_cdr.specs.Reading.Exactness.{Took};
 ghost use Rattle.giop_types.specs.IorText.{ior_text_of, IorText, text_written};
 ghost use Rattle.giop_ior.specs.Corbaloc.{CorbalocText};
 ghost use Rattle.giop_ior.specs.CorbalocReading.{corbaloc_of};
 ghost use Rattle.giop_ior.specs.CorbalocWriting.{corbaloc_text, is_writable, IsInRange};
 ghost use Rattle.giop_ior.specs.declared.addresses.corbaloc.Corbaloc.{Corbaloc};
+ghost use Rattle.giop_ior.specs.declared.addresses.corbaloc_fault.CorbalocFault.{CorbalocFault};
+ghost use Rattle.giop_ior.specs.declared.addresses.corbaloc_fault.CorbalocKind.TheVariants.{BadChar};
 ghost use Rattle.giop_ior.specs.Iiop.{iiop_layout, iiop_of, IiopOctets, Profile};
 ghost use Rattle.giop_ior.specs.Ior.{ior_layout, Reference};
+ghost use Rattle.giop_ior.specs.Refused.{RefusedCorbaloc};
 ghost use Rattle.giop_ior.specs.ToIor.{profile_of};
 ghost use Rattle.giop_ior.specs.Written.{IsOfOctets};
 ghost use Rattle.laws_in_use.specs.Referred.{address, profile, profile_octets, reference, reference_octets};
 
 use giop_ior::laws::{
-    addresses_are_profiles, corbalocs_are_read, faults_are_the_first, profiles_are_read,
-    reference_texts_are_read, references_are_spelled, written_corbalocs_are_read_back,
-    written_reference_texts_are_read_back, written_references_are_read_back,
+    addresses_are_profiles, corbalocs_are_read, corbalocs_are_refused, faults_are_the_first,
+    profiles_are_read, reference_texts_are_read, references_are_spelled,
+    written_corbalocs_are_read_back, written_reference_texts_are_read_back,
+    written_references_are_read_back,
 };
 
 /// The text of an address is read as that address and as no other; what is written of it is read
@@ -47,6 +52,16 @@ pub fn the_text_of_an_address()
     written_corbalocs_are_read_back();
     addresses_are_profiles();
     faults_are_the_first();
+}
+
+/// A text whose key has an octet that stands for none has that fault, at that octet, and no other.
+pub fn the_fault_of_a_text()
+    ensures told { corbaloc_of (codes "corbaloc::h/^") ≡ Err (record { at = 12; kind = BadChar }) }
+    ensures refused { RefusedCorbaloc (codes "corbaloc::h/^") (record { at = 12; kind = BadChar }) }
+    ensures alone { (e : CorbalocFault) → RefusedCorbaloc (codes "corbaloc::h/^") e
+        → e ≡ record { at = 12; kind = BadChar } }
+{
+    corbalocs_are_refused();
 }
 
 /// A reference with one profile is written, read back with what is behind it, and no other is
@@ -86,7 +101,8 @@ pub fn a_reference_in_octets()
     reference_texts_are_read();
 }
 
-/// A profile is written as its octets, which are read as it and as no other.
+/// A profile is written as its octets, which are read as it and as no other. No octets are too few,
+/// and a first octet of 2 is no byte order.
 pub fn a_profile_in_octets()
     ensures written { IiopOctets profile profile_octets }
     ensures again { iiop_of profile_octets ≡ Ok profile }
@@ -94,6 +110,8 @@ pub fn a_profile_in_octets()
     ensures found { IiopOctets profile profile_octets }
     ensures fields { iiop_layout.read (record { order = Big; at = 1; rest = 2 ∷ [] })
         ≡ Err (record { at = 1; kind = BadLabel }) }
+    ensures refused { RefusedInside iiop_layout.refused 0 [] (record { at = 0; kind = Short }) }
+    ensures refuses { iiop_of (2 ∷ []) ≡ Err (record { at = 0; kind = BadOrder }) }
 {
     profiles_are_read();
 }

@@ -7,6 +7,7 @@ ghost use Rattle.giop_ior.specs.Corbaloc.{CorbalocText};
 ghost use Rattle.giop_ior.specs.declared.addresses.corbaloc_fault.CorbalocFault.{CorbalocFault};
 ghost use Rattle.giop_ior.specs.CorbalocReading.{corbaloc_of};
 ghost use Rattle.giop_ior.specs.FirstFault.{IsFirstFault};
+ghost use Rattle.giop_ior.specs.Refused.{RefusedCorbaloc};
 ghost use Rattle.giop_ior.specs.CorbalocWriting.{corbaloc_text, is_writable, IsInRange};
 
 /// The grammar of corbaloc texts: reading from the left returns exactly its values, and a text has
@@ -24,6 +25,15 @@ pub fn corbalocs_are_read()
 pub fn faults_are_the_first()
     ensures { (text : List ℕ) (e : CorbalocFault) → corbaloc_of text ≡ Err e
         → IsFirstFault text e }
+{}
+
+/// Which fault a text has, its kind and its place, by the grammar alone: the one that is returned is
+/// the text's, and the text's is returned. So a text has one fault at most, and none beside a value.
+pub fn corbalocs_are_refused()
+    ensures refused { (text : List ℕ) (e : CorbalocFault) → corbaloc_of text ≡ Err e
+        → RefusedCorbaloc text e }
+    ensures refuses { (text : List ℕ) (e : CorbalocFault) → RefusedCorbaloc text e
+        → corbaloc_of text ≡ Err e }
 {}
 
 /// Only values for which `is_writable` is true have a text. Where the numbers of such a value are

@@ -1,7 +1,9 @@
 //! Laws of the layouts of references (CORBA 3.3 Part 2, 7.6.2) and of IIOP profiles (9.7.2). Each
 //! function's contract is one of them; the bodies are empty, and no program calls them.
-ghost use Rattle.std.specs.Prelude.{◌≡◌, ℕ, List, Ok, true};
+ghost use Rattle.std.specs.Prelude.{◌≡◌, ℕ, List, Ok, Err, true};
+ghost use Rattle.giop_cdr.specs.declared.fault.CdrFault.{CdrFault};
 ghost use Rattle.giop_cdr.specs.declared.order.Order.{Order};
+ghost use Rattle.giop_cdr.specs.Encapsulation.OfLayout.{RefusedInside};
 ghost use Rattle.giop_cdr.specs.Writing.Output.{Output};
 ghost use Rattle.giop_cdr.specs.Layout.{AreOctets};
 ghost use Rattle.giop_cdr.specs.RoundTrip.{IsReadBack};
@@ -31,12 +33,18 @@ pub fn written_references_are_read_back()
 {}
 
 /// The octets of an IIOP profile (9.7.2). What is read is the profile that they are, whatever
-/// stands behind the fields, and they are of one profile at most. What `iiop_profile` writes is
-/// octets of the profile, and is read back.
+/// stands behind the fields, and they are of one profile at most. What is refused is no
+/// encapsulation of a profile: there is no octet, the first is no byte order, or the first field of
+/// the table that is refused is. What `iiop_profile` writes is octets of the profile, and is read
+/// back.
 pub fn profiles_are_read()
     ensures exact { IsExact (Took iiop_layout.spells) iiop_layout.refused iiop_layout.read }
     ensures found { (octets : List ℕ) (p : Profile) → iiop_of octets ≡ Ok p → IiopOctets p octets }
     ensures only { (octets : List ℕ) (p : Profile) → IiopOctets p octets → iiop_of octets ≡ Ok p }
+    ensures refused { (octets : List ℕ) (e : CdrFault) → iiop_of octets ≡ Err e
+        → RefusedInside iiop_layout.refused 0 octets e }
+    ensures refuses { (octets : List ℕ) (e : CdrFault) → RefusedInside iiop_layout.refused 0 octets e
+        → iiop_of octets ≡ Err e }
     ensures written { (p : Profile) → iiop_layout.fits p ≡ true → iiop_layout.holds p
         → IiopOctets p (iiop_octets p) }
     ensures again { (p : Profile) → iiop_layout.fits p ≡ true → iiop_layout.holds p

@@ -1,11 +1,11 @@
-use Rattle.std.proofs.Common.{◌≡◌, [], ◌∷◌, Result, Ok, true, refl, sym, ◌∙◌, inl, inr, rules}
+use Rattle.std.proofs.Common.{◌≡◌, [], ◌∷◌, Result, Ok, true, refl, sym, ◌∙◌, inl, inr, rules, arith}
 use Rattle.std.specs.Int.{w8}
 use Rattle.giop_cdr.specs.Layout.{chosen, field, gives, number, octets, such, text}
 use Rattle.giop_cdr.specs.Spelling.{SpellsNumber}
 use Rattle.giop_cdr.specs.Writing.Output.{number_out, octets_out, string_out}
 use Rattle.giop_cdr.specs.declared.fault.CdrFault.{CdrFault}
 use Rattle.giop_cdr.specs.declared.order.Order.TheVariants.{Big}
-use Rattle.giop_ior.specs.Iiop.{Profile, components_of, iiop_layout, iiop_octets, major_version, no_components}
+use Rattle.giop_ior.specs.Iiop.{Profile, components_of, iiop_layout, iiop_octets, iiop_of, major_version, no_components}
 use Rattle.laws_in_use.specs.Referred.{profile, profile_octets}
 use Rattle.laws_in_use.proofs.CdrSpelled.{took}
 use Rattle.laws_in_use.proofs.referred.a_profile_in_octets.Goals as goal
@@ -42,3 +42,10 @@ pub returns-clause-fields : goal.returns-clause-fields
 unfolding iiop_layout field such number major_version
 returns-clause-fields c = (c.profiles_are_read.ensures.exact _).refuses _
     (inl (inr (record { first = 2; middle = _; front = took (2 ∷ []) [] two; back = (refl, refl) })))
+
+pub returns-clause-refused : goal.returns-clause-refused
+unfolding iiop_of
+returns-clause-refused c = c.profiles_are_read.ensures.refused [] _ refl
+
+pub returns-clause-refuses : goal.returns-clause-refuses
+returns-clause-refuses c = c.profiles_are_read.ensures.refuses (2 ∷ []) _ (inr (inl (omega arith, refl)))
