@@ -1,6 +1,7 @@
 -- What whole messages rest on.
 pub mod OutcomeLemmas
 pub mod BodyLemmas
+pub mod AloneLemmas
 pub mod ParameterLoops
 pub mod LocateReplyLemmas
 pub mod RequestLemmas

@@ -34,6 +34,7 @@ pub use header::Header;
 pub use kind::Kind;
 pub use locate_reply_head::LocateReplyHead;
 pub use locate_request::{LocateRequest, LocateRequestAt};
+pub use messages::alone::{values_from_octets, values_to_octets};
 pub use messages::completion::Completion;
 pub use messages::locate_reply::LocateReply;
 pub use messages::reply::Reply;

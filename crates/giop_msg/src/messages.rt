@@ -1,6 +1,7 @@
 //! Whole messages: a Request (9.4.2), a Reply (9.4.3) and a LocateReply (9.4.6), each of them a
 //! head and what follows it. Their layouts are in specs/Messages.
 
+pub mod alone;
 pub mod body;
 mod body_checking;
 pub mod body_writing;

@@ -58,10 +58,10 @@ pub fn read_values<S: Octets>(
     Ok(values)
 }
 
-// Reads the values of parameters, and refuses what is left behind them.
+/// Reads the values of parameters, and refuses what is left behind them.
 #[tactic(auto, unfolding(crate::specs::Messages::Body::values, giop_cdr::specs::Ending::ended))]
 #[inline(always)]
-fn read_last_values<S: Octets>(
+pub fn read_last_values<S: Octets>(
     alloc: Global,
     parameters: &[Parameter],
     input: &mut CdrIn<S>,

@@ -25,9 +25,9 @@ pub fn skip_values<S: Octets>(
     Ok(())
 }
 
-// Checks the values of parameters, and that nothing is behind them.
+/// Checks the values of parameters, and that nothing is behind them.
 #[tactic(auto, unfolding(crate::specs::Messages::Body::values, giop_cdr::specs::Ending::ended))]
-fn check_last_values<S: Octets>(
+pub fn check_last_values<S: Octets>(
     parameters: &[Parameter],
     input: &mut CdrIn<S>,
 ) -> Result<(), CdrFault>
