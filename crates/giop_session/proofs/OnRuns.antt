@@ -5,3 +5,8 @@ pub mod LeftLemmas
 pub mod FollowedLemmas
 pub mod ClientLeftLemmas
 pub mod DrivenLemmas
+pub mod AheadLemmas
+pub mod AloneLemmas
+pub mod PlannedLemmas
+pub mod ServerAloneLemmas
+pub mod ClientAloneLemmas

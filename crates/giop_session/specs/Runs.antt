@@ -4,8 +4,10 @@ pub mod ClientRuns
 pub mod Driven
 pub mod EndRuns
 pub mod Events
+pub mod Fits
 pub mod Inputs
 pub mod LeftToSend
 pub mod Limits
+pub mod Met
 pub mod RunLimits
 pub mod ServerRuns

@@ -44,13 +44,13 @@ call_of entry = record { slot = Some (record { entry = entry; unsent = [] }); pi
 abbrev pub none : Call ClientEntry
 none = record { slot = None; pieces = None }
 
-abbrev sending : Call ClientEntry
+abbrev pub sending : Call ClientEntry
 sending = record { slot = Some (record { entry = Sending (asked.Locate door) 1; unsent = door_ends ∷ [] }); pieces = None }
 
-abbrev waiting : Call ClientEntry
+abbrev pub waiting : Call ClientEntry
 waiting = call_of (Waiting (asked.Locate door))
 
-abbrev gathering : Call ClientEntry
+abbrev pub gathering : Call ClientEntry
 gathering = record {
   slot = Some (record { entry = Gathering (asked.Locate door); unsent = [] });
   pieces = Some (record { order = Big; octets = here_begins.payload });
@@ -62,10 +62,10 @@ located = call_of (LocateDone door here)
 abbrev pub key_waiting : Call ClientEntry
 key_waiting = call_of (Waiting (asked.Locate key))
 
-abbrev cancelled : Call ClientEntry
+abbrev pub cancelled : Call ClientEntry
 cancelled = call_of (Cancelled late.None)
 
-abbrev seen : Call ClientEntry
+abbrev pub seen : Call ClientEntry
 seen = call_of (Cancelled late.Seen)
 
 abbrev pub undecoded : Call ClientEntry
@@ -81,7 +81,7 @@ End = Held ClientRule ClientEntry
 abbrev pub new : Limits → End
 new given = no_calls (record {}) given
 
-none_at : (given : Limits) (id : ℕ) → at (new given) id ≡ none
+pub none_at : (given : Limits) (id : ℕ) → at (new given) id ≡ none
 none_at given id i = record { slot = finite.get-empty nat_cmp id i; pieces = finite.get-empty nat_cmp id i }
 
 -- a whole message that comes to this
@@ -89,7 +89,7 @@ whole : {told known : HeardReply} → told ≡ known
     → ◌≡◌ {A = Act ClientEvent} (Hears (kept (event.Whole kind.Locate V12 told)) Nothing) (Hears (kept (event.Whole kind.Locate V12 known)) Nothing)
 whole is = ap (λ told. Hears (kept (event.Whole kind.Locate V12 told)) Nothing) is
 
-whole_old : {told known : HeardReply} → told ≡ known
+pub whole_old : {told known : HeardReply} → told ≡ known
     → ◌≡◌ {A = Act ClientEvent} (Hears (kept (event.Whole kind.Locate V10 told)) Nothing) (Hears (kept (event.Whole kind.Locate V10 known)) Nothing)
 whole_old is = ap (λ told. Hears (kept (event.Whole kind.Locate V10 told)) Nothing) is
 

@@ -29,7 +29,7 @@ use Rattle.laws_in_use.proofs.LocatingRuns.{fed}
 use Rattle.laws_in_use.proofs.Running.{accepts}
 use Rattle.laws_in_use.proofs.Taking.{at-put}
 
-cancel_is : cancel_request V10 Little 9 ≡ cancel_little
+pub cancel_is : cancel_request V10 Little 9 ≡ cancel_little
 cancel_is = refl
 
 module _ (interface : Interface) where

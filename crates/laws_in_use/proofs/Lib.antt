@@ -13,6 +13,10 @@ mod ServerRunActs
 mod ServerRunHolds
 mod ServerRunTaken
 mod ServerRunWithin
+mod ShownAlone
+mod ServerSevenAlone
+mod ServerNineAlone
+mod ServerRunFits
 mod SentPlans
 mod OwnLaneRuns
 mod LaneActsShown
@@ -29,4 +33,8 @@ mod ClientRunActs
 mod ClientRunHolds
 mod ClientRunTaken
 mod ClientRunWithin
+mod PutsAlone
+mod ClientSevenAlone
+mod ClientNineAlone
+mod ClientRunFits
 mod ObservedOwn

@@ -39,7 +39,7 @@ call_of entry = record { slot = Some (record { entry = entry; unsent = [] }); pi
 abbrev pub none : Call ServerEntry
 none = record { slot = None; pieces = None }
 
-abbrev gathering : Call ServerEntry
+abbrev pub gathering : Call ServerEntry
 gathering = record {
   slot = Some (record { entry = Gathering kind.Locate; unsent = [] });
   pieces = Some (record { order = Big; octets = door_begins.payload });
@@ -74,7 +74,7 @@ pub none_at : (given : Limits) (id : ℕ) → at (new given) id ≡ none
 none_at given id i = record { slot = finite.get-empty nat_cmp id i; pieces = finite.get-empty nat_cmp id i }
 
 -- a whole message that comes to this
-whole : {call known : HeardCall} → call ≡ known → ◌≡◌ {A = Act ServerEvent} (Hears (kept (event.Whole call)) Nothing) (Hears (kept (event.Whole known)) Nothing)
+pub whole : {call known : HeardCall} → call ≡ known → ◌≡◌ {A = Act ServerEvent} (Hears (kept (event.Whole call)) Nothing) (Hears (kept (event.Whole known)) Nothing)
 whole is = ap (λ call. Hears (kept (event.Whole call)) Nothing) is
 
 -- what a read brings is heard

@@ -13,7 +13,7 @@ use Rattle.giop_msg.specs.declared.msg.Msg.{Msg}
 use Rattle.giop_msg.proofs.FramerLemmas.{waits_for_header}
 use Rattle.giop_session.specs.Runs.RunLimits.{ServerIsGivenWithin, asks_under}
 use Rattle.laws_in_use.specs.Locating.{bad, cancel_big, door_begins, door_ends, key_little, limits}
-use Rattle.laws_in_use.specs.Runs.{server_given}
+use Rattle.laws_in_use.specs.Runs.{server_given, server_given_otherwise}
 use Rattle.laws_in_use.proofs.LocatingMessages.{messages}
 
 abbrev all : List Msg
@@ -45,5 +45,42 @@ run_within = record {
   rest = [];
   stand = record { whole = refl; each = each; partial = (waits_for_header 64 [] (omega arith)).no_message };
   calls = record { ids = 7 ∷ 9 ∷ []; few = omega arith; listed = λ id is. listed id (id == 7) (id == 9) refl refl (sym (opened id) ∙ is) };
+  octets = omega arith;
+}
+
+-- in the other order it is, too
+abbrev all_otherwise : List Msg
+all_otherwise = key_little ∷ door_begins ∷ cancel_big ∷ bad ∷ door_ends ∷ []
+
+each_otherwise : All (IsMessage 64) all_otherwise
+each_otherwise =
+    All-cons (IsMessage 64) key_little (door_begins ∷ cancel_big ∷ bad ∷ door_ends ∷ []) messages.key_little
+    (All-cons (IsMessage 64) door_begins (cancel_big ∷ bad ∷ door_ends ∷ []) messages.door_begins
+    (All-cons (IsMessage 64) cancel_big (bad ∷ door_ends ∷ []) messages.cancel_big
+    (All-cons (IsMessage 64) bad (door_ends ∷ []) messages.bad_wide
+    (All-cons (IsMessage 64) door_ends [] messages.door_ends (All-nil (IsMessage 64))))))
+
+opened_otherwise : (id : ℕ)
+    → list_any (λ m. asks_under m id) all_otherwise ≡ ((id == 9) || ((id == 7) || (false || ((id == 9) || (false || false)))))
+unfolding request_id_layout chosen number number_at field_at
+opened_otherwise id = refl
+
+listed_otherwise : (id : ℕ) (seven nine : Bool) → (id == 7) ≡ seven → (id == 9) ≡ nine
+    → (nine || (seven || (false || (nine || (false || false))))) ≡ true → is_listed (7 ∷ 9 ∷ []) id ≡ true
+listed_otherwise id true nine is_seven is_nine is = grind (arith, nat_tests)
+listed_otherwise id false true is_seven is_nine is = grind (arith, nat_tests)
+listed_otherwise id false false is_seven is_nine is = absurd cc
+
+pub run_within_otherwise : ServerIsGivenWithin limits server_given_otherwise
+unfolding header_octets
+run_within_otherwise = record {
+  messages = all_otherwise;
+  rest = [];
+  stand = record { whole = refl; each = each_otherwise; partial = (waits_for_header 64 [] (omega arith)).no_message };
+  calls = record {
+    ids = 7 ∷ 9 ∷ [];
+    few = omega arith;
+    listed = λ id is. listed_otherwise id (id == 7) (id == 9) refl refl (sym (opened_otherwise id) ∙ is);
+  };
   octets = omega arith;
 }

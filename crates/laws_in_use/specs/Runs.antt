@@ -36,6 +36,16 @@ server_given =
     ∷ server.Take 7
     ∷ []
 
+-- in another order, where what is said of 9 comes around the first piece of 7
+abbrev pub server_given_otherwise : List ServerInput
+server_given_otherwise =
+    server.Feed (message_octets key_little)
+    ∷ server.Feed (message_octets door_begins ++ message_octets cancel_big)
+    ∷ server.Feed (message_octets bad ++ message_octets door_ends)
+    ∷ server.AnswerLocate 7 true Big
+    ∷ server.Take 7
+    ∷ []
+
 -- it answers that each is done, and the entry that it took out
 abbrev pub door_taken : Answered ServerEntry
 door_taken = answer.Taken (Some (LocateAnswered (Some door.target) true))

@@ -1,5 +1,5 @@
 //! Whole runs in use: a server's end and a client's are given octets and acts of their own.
-ghost use Rattle.std.specs.Prelude.{◌≡◌, ◌≢◌, ◌++◌, ◌∷◌, [], ℕ, IfOk, List, None, Some};
+ghost use Rattle.std.specs.Prelude.{◌≡◌, ◌≢◌, ◌⊎◌, ◌++◌, ◌∷◌, [], ℕ, IfOk, List, None, Some};
 ghost use Rattle.giop_cdr.specs.declared.fault.CdrKind.TheVariants.{BadCount};
 ghost use Rattle.giop_cdr.specs.declared.order.Order.TheVariants.{Big};
 ghost use Rattle.giop_types.specs.declared.json.interface.Interface.{Interface as Described};
@@ -17,10 +17,11 @@ ghost use Rattle.giop_session.specs.Runs.ClientRuns.{client_entry, client_named,
 ghost use Rattle.giop_session.specs.Runs.Driven.{NoneRefused, own_answers};
 ghost use Rattle.giop_session.specs.Runs.RunLimits.{ClientIsGivenWithin, NoneForALimit, ServerIsGivenWithin};
 ghost use Rattle.giop_session.specs.Acts.Sent.{close_connection};
+ghost use Rattle.giop_session.specs.Runs.Fits.{ClientFits, ClientIsAsAlone, ClientSays, ServerFits, ServerIsAsAlone, ServerSays};
 ghost use Rattle.giop_session.specs.Runs.ServerRuns.{server_entry, server_named, ServerHolds};
 ghost use Rattle.laws_in_use.specs.Asking.{here};
 ghost use Rattle.laws_in_use.specs.Locating as locating;
-ghost use Rattle.laws_in_use.specs.Runs.{client_answers, client_given, client_told, door_taken, Forms, key_taken, server_answers, server_given, server_said};
+ghost use Rattle.laws_in_use.specs.Runs.{client_answers, client_given, client_told, door_taken, Forms, key_taken, server_answers, server_given, server_given_otherwise, server_said};
 
 use giop_calls::{ClientEntry, ServerEntry};
 use giop_msg::laws::{locate_replies_are_spelled, locate_requests_are_spelled};
@@ -34,12 +35,20 @@ use std::alloc::{AllocError, Global};
 /// A server's end may be given the octets of two LocateRequests in four reads, one of them in two
 /// messages with the other between, then a cancel, and octets that spell nothing under the id of
 /// that; it answers the first one, and takes its entry out. It takes all of it and gives these
-/// answers, none of which refuses, and it holds these calls. All of it is within its limits.
+/// answers, none of which refuses, and it holds these calls. All of it is within its limits, and
+/// fits the end: each of the two calls alone is refused nothing. So it is in another order.
 pub fn what_a_server_is_given()
     ensures holds { (interface : Described) → (left : _) × (k : _)
         × ServerHolds interface locating.limits server_given server_answers left k server_said }
     ensures none { NoneRefused server_answers }
     ensures within { ServerIsGivenWithin locating.limits server_given }
+    ensures fits { (interface : Described) → ServerFits interface locating.limits server_given }
+    ensures says { (interface : Described)
+        → (fits : ServerFits interface locating.limits server_given)
+        × ((id : ℕ) → ServerSays (fits.alone id) (server_said id)) }
+    ensures otherwise { (interface : Described)
+        → (fits : ServerFits interface locating.limits server_given_otherwise)
+        × ((id : ℕ) → ServerSays (fits.alone id) (server_said id)) }
 {
     locate_requests_are_spelled();
     what_is_cut_is_carried();
@@ -47,8 +56,9 @@ pub fn what_a_server_is_given()
 
 /// Whatever end is made and given that, where nothing is refused: the id 7 has no entry then, and
 /// was answered with the one that was taken out; the id 9 has what couldn't be decoded; and no
-/// other id has any. In no case is anything refused for a limit. Closed at once, an end has put out
-/// its CloseConnection; and whatever it was given, it never puts out a LocateRequest first.
+/// other id has any. In either order nothing is refused, and 7 comes to the same. In no case is
+/// anything refused for a limit. Closed at once, an end has put out its CloseConnection; and
+/// whatever it was given, it never puts out a LocateRequest first.
 pub fn a_run_of_a_server<'a>(
     alloc: Global,
     interface: &'a Interface,
@@ -73,6 +83,14 @@ pub fn a_run_of_a_server<'a>(
     ensures others { inputs.items ≡ server_given → IfOk result (λ run.
         NoneRefused run.1.items → run.0.fault ≡ None
         → (id : ℕ) → id ≢ 7 → id ≢ 9 → server_entry run.0.calls id ≡ None) }
+    ensures accepted { (inputs.items ≡ server_given) ⊎ (inputs.items ≡ server_given_otherwise)
+        → IfOk result (λ run. NoneRefused run.1.items × (run.0.fault ≡ None)) }
+    ensures either { (inputs.items ≡ server_given) ⊎ (inputs.items ≡ server_given_otherwise)
+        → IfOk result (λ run. (server_entry run.0.calls 7 ≡ None)
+        × (own_answers server_named 7 inputs.items run.1.items ≡ Done ∷ door_taken ∷ [])) }
+    ensures alone { inputs.items ≡ server_given_otherwise → IfOk result (λ run.
+        (fits : ServerFits interface.now locating.limits inputs.items)
+        × ServerIsAsAlone fits run.1.items run.0.calls 9) }
     ensures free { inputs.items ≡ server_given → IfOk result (λ run.
         NoneForALimit run.1.items) }
     ensures same { IfOk result (λ run. run.0.limits ≡ locating.limits) }
@@ -96,7 +114,7 @@ pub fn a_run_of_a_server<'a>(
 /// cancels and asks again, and octets in three reads: the answer to the first in two messages, with
 /// the late one to the second between, and octets that spell nothing; it takes that entry out. It
 /// takes all of it and gives these answers, none of which refuses, and it holds these calls. All of
-/// it is within its limits.
+/// it is within its limits, and fits the end: each of the two calls alone is refused nothing.
 pub fn what_a_client_is_given()
     ensures forms { Forms }
     ensures holds { (interface : Described) (forms : Forms) → (left : _) × (k : _)
@@ -105,14 +123,19 @@ pub fn what_a_client_is_given()
     ensures none { NoneRefused client_answers }
     ensures within { (forms : Forms)
         → ClientIsGivenWithin locating.limits (client_given forms) }
+    ensures fits { (interface : Described) (forms : Forms)
+        → ClientFits interface locating.limits (client_given forms) }
+    ensures says { (interface : Described) (forms : Forms)
+        → (fits : ClientFits interface locating.limits (client_given forms))
+        × ((id : ℕ) → ClientSays (fits.alone id) (client_told id)) }
 {
     locate_replies_are_spelled();
 }
 
 /// Whatever end is made and given that, where nothing is refused: the id 7 has the LocateReply; the
 /// id 9 has no entry then, and was answered with the one that was taken out; and no other id has
-/// any. In no case is anything refused for a limit. Closed at once, an end has put out its
-/// CloseConnection; and whatever it was given, it never puts out a LocateReply first.
+/// any. Nothing is refused. In no case is anything refused for a limit. Closed at once, an end has
+/// put out its CloseConnection; and whatever it was given, it never puts out a LocateReply first.
 pub fn a_run_of_a_client<'a>(
     alloc: Global,
     interface: &'a Interface,
@@ -134,6 +157,13 @@ pub fn a_run_of_a_client<'a>(
     ensures others { (forms : Forms) → inputs.items ≡ client_given forms → IfOk result (λ run.
         NoneRefused run.1.items → run.0.fault ≡ None
         → (id : ℕ) → id ≢ 7 → id ≢ 9 → client_entry run.0.calls id ≡ None) }
+    ensures accepted { (forms : Forms) → inputs.items ≡ client_given forms → IfOk result (λ run.
+        NoneRefused run.1.items × (run.0.fault ≡ None)) }
+    ensures comes { (forms : Forms) → inputs.items ≡ client_given forms → IfOk result (λ run.
+        client_entry run.0.calls 7 ≡ Some (LocateDone locating.door here)) }
+    ensures alone { (forms : Forms) → inputs.items ≡ client_given forms → IfOk result (λ run.
+        (fits : ClientFits interface.now locating.limits inputs.items)
+        × ClientIsAsAlone fits run.1.items run.0.calls 9) }
     ensures free { (forms : Forms) → inputs.items ≡ client_given forms → IfOk result (λ run.
         NoneForALimit run.1.items) }
     ensures same { IfOk result (λ run. run.0.limits ≡ locating.limits) }

@@ -31,7 +31,7 @@ use Rattle.giop_session.specs.Calls.SessionFaults.{of_table}
 use Rattle.giop_session.proofs.OnLimits.LimitLemmas.{Fits, IsSmall, IsUnlimited, fits_then, heard_fits, heard_free, new_fits, refused_free, table_free}
 
 -- what is taken from the front of octets is the front of the messages that stand there
-front : (limit : ℕ) (one all : List Msg) (octets behind rest : List ℕ) → All (IsMessage limit) one
+pub front : (limit : ℕ) (one all : List Msg) (octets behind rest : List ℕ) → All (IsMessage limit) one
     → octets ≡ flat_map message_octets one ++ behind → Msgs limit octets all rest
     → (others : List Msg) × (all ≡ one ++ others) × Msgs limit behind others rest
 front limit [] all octets behind rest each parts split = (all, refl, subst (λ o. Msgs limit o all rest) parts split)

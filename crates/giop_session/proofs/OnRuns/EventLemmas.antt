@@ -27,12 +27,12 @@ module _ {R E V A F : Type 0} (next : R → Option E → V → Step E A F) (clos
   turn_by rule = turn (next rule) (closed rule) gathering
 
   -- an act that is accepted: the rule stays, the act is accepted by its call, and that call alone is changed
-  record Changes (h : Held R E) (id : ℕ) (act : Call E → Act V) (k : Held R E) : Type 0 where
-    rule_stays : k.rule ≡ h.rule
-    accepted : IsOk (turn_by h.rule (at h id) (act (at h id)))
-    calls : (q : ℕ) → at k q ≡ cond (q == id) (left (at h q) (turn_by h.rule (at h q) (act (at h q)))) (at h q)
+  pub record Changes (h : Held R E) (id : ℕ) (act : Call E → Act V) (k : Held R E) : Type 0 where
+    pub rule_stays : k.rule ≡ h.rule
+    pub accepted : IsOk (turn_by h.rule (at h id) (act (at h id)))
+    pub calls : (q : ℕ) → at k q ≡ cond (q == id) (left (at h q) (turn_by h.rule (at h q) (act (at h q)))) (at h q)
 
-  changes : (h k : Held R E) (id : ℕ) (act : Call E → Act V) (reply : Reply E A)
+  pub changes : (h k : Held R E) (id : ℕ) (act : Call E → Act V) (reply : Reply E A)
       → Does (rules_of (next h.rule) (closed h.rule) gathering) h (record { id = id; what = act (at h id) }) (Ok reply) k → Changes h id act k
   changes h k id act reply does =
       let call = left (at h id) (turn_by h.rule (at h id) (act (at h id))) in
@@ -52,7 +52,7 @@ module _ {R E V A F : Type 0} (next : R → Option E → V → Step E A F) (clos
       by_id q false is = refl
 
   -- a message that is heard names a call, and befalls it
-  heard : (m : Msg) (h k : Held R E) (broken : Option SessionFault) (name : Option (Result ℕ CdrFault))
+  pub heard : (m : Msg) (h k : Held R E) (broken : Option SessionFault) (name : Option (Result ℕ CdrFault))
       → IsHeard (rules_of (next h.rule) (closed h.rule) gathering) of_rule (heard_by broken name (λ id. befalls m (at h id))) h (Ok tt) k
       → (id : ℕ) × (name ≡ Some (Ok id)) × Changes h id (befalls m) k
   heard m h k broken name (inl both) = absurd cc

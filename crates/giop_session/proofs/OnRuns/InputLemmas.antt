@@ -13,7 +13,7 @@ use Rattle.giop_session.specs.Hearing.Heard.{hears_by}
 use Rattle.giop_session.specs.Runs.Inputs.{AreEvents, Input, Reads, Does, Takes}
 
 -- what is taken until the end waits is the split of the stream
-split : (unread left : Unread) (messages : List Msg) → TakesMessages unread messages left → Waits left
+pub split : (unread left : Unread) (messages : List Msg) → TakesMessages unread messages left → Waits left
     → Msgs unread.limit unread.octets messages left.octets
 split unread left messages taken waits = record {
   whole = taken.octets;
@@ -22,7 +22,7 @@ split unread left messages taken waits = record {
 }
 
 -- so it is the same whoever takes it
-same_taken : (unread left left' : Unread) (messages messages' : List Msg) → TakesMessages unread messages left → Waits left
+pub same_taken : (unread left left' : Unread) (messages messages' : List Msg) → TakesMessages unread messages left → Waits left
     → TakesMessages unread messages' left' → Waits left' → (messages ≡ messages') × (left ≡ left')
 same_taken unread left left' messages messages' taken waits taken' waits' =
     let same = same_splits unread.limit unread.octets messages messages' left.octets left'.octets

@@ -1,7 +1,7 @@
 //! An end is made and given a list of inputs: `run_server` and `run_client`, whose contracts are
 //! the headline (docs/HEADLINE.md) of functions that run. What an input does to an end is
 //! specs/Runs/ServerRuns.antt and specs/Runs/ClientRuns.antt.
-ghost use Rattle.std.specs.Prelude.{◌≡◌, ◌≢◌, ◌≤◌, ◌^◌, ◌↔◌, None, Err, IfOk, IsErr};
+ghost use Rattle.std.specs.Prelude.{◌≡◌, ◌≢◌, ◌≤◌, ◌^◌, ◌↔◌, ℕ, None, Err, IfOk, IsErr};
 ghost use Rattle.std.specs.FinMap as finite;
 ghost use Rattle.giop_session.specs.declared.laws.inputs.Answered.TheVariants.{Refused};
 ghost use Rattle.giop_session.specs.declared.session_fault.SessionFault.TheVariants.{NoMemory};
@@ -9,6 +9,7 @@ ghost use Rattle.giop_session.specs.Items.Carries.{behind_all};
 ghost use Rattle.giop_session.specs.Items.ClientCarries.{client_telling, unknown};
 ghost use Rattle.giop_session.specs.Runs.ClientRuns.{client_entry, client_named, ClientHolds, ClientRuns, ClientTakesAs};
 ghost use Rattle.giop_session.specs.Runs.Driven.{answer_of, Closes, end_state, Feeds, InTurn, IsGiven, item_answers, NoneRefused, own_answers, taken_answer_of, TakesOut};
+ghost use Rattle.giop_session.specs.Runs.Fits.{ClientFits, ClientIsAsAlone, ClientIsAsSaid, ClientSays, ServerFits, ServerIsAsAlone, ServerIsAsSaid, ServerSays};
 ghost use Rattle.giop_session.specs.Acts.PutOut.{ArePutOut, is_of_client, is_of_server};
 ghost use Rattle.giop_session.specs.Runs.RunLimits.{ClientIsGivenWithin, NoneForALimit, ServerIsGivenWithin};
 ghost use Rattle.giop_session.specs.Items.ServerCarries.{server_telling};
@@ -26,6 +27,11 @@ use std::alloc::{AllocError, Global};
 /// Makes a server's end and gives it these inputs, one after another: the answers are one for each,
 /// in their order. A run continues after a refusal, also after one that fails the end, which then
 /// refuses all that is left.
+///
+/// Let what is given fit the end: the octets are whole messages of kinds that a client sends, each
+/// names an id, none closes the connection or is an error, no limit is met, and a new end that is
+/// given the messages and acts of one id alone refuses none, whichever id it is. Then this end
+/// refuses nothing, and what it holds of each id and answered for it is what the id alone came to.
 ///
 /// Where the end refuses nothing, and isn't closed, each id's entry and answers are those of what
 /// was said of that one call. It makes no difference in which messages, Fragments, byte orders and
@@ -64,6 +70,13 @@ pub fn run_server<'a>(
         ≡ item_answers (server_telling interface.now) (λ entry. entry) None (items id)) }
     ensures within { IfOk result (λ run. ServerIsGivenWithin limits inputs.items
         → NoneForALimit run.1.items) }
+    ensures fits { IfOk result (λ run. ServerFits interface.now limits inputs.items
+        → NoneRefused run.1.items × (run.0.fault ≡ None)) }
+    ensures alone { IfOk result (λ run. (fits : ServerFits interface.now limits inputs.items)
+        → (id : ℕ) → ServerIsAsAlone fits run.1.items run.0.calls id) }
+    ensures said { IfOk result (λ run. (fits : ServerFits interface.now limits inputs.items)
+        (calls : _) → ((id : ℕ) → ServerSays (fits.alone id) (calls id))
+        → (id : ℕ) → ServerIsAsSaid interface.now calls inputs.items run.1.items run.0.calls id) }
     ensures put_out { IfOk result (λ run. ArePutOut is_of_server run.0.outgoing) }
 {
     let mut server: ServerEnd<'a> = End::<ServerRule>::new(alloc, interface, limits);
@@ -74,6 +87,11 @@ pub fn run_server<'a>(
 /// Makes a client's end and gives it these inputs, one after another: the answers are one for each,
 /// in their order. A run continues after a refusal, also after one that fails the end, which then
 /// refuses all that is left.
+///
+/// Let what is given fit the end: the octets are whole messages of kinds that a server sends, each
+/// names an id, none closes the connection or is an error, no limit is met, and a new end that is
+/// given the messages and acts of one id alone refuses none, whichever id it is. Then this end
+/// refuses nothing, and what it holds of each id and answered for it is what the id alone came to.
 ///
 /// Where the end refuses nothing, and isn't closed, each id's entry and answers are those of what
 /// was said of that one call. It makes no difference in which messages, Fragments, byte orders and
@@ -112,6 +130,13 @@ pub fn run_client<'a>(
         ≡ item_answers (client_telling interface.now) (λ known. known.entry) unknown (items id)) }
     ensures within { IfOk result (λ run. ClientIsGivenWithin limits inputs.items
         → NoneForALimit run.1.items) }
+    ensures fits { IfOk result (λ run. ClientFits interface.now limits inputs.items
+        → NoneRefused run.1.items × (run.0.fault ≡ None)) }
+    ensures alone { IfOk result (λ run. (fits : ClientFits interface.now limits inputs.items)
+        → (id : ℕ) → ClientIsAsAlone fits run.1.items run.0.calls id) }
+    ensures said { IfOk result (λ run. (fits : ClientFits interface.now limits inputs.items)
+        (calls : _) → ((id : ℕ) → ClientSays (fits.alone id) (calls id))
+        → (id : ℕ) → ClientIsAsSaid interface.now calls inputs.items run.1.items run.0.calls id) }
     ensures put_out { IfOk result (λ run. ArePutOut is_of_client run.0.outgoing) }
 {
     let mut client: ClientEnd<'a> = End::<ClientRule>::new(alloc, interface, limits);

@@ -14,6 +14,7 @@ use Rattle.laws_in_use.specs.Runs.{client_told, told_and_taken}
 use Rattle.laws_in_use.proofs.AskingMessages.{decoded}
 use Rattle.laws_in_use.proofs.Closings.{client_closes_by}
 use Rattle.laws_in_use.proofs.PutOutKinds.{client_puts_none}
+use Rattle.laws_in_use.proofs.ClientRunFits.{given_fits}
 use Rattle.laws_in_use.proofs.ClientRunHolds.{holds_of_run}
 use Rattle.laws_in_use.proofs.ClientRunWithin.{run_within}
 use Rattle.laws_in_use.proofs.runs.a_run_of_a_client.Goals as goal
@@ -43,6 +44,24 @@ returns-clause-others c = λ forms given none sound id seven nine.
     ∙ ap (λ items. (behind_all (client_telling c.args.interface.now) unknown items).entry)
     (ap (λ b. if b then told_of_seven else if id == 9 then told_and_taken else []) (eq_apart id 7 seven)
     ∙ ap (λ b. if b then told_and_taken else []) (eq_apart id 9 nine))
+
+pub returns-clause-accepted : goal.returns-clause-accepted
+returns-clause-accepted c = λ forms given.
+    let fits = given_fits c.args.interface.now forms (c.locate_replies_are_spelled.ensures V10) (c.locate_replies_are_spelled.ensures V12)
+    c.args.inputs.items given in
+    c.in_ok-run_client.ensures.fits fits.0
+
+pub returns-clause-comes : goal.returns-clause-comes
+returns-clause-comes c = λ forms given.
+    let fits = given_fits c.args.interface.now forms (c.locate_replies_are_spelled.ensures V10) (c.locate_replies_are_spelled.ensures V12)
+    c.args.inputs.items given in
+    (c.in_ok-run_client.ensures.said fits.0 client_told fits.1 7).entry
+
+pub returns-clause-alone : goal.returns-clause-alone
+returns-clause-alone c = λ forms given.
+    let fits = given_fits c.args.interface.now forms (c.locate_replies_are_spelled.ensures V10) (c.locate_replies_are_spelled.ensures V12)
+    c.args.inputs.items given in
+    (fits.0, c.in_ok-run_client.ensures.alone fits.0 9)
 
 pub returns-clause-free : goal.returns-clause-free
 returns-clause-free c = λ forms given.

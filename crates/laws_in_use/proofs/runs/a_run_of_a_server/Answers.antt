@@ -1,4 +1,4 @@
-use Rattle.std.proofs.Common.{◌≡◌, ap, sym, subst, ◌∙◌, ◌==◌, if◌then◌else◌, Some, None, [], ◌∷◌}
+use Rattle.std.proofs.Common.{◌≡◌, ap, sym, subst, ◌∙◌, ◌==◌, if◌then◌else◌, Some, None, [], ◌∷◌, inr}
 use Rattle.giop_ids.proofs.Puts.{eq_apart}
 use Rattle.giop_cdr.specs.declared.order.Order.TheVariants.{Big}
 use Rattle.giop_msg.specs.declared.version.Version.TheVariants.{V10, V12}
@@ -12,6 +12,7 @@ use Rattle.laws_in_use.proofs.Closings.{server_closes_by}
 use Rattle.laws_in_use.proofs.LocatingMessages.{decoded}
 use Rattle.laws_in_use.proofs.LocatingSpelled.{door_cut}
 use Rattle.laws_in_use.proofs.PutOutKinds.{server_puts_none}
+use Rattle.laws_in_use.proofs.ServerRunFits.{either_fits}
 use Rattle.laws_in_use.proofs.ServerRunHolds.{holds_of_run}
 use Rattle.laws_in_use.proofs.ServerRunWithin.{run_within}
 use Rattle.laws_in_use.proofs.runs.a_run_of_a_server.Goals as goal
@@ -41,6 +42,28 @@ returns-clause-others c = λ given none sound id seven nine.
     ∙ ap (λ items. behind_all (server_telling c.args.interface.now) None items)
     (ap (λ b. if b then said_and_taken else if id == 9 then said_of_nine else []) (eq_apart id 7 seven)
     ∙ ap (λ b. if b then said_of_nine else []) (eq_apart id 9 nine))
+
+pub returns-clause-accepted : goal.returns-clause-accepted
+returns-clause-accepted c = λ given.
+    let fits = either_fits c.args.interface.now (c.locate_requests_are_spelled.ensures V10) (c.locate_requests_are_spelled.ensures V12)
+    (c.what_is_cut_is_carried.ensures.locate c.args.interface.now V12 Big door 24 (door_begins ∷ door_ends ∷ []) None door_cut)
+    c.args.inputs.items given in
+    c.in_ok-run_server.ensures.fits fits.0
+
+pub returns-clause-either : goal.returns-clause-either
+returns-clause-either c = λ given.
+    let fits = either_fits c.args.interface.now (c.locate_requests_are_spelled.ensures V10) (c.locate_requests_are_spelled.ensures V12)
+    (c.what_is_cut_is_carried.ensures.locate c.args.interface.now V12 Big door 24 (door_begins ∷ door_ends ∷ []) None door_cut)
+    c.args.inputs.items given in
+    let said = c.in_ok-run_server.ensures.said fits.0 server_said fits.1 7 in
+    (said.entry, said.told)
+
+pub returns-clause-alone : goal.returns-clause-alone
+returns-clause-alone c = λ given.
+    let fits = either_fits c.args.interface.now (c.locate_requests_are_spelled.ensures V10) (c.locate_requests_are_spelled.ensures V12)
+    (c.what_is_cut_is_carried.ensures.locate c.args.interface.now V12 Big door 24 (door_begins ∷ door_ends ∷ []) None door_cut)
+    c.args.inputs.items (inr given) in
+    (fits.0, c.in_ok-run_server.ensures.alone fits.0 9)
 
 pub returns-clause-free : goal.returns-clause-free
 returns-clause-free c = λ given.

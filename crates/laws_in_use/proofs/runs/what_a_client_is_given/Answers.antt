@@ -2,6 +2,7 @@ use Rattle.giop_msg.specs.declared.version.Version.TheVariants.{V10, V12}
 use Rattle.laws_in_use.specs.Asking.{own_acts}
 use Rattle.laws_in_use.proofs.AskingHolds.{own_told}
 use Rattle.laws_in_use.proofs.ClientRunActs.{run_acts}
+use Rattle.laws_in_use.proofs.ClientRunFits.{run_fits}
 use Rattle.laws_in_use.proofs.ClientRunHolds.{run_holds}
 use Rattle.laws_in_use.proofs.ClientRunTaken.{run_taken}
 use Rattle.laws_in_use.proofs.ClientRunWithin as within
@@ -27,3 +28,10 @@ returns-clause-none c = tt
 
 pub returns-clause-within : goal.returns-clause-within
 returns-clause-within c = λ forms. within.run_within forms
+
+pub returns-clause-says : goal.returns-clause-says
+returns-clause-says c = λ interface forms.
+    run_fits interface forms (c.locate_replies_are_spelled.ensures V10) (c.locate_replies_are_spelled.ensures V12)
+
+pub returns-clause-fits : goal.returns-clause-fits
+returns-clause-fits c = λ interface forms. (returns-clause-says c interface forms).0

@@ -4,6 +4,7 @@ use Rattle.giop_msg.specs.declared.version.Version.TheVariants.{V10, V12}
 use Rattle.laws_in_use.specs.Locating.{answering, door, door_begins, door_ends, here_big}
 use Rattle.laws_in_use.proofs.LocatingSpelled.{door_cut}
 use Rattle.laws_in_use.proofs.ServerRunActs.{run_acts}
+use Rattle.laws_in_use.proofs.ServerRunFits.{otherwise_fits, run_fits}
 use Rattle.laws_in_use.proofs.ServerRunHolds.{run_holds}
 use Rattle.laws_in_use.proofs.ServerRunTaken.{run_taken}
 use Rattle.laws_in_use.proofs.ServerRunWithin.{run_within}
@@ -27,3 +28,16 @@ returns-clause-none c = tt
 
 pub returns-clause-within : goal.returns-clause-within
 returns-clause-within c = run_within
+
+pub returns-clause-says : goal.returns-clause-says
+returns-clause-says c = λ interface.
+    run_fits interface (c.locate_requests_are_spelled.ensures V10) (c.locate_requests_are_spelled.ensures V12)
+    (c.what_is_cut_is_carried.ensures.locate interface V12 Big door 24 (door_begins ∷ door_ends ∷ []) None door_cut)
+
+pub returns-clause-fits : goal.returns-clause-fits
+returns-clause-fits c = λ interface. (returns-clause-says c interface).0
+
+pub returns-clause-otherwise : goal.returns-clause-otherwise
+returns-clause-otherwise c = λ interface.
+    otherwise_fits interface (c.locate_requests_are_spelled.ensures V10) (c.locate_requests_are_spelled.ensures V12)
+    (c.what_is_cut_is_carried.ensures.locate interface V12 Big door 24 (door_begins ∷ door_ends ∷ []) None door_cut)

@@ -6,6 +6,7 @@ use Rattle.giop_session.specs.Hearing.Heard.{in_call}
 use Rattle.giop_session.specs.Runs.Inputs.{nothing_unread}
 use Rattle.giop_session.specs.Hearing.ServerHears.{server_befalls, server_breaks}
 use Rattle.giop_session.specs.Runs.ServerRuns.{ServerIsGiven, ServerRuns, ServerRunsFrom, server_deed}
+use Rattle.giop_session.proofs.OnRuns.ServerAloneLemmas.{server_fits, server_said}
 use Rattle.giop_session.proofs.OnRuns.DrivenLemmas.{in_turn_seen, run_taken, taken_takes}
 use Rattle.giop_session.proofs.OnActs.SidesPutOut.{server_puts_out}
 use Rattle.giop_session.proofs.OnItems.ServerHeadline.{server_answers, server_entries}
@@ -74,6 +75,24 @@ returns-clause-within c = λ given.
     server_run_free c.args.interface.now c.args.limits c.args.inputs.items c.in_ok-answers.answers.items
     (end_state c.take_all.new.driven.framer c.take_all.new.driven.calls c.take_all.new.driven.outgoing c.take_all.new.driven.fault)
     given (seen c).1
+
+-- what fits the end is refused nothing
+pub returns-clause-fits : goal.returns-clause-fits
+returns-clause-fits c = λ fits.
+    let found = server_fits c.args.interface.now c.args.limits c.args.inputs.items c.in_ok-answers.answers.items
+    (end_state c.take_all.new.driven.framer c.take_all.new.driven.calls c.take_all.new.driven.outgoing c.take_all.new.driven.fault) fits (seen c).1 in
+    (found.0, found.1)
+
+pub returns-clause-alone : goal.returns-clause-alone
+returns-clause-alone c = λ fits id.
+    (server_fits c.args.interface.now c.args.limits c.args.inputs.items c.in_ok-answers.answers.items
+    (end_state c.take_all.new.driven.framer c.take_all.new.driven.calls c.take_all.new.driven.outgoing c.take_all.new.driven.fault) fits (seen c).1).2 id
+
+pub returns-clause-said : goal.returns-clause-said
+returns-clause-said c = λ fits calls says id.
+    server_said c.args.interface.now c.args.limits c.args.inputs.items c.in_ok-answers.answers.items
+    (end_state c.take_all.new.driven.framer c.take_all.new.driven.calls c.take_all.new.driven.outgoing c.take_all.new.driven.fault)
+    fits calls says (seen c).1 id
 
 pub returns-clause-put_out : goal.returns-clause-put_out
 returns-clause-put_out c =
