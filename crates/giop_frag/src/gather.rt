@@ -6,7 +6,7 @@ ghost use Rattle.std.specs.Option.{option_map};
 ghost use Rattle.std.specs.FinMap as map;
 ghost use Rattle.giop_ids.specs.ById.{put};
 ghost use Rattle.giop_ids.specs.Runs.{Does, RefusedAs};
-ghost use Rattle.giop_frag.specs.Gathered.{grown, total_of, is_over, begin_fault, add_fault, finish_fault, blocks_after, IsBlocksAfter};
+ghost use Rattle.giop_frag.specs.Gathered.{grown, total_of, is_over, begin_fault, add_fault, finish_fault, blocks_after, blocks_of, IsBlocksAfter};
 ghost use Rattle.giop_frag.specs.Runs.{gather_rules, call_reply, finish_reply, Begins, Adds, IsFinished, IsDiscarded, IsDone};
 
 use crate::joined::Joined;
@@ -211,6 +211,7 @@ impl Gather {
     /// It takes no memory.
     pub fn blocks(&self) -> usize
         ensures value { result ≡ self.now.blocks }
+        ensures least { blocks_of self.now.lists ≤ result }
         ensures within { result ≤ self.now.limit }
     {
         self.pool.len()

@@ -2,6 +2,7 @@
 pub mod ServerLemmas
 pub mod FeedingLemmas
 pub mod HeardLemmas
+pub mod ReadsLemmas
 pub mod ClientCancelLemmas
 pub mod ClientReplyLemmas
 pub mod ClientLemmas

@@ -6,6 +6,7 @@ ghost use Rattle.std.specs.Prelude.{◌≡◌, ◌≤◌, ◌^◌, ◌+◌, ◌/
 ghost use Rattle.std.specs.FinMap as finite;
 ghost use Rattle.std.specs.Option.{option_map};
 ghost use Rattle.giop_cdr.specs.declared.order.Order.TheVariants.{Big};
+ghost use Rattle.giop_frag.specs.Gathered.{blocks_of};
 ghost use Rattle.giop_ids.specs.ById.{put};
 ghost use Rattle.giop_ids.specs.Runs.{Does};
 ghost use Rattle.giop_msg.specs.Msg.{message_octets};
@@ -220,11 +221,14 @@ impl<'a, R: Hearing> End<'a, R> {
     }
 
     /// How many blocks of 512 octets the end has taken for pieces. None is freed until the end is
-    /// dropped. They are at most the limit of gathered octets over 512, and one more for each entry
+    /// dropped. They are at least those that the gathered pieces need, each call's octets over 512,
+    /// rounded up; and at most the limit of gathered octets over 512, and one more for each entry
     /// that there may be. It takes no memory.
     ///
-    /// The clause bounds the number and no more. That it is the gatherer's own, tests show.
+    /// What the clauses leave open is how many blocks earlier pieces needed, which contracts don't
+    /// see of an end. That the number is the gatherer's own, tests show.
     pub fn blocks(&self) -> usize
+        ensures least { blocks_of self.now.calls.gathered ≤ result }
         ensures within { result ≤ self.now.calls.room / 512 + self.now.calls.calls }
     {
         self.calls.blocks()

@@ -16,6 +16,7 @@ ghost use Rattle.giop_session.specs.Calls.CallTable.{at, Held, is_of_call, rules
 mod acting;
 mod agreement;
 mod coding;
+mod feeding;
 mod headline;
 mod inputs;
 mod lane_acts;
@@ -34,6 +35,7 @@ pub use coding::{
     pieces_are_gathered_as_they_come, servers_read_as_coding, what_is_sent_is_a_lanes,
     what_is_sent_is_read,
 };
+pub use feeding::any_reads_leave_the_same;
 pub use headline::{
     each_call_of_a_run, same_calls_same_entries_at_client, same_calls_same_entries_at_server,
     what_is_cut_is_carried,

@@ -4,7 +4,7 @@
 ghost use Rattle.std.specs.Prelude.{◌≡◌, ◌==◌, ◌&&◌, ◌≤◌, ◌^◌, ◌+◌, ◌/◌, not, is_some, true, false, if◌then◌else◌, Ok, None, length, is_none, IfNone, IfErr, IfOk, IfSome, IsOk, OnErr, IsSome, option_copied};
 ghost use Rattle.std.specs.FinMap as finite;
 ghost use Rattle.std.specs.Option.{option_map};
-ghost use Rattle.giop_frag.specs.Gathered.{is_over, octets_in, order_fault};
+ghost use Rattle.giop_frag.specs.Gathered.{blocks_of, is_over, octets_in, order_fault};
 ghost use Rattle.giop_ids.specs.ById.{put};
 ghost use Rattle.giop_ids.specs.Runs.{Does};
 ghost use Rattle.giop_mux.specs.Calls.{is_one_too_many, judged};
@@ -105,11 +105,11 @@ impl<R: Side> CallTable<R> {
     }
 
     /// How many blocks of 512 octets were taken for pieces. None is freed while the table lives.
-    /// They are at most the limit of gathered octets over 512, and one more for each entry that
+    /// They are at least those that the gathered pieces need, each call's octets over 512, rounded
+    /// up; and at most the limit of gathered octets over 512, and one more for each entry that
     /// there may be. It takes no memory.
-    ///
-    /// The clause bounds the number and no more. That it is the gatherer's own, tests show.
     pub fn blocks(&self) -> usize
+        ensures least { blocks_of self.now.gathered ≤ result }
         ensures within { result ≤ self.now.room / 512 + self.now.calls }
     {
         self.gather.blocks()

@@ -1,0 +1,44 @@
+//! What feeding an end comes to, in whatever reads its octets come. A function's contract is a
+//! law; the body is empty, and no program calls it. Its meaning is `Feeds` in specs/Pumping.antt.
+ghost use Rattle.std.specs.Prelude.{◌≡◌, ◌≢◌, ◌++◌, ℕ, Err, List, None, Ok};
+ghost use Rattle.giop_types.specs.declared.json.interface.Interface.{Interface};
+ghost use Rattle.giop_session.specs.Calls.CallTable.{Held};
+ghost use Rattle.giop_session.specs.Hearing.Feeding.{with_octets};
+ghost use Rattle.giop_session.specs.Hearing.Heard.{hears_by};
+ghost use Rattle.giop_session.specs.Pumping.{Feeds, State};
+ghost use Rattle.giop_session.specs.declared.session_fault.SessionFault.TheVariants.{NoMemory};
+
+use crate::Hearing;
+
+/// An end is fed with octets, and then with more; or, in one read, with both. Where it is never out
+/// of memory, it is left the same:
+///
+/// - Where the first octets are not refused, both ways return the same, and leave the same calls,
+///   the same unread octets and the same fault, if there is one.
+/// - Where they are refused, the failed end refuses the further octets for the same fault, and
+///   stays. Both at once are refused for that fault too. The calls and the fault are the same, and
+///   of the octets that are unread the further ones are the last: a failed end doesn't keep them.
+///
+/// What is outgoing is the same in any case: `End::feed` changes none of it.
+pub fn any_reads_leave_the_same<R: Hearing>(rule: &R)
+    ensures ok { (interface : Interface) (s mid t u : State (Held R R.Entry)) (octets more : List ℕ)
+        (second both : _) → second ≢ Err NoMemory → both ≢ Err NoMemory
+        → Feeds (hears_by R.next R.closed R.gathering R.in_call R.breaks (R.befalls interface))
+        s octets (Ok tt) mid
+        → Feeds (hears_by R.next R.closed R.gathering R.in_call R.breaks (R.befalls interface))
+        mid more second t
+        → Feeds (hears_by R.next R.closed R.gathering R.in_call R.breaks (R.befalls interface))
+        s (octets ++ more) both u
+        → (both ≡ second) × (u ≡ t) }
+    ensures refused { (interface : Interface) (s mid t u : State (Held R R.Entry))
+        (octets more : List ℕ) (why second both : _)
+        → s.fault ≡ None → why ≢ NoMemory → both ≢ Err NoMemory
+        → Feeds (hears_by R.next R.closed R.gathering R.in_call R.breaks (R.befalls interface))
+        s octets (Err why) mid
+        → Feeds (hears_by R.next R.closed R.gathering R.in_call R.breaks (R.befalls interface))
+        mid more second t
+        → Feeds (hears_by R.next R.closed R.gathering R.in_call R.breaks (R.befalls interface))
+        s (octets ++ more) both u
+        → (second ≡ Err why) × (t ≡ mid) × (both ≡ Err why)
+        × (u ≡ record mid { unread = with_octets mid.unread more }) }
+{}
