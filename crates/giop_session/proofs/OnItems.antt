@@ -6,3 +6,7 @@ pub mod ClientItemLemmas
 pub mod ServerHeadline
 pub mod ClientHeadline
 pub mod AnswerLemmas
+pub mod HeldLemmas
+pub mod SeriesLemmas
+pub mod ServerHeldLemmas
+pub mod ClientHeldLemmas

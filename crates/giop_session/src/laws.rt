@@ -18,6 +18,7 @@ mod agreement;
 mod coding;
 mod feeding;
 mod headline;
+mod held;
 mod inputs;
 mod lane_acts;
 mod lane_events;
@@ -40,6 +41,7 @@ pub use headline::{
     each_call_of_a_run, same_calls_same_entries_at_client, same_calls_same_entries_at_server,
     what_is_cut_is_carried,
 };
+pub use held::{what_is_taken_is_held_at_client, what_is_taken_is_held_at_server};
 pub use inputs::{Answered, CheckedForm, ClientInput, ServerInput, WorldEvent};
 pub use lane_acts::{clients_do_the_lanes_act, servers_do_the_lanes_act};
 pub use lane_events::{clients_hear_the_lanes_event, servers_hear_the_lanes_event};

@@ -56,12 +56,12 @@ unsettled (asked.Locate request) ok = no_fault ok
 
 module _ (interface : Interface) (k : CallKind) (version : Version) (order : Order) where
   -- which call waits for a message, if one does
-  data Awaits (slot : Option (Slot ClientEntry)) : Type 0 where
+  pub data Awaits (slot : Option (Slot ClientEntry)) : Type 0 where
     Nobody : awaited k version slot ≡ None → Awaits slot
     Waits : (call : Asked) (unsent : List Msg) → slot ≡ Some (record { entry = Waiting call; unsent = unsent })
         → answers k version call ≡ true → Awaits slot
 
-  awaits : (slot : Option (Slot ClientEntry)) → Awaits slot
+  pub awaits : (slot : Option (Slot ClientEntry)) → Awaits slot
   awaits None = Nobody refl
   awaits (Some slot) = by_entry slot.entry slot.unsent
     where
@@ -99,7 +99,7 @@ module _ (interface : Interface) (k : CallKind) (version : Version) (order : Ord
   whole_unread (Some (Undecoded call fault)) ok = no_fault ok
   whole_unread (Some (OnewaySent request)) ok = no_fault ok
 
-  first_unread : (slot : Option (Slot ClientEntry)) → awaited k version slot ≡ None
+  pub first_unread : (slot : Option (Slot ClientEntry)) → awaited k version slot ≡ None
       → IsOk (client_step (entry_of slot) (event.First k version)).outcome → entry_of slot ≡ Some (Cancelled late.None)
   first_unread None nobody ok = no_fault ok
   first_unread (Some slot) nobody ok = by_entry slot.entry nobody ok
@@ -149,7 +149,7 @@ module _ (interface : Interface) (k : CallKind) (version : Version) (order : Ord
     abbrev gathering : List ℕ → Call ClientEntry
     gathering octets = with (Gathering call) unsent (Some (record { order = order; octets = octets }))
 
-    more_act : (octets payload : List ℕ)
+    pub more_act : (octets payload : List ℕ)
         → client_befalls interface (message_of version message.Fragment order true payload) (gathering octets)
         ≡ Hears (kept (event.More true)) (More (drop 4 payload))
     more_act octets payload = by_order order
@@ -213,7 +213,7 @@ module _ (interface : Interface) (k : CallKind) (version : Version) (order : Ord
           ∙ ap (λ b. comes interface k (message_of version (replies k) order true payload) (cond b (Some call) None)) waits
 
       -- the call gathers its reply behind the first piece
-      begins : (m : Msg) (pieces : Option Pieces) → m ≡ message_of version (replies k) order true m.payload
+      pub begins : (m : Msg) (pieces : Option Pieces) → m ≡ message_of version (replies k) order true m.payload
           → Passes (with (Waiting call) unsent pieces) (client_befalls interface m (with (Waiting call) unsent pieces))
           → behind (with (Waiting call) unsent pieces) (client_befalls interface m (with (Waiting call) unsent pieces)) ≡ gathering m.payload
       begins m pieces is ok =
@@ -246,7 +246,7 @@ module _ (interface : Interface) (k : CallKind) (version : Version) (order : Ord
 
   -- ---- of a call that doesn't
 
-  unread_first : (m : Msg) (call : Call ClientEntry) → awaited k version call.slot ≡ None → m ≡ message_of version (replies k) order true m.payload
+  pub unread_first : (m : Msg) (call : Call ClientEntry) → awaited k version call.slot ≡ None → m ≡ message_of version (replies k) order true m.payload
       → client_befalls interface m call ≡ Hears (kept (event.First k version)) Nothing
   unread_first m call nobody is =
       ap (λ n. client_befalls interface n call) is ∙ comes_is true m.payload call

@@ -56,7 +56,7 @@ client_entries interface limits inputs left k calls takes (events, left', are, c
     (same_events inputs (nothing_unread limits.message) left' left events run.0 are run.1) (carries id))
 
 -- an input is about the call of the id that it names
-names_it : (interface : Interface) (limits : Limits) (h : Held ClientRule ClientEntry) (given : ClientInput)
+pub names_it : (interface : Interface) (limits : Limits) (h : Held ClientRule ClientEntry) (given : ClientInput)
     → id_of (client_deed interface limits h given) ≡ client_named given
 names_it interface limits h (input.Feed octets) = refl
 names_it interface limits h (input.Call request form) = refl

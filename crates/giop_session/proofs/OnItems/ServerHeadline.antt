@@ -54,7 +54,7 @@ server_entries interface limits inputs left k calls takes (events, left', are, c
     (same_events inputs (nothing_unread limits.message) left' left events run.0 are run.1) (carries id))
 
 -- an input is about the call of the id that it names
-names_it : (interface : Interface) (limits : Limits) (h : Held ServerRule ServerEntry) (given : ServerInput)
+pub names_it : (interface : Interface) (limits : Limits) (h : Held ServerRule ServerEntry) (given : ServerInput)
     → id_of (server_deed interface limits h given) ≡ server_named given
 names_it interface limits h (input.Feed octets) = refl
 names_it interface limits h (input.Answer reply form) = refl

@@ -76,7 +76,7 @@ module _ (interface : Interface) (k : CallKind) (version : Version) (order : Ord
       by_kind kind.Request = refl
       by_kind kind.Locate = refl
 
-  first_act : (payload : List ℕ) (call : Call ServerEntry)
+  pub first_act : (payload : List ℕ) (call : Call ServerEntry)
       → server_befalls interface (message_of version (asks k) order true payload) call
       ≡ Hears (kept (event.First k)) (First order payload)
   first_act payload call = by_kind k
@@ -90,7 +90,7 @@ module _ (interface : Interface) (k : CallKind) (version : Version) (order : Ord
   abbrev gathering : List Msg → List ℕ → Call ServerEntry
   gathering unsent octets = standing (Some (Gathering k)) unsent (Some (record { order = order; octets = octets }))
 
-  more_act : (unsent : List Msg) (octets payload : List ℕ)
+  pub more_act : (unsent : List Msg) (octets payload : List ℕ)
       → server_befalls interface (message_of version message.Fragment order true payload) (gathering unsent octets)
       ≡ Hears (kept (event.More true)) (More (drop 4 payload))
   more_act unsent octets payload = by_order order
