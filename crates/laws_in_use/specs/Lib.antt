@@ -3,6 +3,7 @@ pub mod ClientCalls
 pub mod Described
 pub mod Doors
 pub mod Exchange
+pub mod Feeding
 pub mod Framed
 pub mod Gathering
 pub mod Heard

@@ -10,6 +10,7 @@ mod classes;
 mod described;
 mod doors;
 mod ends;
+mod feeding;
 mod gathering;
 mod heard;
 mod hearing;

@@ -13,12 +13,12 @@ ghost use Rattle.giop_session.specs.declared.laws.inputs.Answered.TheVariants.{D
 ghost use Rattle.giop_session.specs.declared.laws.inputs.ClientInput.TheVariants as client;
 ghost use Rattle.giop_session.specs.declared.laws.inputs.ServerInput.TheVariants as server;
 ghost use Rattle.giop_session.specs.declared.session_fault.SessionFault.TheVariants.{Closed};
-ghost use Rattle.giop_session.specs.Runs.ClientRuns.{client_entry, client_named, ClientHolds};
+ghost use Rattle.giop_session.specs.Runs.ClientRuns.{client_entry, client_named, ClientHolds, ClientTakesAs};
 ghost use Rattle.giop_session.specs.Runs.Driven.{NoneRefused, own_answers};
 ghost use Rattle.giop_session.specs.Runs.RunLimits.{ClientIsGivenWithin, NoneForALimit, ServerIsGivenWithin};
 ghost use Rattle.giop_session.specs.Acts.Sent.{close_connection};
 ghost use Rattle.giop_session.specs.Runs.Fits.{ClientFits, ClientIsAsAlone, ClientSays, ServerFits, ServerIsAsAlone, ServerSays};
-ghost use Rattle.giop_session.specs.Runs.ServerRuns.{server_entry, server_named, ServerHolds};
+ghost use Rattle.giop_session.specs.Runs.ServerRuns.{server_entry, server_named, ServerHolds, ServerTakesAs};
 ghost use Rattle.laws_in_use.specs.Asking.{here};
 ghost use Rattle.laws_in_use.specs.Locating as locating;
 ghost use Rattle.laws_in_use.specs.Runs.{client_answers, client_given, client_told, door_taken, Forms, key_taken, server_answers, server_given, server_given_otherwise, server_said};
@@ -27,6 +27,7 @@ use giop_calls::{ClientEntry, ServerEntry};
 use giop_msg::laws::{locate_replies_are_spelled, locate_requests_are_spelled};
 use giop_session::laws::{
     Answered, ClientInput, ServerInput, run_client, run_server, what_is_cut_is_carried,
+    what_is_taken_is_held_at_client, what_is_taken_is_held_at_server,
 };
 use giop_session::{ClientEnd, Limits, ServerEnd};
 use giop_types::Interface;
@@ -36,8 +37,13 @@ use std::alloc::{AllocError, Global};
 /// messages with the other between, then a cancel, and octets that spell nothing under the id of
 /// that; it answers the first one, and takes its entry out. It takes all of it and gives these
 /// answers, none of which refuses, and it holds these calls. All of it is within its limits, and
-/// fits the end: each of the two calls alone is refused nothing. So it is in another order.
+/// fits the end: each of the two calls alone is refused nothing. So it is in another order. That
+/// some calls are held, needs no look at them.
 pub fn what_a_server_is_given()
+    ensures taken { (interface : Described) → (acts : _) × (left : _) × (k : _)
+        × ServerTakesAs interface locating.limits server_given server_answers acts left k }
+    ensures held { (interface : Described) → (left : _) × (k : _) × (calls : _)
+        × ServerHolds interface locating.limits server_given server_answers left k calls }
     ensures holds { (interface : Described) → (left : _) × (k : _)
         × ServerHolds interface locating.limits server_given server_answers left k server_said }
     ensures none { NoneRefused server_answers }
@@ -52,6 +58,7 @@ pub fn what_a_server_is_given()
 {
     locate_requests_are_spelled();
     what_is_cut_is_carried();
+    what_is_taken_is_held_at_server();
 }
 
 /// Whatever end is made and given that, where nothing is refused: the id 7 has no entry then, and
@@ -114,9 +121,14 @@ pub fn a_run_of_a_server<'a>(
 /// cancels and asks again, and octets in three reads: the answer to the first in two messages, with
 /// the late one to the second between, and octets that spell nothing; it takes that entry out. It
 /// takes all of it and gives these answers, none of which refuses, and it holds these calls. All of
-/// it is within its limits, and fits the end: each of the two calls alone is refused nothing.
+/// it is within its limits, and fits the end: each of the two calls alone is refused nothing. That
+/// some calls are held, needs no look at them.
 pub fn what_a_client_is_given()
     ensures forms { Forms }
+    ensures taken { (interface : Described) (forms : Forms) → (acts : _) × (left : _) × (k : _)
+        × ClientTakesAs interface locating.limits (client_given forms) client_answers acts left k }
+    ensures held { (interface : Described) (forms : Forms) → (left : _) × (k : _) × (calls : _)
+        × ClientHolds interface locating.limits (client_given forms) client_answers left k calls }
     ensures holds { (interface : Described) (forms : Forms) → (left : _) × (k : _)
         × ClientHolds interface locating.limits (client_given forms) client_answers left k
         client_told }
@@ -130,6 +142,7 @@ pub fn what_a_client_is_given()
         × ((id : ℕ) → ClientSays (fits.alone id) (client_told id)) }
 {
     locate_replies_are_spelled();
+    what_is_taken_is_held_at_client();
 }
 
 /// Whatever end is made and given that, where nothing is refused: the id 7 has the LocateReply; the

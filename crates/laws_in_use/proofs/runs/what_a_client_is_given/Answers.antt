@@ -1,5 +1,7 @@
 use Rattle.giop_msg.specs.declared.version.Version.TheVariants.{V10, V12}
 use Rattle.laws_in_use.specs.Asking.{own_acts}
+use Rattle.laws_in_use.specs.Locating.{limits}
+use Rattle.laws_in_use.specs.Runs.{client_answers, client_given}
 use Rattle.laws_in_use.proofs.AskingHolds.{own_told}
 use Rattle.laws_in_use.proofs.ClientRunActs.{run_acts}
 use Rattle.laws_in_use.proofs.ClientRunFits.{run_fits}
@@ -22,6 +24,15 @@ returns-clause-holds c = λ interface forms. (
         run_holds interface (c.locate_replies_are_spelled.ensures V10) (c.locate_replies_are_spelled.ensures V12) own_acts own_told;
   },
 )
+
+pub returns-clause-taken : goal.returns-clause-taken
+returns-clause-taken c = λ interface forms. (run_acts own_acts, _, _, run_taken interface forms)
+
+pub returns-clause-held : goal.returns-clause-held
+returns-clause-held c = λ interface forms.
+    let held = c.what_is_taken_is_held_at_client.ensures interface limits (client_given forms) client_answers (run_acts own_acts) _ _
+    (run_taken interface forms) in
+    (_, _, held.0, held.1)
 
 pub returns-clause-none : goal.returns-clause-none
 returns-clause-none c = tt

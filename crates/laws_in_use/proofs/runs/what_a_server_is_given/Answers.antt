@@ -1,7 +1,8 @@
 use Rattle.std.proofs.Common.{[], ◌∷◌, None, refl}
 use Rattle.giop_cdr.specs.declared.order.Order.TheVariants.{Big}
 use Rattle.giop_msg.specs.declared.version.Version.TheVariants.{V10, V12}
-use Rattle.laws_in_use.specs.Locating.{answering, door, door_begins, door_ends, here_big}
+use Rattle.laws_in_use.specs.Locating.{answering, door, door_begins, door_ends, here_big, limits}
+use Rattle.laws_in_use.specs.Runs.{server_answers, server_given}
 use Rattle.laws_in_use.proofs.LocatingSpelled.{door_cut}
 use Rattle.laws_in_use.proofs.ServerRunActs.{run_acts}
 use Rattle.laws_in_use.proofs.ServerRunFits.{otherwise_fits, run_fits}
@@ -22,6 +23,15 @@ returns-clause-holds c = λ interface. (
         (c.what_is_cut_is_carried.ensures.locate interface V12 Big door 24 (door_begins ∷ door_ends ∷ []) None door_cut) (answering here_big) refl;
   },
 )
+
+pub returns-clause-taken : goal.returns-clause-taken
+returns-clause-taken c = λ interface. (run_acts (answering here_big), _, _, run_taken interface)
+
+pub returns-clause-held : goal.returns-clause-held
+returns-clause-held c = λ interface.
+    let held = c.what_is_taken_is_held_at_server.ensures interface limits server_given server_answers (run_acts (answering here_big)) _ _
+    (run_taken interface) in
+    (_, _, held.0, held.1)
 
 pub returns-clause-none : goal.returns-clause-none
 returns-clause-none c = tt
