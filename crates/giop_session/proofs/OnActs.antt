@@ -2,6 +2,7 @@
 pub mod SentLemmas
 pub mod IdLemmas
 pub mod ActingLemmas
+pub mod LastLemmas
 pub mod LocalLemmas
 pub mod LocatedLemmas
 pub mod PutOutLemmas

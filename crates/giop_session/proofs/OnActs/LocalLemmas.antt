@@ -20,7 +20,7 @@ use Rattle.giop_session.specs.declared.limits.Limits.{Limits}
 use Rattle.giop_session.specs.declared.calls.plan.Planned.{Planned}
 use Rattle.giop_session.specs.declared.calls.table_fault.TableFault.{TableFault}
 use Rattle.giop_session.specs.Calls.CallTable.{Act, Call, Held, Reply}
-use Rattle.giop_session.specs.Hearing.Heard.{in_call, kept}
+use Rattle.giop_session.specs.Hearing.Heard.{in_call}
 use Rattle.giop_session.specs.Acts.Putting.{Puts}
 use Rattle.giop_session.specs.Calls.Refused.{IsNotSent, IsRefusal, unfit_unless}
 use Rattle.giop_session.specs.Acts.Sent.{IsValueSent}
@@ -86,15 +86,3 @@ pub answer_puts : {R E A : Type 0}
     (IsAnswer interface question answer form) h out result k out'
 answer_puts rules interface limits question q answer form h k out out' result is puts =
     rw is puts
-
--- a Reply that no Request waits for
-pub unasked_puts : {R E A : Type 0}
-    (rules : Rules (Held R E) (Call E) (Act ServerEvent) (Reply E A) (TableFault CallFault))
-    (interface : Interface) (limits : Limits) (question : Option (Option Request))
-    (answer : Answer) (form : Form) (h k : Held R E) (out out' : List ℕ)
-    (result : Result (Unit {0}) SessionFault) → question ≡ None
-    → Puts rules in_call answer.id None (λ planned. planned ≡ kept (event.Answer answer 1))
-    h out result k out'
-    → Puts rules in_call answer.id (answer_fault interface limits question answer form)
-    (IsAnswer interface question answer form) h out result k out'
-unasked_puts rules interface limits question answer form h k out out' result is puts = rw is puts

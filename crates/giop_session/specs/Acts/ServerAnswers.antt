@@ -1,5 +1,5 @@
 -- What a server's own program answers (CORBA 3.3 Part 2, 9.4.3, 9.4.6).
-use Rattle.std.specs.Prelude.{◌≡◌, ℕ, ◌<◌, ◌^◌, ◌&&◌, Bool, false, if◌then◌else◌, List, [], length, Option, Some, None}
+use Rattle.std.specs.Prelude.{◌≡◌, ℕ, ◌<◌, ◌^◌, ◌&&◌, Bool, true, false, if◌then◌else◌, List, [], length, Option, Some, None}
 use Rattle.giop_cdr.specs.declared.order.Order.{Order}
 use Rattle.giop_types.specs.declared.json.interface.Interface.{Interface}
 use Rattle.giop_msg.specs.declared.kind.Kind.TheVariants as message
@@ -12,6 +12,7 @@ use Rattle.giop_msg.specs.Messages.LocateReply.{locate_reply}
 use Rattle.giop_msg.specs.Messages.Outcome.{joined_into}
 use Rattle.giop_msg.specs.Messages.Reply.{reply}
 use Rattle.giop_calls.specs.declared.fault.CallFault.{CallFault}
+use Rattle.giop_calls.specs.declared.fault.CallFault.TheVariants.{NotOpen, WrongKind}
 use Rattle.giop_calls.specs.declared.kind.CallKind.{CallKind}
 use Rattle.giop_calls.specs.declared.kind.CallKind.TheVariants as kind
 use Rattle.giop_calls.specs.declared.server.entry.ServerEntry.{ServerEntry}
@@ -56,6 +57,28 @@ question_in _ = None
 abbrev pub question_of : Option ServerEntry → Option (Option Request)
 question_of None = None
 question_of (Some entry) = question_in entry
+
+-- whether a LocateRequest waits for its answer
+abbrev pub expects_locate : Option CallKind → Bool
+expects_locate (Some kind.Locate) = true
+expects_locate (Some kind.Request) = false
+expects_locate None = false
+
+abbrev pub is_locate : ServerEntry → Bool
+is_locate (LocateAsked q) = true
+is_locate (Undecoded call) = expects_locate call.expects
+is_locate _ = false
+
+-- why no Reply is sent under an id, where no Request waits for one
+abbrev pub unasked_fault : Option ServerEntry → CallFault
+unasked_fault None = NotOpen
+unasked_fault (Some entry) = if is_locate entry then WrongKind else NotOpen
+
+-- a Request waits for a Reply, and octets spell this one as a reply to it
+abbrev pub IsFitAnswer : Interface → Option (Option Request) → Reply → Type 0
+IsFitAnswer interface None answer = ⊥
+IsFitAnswer interface (Some question) answer =
+    (reply interface question answer.version).fits answer ≡ true
 
 -- why a Reply is not sent, where one is waited for; else the table refuses it
 abbrev pub answer_fault : Interface → Limits → Option (Option Request) → Reply → Form

@@ -1,7 +1,7 @@
 //! What the calls of an end's own program have in common at a client and at a server: joined octets
 //! are cut into messages, and what the table of calls answered becomes what the end returns. Why a
 //! call is refused is specs/Calls/Refused.antt.
-ghost use Rattle.std.specs.Prelude.{◌≡◌, ◌⊎◌, ◌<◌, ◌^◌, true, length, IfErr, IfNone, IfOk, IfSome, IsOk, Err};
+ghost use Rattle.std.specs.Prelude.{◌≡◌, ◌⊎◌, ◌<◌, ◌^◌, true, length, IfErr, IfNone, IfOk, IfSome, IsErrOf, IsOk, Err};
 ghost use Rattle.giop_msg.specs.Cut.{IsCut, is_continued};
 ghost use Rattle.giop_calls.specs.declared.fault.CallFault.TheVariants.{Unfit};
 ghost use Rattle.giop_session.specs.Acts.Form.{is_sendable, IsForm};
@@ -61,6 +61,7 @@ pub fn sent(
     ensures cut { IfOk result (λ messages. IfOk encoded (λ octets.
         IsCut version kind form.order octets.items form.piece messages)) }
     ensures few { IfOk result (λ messages. length messages < 2 ^ 32) }
+    ensures want { result ≡ Err NoMemory → IsErrOf encoded EncodeFault.Unfit → ⊥ }
     ensures err { IfErr result (λ e. (e ≡ NoMemory) ⊎ ((e ≡ in_call id Unfit)
         × IsNotSent (λ octets. is_sendable limits.gathered limits.message version
         (length octets.items) form.piece) encoded)) }

@@ -1,6 +1,6 @@
 //! What an end puts out: the message of an event, once the event is accepted. Its meaning is
 //! specs/Acts/Putting.antt.
-ghost use Rattle.std.specs.Prelude.{◌≡◌, ◌++◌, false, IfNone, IfSome, OnErr, OnOk};
+ghost use Rattle.std.specs.Prelude.{◌≡◌, ◌++◌, false, None, IfNone, IfSome, IsOk, IsSome, OnErr, OnOk};
 ghost use Rattle.std.specs.FinMap as finite;
 ghost use Rattle.giop_ids.specs.Runs.{Does};
 ghost use Rattle.giop_session.specs.Calls.CallTable.{event_reply, gathers, Hears, Nothing, rules_of};
@@ -36,6 +36,8 @@ pub fn put<R: Side>(
         calls.old (record { id = id; what = Hears planned Nothing }) (event_reply answered)
         calls.new) }
     ensures puts { IfSome result (λ answered. outgoing.new ≡ outgoing.old ++ put_out answered) }
+    ensures some { message_of planned.plan (unsent_of (finite.get calls.old.table id)) ≡ None
+        → IsSome result }
     ensures none { IfNone result ((calls.new ≡ calls.old) × (outgoing.new ≡ outgoing.old)) }
 {
     let before = outgoing.as_slice().len();
@@ -60,6 +62,8 @@ fn put_message<R: Side>(
 ) -> Result<(), AllocError>
     ensures ok { OnOk result (outgoing.new ≡ outgoing.old
         ++ octets_of (message_of plan.now (unsent_of (finite.get calls.now.table id)))) }
+    ensures none { message_of plan.now (unsent_of (finite.get calls.now.table id)) ≡ None
+        → IsOk result }
     ensures err { OnErr result (outgoing.new ≡ outgoing.old) }
 {
     match plan.message(calls, id) {

@@ -1,7 +1,7 @@
 //! What a client's own program does: it calls, asks where an object is, and cancels (CORBA 3.3 Part
 //! 2, 9.4.2, 9.4.5 and 9.4.4). Its meaning is `IsCall`, `IsLocate` and `IsCancel` in
 //! specs/Acts/ClientCalls.antt: change both.
-ghost use Rattle.std.specs.Prelude.{◌≡◌, ◌⊎◌, ◌<◌, ◌^◌, [], ◌∷◌, Some, None, Err, length, IfErr, IfOk, IfSome, option_copied};
+ghost use Rattle.std.specs.Prelude.{◌≡◌, ◌⊎◌, ◌<◌, ◌^◌, [], ◌∷◌, Some, None, Err, length, is_ok, IfErr, IfOk, IfSome, IsOk, option_copied};
 ghost use Rattle.std.specs.FinMap as finite;
 ghost use Rattle.std.specs.Option.{option_map};
 ghost use Rattle.giop_cdr.specs.Ending.{ended};
@@ -177,10 +177,13 @@ impl<'a> ClientEnd<'a> {
     /// A failed end returns its fault. An id of which no piece is left is refused as
     /// `NothingToSend`. Else `NoMemory` is returned where it is out of memory. A refusal changes
     /// nothing.
-    #[tactic(auto, using(crate::proofs::OnLimits::QuietLemmas::client_send_quiet))]
+    #[tactic(auto, using(crate::proofs::OnLimits::QuietLemmas::client_send_quiet, crate::proofs::OnActs::LastLemmas::client_sends_none))]
     pub fn send(&mut self, id: u32) -> Result<(), SessionFault>
         ensures failed { (why : _) → self.old.fault ≡ Some why
             → (result ≡ Err why) × (self.new ≡ self.old) }
+        ensures last { result ≡ Err NoMemory → self.old.fault ≡ None
+            → IsOk (table.client_step (entry_of (finite.get self.old.calls.table id))
+            event.Send).outcome }
         ensures sent { self.old.fault ≡ None
             → Puts (rules_of table.client_step table.is_closed table.is_gathering) in_call id None
             (λ planned. planned ≡ record { event = event.Send; plan = Next })
@@ -192,6 +195,10 @@ impl<'a> ClientEnd<'a> {
     {
         if let Some(fault) = self.fault {
             return Err(fault);
+        }
+        if !self.has_piece(id) {
+            let fault = CallFault::NothingToSend;
+            return Err(SessionFault::Call { id, fault });
         }
         let planned = Planned {
             event: ClientEvent::Send,
@@ -283,6 +290,18 @@ impl<'a> ClientEnd<'a> {
             id,
             encoded,
         )
+    }
+
+    // Whether a piece of the call of an id is left to be sent.
+    #[tactic(auto, using(crate::proofs::OnActs::LastLemmas::client_has_piece))]
+    fn has_piece(&self, id: u32) -> bool
+        ensures { result ≡ is_ok (table.client_step
+            (entry_of (finite.get self.now.calls.table id)) event.Send).outcome }
+    {
+        match self.calls.slot(id) {
+            Some(slot) => matches!(slot.entry, ClientEntry::Sending { .. }),
+            None => false,
+        }
     }
 
     // The version of an id's call, where that may be cancelled.
