@@ -1,5 +1,5 @@
 -- A shallow value nests no deeper than it says.
-use Rattle.std.proofs.Common.{◌≡◌, ◌≤◌, ◌-◌, ◌==◌, arith, ℕ, List, zero, suc, Bool, Option, Some, String, string_bytes, true, false, if◌then◌else◌, refl}
+use Rattle.std.proofs.Common.{◌≡◌, ◌≤◌, ◌-◌, ◌==◌, arith, ℕ, zero, suc, Bool, Some, String, string_bytes, true, false, if◌then◌else◌, refl}
 use Rattle.serde_json.specs.Data.{Data, null, boolean, number, string, array, object, Items, item, no_items, Members, member, no_members, depth, items_depth, members_depth}
 use Rattle.std.proofs.lemmas.Str.{IsUtf8-string_bytes}
 use Rattle.std.proofs.Math.Nat.{max-le}

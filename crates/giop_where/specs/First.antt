@@ -1,5 +1,5 @@
 -- The first part of a file that is at fault.
-use Rattle.std.specs.Prelude.{◌≡◌, ℕ, suc, codes, option_and_then, ◌==◌, if◌then◌else◌, List, [], ◌∷◌, Option, Some, None, map, option_map}
+use Rattle.std.specs.Prelude.{◌≡◌, ℕ, suc, codes, option_and_then, ◌==◌, if◌then◌else◌, List, [], ◌∷◌, Option, Some, None, map}
 use Rattle.std.specs.Option.{option_or}
 use Rattle.serde_json.specs.Data as json
 use Rattle.serde_json.specs.Find.{get}

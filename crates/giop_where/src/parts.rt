@@ -215,11 +215,7 @@ fn disc_of<'a>(part: Part<'a>) -> Option<&'a Json>
 }
 
 // The discriminant of a union's description, where it is refused so.
-fn first_union<'a>(
-    alloc: Global,
-    part: Part<'a>,
-    number: u8,
-) -> Result<Option<Placed<'a>>, NoPlace>
+fn first_union<'a>(alloc: Global, part: Part<'a>, number: u8) -> Result<Option<Placed<'a>>, NoPlace>
     ensures { IfOk result
         (λ placed. option_map placed_view placed ≡ first_union number (part_view part.entry)) }
 {
