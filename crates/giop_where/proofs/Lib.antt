@@ -1,0 +1,2 @@
+pub mod ShallowLemmas
+pub mod FirstLemmas

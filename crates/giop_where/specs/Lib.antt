@@ -1,0 +1,4 @@
+pub mod Parts
+pub mod Alone
+pub mod First
+pub mod Shallow
