@@ -5,7 +5,7 @@ use Rattle.giop_trace.specs.declared.direction.Direction.{Direction}
 use Rattle.giopctl.specs.declared.commands.trace.call_line.LineForm.{LineForm}
 use Rattle.giopctl.specs.declared.commands.trace.call_line.LineForm.TheVariants.{Text, Json}
 use Rattle.giopctl.specs.declared.status.Status.{Status}
-use Rattle.giopctl.specs.declared.status.Status.TheVariants.{Done, Refused}
+use Rattle.giopctl.specs.declared.status.Status.TheVariants.{Done, Refused, LimitPassed}
 use Rattle.giopctl.specs.JsonLines.{direction_end_json}
 use Rattle.giopctl.specs.Status.{header_status}
 use Rattle.giopctl.specs.TraceLines.{direction_end}
@@ -19,3 +19,12 @@ direction_status None rest = if rest == 0 then Done else Refused
 abbrev pub direction_end_in : LineForm → Direction → Option WireFault → ℕ → List ℕ
 direction_end_in Text = direction_end
 direction_end_in Json = direction_end_json
+
+-- the status of both directions: that of the other where one is done; where neither is, a limit that
+-- was passed before a refusal, and the client's before the server's
+abbrev pub status_of_both : Status → Status → Status
+status_of_both Done server = server
+status_of_both Refused Done = Refused
+status_of_both Refused (LimitPassed passed) = LimitPassed passed
+status_of_both Refused _ = Refused
+status_of_both client _ = client

@@ -1,6 +1,7 @@
 //! `trace`: both directions of one connection, a line for each call when it is over.
-ghost use Rattle.std.specs.Prelude.{◌≡◌, None, IfNone, IfOk, OnOk, false};
+ghost use Rattle.std.specs.Prelude.{◌≡◌, ◌↔◌, None, IfNone, IfOk, OnOk, false};
 ghost use Rattle.std.specs.Io.KnownBytes.{IsAtEnd};
+ghost use Rattle.giopctl.specs.Trace.{status_of_both};
 
 mod answer_part;
 mod answered;
@@ -97,9 +98,11 @@ fn begun(alloc: Global, limit: u32, form: LineForm, heard: Heard) -> Result<Trac
     })
 }
 
-// The status of two directions: done where both are; a limit that was passed is told first.
+// The status of two directions: done exactly where both are; a limit that was passed is told before
+// a refusal.
 fn status_of_both(client: Status, server: Status) -> Status
-    ensures { result ≡ Status.Done → (client ≡ Status.Done) × (server ≡ Status.Done) }
+    ensures value { result ≡ status_of_both client server }
+    ensures done { (result ≡ Status.Done) ↔ ((client ≡ Status.Done) × (server ≡ Status.Done)) }
 {
     match (client, server) {
         (Status::Done, _) => server,
