@@ -21,4 +21,6 @@ pub mod Answering
 pub mod Calling
 pub mod Serving
 pub mod Sessions
+pub mod StreamLines
+pub mod Streaming
 pub mod Target

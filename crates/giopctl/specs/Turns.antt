@@ -17,7 +17,7 @@ use Rattle.giopctl.specs.Steps.{Each}
 
 -- a session has so many turns at most
 abbrev pub most_turns : ℕ
-most_turns = 65536
+most_turns = 18446744073709551615
 
 -- an error of a connection is reported so: being out of memory as that
 pub record IsConnectionFailure (error : Error) (failure : Failure) : Type 0 where

@@ -91,7 +91,7 @@ impl fmt::Display for Failure {
             Failure::Input(error) | Failure::Output(error) | Failure::Connection(error) => {
                 write!(f, "{error}")
             }
-            Failure::TurnsSpent => f.write_str("the session goes on after 65,536 turns"),
+            Failure::TurnsSpent => f.write_str("the session goes on after all its turns"),
         }
     }
 }

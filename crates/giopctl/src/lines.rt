@@ -19,7 +19,7 @@ mod target;
 mod traced;
 
 pub use cdr_fault::CdrFaultText;
-pub use client_entry::{ClientEntryLine, CompletionText};
+pub use client_entry::{ClientEntryLine, CompletionText, ReplyText};
 pub use end::{FaultLine, HeadFaultLine, RestLine};
 pub use json::{
     CdrFaultJson, DirectionEndJson, HexJson, IdJson, RefusedJson, TargetJson, TextJson,
@@ -31,6 +31,6 @@ pub use reference::{IiopLine, ProfileLine, TypeLine};
 pub use refusal::RefusalLine;
 pub use reply::ReplyLine;
 pub use request::RequestLine;
-pub use server_entry::{RequestFaultText, ServerEntryLine};
+pub use server_entry::{AskedText, RequestFaultText, ServerEntryLine};
 pub use session_fault::SessionFaultLine;
 pub use traced::{DirectionEndLine, IdText, MinorText, OwnTargetText};

@@ -45,7 +45,7 @@ use std::io::{Read, Write};
 /// a MessageError.
 ///
 /// It is `Done` where no call was refused and each got its result, or was sent and has none;
-/// `LimitPassed` where a limit kept one from it; else `Refused`. Where reading or writing fails, or 65,536 turns are taken, it is `InputOutput`. Where
+/// `LimitPassed` where a limit kept one from it; else `Refused`. Where reading or writing fails, it is `InputOutput`. Where
 /// it is out of memory, it is `Memory`. After either, a part of the text may be written.
 pub fn call_session<R: Read, W: Write, O: Write>(
     alloc: Global,

@@ -17,6 +17,7 @@ pub mod answering;
 pub mod answers;
 pub mod files;
 pub mod given;
+pub mod streaming;
 pub mod table;
 
 use crate::commands::serve::answering::{Due, due_to, reply_to};
@@ -43,7 +44,7 @@ use std::io::{Read, Write};
 /// one that passes a limit, ends the session with its fault.
 ///
 /// It is `Done` where there is no fault, or the peer closed the connection; `LimitPassed` where a
-/// limit ended it; else `Refused`. Where reading or writing fails, or 65,536 turns are taken, it is `InputOutput`. Where it is out of
+/// limit ended it; else `Refused`. Where reading or writing fails, it is `InputOutput`. Where it is out of
 /// memory, it is `Memory`. After either, a part of the text may be written.
 pub fn serve_session<R: Read, W: Write, O: Write>(
     alloc: Global,

@@ -16,6 +16,7 @@ pub mod bodies;
 pub mod files;
 pub mod json;
 pub mod sending;
+pub mod streaming;
 pub mod table;
 pub mod target;
 pub mod words;
@@ -28,8 +29,8 @@ use giop_types::Interface;
 use std::alloc::Global;
 use std::io::{Read, Write};
 
-/// A session has so many turns at most.
-pub const TURNS: usize = 65_536;
+/// A session has so many turns at most: none takes as many.
+pub const TURNS: u64 = u64::MAX;
 
 /// Takes a turn, and returns whether the session continues: the input hasn't ended, and the end
 /// hasn't failed. A peer that the fault is due to is sent a MessageError.

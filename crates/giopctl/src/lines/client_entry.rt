@@ -44,10 +44,11 @@ impl fmt::Display for ClientEntryLine<'_> {
     }
 }
 
-// What a Reply answers: `0 VALUES`, `1 EXCEPTION MEMBERS`, `2 EXCEPTION MINOR COMPLETION`,
-// `3 REFERENCE`, `4 REFERENCE` or `5 DISPOSITION`.
+/// What a Reply answers, with the text of its values or of its reference: `0 VALUES`,
+/// `1 EXCEPTION MEMBERS`, `2 EXCEPTION MINOR COMPLETION`, `3 REFERENCE`, `4 REFERENCE` or
+/// `5 DISPOSITION`.
 #[derive(Clone, Copy)]
-struct ReplyText<'a>(&'a ReplyBody, &'a str);
+pub struct ReplyText<'a>(pub &'a ReplyBody, pub &'a str);
 
 impl fmt::Display for ReplyText<'_> {
     ghost use Rattle.std.specs.Prelude.{Some};

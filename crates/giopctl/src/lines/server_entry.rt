@@ -46,9 +46,9 @@ impl fmt::Display for ServerEntryLine<'_> {
     }
 }
 
-// A Request: `OPERATION INS`.
+/// A Request and the text of its ins: `OPERATION INS`.
 #[derive(Clone, Copy)]
-struct AskedText<'a>(&'a Request, &'a str);
+pub struct AskedText<'a>(pub &'a Request, pub &'a str);
 
 impl fmt::Display for AskedText<'_> {
     ghost use Rattle.std.specs.Prelude.{Some};

@@ -1,4 +1,4 @@
-//! Connections that break or never end. What is answered to each message is cases of the built
+//! Connections that break. What is answered to each message is cases of the built
 //! program (tests/cases/serving).
 use crate::commands::serve::answers::{Answers, answers_from_json};
 use crate::commands::serve_session;
@@ -43,29 +43,6 @@ impl Write for Breaking {
     }
 }
 
-// An input of one message that never ends, an octet a read.
-#[derive(Drop)]
-struct Dripping {
-    given: usize,
-}
-
-const ENDLESS: &[u8] = b"GIOP\x01\x02\x00\x00\x00\x10\x00\x00";
-
-impl Read for Dripping {
-    fn read(&mut self, buf: &mut [u8]) -> io::Result<usize> {
-        if buf.is_empty() {
-            return Ok(0);
-        }
-        buf[0] = if self.given < ENDLESS.len() {
-            ENDLESS[self.given]
-        } else {
-            0
-        };
-        self.given = self.given.saturating_add(1);
-        Ok(1)
-    }
-}
-
 fn served<R: Read, W: Write>(
     alloc: Global,
     reader: &mut R,
@@ -104,14 +81,5 @@ fn a_writer_that_fails_ends_a_connection(rt: HostRuntime) -> Result<(), Fail> {
             "{room}"
         );
     }
-    Ok(())
-}
-
-#[test]
-fn a_connection_that_never_ends_is_given_up(rt: HostRuntime) -> Result<(), Fail> {
-    let mut reader = Dripping { given: 0 };
-    let mut written: Vec<u8> = Vec::new(rt.alloc());
-    let status = served(rt.alloc(), &mut reader, &mut written)?;
-    assert_eq!(rt; (status, reader.given), (Status::InputOutput, 65_536));
     Ok(())
 }

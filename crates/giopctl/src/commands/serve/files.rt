@@ -3,6 +3,8 @@
 
 use crate::cli::ServeWords;
 use crate::commands::serve::answers::answers_from_json;
+use crate::commands::serve::given::{KeyWord, Telling};
+use crate::commands::serve::streaming::stream_over;
 use crate::commands::session::files::{interface_of, read, refused_form};
 use crate::commands::{Serving, serve_over};
 use crate::failure::Failure;
@@ -29,10 +31,7 @@ pub fn serve(rt: &HostRuntime, words: ServeWords) -> Status {
 fn served(rt: &HostRuntime, words: ServeWords) -> Result<Status, Status> {
     let interface = read(rt, words.interface)?;
     let answers = read(rt, words.answers)?;
-    let key = match hex::decode(rt.alloc(), words.key) {
-        Ok(key) => key,
-        Err(_) => return Err(report::answer(rt, "--key", Err(Failure::Memory))),
-    };
+    let key = key_of(rt, words.key)?;
     let interface = interface_of(rt, words.interface, interface.as_slice())?;
     let answers = match answers_from_json(rt.alloc(), &interface, answers.as_slice()) {
         Ok(answers) => answers,
@@ -46,12 +45,25 @@ fn served(rt: &HostRuntime, words: ServeWords) -> Result<Status, Status> {
         limits: words.limits,
     };
     let listener = listening(rt, words.port)?;
-    Ok(serve_each(rt, &listener, words.connections, &serving))
+    Ok(serve_each(rt, &listener, &words, &serving))
 }
 
+// The octets of an object key.
+fn key_of(rt: &HostRuntime, key: KeyWord<'_>) -> Result<Vec<u8>, Status> {
+    let octets = match key {
+        KeyWord::Hex(digits) => hex::decode(rt.alloc(), digits).ok(),
+        KeyWord::Text(text) => Vec::from_slice(rt.alloc(), text.as_bytes()).ok(),
+    };
+    match octets {
+        Some(octets) => Ok(octets),
+        None => Err(report::answer(rt, "--key", Err(Failure::Memory))),
+    }
+}
+
+// Listens at a port, or where that is 0 at one that is free, and says which it is.
 fn listening(rt: &HostRuntime, port: u16) -> Result<TcpListener, Status> {
-    match TcpListener::bind(rt, (Ipv4Addr::LOCALHOST, port)) {
-        Ok(listener) => {
+    match bound(rt, port) {
+        Ok((listener, port)) => {
             let _ = eprintln!(rt; "giopctl: listening on {HERE}:{port}");
             Ok(listener)
         }
@@ -63,16 +75,22 @@ fn listening(rt: &HostRuntime, port: u16) -> Result<TcpListener, Status> {
     }
 }
 
+fn bound(rt: &HostRuntime, port: u16) -> io::Result<(TcpListener, u16)> {
+    let listener = TcpListener::bind(rt, (Ipv4Addr::LOCALHOST, port))?;
+    let port = listener.local_addr()?.port();
+    Ok((listener, port))
+}
+
 // Serves so many connections, and continues whatever one of them ends with.
 fn serve_each(
     rt: &HostRuntime,
     listener: &TcpListener,
-    connections: u32,
+    words: &ServeWords<'_>,
     serving: &Serving<'_>,
 ) -> Status {
     let mut status = Status::Done;
-    for served in 0..connections {
-        status = status.or_greater(serve_next(rt, listener, served + 1, serving));
+    for served in 0..words.connections {
+        status = status.or_greater(serve_next(rt, listener, served + 1, words.telling, serving));
     }
     status
 }
@@ -82,6 +100,7 @@ fn serve_next(
     rt: &HostRuntime,
     listener: &TcpListener,
     number: u32,
+    telling: Telling,
     serving: &Serving<'_>,
 ) -> Status {
     let (stream, peer) = match listener.accept() {
@@ -89,7 +108,7 @@ fn serve_next(
         Err(error) => return report::answer(rt, HERE, Err(Failure::connection(error))),
     };
     let _ = eprintln!(rt; "giopctl: connection {number} from {peer}");
-    let answered = serve_stream(rt, &stream, number, serving);
+    let answered = serve_stream(rt, &stream, number, telling, serving);
     match format!(in rt.alloc(); "connection {number}") {
         Ok(name) => report::answer(rt, name.as_str(), answered),
         Err(_) => report::answer(rt, HERE, answered),
@@ -100,19 +119,16 @@ fn serve_stream(
     rt: &HostRuntime,
     stream: &TcpStream,
     number: u32,
+    telling: Telling,
     serving: &Serving<'_>,
 ) -> Result<Status, Failure> {
-    let mut reader = stream;
-    let mut writer = stream;
+    let (mut reader, mut writer) = (stream, stream);
     let mut out = BufWriter::with_capacity(rt.alloc(), OUTPUT_BUFFER, io::writer(rt))?;
-    let status = serve_over(
-        rt.alloc(),
-        number,
-        *serving,
-        &mut reader,
-        &mut writer,
-        &mut out,
-    )?;
+    let (reader, writer) = (&mut reader, &mut writer);
+    let status = match telling {
+        Telling::AtTheEnd => serve_over(rt.alloc(), number, *serving, reader, writer, &mut out)?,
+        Telling::WhenOver => stream_over(rt.alloc(), number, *serving, reader, writer, &mut out)?,
+    };
     out.flush()?;
     Ok(status)
 }

@@ -22,3 +22,21 @@ pub struct Serving<'a> {
     ghost sent: { IsForm form },
     ghost bounded: { AreLimits limits },
 }
+
+/// When the calls of a connection are told.
+#[derive(Clone, Copy, Debug, PartialEq, Eq)]
+pub enum Telling {
+    /// All of them, when the connection has ended.
+    AtTheEnd,
+    /// Each when it is over.
+    WhenOver,
+}
+
+/// An object key, as it stands on the command line.
+#[derive(Clone, Copy, Debug)]
+pub enum KeyWord<'a> {
+    /// Pairs of hexadecimal digits.
+    Hex(&'a str),
+    /// A text, whose octets are the key.
+    Text(&'a str),
+}

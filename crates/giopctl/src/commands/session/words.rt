@@ -4,6 +4,7 @@ ghost use Rattle.std.specs.Prelude.{IfOk};
 ghost use Rattle.giop_session.specs.Acts.Form.{IsForm};
 ghost use Rattle.giopctl.specs.Check.{AreLimits};
 
+use crate::commands::serve::given::{KeyWord, Telling};
 use crate::files::apart;
 use crate::limit_words::{limited, limits_of};
 use clap::builder::ValueParser;
@@ -32,16 +33,18 @@ pub struct CallWords<'a> {
 /// What `serve` is asked for.
 #[derive(Clone, Copy, Debug)]
 pub struct ServeWords<'a> {
-    /// The port, 1 to 65,535.
+    /// The port, 1 to 65,535; 0 for one that is free.
     pub port: u16,
     /// The name of the interface's file, or `-` for the standard input.
     pub interface: &'a str,
     /// The name of the file of the answers, or `-` for the standard input.
     pub answers: &'a str,
-    /// The object key in hexadecimal digits.
-    pub key: &'a str,
+    /// The object key.
+    pub key: KeyWord<'a>,
     /// How many connections are served, 1 to 65,535.
     pub connections: u32,
+    /// When the calls are told.
+    pub telling: Telling,
     /// How Replies are sent.
     pub form: Form,
     /// What the end of each connection holds at most.
@@ -93,6 +96,11 @@ and for those that were answered:
   Answered STATUS       a Request: 0 a result, 1 an exception, 2 a system exception
   LocateAnswered 1      a LocateRequest: 1 here, 0 not
 The last line is the fault that ended it, where there is one.
+With --stream the number is shown at once, and each call as soon as it is over. Then it is forgotten,
+so that a connection may have any number of calls. Of a Request that is answered its line says
+  Asked OPERATION INS Answered REPLY, or Undecoded FAULT Answered REPLY
+with what giopctl call shows behind Done as REPLY. The calls that are still open have their lines at
+the end, and the last line is rest N, the octets that are no whole message, or the fault.
 
 Exit statuses, of which the greatest of all connections is taken:
   0  the connection ended, or the client closed it
@@ -125,19 +133,18 @@ pub fn call<'a>(alloc: Global) -> Result<Command<'a>, AllocError> {
 
 /// The command `serve`.
 pub fn serve<'a>(alloc: Global) -> Result<Command<'a>, AllocError> {
-    let port = number(alloc, "port", "The port that is listened at, on 127.0.0.1")
-        .required(true)
-        .value_parser(ValueParser::Unsigned(1, 65_535));
+    let port = number(
+        alloc,
+        "port",
+        "The port that is listened at, on 127.0.0.1; 0 for one that is free",
+    )
+    .required(true)
+    .value_parser(ValueParser::Unsigned(0, 65_535));
     let answers = Arg::new(alloc, "answers")
         .long("answers")
         .required(true)
         .value_name("FILE")
         .help("The file of the answers, in JSON");
-    let key = Arg::new(alloc, "key")
-        .long("key")
-        .required(true)
-        .value_name("HEX")
-        .help("The object key, in hexadecimal digits");
     let connections = number(
         alloc,
         "connections",
@@ -151,9 +158,34 @@ pub fn serve<'a>(alloc: Global) -> Result<Command<'a>, AllocError> {
         .arg(port)?
         .arg(interface(alloc))?
         .arg(answers)?
-        .arg(key)?
-        .arg(connections)?;
+        .arg(key(alloc)?)?
+        .arg(key_text(alloc)?)?
+        .arg(connections)?
+        .arg(stream(alloc))?;
     sent(alloc, command)
+}
+
+fn key<'a>(alloc: Global) -> Result<Arg<'a>, AllocError> {
+    Arg::new(alloc, "key")
+        .long("key")
+        .value_name("HEX")
+        .help("The object key, in hexadecimal digits")
+        .required_unless_present("key-text")
+}
+
+fn key_text<'a>(alloc: Global) -> Result<Arg<'a>, AllocError> {
+    Arg::new(alloc, "key-text")
+        .long("key-text")
+        .value_name("TEXT")
+        .help("The object key, as a text, in place of --key")
+        .conflicts_with("key")
+}
+
+fn stream<'a>(alloc: Global) -> Arg<'a> {
+    Arg::new(alloc, "stream")
+        .long("stream")
+        .action(ArgAction::SetTrue)
+        .help("Each call is shown as soon as it is over, and forgotten")
 }
 
 fn interface<'a>(alloc: Global) -> Arg<'a> {
@@ -210,31 +242,46 @@ pub fn serve_words<'a>(matches: &ArgMatches<'a>) -> Result<ServeWords<'a>, &'sta
     let form = form_of(matches)?;
     let limits = limits_of(matches)?;
     let Some(port) = port_of(matches) else {
-        return Err("--port is a number from 1 to 65535, in decimal digits");
+        return Err("--port is a number from 0 to 65535, in decimal digits");
     };
     let Some(connections) = connections_of(matches) else {
         return Err("--connections is a number from 1 to 65535, in decimal digits");
     };
-    let (Some(interface), Some(answers), Some(key)) = (
+    let (Some(interface), Some(answers)) = (
         matches.get_str("interface"),
         matches.get_str("answers"),
-        matches.get_str("key"),
     ) else {
-        return Err("--interface, --answers and --key are wanted");
+        return Err("--interface and --answers are wanted");
     };
     apart(interface, answers)?;
-    if !is_hexadecimal(key) {
-        return Err("--key is pairs of hexadecimal digits");
-    }
     Ok(ServeWords {
         port,
         interface,
         answers,
-        key,
+        key: key_of(matches)?,
         connections,
+        telling: telling_of(matches),
         form,
         limits,
     })
+}
+
+// The object key, of which there is one word.
+fn key_of<'a>(matches: &ArgMatches<'a>) -> Result<KeyWord<'a>, &'static str> {
+    match (matches.get_str("key"), matches.get_str("key-text")) {
+        (Some(digits), None) if is_hexadecimal(digits) => Ok(KeyWord::Hex(digits)),
+        (Some(_), None) => Err("--key is pairs of hexadecimal digits"),
+        (None, Some(text)) => Ok(KeyWord::Text(text)),
+        _ => Err("one of --key and --key-text is wanted"),
+    }
+}
+
+fn telling_of(matches: &ArgMatches) -> Telling {
+    if matches.get_flag("stream") {
+        Telling::WhenOver
+    } else {
+        Telling::AtTheEnd
+    }
 }
 
 // How messages are sent.
@@ -256,10 +303,7 @@ fn form_of(matches: &ArgMatches) -> Result<Form, &'static str>
 }
 
 fn port_of(matches: &ArgMatches) -> Option<u16> {
-    match u16::try_from(decimal(matches, "port")?) {
-        Ok(port) if port > 0 => Some(port),
-        _ => None,
-    }
+    u16::try_from(decimal(matches, "port")?).ok()
 }
 
 fn connections_of(matches: &ArgMatches) -> Option<u32> {

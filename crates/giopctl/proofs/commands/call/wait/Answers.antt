@@ -23,7 +23,7 @@ turns-preserved g c =
 
 pub returns-clause-waits : goal.returns-clause-waits
 returns-clause-waits g c =
-    let done : c.turns.done ≡ 65536 = omega arith in
+    let done : c.turns.done ≡ 18446744073709551615 = omega arith in
     waited _ _ c.turns.done _
     (between (g.R.Read.remaining c.turns.reader) (g.W.Write.contents c.turns.writer) c.turns.end.outgoing c.turns.end.framer c.turns.end.calls
     c.turns.end.fault)
