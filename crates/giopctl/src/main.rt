@@ -9,6 +9,7 @@ mod files;
 mod limit_words;
 mod lines;
 mod pieces;
+mod places;
 mod report;
 mod status;
 #[cfg(test)]

@@ -5,9 +5,12 @@ ghost use Rattle.clap.specs.Words.{kind_of};
 ghost use Rattle.giopctl.specs.Status.{answered_status, usage_status};
 
 use crate::failure::Failure;
+use crate::places;
 use crate::status::{Limit, Status};
 use clap::error::ErrorKind as UsageKind;
 use giop_types::{FormFault, Interface};
+use giop_where::{Place, Role};
+use hex::FromHexError;
 use serde_json::Value as Json;
 use std::alloc::Global;
 use std::io;
@@ -84,32 +87,103 @@ fn above(limit: Limit) -> &'static str {
 /// Prints what is wrong with the text of an interface, and where, as far as that is known; nothing
 /// where it is an interface.
 pub fn interface(rt: &impl Eprint, alloc: Global, file: &str, text: &[u8]) {
-    let _ = match Interface::from_json(alloc, text) {
-        Err(FormFault::BadJson) => bad_json(rt, alloc, file, text),
-        Err(FormFault::BadShape) => {
-            eprintln!(rt; "giopctl: {file}: JSON, but not in the form of an interface")
-        }
-        Err(FormFault::BadDesc(fault)) => {
-            eprintln!(rt; "giopctl: {file}: a description of no type: {fault}")
-        }
-        Err(FormFault::Unfit) | Err(FormFault::NoMemory) | Ok(_) => Ok(()),
+    let Err(fault) = Interface::from_json(alloc, text) else {
+        return;
     };
+    let other = "JSON, but not in the form of an interface";
+    said(rt, alloc, file, text, fault, other);
+    place(
+        rt,
+        file,
+        places::of_file(alloc, Role::Interface, text, fault),
+    );
+}
+
+/// Prints what is wrong with the text of a description, and where, as far as that is known.
+pub fn description(rt: &impl Eprint, alloc: Global, file: &str, text: &[u8], fault: FormFault) {
+    let other = "JSON, but not in the form of a description";
+    said(rt, alloc, file, text, fault, other);
+    place(
+        rt,
+        file,
+        places::of_file(alloc, Role::Description, text, fault),
+    );
+}
+
+/// Prints what is wrong with the text of a value, and where.
+pub fn value(
+    rt: &impl Eprint,
+    alloc: Global,
+    file: &str,
+    text: &[u8],
+    fault: FormFault,
+    at: Option<Place>,
+) {
+    let other = "JSON, but not in the form that its description wants";
+    said(rt, alloc, file, text, fault, other);
+    if fault == FormFault::Unfit {
+        let _ = eprintln!(rt; "giopctl: {file}: a value that doesn't fit its description");
+    }
+    place(rt, file, at);
 }
 
 /// Prints what is wrong with the text of calls or answers, and where, as far as that is known.
-pub fn form(rt: &impl Eprint, alloc: Global, file: &str, text: &[u8], fault: FormFault) {
+pub fn form(
+    rt: &impl Eprint,
+    alloc: Global,
+    file: &str,
+    text: &[u8],
+    fault: FormFault,
+    at: Option<Place>,
+) {
+    let other = "JSON, but not in the form that is wanted, or not of the interface";
+    said(rt, alloc, file, text, fault, other);
+    if fault == FormFault::Unfit {
+        let _ = eprintln!(rt;
+            "giopctl: {file}: a value, or their number, doesn't fit the interface"
+        );
+    }
+    place(rt, file, at);
+}
+
+/// Prints what is wrong with a text that is no JSON.
+pub fn text(rt: &impl Eprint, file: &str, wrong: &str) {
+    let _ = eprintln!(rt; "giopctl: {file}: {wrong}");
+}
+
+/// Prints why hexadecimal digits are refused, and where: the first of them has this offset.
+pub fn digits(rt: &impl Eprint, file: &str, offset: usize, fault: FromHexError) {
     let _ = match fault {
-        FormFault::BadJson => bad_json(rt, alloc, file, text),
-        FormFault::BadShape => {
+        FromHexError::InvalidHexCharacter { index, .. } => {
             eprintln!(rt;
-                "giopctl: {file}: JSON, but not in the form that is wanted, or not of the interface"
+                "giopctl: {file}: no hexadecimal digit at {}",
+                offset.saturating_add(index)
             )
         }
-        FormFault::Unfit => {
-            eprintln!(rt; "giopctl: {file}: a value, or their number, doesn't fit the interface")
-        }
-        FormFault::BadDesc(_) | FormFault::NoMemory => Ok(()),
+        FromHexError::OddLength => eprintln!(rt;
+            "giopctl: {file}: an odd number of hexadecimal digits"
+        ),
+        _ => Ok(()),
     };
+}
+
+// Prints what is wrong with a text; where it is JSON of another form, that is said so.
+fn said(rt: &impl Eprint, alloc: Global, file: &str, text: &[u8], fault: FormFault, other: &str) {
+    let _ = match fault {
+        FormFault::BadJson => bad_json(rt, alloc, file, text),
+        FormFault::BadShape => eprintln!(rt; "giopctl: {file}: {other}"),
+        FormFault::BadDesc(fault) => {
+            eprintln!(rt; "giopctl: {file}: a description of no type: {fault}")
+        }
+        FormFault::Unfit | FormFault::NoMemory => Ok(()),
+    };
+}
+
+// Prints where a file is at fault, where that is known.
+fn place(rt: &impl Eprint, file: &str, place: Option<Place>) {
+    if let Some(place) = place {
+        let _ = eprintln!(rt; "giopctl: {file}: at {place}");
+    }
 }
 
 // Prints where a text ceases to be JSON.

@@ -15,6 +15,7 @@ ghost use Rattle.giopctl.specs.Turns.{GoesOn, IsOfConnection, peer_octets};
 pub mod bodies;
 pub mod files;
 pub mod json;
+pub mod places;
 pub mod sending;
 pub mod streaming;
 pub mod table;

@@ -4,6 +4,7 @@
 use crate::cli::CallWords;
 use crate::commands::call::calls::{CallLine, calls_from_json};
 use crate::commands::session::files::{interface_of, read, refused, refused_form};
+use crate::commands::session::places::of_calls;
 use crate::commands::{Calling, Endpoint, Targeted, call_over, target_of};
 use crate::failure::Failure;
 use crate::files::OUTPUT_BUFFER;
@@ -25,13 +26,16 @@ pub fn call(rt: &HostRuntime, words: CallWords) -> Status {
 }
 
 fn called(rt: &HostRuntime, words: CallWords) -> Result<Status, Status> {
-    let interface = read(rt, words.interface)?;
+    let offered = read(rt, words.interface)?;
     let calls = read(rt, words.file)?;
     let endpoint = endpoint_of(rt, words.target)?;
-    let interface = interface_of(rt, words.interface, interface.as_slice())?;
+    let interface = interface_of(rt, words.interface, offered.as_slice())?;
     let calls = match calls_from_json(rt.alloc(), &interface, calls.as_slice()) {
         Ok(calls) => calls,
-        Err(fault) => return Err(refused_form(rt, words.file, calls.as_slice(), fault)),
+        Err(fault) => {
+            let at = of_calls(rt.alloc(), offered.as_slice(), calls.as_slice(), fault);
+            return Err(refused_form(rt, words.file, calls.as_slice(), fault, at));
+        }
     };
     let peer = match peer_of(rt, &endpoint) {
         Ok(peer) => peer,

@@ -6,6 +6,7 @@ use crate::commands::serve::answers::answers_from_json;
 use crate::commands::serve::given::{KeyWord, Telling};
 use crate::commands::serve::streaming::stream_over;
 use crate::commands::session::files::{interface_of, read, refused_form};
+use crate::commands::session::places::of_answers;
 use crate::commands::{Serving, serve_over};
 use crate::failure::Failure;
 use crate::files::OUTPUT_BUFFER;
@@ -29,13 +30,16 @@ pub fn serve(rt: &HostRuntime, words: ServeWords) -> Status {
 }
 
 fn served(rt: &HostRuntime, words: ServeWords) -> Result<Status, Status> {
-    let interface = read(rt, words.interface)?;
+    let offered = read(rt, words.interface)?;
     let answers = read(rt, words.answers)?;
     let key = key_of(rt, words.key)?;
-    let interface = interface_of(rt, words.interface, interface.as_slice())?;
+    let interface = interface_of(rt, words.interface, offered.as_slice())?;
     let answers = match answers_from_json(rt.alloc(), &interface, answers.as_slice()) {
         Ok(answers) => answers,
-        Err(fault) => return Err(refused_form(rt, words.answers, answers.as_slice(), fault)),
+        Err(fault) => {
+            let at = of_answers(rt.alloc(), offered.as_slice(), answers.as_slice(), fault);
+            return Err(refused_form(rt, words.answers, answers.as_slice(), fault, at));
+        }
     };
     let serving = Serving {
         interface: &interface,

@@ -7,6 +7,7 @@ use crate::lines::RefusalLine;
 use crate::status::Status;
 use crate::{files, report};
 use giop_types::{FormFault, Interface};
+use giop_where::Place;
 use std::io;
 use std::io::{BufWriter, Write};
 
@@ -29,9 +30,15 @@ pub fn interface_of(rt: &HostRuntime, file: &str, text: &[u8]) -> Result<Interfa
     }
 }
 
-/// Reports that the text of a file of calls or answers is refused.
-pub fn refused_form(rt: &HostRuntime, file: &str, text: &[u8], fault: FormFault) -> Status {
-    report::form(rt, rt.alloc(), file, text, fault);
+/// Reports that the text of a file of calls or answers is refused, and where it is at fault.
+pub fn refused_form(
+    rt: &HostRuntime,
+    file: &str,
+    text: &[u8],
+    fault: FormFault,
+    at: Option<Place>,
+) -> Status {
+    report::form(rt, rt.alloc(), file, text, fault, at);
     refused_line(rt, file, form_refusal(fault))
 }
 

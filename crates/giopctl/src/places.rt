@@ -1,0 +1,31 @@
+//! Where a refused file of an interface, a description or a value is at fault, as giop_where tells
+//! it. Nothing is told where that isn't known, as when it is out of memory.
+
+use giop_types::{FormFault, parse_json};
+use giop_where::{Part, Place, Role, fault_code};
+use serde_json::Value as Json;
+use std::alloc::Global;
+
+/// The first fault of this kind in a text of this role, which stands by itself.
+pub fn of_file(alloc: Global, role: Role, text: &[u8], fault: FormFault) -> Option<Place> {
+    match parse_json(alloc, text) {
+        Ok(json) => found(alloc, role, &json, &json, fault_code(fault)),
+        Err(_) => None,
+    }
+}
+
+/// The first fault of this kind in the text of a value, by the text of its description.
+pub fn of_value(alloc: Global, desc: &[u8], text: &[u8], fault: FormFault) -> Option<Place> {
+    match (parse_json(alloc, desc), parse_json(alloc, text)) {
+        (Ok(desc), Ok(json)) => found(alloc, Role::Value, &desc, &json, fault_code(fault)),
+        _ => None,
+    }
+}
+
+/// The first fault of this number in a part, by what stands beside it.
+pub fn found(alloc: Global, role: Role, beside: &Json, json: &Json, number: u8) -> Option<Place> {
+    match Place::find(alloc, Part { role, beside, json }, number) {
+        Ok(place) => Some(place),
+        Err(_) => None,
+    }
+}
