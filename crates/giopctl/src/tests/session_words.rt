@@ -1,6 +1,7 @@
 //! The words that `serve` takes where it wouldn't end by itself. Others are cases of the built
 //! program (tests/cases/words, call_words, serve_words).
 use crate::cli::{Task, task_of};
+use crate::commands::serve::given::KeyWord;
 use std::test::Fail;
 
 #[test]
@@ -27,10 +28,10 @@ fn serve_takes_the_greatest_port_and_number_of_connections(rt: HostRuntime) -> R
     let Ok(Some(Task::Serve(serve))) = task_of(rt.alloc(), words.as_slice()) else {
         return Err(Fail::new("serve is refused"));
     };
-    assert_eq!(rt;
-        (serve.interface, serve.answers, serve.key),
-        ("i", "a", "6B6b")
-    );
+    let KeyWord::Hex(key) = serve.key else {
+        return Err(Fail::new("the key is a text"));
+    };
+    assert_eq!(rt; (serve.interface, serve.answers, key), ("i", "a", "6B6b"));
     assert_eq!(rt;
         (serve.port, serve.connections, serve.form.piece),
         (65_535, 65_535, 32)
