@@ -382,11 +382,11 @@ typedef struct giop_client {
 
 /* How a call is made. */
 typedef struct giop_call {
-    uint32_t minor;  /* the minor number of its version: 0, 1, or any other for 2 */
-    uint32_t flags;  /* the response flags of a Request: 0 for no reply, 1 for one whose body is empty unless
-                      * it is an exception, 3 for a reply; before 1.2 0 or 3. A LocateRequest has none */
-    uint32_t target; /* what the octets of the target are: 0 the object's key, any other number, in 1.2
-                      * alone, the data of an IIOP profile (9.7.2) */
+    uint8_t minor;  /* the minor number of its version: 0, 1, or any other for 2 */
+    uint8_t flags;  /* the response flags of a Request: 0 for no reply, 1 for one whose body is empty unless
+                     * it is an exception, 3 for a reply; before 1.2 0 or 3. A LocateRequest has none */
+    uint8_t target; /* what the octets of the target are: 0 the object's key, any other number, in 1.2
+                     * alone, the data of an IIOP profile (9.7.2) */
 } giop_call;
 
 #define GIOP_CALL {2u, 3u, 0u}
@@ -472,9 +472,8 @@ uint32_t giop_client_wrote(giop_client *client, size_t size);
  *     UNKNOWN_OPERATION or UNFIT;
  *   GIOP_NO_MEMORY: it can be called again, unless the end has failed;
  *   GIOP_CLOSED.
- * Where it isn't sent, nothing has changed. ins are at most 2^62 octets. Of an operation that the interface
- * hasn't they are none; else VALUES comes first. Each of target, operation and ins may be NULL where its size
- * is 0. */
+ * Where it isn't sent, nothing has changed. ins are at most 2^62 octets; they aren't read where the interface
+ * hasn't the operation. Each of target, operation and ins may be NULL where its size is 0. */
 uint32_t giop_client_call(giop_client *client, uint32_t id, const giop_call *call,
                           const uint8_t *target, size_t target_size,
                           const uint8_t *operation, size_t operation_size,
