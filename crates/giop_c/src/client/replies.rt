@@ -30,7 +30,25 @@ pub fn copy_outs(
         buffer.old buffer.new size.old size.new result }
 {
     match entry {
-        Some(ClientEntry::Done { request, reply }) => {
+        Some(entry) => copy_outs_in(alloc, interface, entry, order, buffer, size),
+        None => WAITS,
+    }
+}
+
+// Copies what a Reply brought without an exception, where an entry is of one.
+fn copy_outs_in(
+    alloc: Global,
+    interface: &Interface,
+    entry: &ClientEntry,
+    order: Order,
+    buffer: &mut [u8],
+    size: &mut usize,
+) -> u32
+    ensures { CopiesOuts interface.now (Some entry.now) order
+        buffer.old buffer.new size.old size.new result }
+{
+    match entry {
+        ClientEntry::Done { request, reply } => {
             copy_outs_to(alloc, interface, request, &reply.body, order, buffer, size)
         }
         _ => WAITS,
@@ -87,7 +105,25 @@ pub fn copy_members(
         buffer.old buffer.new size.old size.new result }
 {
     match body {
-        Some(ReplyBody::UserException { id, members }) => {
+        Some(body) => copy_members_in(alloc, interface, body, order, buffer, size),
+        None => WAITS,
+    }
+}
+
+// Copies the members of an exception of the interface, where a body is one.
+fn copy_members_in(
+    alloc: Global,
+    interface: &Interface,
+    body: &ReplyBody,
+    order: Order,
+    buffer: &mut [u8],
+    size: &mut usize,
+) -> u32
+    ensures { CopiesMembers interface.now (Some body.now) order
+        buffer.old buffer.new size.old size.new result }
+{
+    match body {
+        ReplyBody::UserException { id, members } => {
             let (id, members) = (id.as_slice(), members.as_slice());
             copy_members_of(alloc, interface, id, members, order, buffer, size)
         }
