@@ -1,6 +1,5 @@
 -- What is stored for the id of a call at a client, as C sees it.
 use Rattle.std.specs.Prelude.{◌≡◌, ◌⊎◌, ℕ, ℤ, pos, if◌then◌else◌, true, false, Option, Some, None, List, length}
-use Rattle.giop_cdr.specs.declared.fault.CdrFault.{CdrFault}
 use Rattle.giop_cdr.specs.declared.order.Order.{Order}
 use Rattle.giop_cdr.specs.Faults.{cdr_kind_number}
 use Rattle.giop_types.specs.declared.json.interface.Interface.{Interface}
