@@ -1,5 +1,5 @@
-/* libgiop: a stream of octets, split into GIOP messages (1.0, 1.1 and 1.2; CORBA 3.3 Part 2, 9.4), and a
- * server's end of a connection.
+/* libgiop: a stream of octets, split into GIOP messages (1.0, 1.1 and 1.2; CORBA 3.3 Part 2, 9.4), and both
+ * ends of a connection: a server's and a client's.
  *
  * The library opens no socket, starts no thread, prints nothing and keeps no global state. What each
  * function does is proved over what its handle holds; docs/c.md says what that leaves to the caller.
@@ -367,6 +367,191 @@ uint32_t giop_server_rest(giop_server *server, size_t *rest);
 
 /* Frees what the handle holds, which holds nothing then. A second call does nothing. */
 void giop_server_free(giop_server *server);
+
+/* ---- the end of a connection that calls ----
+ *
+ * An end keeps a table: for each request id that your program gave out, what is stored of its call. Your
+ * program calls, writes what is outgoing, feeds what was read of the server, looks at the table, and takes
+ * out the calls that are over. docs/PROFILE.md has what each message does to a call ("Calls").
+ *
+ * Limits, forms, faults, outcomes and values are those of the end that answers, above.
+ */
+typedef struct giop_client {
+    void *at;
+} giop_client;
+
+/* How a call is made. */
+typedef struct giop_call {
+    uint8_t minor;  /* the minor number of its version: 0, 1, or any other for 2 */
+    uint8_t flags;  /* the response flags of a Request: 0 for no reply, 1 for one whose body is empty unless
+                     * it is an exception, 3 for a reply; before 1.2 0 or 3. A LocateRequest has none */
+    uint8_t target; /* what the octets of the target are: 0 the object's key, any other number, in 1.2
+                     * alone, the data of an IIOP profile (9.7.2) */
+} giop_call;
+
+#define GIOP_CALL {2u, 3u, 0u}
+
+/* What is stored for the id of a call at a client: the kind of a giop_client_entry, which may also be
+ * GIOP_NOTHING; GIOP_GATHERING: the first piece of its reply came, its last didn't; GIOP_UNDECODED: its reply
+ * came and can't be decoded; or GIOP_CANCELLED: it was cancelled. */
+#define GIOP_SENDING 9      /* its first piece went out, its last didn't */
+#define GIOP_WAITING 10     /* all of it went out, and nothing of its reply came */
+#define GIOP_DONE 11        /* it was a Request, and its Reply came */
+#define GIOP_LOCATE_DONE 12 /* it was a LocateRequest, and its LocateReply came */
+#define GIOP_ONEWAY_SENT 13 /* it was a Request without a reply, and all of it went out */
+
+/* The reply status of a Reply (9.4.3): the status of an entry of GIOP_DONE, or of GIOP_ANSWERED. */
+#define GIOP_NO_EXCEPTION 0u
+#define GIOP_USER_EXCEPTION 1u
+#define GIOP_SYSTEM_EXCEPTION 2u
+#define GIOP_LOCATION_FORWARD 3u
+#define GIOP_LOCATION_FORWARD_PERM 4u
+#define GIOP_NEEDS_ADDRESSING_MODE 5u
+
+/* The locate status of a LocateReply (9.4.6): that of an entry of GIOP_LOCATE_DONE, or of
+ * GIOP_LOCATE_ANSWERED. */
+#define GIOP_UNKNOWN_OBJECT 0u
+#define GIOP_OBJECT_HERE 1u
+#define GIOP_OBJECT_FORWARD 2u
+#define GIOP_OBJECT_FORWARD_PERM 3u
+#define GIOP_LOC_SYSTEM_EXCEPTION 4u
+#define GIOP_LOC_NEEDS_ADDRESSING_MODE 5u
+
+/* Whether the operation of a system exception was completed (9.4.3.2): the completion of an entry. */
+#define GIOP_COMPLETED_YES 0u
+#define GIOP_COMPLETED_NO 1u
+#define GIOP_COMPLETED_MAYBE 2u
+
+typedef struct giop_client_entry {
+    size_t exception;    /* the number of octets of the repository id of its exception, without a null; 0 where
+                          * its Reply has none */
+    size_t at;           /* of GIOP_UNDECODED where its reply has a fault, from the first octet of the message's
+                          * header; else 0 */
+    uint32_t number;     /* of GIOP_UNDECODED what is wrong there, one of GIOP_CDR_; else 0 */
+    uint32_t left;       /* how many pieces of the call aren't sent yet: giop_client_send puts out one */
+    uint32_t status;     /* the reply status of GIOP_DONE, the locate status of GIOP_LOCATE_DONE; else 0 */
+    uint32_t minor;      /* the minor code of a system exception; else 0 */
+    uint32_t completion; /* of a system exception one of GIOP_COMPLETED_; else 0 */
+    int16_t addressing;  /* with GIOP_NEEDS_ADDRESSING_MODE the addressing disposition that is asked for; else 0 */
+    uint8_t kind;        /* one of those above */
+    uint8_t over;        /* 1 where the call is over, and may be taken out */
+    uint8_t outcome;     /* GIOP_PENDING to GIOP_NOT_DECODED */
+} giop_client_entry;
+
+/* Opens a handle: a client's end without calls, by the interface that another handle holds, within limits.
+ * The end keeps a share of the interface, whose handle may be freed before it. What the handle held before
+ * is freed. Answers GIOP_OK; GIOP_FAULT: the limit gathered is above 2^62; GIOP_NO_MEMORY; or GIOP_CLOSED:
+ * the interface's handle holds nothing. With all but GIOP_OK the handle is as it was. */
+uint32_t giop_client_new(giop_client *client, giop_interface *interface, const giop_limits *limits);
+
+/* Takes in octets of the server, and hears each message that is whole. The octets are copied. Answers
+ *   GIOP_OK;
+ *   GIOP_FAULT: *fault says why the end has failed. Its table is that after the last message before the
+ *     fault, and from now on each call that acts answers this fault;
+ *   GIOP_NO_MEMORY: memory ran out, and has failed the end for good; *fault has the number 8;
+ *   GIOP_CLOSED.
+ * *fault is written with GIOP_FAULT and GIOP_NO_MEMORY alone, here and below. octets may be NULL where size
+ * is 0. */
+uint32_t giop_client_feed(giop_client *client, const uint8_t *octets, size_t size, giop_end_fault *fault);
+
+/* Copies the first octets that are to be sent to the front of the buffer, as many as it has room for, and
+ * writes to *size how many there are in all. They stay until giop_client_wrote. Answers GIOP_OK or
+ * GIOP_CLOSED. buffer may be NULL where room is 0. */
+uint32_t giop_client_outgoing(giop_client *client, uint8_t *buffer, size_t room, size_t *size);
+
+/* The first octets that are to be sent were written, so many of them: they are outgoing no longer. Answers
+ * GIOP_OK; GIOP_SMALL: fewer are to be sent, and nothing has changed; or GIOP_CLOSED. */
+uint32_t giop_client_wrote(giop_client *client, size_t size);
+
+/* Calls an operation under an id (9.4.2): of the target that the octets are, as the call says, by the
+ * operation's name without a null, with the octets, of this byte order, of its in and inout parameters. The
+ * Request has no service contexts. Its first piece is outgoing then, and giop_client_send puts out each other
+ * one. Answers
+ *   GIOP_OK;
+ *   GIOP_FAULT: *fault says why it isn't sent: FORM; VALUES; the end's own; or CALL with ID_IN_USE,
+ *     UNKNOWN_OPERATION or UNFIT;
+ *   GIOP_NO_MEMORY: it can be called again, unless the end has failed;
+ *   GIOP_CLOSED.
+ * Where it isn't sent, nothing has changed. ins are at most 2^62 octets; they aren't read where the interface
+ * hasn't the operation. Each of target, operation and ins may be NULL where its size is 0. */
+uint32_t giop_client_call(giop_client *client, uint32_t id, const giop_call *call,
+                          const uint8_t *target, size_t target_size,
+                          const uint8_t *operation, size_t operation_size,
+                          uint32_t little_endian, const uint8_t *ins, size_t size,
+                          const giop_form *form, giop_end_fault *fault);
+
+/* Asks under an id where the object is of the target that the octets are, as the call says (9.4.5). Its first
+ * piece is outgoing then. Answers GIOP_OK; GIOP_FAULT: *fault says why it isn't sent: FORM; the end's own; or
+ * CALL with ID_IN_USE or UNFIT; GIOP_NO_MEMORY; or GIOP_CLOSED. Where it isn't sent, nothing has changed. */
+uint32_t giop_client_locate(giop_client *client, uint32_t id, const giop_call *call,
+                            const uint8_t *target, size_t target_size,
+                            const giop_form *form, giop_end_fault *fault);
+
+/* Cancels the call of an id, whose reply isn't whole: a CancelRequest (9.4.4) of this byte order is outgoing
+ * then, and no further piece of the call is sent. Answers GIOP_OK; GIOP_FAULT, as CALL with NOT_OPEN, or
+ * GIOP_NO_MEMORY, and nothing has changed; or GIOP_CLOSED. */
+uint32_t giop_client_cancel(giop_client *client, uint32_t id, uint32_t little_endian, giop_end_fault *fault);
+
+/* Puts out the next piece of the call of an id. Answers GIOP_OK; GIOP_FAULT, as CALL with NOTHING_TO_SEND, or
+ * GIOP_NO_MEMORY, and nothing has changed; or GIOP_CLOSED. */
+uint32_t giop_client_send(giop_client *client, uint32_t id, giop_end_fault *fault);
+
+/* Copies the first request ids for which something is stored, ascending, to the front of an array of so
+ * many, as many as it has room for, and writes to *count how many there are in all. Answers GIOP_OK;
+ * GIOP_NO_MEMORY: nothing is written; or GIOP_CLOSED. ids may be NULL where room is 0. */
+uint32_t giop_client_ids(giop_client *client, uint32_t *ids, size_t room, size_t *count);
+
+/* Writes what is stored for an id: the kind is GIOP_NOTHING where nothing is. Answers GIOP_OK or
+ * GIOP_CLOSED. */
+uint32_t giop_client_entry_of(giop_client *client, uint32_t id, giop_client_entry *entry);
+
+/* Copies what the Reply under an id brought without an exception, as octets of this byte order: the result
+ * and then the inout and out parameters. Writes their number. Answers GIOP_OK; GIOP_SMALL: the buffer has
+ * fewer octets than *size, and nothing was copied; GIOP_WAITS: no Reply of GIOP_NO_EXCEPTION is there, and
+ * *size is as it was; GIOP_NO_MEMORY, or GIOP_FAULT: what is stored are no values of the operation, and with
+ * both nothing is written; or GIOP_CLOSED. */
+uint32_t giop_client_outs(giop_client *client, uint32_t id, uint32_t little_endian,
+                          uint8_t *buffer, size_t room, size_t *size);
+
+/* Copies the repository id of the exception that the Reply under an id brought, the interface's or the
+ * broker's, without a null, and writes its size. Answers GIOP_OK; GIOP_SMALL, as giop_client_outs; GIOP_WAITS:
+ * no such Reply is there, and *size is as it was; or GIOP_CLOSED. */
+uint32_t giop_client_exception(giop_client *client, uint32_t id, uint8_t *buffer, size_t room, size_t *size);
+
+/* Copies the members of the exception of the interface that the Reply under an id brought, as octets of this
+ * byte order, and writes their number. Answers as giop_client_outs; GIOP_WAITS: no Reply of
+ * GIOP_USER_EXCEPTION is there. */
+uint32_t giop_client_members(giop_client *client, uint32_t id, uint32_t little_endian,
+                             uint8_t *buffer, size_t room, size_t *size);
+
+/* Copies the reference to which the Reply under an id forwards, as a text (7.6.9): IOR: and hexadecimal
+ * digits, without a null; and writes its size. Answers as giop_client_outs; GIOP_WAITS: no Reply of
+ * GIOP_LOCATION_FORWARD or GIOP_LOCATION_FORWARD_PERM is there. */
+uint32_t giop_client_forward(giop_client *client, uint32_t id, uint8_t *buffer, size_t room, size_t *size);
+
+/* Takes what is stored for an id out of the table, where its call is over. Answers GIOP_OK, also where
+ * nothing is stored; GIOP_FAULT, as STILL_OPEN, and nothing has changed; or GIOP_CLOSED. */
+uint32_t giop_client_take(giop_client *client, uint32_t id, giop_end_fault *fault);
+
+/* Closes the connection (9.4.7): a CloseConnection is outgoing then, and the end's fault is CLOSED from now
+ * on. Answers GIOP_OK; GIOP_FAULT or GIOP_NO_MEMORY, and nothing has changed; or GIOP_CLOSED. */
+uint32_t giop_client_close(giop_client *client, giop_end_fault *fault);
+
+/* Copies the MessageError (9.4.8) that the server is to be sent after the end's fault: 12 octets. Answers
+ * GIOP_OK; GIOP_SMALL: the buffer has fewer octets than *size, and nothing was copied; GIOP_WAITS: no fault
+ * asks for one, and *size is as it was; or GIOP_CLOSED. */
+uint32_t giop_client_error_message(giop_client *client, uint8_t *buffer, size_t room, size_t *size);
+
+/* Writes how many octets are unread to *rest. Answers GIOP_OK or GIOP_CLOSED. */
+uint32_t giop_client_rest(giop_client *client, size_t *rest);
+
+/* Writes how many blocks of 512 octets the end has taken for pieces of replies to *count: at most the limit
+ * gathered over 512, and one more for each entry that there may be. They serve the pieces to come until the
+ * handle is freed. Answers GIOP_OK or GIOP_CLOSED. */
+uint32_t giop_client_blocks(giop_client *client, size_t *count);
+
+/* Frees what the handle holds, which holds nothing then. A second call does nothing. */
+void giop_client_free(giop_client *client);
 
 #ifdef __cplusplus
 }

@@ -5,6 +5,7 @@ use Rattle.std.specs.contracts.alloc.Global as global
 use Rattle.std.proofs.alloc.Global.TheLaws as global_laws
 use Rattle.std.specs.contracts.impls.GlobalAllocator.TheImpl.{ghosts}
 use Rattle.handle.specs.contracts.raw_box.RawBox as raw_box
+use Rattle.giop_c.specs.contracts.client.caller.Caller as caller
 use Rattle.giop_c.specs.contracts.reader.Reader as reader
 use Rattle.giop_c.specs.contracts.server.served.Served as served
 use Rattle.giop_c.specs.contracts.shared.Shared as shared
@@ -26,3 +27,7 @@ RawShared = raw_box.the_row shared.the_row Heap ghosts
 -- a server's end behind a pointer
 abbrev pub RawServed : RattleType
 RawServed = raw_box.the_row served.the_row Heap ghosts
+
+-- a client's end behind a pointer
+abbrev pub RawCaller : RattleType
+RawCaller = raw_box.the_row caller.the_row Heap ghosts

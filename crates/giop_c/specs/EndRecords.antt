@@ -4,6 +4,9 @@ use Rattle.giop_cdr.specs.declared.order.Order.{Order}
 use Rattle.giop_cdr.specs.declared.order.Order.TheVariants.{Big, Little}
 use Rattle.giop_cdr.specs.Faults.{cdr_kind_number}
 use Rattle.giop_msg.specs.Fault.{wire_kind_number}
+use Rattle.giop_msg.specs.declared.messages.reply.Reply.{Reply}
+use Rattle.giop_calls.specs.declared.outcome.Outcome.{Outcome}
+use Rattle.giop_calls.specs.declared.outcome.Outcome.TheVariants as ended
 use Rattle.giop_calls.specs.Faults.{fault_number}
 use Rattle.giop_session.specs.declared.session_fault.SessionFault.{SessionFault}
 use Rattle.giop_session.specs.declared.session_fault.SessionFault.TheVariants as session
@@ -46,3 +49,12 @@ c_end_fault why = record {
   part = end_part why;
   id = end_id why;
 }
+
+-- the number of an outcome
+abbrev pub outcome_number : Outcome Reply → ℕ
+outcome_number ended.Pending = 0
+outcome_number ended.Cancelled = 1
+outcome_number ended.OneWay = 2
+outcome_number (ended.Replied reply) = 3
+outcome_number (ended.Located status) = 4
+outcome_number ended.Undecoded = 5

@@ -1,10 +1,10 @@
-pub mod Answers
+pub mod Acts
 pub mod Calls
+pub mod Client
 pub mod Copying
 pub mod EndRecords
-pub mod Ends
-pub mod Entries
 pub mod Heads
 pub mod Interfaces
 pub mod Records
+pub mod Server
 pub mod Values

@@ -1,13 +1,16 @@
-//! The framer of giop_msg, the head of a Request, interfaces and a server's end of giop_session for
+//! The framer of giop_msg, the head of a Request, interfaces and both ends of giop_session for
 //! C, C++ and Rust: a handle each, and one exported function for each call.
 #![tactic(auto)]
 
+mod act_fault;
+mod client;
 mod copying;
 mod end_records;
 mod framer_calls;
 mod framer_handle;
 mod interface_calls;
 mod interface_handle;
+mod parameters;
 mod reader;
 mod records;
 mod request_calls;
@@ -18,6 +21,7 @@ mod status;
 mod tests;
 mod values;
 
+pub use client::{CallHead, Caller, ClientHandle, ClientRow};
 pub use end_records::{EndFault, EndLimits, SendForm};
 pub use framer_handle::{FramerHandle, Opaque};
 pub use interface_handle::InterfaceHandle;

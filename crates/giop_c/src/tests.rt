@@ -1,6 +1,7 @@
 //! The exported functions in turn, on octets that are worked by hand from 9.4.1. tests/clib has the
 //! same calls from C, and what is wrong with a header.
 
+mod client;
 mod server;
 
 use crate::framer_calls::{

@@ -12,8 +12,10 @@ ghost use Rattle.giop_types.specs.Values.Fits.{fields_fit, fits};
 ghost use Rattle.giop_types.specs.Values.Views.{value_view};
 ghost use Rattle.giop_msg.specs.Messages.Body.{fields_in, values};
 ghost use Rattle.giop_msg.specs.Messages.Outcome.{FollowsToEnd};
-ghost use Rattle.giop_c.specs.Values.{begun, octets_of};
+ghost use Rattle.giop_c.specs.Values.{CopiesValues, begun, octets_of};
 
+use crate::copying::copy_octets;
+use crate::status::{FAULT, NO_MEMORY};
 use giop_cdr::{CdrFault, CdrIn, CdrKind, CdrOut, EncodeFault, Order, SliceOctets};
 use giop_types::{CheckedDesc, Parameter, Value, ValueList, decode, encode, fits};
 use std::alloc::{AllocError, Global};
@@ -41,6 +43,27 @@ pub fn write_values(
     match append_values(parameters, values, &mut out) {
         Ok(()) => Ok(out),
         Err(_) => Err(EncodeFault::NoMemory),
+    }
+}
+
+/// Copies the octets of values of parameters, in a byte order, to the front of a buffer, and writes
+/// how many they are. It answers OK; SMALL, where the buffer has no room for them; NO_MEMORY; or
+/// FAULT, where they are no values of the parameters.
+pub fn copy_values(
+    alloc: Global,
+    parameters: &[Parameter],
+    values: &[Value],
+    order: Order,
+    buffer: &mut [u8],
+    size: &mut usize,
+) -> u32
+    ensures { CopiesValues parameters.now (map value_view values.now) order buffer.old buffer.new
+        size.old size.new result }
+{
+    match write_values(alloc, parameters, values, order) {
+        Ok(out) => copy_octets(Some(out.as_slice()), buffer, size),
+        Err(EncodeFault::NoMemory) => NO_MEMORY,
+        Err(EncodeFault::Unfit) => FAULT,
     }
 }
 

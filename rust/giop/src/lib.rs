@@ -16,11 +16,15 @@
 //! ```
 #![warn(missing_docs)]
 
+mod client;
+mod end;
 mod interface;
 mod server;
 
+pub use client::{Call, Client, ClientEntry, ClientKind, Target};
+pub use end::{EndError, EndFault, Form, Limits};
 pub use interface::{Interface, InterfaceError};
-pub use server::{Awaits, CallKind, EndError, EndFault, Entry, Form, Limits, Server};
+pub use server::{Awaits, CallKind, Entry, Server};
 
 use std::error;
 use std::ffi::c_void;

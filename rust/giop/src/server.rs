@@ -1,94 +1,8 @@
 //! The end of a connection that answers calls.
-use crate::{Handle, Interface, CLOSED, FAULT, NO_MEMORY, OK, SMALL};
-use std::error;
-use std::fmt;
+use crate::end::{copied, error_of, told, CForm, EndError, EndFault, Form, Limits};
+use crate::{Handle, Interface, OK};
 use std::marker::PhantomData;
 use std::ptr;
-
-/// What an end may hold at most. A limit is met where the next message would pass it.
-#[repr(C)]
-#[derive(Clone, Copy, Debug, PartialEq, Eq)]
-pub struct Limits {
-    /// The octets of all messages of which a piece is still to come: at most 2^62.
-    pub gathered: u64,
-    /// Entries in the table, those of calls that are over and not taken out included.
-    pub calls: u32,
-    /// The size of a message in octets, without its header.
-    pub message: u32,
-}
-
-impl Default for Limits {
-    /// 8 MiB of gathered octets, 1,024 entries and messages of 1 MiB.
-    fn default() -> Limits {
-        Limits { gathered: 8 << 20, calls: 1 << 10, message: 1 << 20 }
-    }
-}
-
-#[repr(C)]
-struct CForm {
-    piece: u32,
-    little_endian: u32,
-}
-
-/// How a message is sent.
-#[derive(Clone, Copy, Debug, PartialEq, Eq)]
-pub struct Form {
-    /// How many octets a piece has at most, its header counted: a multiple of 8, and 24 at least.
-    pub piece: u32,
-    /// Whether the message is little endian.
-    pub little_endian: bool,
-}
-
-impl Default for Form {
-    /// Big endian, in pieces of 4,096 octets.
-    fn default() -> Form {
-        Form { piece: 4096, little_endian: false }
-    }
-}
-
-impl Form {
-    fn written(self) -> CForm {
-        CForm { piece: self.piece, little_endian: self.little_endian.into() }
-    }
-}
-
-/// Why an end fails, or refuses a call of its program: the numbers are `GIOP_END_` in giop.h.
-#[repr(C)]
-#[derive(Clone, Copy, Debug, Default, PartialEq, Eq)]
-pub struct EndFault {
-    /// The place of what is wrong with octets; else 0.
-    pub at: usize,
-    /// What is wrong.
-    pub number: u32,
-    /// What is wrong in the part that the fault is of; else 0.
-    pub part: u32,
-    /// The request id of the call that it is of; else 0.
-    pub id: u32,
-}
-
-/// Why a call of an end did nothing.
-#[derive(Clone, Copy, Debug, PartialEq, Eq)]
-pub enum EndError {
-    /// Memory ran out. Where it did so in `feed`, the end has failed for good.
-    NoMemory,
-    /// It is refused, or the end has failed.
-    Fault(EndFault),
-}
-
-impl fmt::Display for EndError {
-    fn fmt(&self, f: &mut fmt::Formatter<'_>) -> fmt::Result {
-        match self {
-            EndError::NoMemory => f.write_str("out of memory"),
-            EndError::Fault(fault) => write!(
-                f,
-                "fault {}.{} of call {} at {}",
-                fault.number, fault.part, fault.id, fault.at
-            ),
-        }
-    }
-}
-
-impl error::Error for EndError {}
 
 #[repr(C)]
 #[derive(Clone, Copy, Default)]
@@ -216,22 +130,6 @@ extern "C" {
     fn giop_server_error_message(server: *mut Handle, buffer: *mut u8, room: usize, size: *mut usize) -> u32;
     fn giop_server_rest(server: *mut Handle, rest: *mut usize) -> u32;
     fn giop_server_free(server: *mut Handle);
-}
-
-// Octets that a call copies into a buffer: it is asked for their size first.
-fn copied(mut call: impl FnMut(*mut u8, usize, *mut usize) -> u32) -> Result<Option<Vec<u8>>, u32> {
-    let (mut octets, mut size) = (Vec::new(), 0);
-    loop {
-        match call(octets.as_mut_ptr(), octets.len(), &mut size) {
-            OK => {
-                octets.truncate(size);
-                return Ok(Some(octets));
-            }
-            SMALL => octets.resize(size, 0),
-            crate::WAITS => return Ok(None),
-            other => return Err(other),
-        }
-    }
 }
 
 /// The end of a connection that answers calls, without IO: it is fed what was read of the client, keeps the
@@ -510,21 +408,5 @@ impl Drop for Server {
     fn drop(&mut self) {
         // SAFETY: the handle was opened, or holds nothing.
         unsafe { giop_server_free(&mut self.handle) }
-    }
-}
-
-fn told(status: u32, fault: EndFault) -> Result<(), EndError> {
-    match status {
-        OK => Ok(()),
-        other => Err(error_of(other, fault)),
-    }
-}
-
-fn error_of(status: u32, fault: EndFault) -> EndError {
-    match status {
-        FAULT => EndError::Fault(fault),
-        NO_MEMORY => EndError::NoMemory,
-        CLOSED => unreachable!("the handle was opened"),
-        other => unreachable!("an end answered {other}"),
     }
 }

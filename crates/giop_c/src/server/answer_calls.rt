@@ -1,17 +1,17 @@
 //! The exported functions by which a server's program answers.
 ghost use Rattle.std.specs.Prelude.{◌≡◌, ◌==◌, ◌≤◌, ◌^◌, length, not};
 ghost use Rattle.giop_msg.specs.Messages.Reply.{completion_of};
-ghost use Rattle.giop_c.specs.Answers.{AnswersOuts, AnswersSystem, AnswersUser, TellsAnswer, form_of};
+ghost use Rattle.giop_c.specs.Acts.{Tells, TellsAct, form_of};
 ghost use Rattle.giop_c.specs.Calls.{At};
 ghost use Rattle.giop_c.specs.EndRecords.{c_order_of};
-ghost use Rattle.giop_c.specs.Ends.{LocatesAtServer, Tells};
+ghost use Rattle.giop_c.specs.Server.Answers.{AnswersOuts, AnswersSystem, AnswersUser};
+ghost use Rattle.giop_c.specs.Server.Ends.{LocatesAtServer};
 
-use crate::end_records::{EndFault, SendForm, order_of, told};
-use crate::server::answers::answered;
+use crate::act_fault::told_act;
+use crate::end_records::{EndFault, SendForm, form_of, order_of, told};
 use crate::server::server_handle::ServerHandle;
 use crate::status::CLOSED;
 use giop_msg::Completion;
-use giop_session::Form;
 use std::alloc::Global;
 
 /// Answers a Request without an exception: by its outs, as octets of a byte order of which the first
@@ -29,7 +29,7 @@ pub extern "C" fn giop_server_answer(
 ) -> u32
     requires { length outs.now ≤ 2 ^ 62 }
     ensures { At server.old.value server.new.value result (fault.new ≡ fault.old)
-        (λ old new. TellsAnswer (λ answer. AnswersOuts id (c_order_of little_endian) outs.now
+        (λ old new. TellsAct (λ answer. AnswersOuts id (c_order_of little_endian) outs.now
         (form_of form.now) old answer new) fault.old fault.new result) }
 {
     let Some(mut served) = server.take(alloc) else {
@@ -37,7 +37,7 @@ pub extern "C" fn giop_server_answer(
     };
     let answer = served.answer_outs(alloc, id, order_of(little_endian), outs, form_of(form));
     *server = ServerHandle::of(served);
-    answered(answer, fault)
+    told_act(answer, fault)
 }
 
 /// Answers a Request by an exception of the interface: its repository id without a null, and its
@@ -56,7 +56,7 @@ pub extern "C" fn giop_server_answer_user(
 ) -> u32
     requires { length members.now ≤ 2 ^ 62 }
     ensures { At server.old.value server.new.value result (fault.new ≡ fault.old)
-        (λ old new. TellsAnswer (λ answer. AnswersUser id exception.now
+        (λ old new. TellsAct (λ answer. AnswersUser id exception.now
         (c_order_of little_endian) members.now (form_of form.now) old answer new)
         fault.old fault.new result) }
 {
@@ -66,7 +66,7 @@ pub extern "C" fn giop_server_answer_user(
     let order = order_of(little_endian);
     let answer = served.answer_user(alloc, id, exception, order, members, form_of(form));
     *server = ServerHandle::of(served);
-    answered(answer, fault)
+    told_act(answer, fault)
 }
 
 /// Answers a Request by an exception of the broker: its repository id without a null, a minor code,
@@ -84,7 +84,7 @@ pub extern "C" fn giop_server_answer_system(
     fault: &mut EndFault,
 ) -> u32
     ensures { At server.old.value server.new.value result (fault.new ≡ fault.old)
-        (λ old new. TellsAnswer (λ answer. AnswersSystem id exception.now minor
+        (λ old new. TellsAct (λ answer. AnswersSystem id exception.now minor
         (completion_of completion) (form_of form.now) old answer new)
         fault.old fault.new result) }
 {
@@ -94,7 +94,7 @@ pub extern "C" fn giop_server_answer_system(
     let completion = completion_of(completion);
     let answer = served.answer_system(alloc, id, exception, minor, completion, form_of(form));
     *server = ServerHandle::of(served);
-    answered(answer, fault)
+    told_act(answer, fault)
 }
 
 /// Answers a LocateRequest: that the object is here, or, for `here` 0, that it isn't known. It
@@ -118,16 +118,6 @@ pub extern "C" fn giop_server_answer_locate(
     let answer = served.answer_locate(alloc, id, here != 0, order_of(little_endian));
     *server = ServerHandle::of(served);
     told(answer, fault)
-}
-
-// The form that C says.
-fn form_of(form: &SendForm) -> Form
-    ensures { result ≡ form_of form.now }
-{
-    Form {
-        order: order_of(form.little_endian),
-        piece: form.piece,
-    }
 }
 
 // The completion of a number.

@@ -3,9 +3,10 @@
 ghost use Rattle.std.specs.Prelude.{◌≡◌, ◌⊎◌, None, length};
 ghost use Rattle.std.specs.FinMap as finite;
 ghost use Rattle.giop_session.specs.Calls.SessionFaults.{error_message_of};
+ghost use Rattle.giop_c.specs.Acts.{Tells};
 ghost use Rattle.giop_c.specs.Calls.{At, no_memory, ok};
 ghost use Rattle.giop_c.specs.Copying.{CopiesFront, CopiesOctets};
-ghost use Rattle.giop_c.specs.Ends.{ClosesServer, FeedsServer, OpensServer, SendsAtServer, TakesAtServer, Tells, WritesAtServer};
+ghost use Rattle.giop_c.specs.Server.Ends.{ClosesServer, FeedsServer, OpensServer, SendsAtServer, TakesAtServer, WritesAtServer};
 
 use crate::InterfaceHandle;
 use crate::copying::copy_octets;

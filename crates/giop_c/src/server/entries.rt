@@ -1,12 +1,12 @@
 //! What is stored for the id of a call at a server, as C sees it.
 ghost use Rattle.std.specs.Prelude.{◌≡◌, option_copied, Some};
 ghost use Rattle.std.specs.Option.{option_map};
-ghost use Rattle.giop_calls.specs.Outcomes.{copied};
 ghost use Rattle.giop_msg.specs.Target.{key_of};
-ghost use Rattle.giop_c.specs.Entries.{awaits, awaits_undecoded, c_server_row, came_to, flags_in, key_in, key_size, kind_of, left, operation_in, operation_size, outcome_number, over, reply_status, request_asked, request_in, request_of, version_asked, version_in};
+ghost use Rattle.giop_c.specs.Server.Entries.{awaits, awaits_undecoded, c_server_row, came_to, flags_in, key_in, key_size, kind_of, left, operation_in, operation_size, over, reply_status, request_asked, request_in, request_of, version_asked, version_in};
 
-use giop_calls::{CallKind, Outcome, Question, ServerEntry};
-use giop_msg::{Reply, Request, Target, Version};
+use crate::end_records::outcome_number;
+use giop_calls::{CallKind, Question, ServerEntry};
+use giop_msg::{Request, Target, Version};
 
 /// What is stored for the id of a call at a server, as C sees it: `giop_server_entry`.
 #[repr(C)]
@@ -197,19 +197,6 @@ fn came_to(entry: Option<&ServerEntry>) -> u8
     match entry {
         Some(entry) => outcome_number(entry.outcome()),
         None => 0,
-    }
-}
-
-fn outcome_number(outcome: Outcome<&Reply>) -> u8
-    ensures { result ≡ outcome_number (copied outcome.entry) }
-{
-    match outcome {
-        Outcome::Pending => 0,
-        Outcome::Cancelled => 1,
-        Outcome::OneWay => 2,
-        Outcome::Replied(_) => 3,
-        Outcome::Located(_) => 4,
-        Outcome::Undecoded => 5,
     }
 }
 

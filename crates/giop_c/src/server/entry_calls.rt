@@ -4,7 +4,7 @@ ghost use Rattle.std_alloc.specs.Arc.{arc_value};
 ghost use Rattle.giop_session.specs.Runs.ServerRuns.{server_entry};
 ghost use Rattle.giop_c.specs.Calls.{At, ok};
 ghost use Rattle.giop_c.specs.EndRecords.{c_order_of};
-ghost use Rattle.giop_c.specs.Entries.{c_server_row, key_in, operation_in, request_of};
+ghost use Rattle.giop_c.specs.Server.Entries.{c_server_row, key_in, operation_in, request_of};
 ghost use Rattle.giop_c.specs.Copying.{CopiesOctets};
 ghost use Rattle.giop_c.specs.Values.{CopiesIns};
 

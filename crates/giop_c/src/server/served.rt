@@ -6,17 +6,17 @@ ghost use Rattle.std_alloc.specs.Arc.{arc_value};
 ghost use Rattle.giop_session.specs.Calls.SessionFaults.{error_message_of};
 ghost use Rattle.giop_session.specs.Runs.Driven.{end_state, new_end};
 ghost use Rattle.giop_session.specs.Runs.ServerRuns.{server_entry};
-ghost use Rattle.giop_c.specs.Entries.{c_server_row, key_in, operation_in, request_of};
+ghost use Rattle.giop_c.specs.Server.Entries.{c_server_row, key_in, operation_in, request_of};
 ghost use Rattle.giop_c.specs.Values.{CopiesIns};
 ghost use Rattle.giop_c.specs.Copying.{CopiesFront, CopiesOctets};
-ghost use Rattle.giop_c.specs.Ends.{ClosesServer, FeedsServer, LocatesAtServer, SendsAtServer, TakesAtServer, WritesAtServer};
+ghost use Rattle.giop_c.specs.Server.Ends.{ClosesServer, FeedsServer, LocatesAtServer, SendsAtServer, TakesAtServer, WritesAtServer};
 
 use crate::copying::{copy_front, copy_ids, copy_octets};
 use crate::server::entries::{ServerRow, key_in, operation_in, request_of};
-use crate::status::{FAULT, NO_MEMORY, OK, SMALL, WAITS};
-use crate::values::write_values;
+use crate::status::{OK, SMALL, WAITS};
+use crate::values::copy_values;
 use giop_calls::ServerRule;
-use giop_cdr::{EncodeFault, Order};
+use giop_cdr::Order;
 use giop_msg::Request;
 use giop_session::{Detached, Limits, SessionFault};
 use giop_types::Interface;
@@ -281,14 +281,12 @@ fn copy_ins_of(
     let Some(operation) = interface.operation(request.head.operation.as_slice()) else {
         return WAITS;
     };
-    match write_values(
+    copy_values(
         alloc,
         operation.ins.as_slice(),
         request.body.as_slice(),
         order,
-    ) {
-        Ok(out) => copy_octets(Some(out.as_slice()), buffer, size),
-        Err(EncodeFault::NoMemory) => NO_MEMORY,
-        Err(EncodeFault::Unfit) => FAULT,
-    }
+        buffer,
+        size,
+    )
 }

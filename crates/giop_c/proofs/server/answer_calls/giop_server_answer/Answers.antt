@@ -1,5 +1,6 @@
 use Rattle.std.proofs.Common.{subst}
-use Rattle.giop_c.specs.Answers.{AnswersOuts, TellsAnswer, form_of}
+use Rattle.giop_c.specs.Acts.{TellsAct, form_of}
+use Rattle.giop_c.specs.Server.Answers.{AnswersOuts}
 use Rattle.giop_c.specs.EndRecords.{c_order_of}
 use Rattle.giop_c.proofs.AtLemmas.{at_open}
 use Rattle.giop_c.proofs.server.answer_calls.giop_server_answer.Goals as goal
@@ -13,5 +14,5 @@ returns c =
     (subst (λ given. AnswersOuts c.args.id c.order_of.result outs given c.in-Some.served.value call.result call.new.self) c.form_of.ensures
     (subst (λ held. AnswersOuts c.args.id c.order_of.result outs c.form_of.result held call.result call.new.self) c.deref_mut.ensures.value call.ensures)) in
     at_open _ _ c.in-Some.served.value call.new.self _ _
-    (λ old new. TellsAnswer (λ answer. AnswersOuts c.args.id (c_order_of c.args.little_endian) outs form old answer new) c.args.fault.now c.answered.new.fault c.answered.result)
-    c.in-Some.ensures.held c.of.ensures (call.result, done, c.answered.ensures)
+    (λ old new. TellsAct (λ answer. AnswersOuts c.args.id (c_order_of c.args.little_endian) outs form old answer new) c.args.fault.now c.told_act.new.fault c.told_act.result)
+    c.in-Some.ensures.held c.of.ensures (call.result, done, c.told_act.ensures)

@@ -1,5 +1,5 @@
 use Rattle.std.proofs.Common.{Some, ap, subst, sym, ◌∙◌}
-use Rattle.giop_c.specs.Ends.{OpensServer}
+use Rattle.giop_c.specs.Server.Ends.{OpensServer}
 use Rattle.giop_c.proofs.server.calls.giop_server_new.Goals as goal
 
 pub returns-clause-opens : goal.returns-clause-opens

@@ -28,20 +28,9 @@ use Rattle.giop_session.specs.Runs.Driven.{end_state, new_end}
 use Rattle.giop_session.specs.Runs.ServerRuns.{server_entry}
 use Rattle.giop_c.specs.declared.server.served.Served.{Served}
 use Rattle.giop_c.specs.declared.shared.Shared.{Shared}
-use Rattle.giop_c.specs.declared.end_records.EndFault.{EndFault}
 use Rattle.giop_c.specs.declared.end_records.EndLimits.{EndLimits}
+use Rattle.giop_c.specs.Acts.{limits_of}
 use Rattle.giop_c.specs.Calls.{ok, closed, no_memory, fault, small}
-use Rattle.giop_c.specs.EndRecords.{c_end_fault, end_status}
-
--- what a call of an end answers, as C is told: a status; and the fault where it is refused
-abbrev pub IsTold : Result (Unit {0}) SessionFault → EndFault → EndFault → ℕ → Type 0
-IsTold (Ok done) f f' status = (status ≡ ok) × (f' ≡ f)
-IsTold (Err why) f f' status = (status ≡ end_status why) × (f' ≡ c_end_fault why)
-
--- C is told what a call answers that does this
-abbrev pub Tells : (Result (Unit {0}) SessionFault → Type 0) → EndFault → EndFault → ℕ → Type 0
-Tells Does f f' status =
-    (answer : Result (Unit {0}) SessionFault) × Does answer × IsTold answer f f' status
 
 -- a failed end answers its fault, and stays
 abbrev pub Fails : Served → Result (Unit {0}) SessionFault → Served → Type 0
@@ -55,11 +44,6 @@ IsNewServer shared limits new =
     × (end_state new.end.framer new.end.calls new.end.outgoing new.end.fault
     ≡ new_end (record {}) limits)
     × (new.end.limits ≡ limits)
-
--- the limits that C says
-abbrev pub limits_of : EndLimits → Limits
-limits_of limits =
-    record { calls = limits.calls; message = limits.message; gathered = limits.gathered }
 
 -- a handle is opened, by the interface that another holds, whatever it held; or the limit of gathered
 -- octets is refused, or memory ran out, or there is no interface, and it is as it was

@@ -1,6 +1,5 @@
 -- What is stored for the id of a call at a server, as C sees it.
 use Rattle.std.specs.Prelude.{ℕ, if◌then◌else◌, Option, Some, None, List, length}
-use Rattle.giop_msg.specs.declared.messages.reply.Reply.{Reply}
 use Rattle.giop_msg.specs.declared.messages.request.Request.{Request}
 use Rattle.giop_msg.specs.declared.version.Version.{Version}
 use Rattle.giop_msg.specs.declared.version.Version.TheVariants.{V12}
@@ -8,14 +7,13 @@ use Rattle.giop_msg.specs.Messages.Reply.{status_of}
 use Rattle.giop_msg.specs.Target.{key_of}
 use Rattle.giop_calls.specs.declared.kind.CallKind.{CallKind}
 use Rattle.giop_calls.specs.declared.kind.CallKind.TheVariants as kind
-use Rattle.giop_calls.specs.declared.outcome.Outcome.{Outcome}
-use Rattle.giop_calls.specs.declared.outcome.Outcome.TheVariants as ended
 use Rattle.giop_calls.specs.declared.server.entry.ServerEntry.{ServerEntry}
 use Rattle.giop_calls.specs.declared.server.entry.ServerEntry.TheVariants.{Gathering, Asked, Undecoded, LocateAsked, Answered, LocateAnswered, Delivered, Cancelled}
 use Rattle.giop_calls.specs.declared.server.question.Question.{Question}
 use Rattle.giop_calls.specs.declared.server.question.Question.TheVariants as question
 use Rattle.giop_calls.specs.ServerTable.{is_closed, left_of, outcome}
 use Rattle.giop_c.specs.declared.server.entries.ServerRow.{ServerRow}
+use Rattle.giop_c.specs.EndRecords.{outcome_number}
 
 -- the Request that an answered call was, where it could be decoded
 abbrev pub request_asked : Question → Option Request
@@ -90,15 +88,6 @@ over (Some entry) = if is_closed entry then 1 else 0
 abbrev pub left : Option ServerEntry → ℕ
 left None = 0
 left (Some entry) = left_of entry
-
--- the number of an outcome
-abbrev pub outcome_number : Outcome Reply → ℕ
-outcome_number ended.Pending = 0
-outcome_number ended.Cancelled = 1
-outcome_number ended.OneWay = 2
-outcome_number (ended.Replied reply) = 3
-outcome_number (ended.Located status) = 4
-outcome_number ended.Undecoded = 5
 
 -- what a call came to, by its number
 abbrev pub came_to : Option ServerEntry → ℕ

@@ -1,0 +1,99 @@
+-- What C is told of an act of an end, and in which words it asks for one.
+use Rattle.std.specs.Prelude.{◌≡◌, ◌⊎◌, ℕ, List, Result, Ok, Err}
+use Rattle.giop_cdr.specs.declared.fault.CdrFault.{CdrFault}
+use Rattle.giop_cdr.specs.declared.fault.CdrKind.{CdrKind}
+use Rattle.giop_cdr.specs.declared.fault.CdrKind.TheVariants as cdr
+use Rattle.giop_cdr.specs.declared.order.Order.{Order}
+use Rattle.giop_cdr.specs.Ending.{ended}
+use Rattle.giop_cdr.specs.Faults.{cdr_kind_number}
+use Rattle.giop_types.specs.declared.json.parameters.Parameter.{Parameter}
+use Rattle.giop_types.specs.Values.Tree.{Tree}
+use Rattle.giop_msg.specs.Messages.Body.{values}
+use Rattle.giop_session.specs.declared.acts.form.Form.{Form}
+use Rattle.giop_session.specs.declared.limits.Limits.{Limits}
+use Rattle.giop_session.specs.declared.session_fault.SessionFault.{SessionFault}
+use Rattle.giop_session.specs.declared.session_fault.SessionFault.TheVariants as session
+use Rattle.giop_session.specs.Acts.Form.{IsForm}
+use Rattle.giop_c.specs.declared.act_fault.ActFault.{ActFault}
+use Rattle.giop_c.specs.declared.act_fault.ActFault.TheVariants as refused
+use Rattle.giop_c.specs.declared.end_records.EndFault.{EndFault}
+use Rattle.giop_c.specs.declared.end_records.EndLimits.{EndLimits}
+use Rattle.giop_c.specs.declared.end_records.SendForm.{SendForm}
+use Rattle.giop_c.specs.Calls.{ok, no_memory, fault}
+use Rattle.giop_c.specs.EndRecords.{c_end_fault, c_order_of, end_status}
+use Rattle.giop_c.specs.Values.{begun}
+
+-- the limits that C says
+abbrev pub limits_of : EndLimits → Limits
+limits_of limits =
+    record { calls = limits.calls; message = limits.message; gathered = limits.gathered }
+
+-- the form that C says
+abbrev pub form_of : SendForm → Form
+form_of form = record { order = c_order_of form.little_endian; piece = form.piece }
+
+-- what a call of an end answers, as C is told: a status; and the fault where it is refused
+abbrev pub IsTold : Result (Unit {0}) SessionFault → EndFault → EndFault → ℕ → Type 0
+IsTold (Ok done) f f' status = (status ≡ ok) × (f' ≡ f)
+IsTold (Err why) f f' status = (status ≡ end_status why) × (f' ≡ c_end_fault why)
+
+-- C is told what a call answers that does this
+abbrev pub Tells : (Result (Unit {0}) SessionFault → Type 0) → EndFault → EndFault → ℕ → Type 0
+Tells Does f f' status =
+    (answer : Result (Unit {0}) SessionFault) × Does answer × IsTold answer f f' status
+
+-- the fault of an act, as C sees it: that of the end; 11, where octets are no values; 12, where
+-- messages can't be cut so
+abbrev pub c_act_fault : ActFault → EndFault
+c_act_fault (refused.End why) = c_end_fault why
+c_act_fault (refused.Values e) =
+    record { at = e.at; number = 11; part = cdr_kind_number e.kind; id = 0 }
+c_act_fault refused.Form = record { at = 0; number = 12; part = 0; id = 0 }
+
+-- its status
+abbrev pub values_status : CdrKind → ℕ
+values_status cdr.NoMemory = no_memory
+values_status _ = fault
+
+abbrev pub act_status : ActFault → ℕ
+act_status (refused.End why) = end_status why
+act_status (refused.Values e) = values_status e.kind
+act_status refused.Form = fault
+
+-- C is told so
+abbrev pub IsToldAct : Result (Unit {0}) ActFault → EndFault → EndFault → ℕ → Type 0
+IsToldAct (Ok done) f f' status = (status ≡ ok) × (f' ≡ f)
+IsToldAct (Err why) f f' status = (status ≡ act_status why) × (f' ≡ c_act_fault why)
+
+abbrev pub TellsAct : (Result (Unit {0}) ActFault → Type 0) → EndFault → EndFault → ℕ → Type 0
+TellsAct Does f f' status =
+    (answer : Result (Unit {0}) ActFault) × Does answer × IsToldAct answer f f' status
+
+-- what an end answers
+abbrev pub of_end : Result (Unit {0}) SessionFault → Result (Unit {0}) ActFault
+of_end (Ok done) = Ok tt
+of_end (Err why) = Err (refused.End why)
+
+-- pieces of this size are refused; or it is done
+abbrev pub InForm : {H : Type 0} → Form → H → Result (Unit {0}) ActFault → H → Type 0 → Type 0
+InForm form old answer new Done =
+    ((answer ≡ Err refused.Form) × (IsForm form → ⊥) × (new ≡ old)) ⊎ (IsForm form × Done)
+
+-- memory ran out before it, and nothing has changed; or it is done
+abbrev pub OrNot : {H : Type 0} → (Result (Unit {0}) SessionFault → Type 0) → H
+    → Result (Unit {0}) ActFault → H → Type 0
+OrNot Done old answer new =
+    ((answer ≡ Err (refused.End session.NoMemory)) × (new ≡ old))
+    ⊎ ((told : Result (Unit {0}) SessionFault) × (answer ≡ of_end told) × Done told)
+
+-- the octets of the values of these parameters are refused; or memory ran out; or they are read, and
+-- it is done with them
+abbrev pub ReadsValues : {H : Type 0} → List Parameter → Order → List ℕ → (List Tree → Type 0) → H
+    → Result (Unit {0}) ActFault → H → Type 0
+ReadsValues parameters order octets Done old answer new =
+    ((e : CdrFault) × (answer ≡ Err (refused.Values e)) × (new ≡ old)
+    × (((ended (values parameters)).read (begun order octets) ≡ Err e)
+    ⊎ (e.kind ≡ cdr.NoMemory)))
+    ⊎ ((trees : List Tree)
+    × ((ended (values parameters)).read (begun order octets) ≡ Ok trees)
+    × Done trees)

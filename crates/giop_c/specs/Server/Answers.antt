@@ -1,0 +1,68 @@
+-- What the program of a server answers to a Request by C.
+use Rattle.std.specs.Prelude.{ℕ, List, [], Result}
+use Rattle.std_alloc.specs.Arc.{arc_value}
+use Rattle.giop_cdr.specs.declared.order.Order.{Order}
+use Rattle.giop_msg.specs.declared.messages.completion.Completion.{Completion}
+use Rattle.giop_msg.specs.declared.messages.reply.Reply.{Reply}
+use Rattle.giop_msg.specs.declared.messages.reply_body.ReplyBody.{ReplyBody}
+use Rattle.giop_msg.specs.declared.messages.reply_body.ReplyBody.TheVariants.{NoException, SystemException, UserException}
+use Rattle.giop_msg.specs.Messages.Reply.{exception_of, listed, outs_for}
+use Rattle.giop_session.specs.declared.acts.form.Form.{Form}
+use Rattle.giop_session.specs.declared.session_fault.SessionFault.{SessionFault}
+use Rattle.giop_session.specs.Acts.ServerAnswers.{IsAnswer, answer_fault, question_of}
+use Rattle.giop_session.specs.Runs.ServerRuns.{server_entry}
+use Rattle.giop_c.specs.declared.act_fault.ActFault.{ActFault}
+use Rattle.giop_c.specs.declared.server.served.Served.{Served}
+use Rattle.giop_c.specs.Acts.{InForm, OrNot, ReadsValues}
+use Rattle.giop_c.specs.Server.Entries.{request_of, version_asked}
+use Rattle.giop_c.specs.Server.Ends.{PutsAtServer}
+
+-- the Reply to the call of an id: in its version, without contexts
+abbrev pub reply_of : Served → ℕ → ReplyBody → Reply
+reply_of old id body = record {
+  version = version_asked (server_entry old.end.calls id);
+  id = id;
+  contexts = [];
+  body = body;
+}
+
+-- the call of an id is answered so
+abbrev pub Replies : ℕ → ReplyBody → Form → Served → Result (Unit {0}) SessionFault → Served
+    → Type 0
+Replies id body form old answer new =
+    PutsAtServer id
+    (answer_fault (arc_value old.interface) old.end.limits
+    (question_of (server_entry old.end.calls id)) (reply_of old id body) form)
+    (IsAnswer (arc_value old.interface) (question_of (server_entry old.end.calls id))
+    (reply_of old id body) form)
+    old answer new
+
+-- so, or memory ran out before it
+abbrev pub RepliesOrNot : ℕ → ReplyBody → Form → Served → Result (Unit {0}) ActFault → Served
+    → Type 0
+RepliesOrNot id body form old answer new =
+    OrNot (λ told. Replies id body form old told new) old answer new
+
+-- without an exception: by the outs of its operation
+abbrev pub AnswersOuts : ℕ → Order → List ℕ → Form → Served → Result (Unit {0}) ActFault → Served
+    → Type 0
+AnswersOuts id order octets form old answer new =
+    InForm form old answer new
+    (ReadsValues (outs_for (arc_value old.interface) (request_of (server_entry old.end.calls id)))
+    order octets (λ outs. RepliesOrNot id (NoException outs) form old answer new) old answer new)
+
+-- by an exception of the interface: its members
+abbrev pub AnswersUser : ℕ → List ℕ → Order → List ℕ → Form → Served
+    → Result (Unit {0}) ActFault → Served → Type 0
+AnswersUser id exception order octets form old answer new =
+    InForm form old answer new
+    (ReadsValues (listed (exception_of (arc_value old.interface) exception)) order octets
+    (λ members. RepliesOrNot id (UserException exception members) form old answer new)
+    old answer new)
+
+-- by an exception of the broker
+abbrev pub AnswersSystem : ℕ → List ℕ → ℕ → Completion → Form → Served
+    → Result (Unit {0}) ActFault → Served → Type 0
+AnswersSystem id exception minor completion form old answer new =
+    InForm form old answer new
+    (RepliesOrNot id (SystemException exception minor completion) form old answer new)

@@ -1,0 +1,76 @@
+//! Why an act of an end's own program isn't done, and what C is told of it.
+ghost use Rattle.std.specs.Prelude.{◌≡◌};
+ghost use Rattle.giop_c.specs.Acts.{IsToldAct, act_status, c_act_fault, of_end};
+
+use crate::end_records::EndFault;
+use crate::status::{FAULT, NO_MEMORY, OK};
+use giop_cdr::{CdrFault, CdrKind};
+use giop_session::SessionFault;
+
+/// Why an answer or a call isn't sent.
+#[derive(Clone, Copy, Debug, PartialEq, Eq)]
+pub enum ActFault {
+    /// The end refuses it.
+    End(SessionFault),
+    /// The octets are no values of what is sent: the place counts from the first of them.
+    Values(CdrFault),
+    /// Messages can't be cut into pieces of this size.
+    Form,
+}
+
+impl ActFault {
+    // The fault as C sees it.
+    fn written(self) -> EndFault
+        ensures { result ≡ c_act_fault self }
+    {
+        match self {
+            ActFault::End(why) => EndFault::of(why),
+            ActFault::Values(fault) => EndFault {
+                at: fault.at,
+                number: 11,
+                part: u32::from(fault.number()),
+                id: 0,
+            },
+            ActFault::Form => EndFault {
+                at: 0,
+                number: 12,
+                part: 0,
+                id: 0,
+            },
+        }
+    }
+
+    // The status of a refused act.
+    fn status(self) -> u32
+        ensures { result ≡ act_status self }
+    {
+        match self {
+            ActFault::End(SessionFault::NoMemory) => NO_MEMORY,
+            ActFault::Values(fault) if fault.kind == CdrKind::NoMemory => NO_MEMORY,
+            _ => FAULT,
+        }
+    }
+}
+
+/// What C is told of an act: the status, and the fault where it isn't sent.
+pub fn told_act(answer: Result<(), ActFault>, fault: &mut EndFault) -> u32
+    ensures { IsToldAct answer fault.old fault.new result }
+{
+    match answer {
+        Ok(()) => OK,
+        Err(why) => {
+            *fault = why.written();
+            why.status()
+        }
+    }
+}
+
+/// What an end answers, as the answer to a call of the handle.
+pub fn of_end(answer: Result<(), SessionFault>) -> Result<(), ActFault>
+    ensures { result ≡ of_end answer }
+{
+    match answer {
+        Ok(()) => Ok(()),
+        Err(why) => Err(ActFault::End(why)),
+    }
+}

@@ -1,0 +1,97 @@
+//! The struct that C holds for a client's end: a pointer, and what contracts know of it. Its layout
+//! is that of `giop_client` in `include/giop.h`.
+ghost use Rattle.std.specs.Prelude.{◌≡◌, ◌++◌, Option, Some, None};
+ghost use Rattle.std.specs.Coded.{coded_option};
+ghost use Rattle.std.specs.Option.{MatchOption};
+ghost use Rattle.giop_c.specs.contracts.client.caller.Caller.{the_row};
+ghost use Rattle.giop_c.specs.declared.client.caller.Caller.{Caller};
+
+use crate::client::caller::Caller;
+use crate::framer_handle::Opaque;
+use handle::RawBox;
+use std::alloc::Global;
+use std::marker::Model;
+use std::{mem, ptr};
+
+/// A client's end as C holds it.
+#[repr(C)]
+pub struct ClientHandle {
+    at: *mut Opaque,
+    alloc: Global,
+    pub ghost value: { Option Caller } by { coded_option the_row.coded },
+}
+
+impl Model for ClientHandle {
+    ghost use Rattle.handle.specs.Held.{held_at};
+    ghost use Rattle.giop_c.specs.contracts.client.caller.Caller.{the_row};
+
+    ghost also_owns = { λ h. held_at h.alloc the_row h.at h.value };
+}
+
+impl ClientHandle {
+    /// A handle that holds nothing.
+    pub fn closed(alloc: Global) -> ClientHandle
+        ensures { result.value ≡ None }
+    {
+        ClientHandle {
+            at: ptr::null_mut(),
+            alloc,
+        }
+    }
+
+    fn of_raw(raw: RawBox<Caller, Global>) -> ClientHandle
+        ensures { result.value ≡ Some raw.value }
+    {
+        let RawBox { at, alloc } = raw;
+        ClientHandle {
+            at: at as *mut Opaque,
+            alloc,
+        }
+    }
+
+    fn into_raw(self) -> Option<RawBox<Caller, Global>>
+        ensures { MatchOption result (self.value ≡ None) (λ b. self.value ≡ Some b.value) }
+    {
+        let ClientHandle { at, alloc } = self;
+        if at.is_null() {
+            None
+        } else {
+            Some(RawBox {
+                at: at as *mut Caller,
+                alloc,
+            })
+        }
+    }
+
+    /// An open handle that owns what the box held. It takes no memory.
+    pub fn of(boxed: Box<Caller>) -> ClientHandle
+        ensures { result.value ≡ Some boxed.value }
+    {
+        ClientHandle::of_raw(RawBox::of(boxed))
+    }
+
+    /// What the handle held, or `None` for a closed one. It takes no memory.
+    pub fn into_box(self) -> Option<Box<Caller>>
+        ensures { MatchOption result (self.value ≡ None) (λ b. self.value ≡ Some b.value) }
+    {
+        match self.into_raw() {
+            Some(raw) => Some(raw.into_box()),
+            None => None,
+        }
+    }
+
+    /// What the handle held, or `None` for a closed one. It is left closed.
+    pub fn take(&mut self, alloc: Global) -> Option<Box<Caller>>
+        ensures held { MatchOption result (self.old.value ≡ None)
+            (λ b. self.old.value ≡ Some b.value) }
+        ensures left { self.new.value ≡ None }
+    {
+        mem::replace(self, ClientHandle::closed(alloc)).into_box()
+    }
+}
+
+impl Drop for ClientHandle {
+    fn drop(self) {
+        let _held = self.into_box();
+    }
+}

@@ -1,0 +1,137 @@
+//! The exported functions that say what is stored for the id of a call at a client's end, and what
+//! its Reply brought.
+ghost use Rattle.std.specs.Prelude.{◌≡◌};
+ghost use Rattle.std_alloc.specs.Arc.{arc_value};
+ghost use Rattle.giop_session.specs.Runs.ClientRuns.{client_entry};
+ghost use Rattle.giop_c.specs.Calls.{At, ok};
+ghost use Rattle.giop_c.specs.Client.Entries.{CopiesMembers, CopiesOuts, CopiesReference, body_of, c_client_row, exception_in, forward_in};
+ghost use Rattle.giop_c.specs.Copying.{CopiesOctets};
+ghost use Rattle.giop_c.specs.EndRecords.{c_order_of};
+
+use crate::client::client_handle::ClientHandle;
+use crate::client::entries::ClientRow;
+use crate::end_records::order_of;
+use crate::status::{CLOSED, OK};
+use std::alloc::Global;
+
+/// Writes what is stored for an id: kind 0 where nothing is. It answers OK or CLOSED.
+#[unsafe(no_mangle)]
+pub extern "C" fn giop_client_entry_of(
+    alloc: Global,
+    client: &mut ClientHandle,
+    id: u32,
+    entry: &mut ClientRow,
+) -> u32
+    ensures { At client.old.value client.new.value result (entry.new ≡ entry.old)
+        (λ old new. (result ≡ ok) × (new ≡ old)
+        × (entry.new ≡ c_client_row (client_entry old.end.calls id))) }
+{
+    let Some(mut caller) = client.take(alloc) else {
+        return CLOSED;
+    };
+    *entry = caller.row(alloc, id);
+    *client = ClientHandle::of(caller);
+    OK
+}
+
+/// Copies what the Reply under an id brought without an exception, as octets of a byte order, the
+/// first of them at offset 0, and writes their number. It answers OK; SMALL, where the buffer has no
+/// room for them; WAITS, where there is no such Reply; NO_MEMORY; FAULT, where they aren't values of
+/// the operation; or CLOSED.
+#[unsafe(no_mangle)]
+pub extern "C" fn giop_client_outs(
+    alloc: Global,
+    client: &mut ClientHandle,
+    id: u32,
+    little_endian: u32,
+    buffer: &mut [u8],
+    size: &mut usize,
+) -> u32
+    ensures { At client.old.value client.new.value result
+        ((buffer.new ≡ buffer.old) × (size.new ≡ size.old))
+        (λ old new. (new ≡ old)
+        × CopiesOuts (arc_value old.interface) (client_entry old.end.calls id)
+        (c_order_of little_endian) buffer.old buffer.new size.old size.new result) }
+{
+    let Some(mut caller) = client.take(alloc) else {
+        return CLOSED;
+    };
+    let status = caller.outs(alloc, id, order_of(little_endian), buffer, size);
+    *client = ClientHandle::of(caller);
+    status
+}
+
+/// Copies the repository id of the exception that the Reply under an id brought, without its null,
+/// and writes its size. It answers OK; SMALL; WAITS, where there is no such Reply; or CLOSED.
+#[unsafe(no_mangle)]
+pub extern "C" fn giop_client_exception(
+    alloc: Global,
+    client: &mut ClientHandle,
+    id: u32,
+    buffer: &mut [u8],
+    size: &mut usize,
+) -> u32
+    ensures { At client.old.value client.new.value result
+        ((buffer.new ≡ buffer.old) × (size.new ≡ size.old))
+        (λ old new. (new ≡ old)
+        × CopiesOctets (exception_in (body_of (client_entry old.end.calls id)))
+        buffer.old buffer.new size.old size.new result) }
+{
+    let Some(mut caller) = client.take(alloc) else {
+        return CLOSED;
+    };
+    let status = caller.exception(alloc, id, buffer, size);
+    *client = ClientHandle::of(caller);
+    status
+}
+
+/// Copies the members of the exception of the interface that the Reply under an id brought, as
+/// octets of a byte order, the first of them at offset 0, and writes their number. It answers as
+/// `giop_client_outs`.
+#[unsafe(no_mangle)]
+pub extern "C" fn giop_client_members(
+    alloc: Global,
+    client: &mut ClientHandle,
+    id: u32,
+    little_endian: u32,
+    buffer: &mut [u8],
+    size: &mut usize,
+) -> u32
+    ensures { At client.old.value client.new.value result
+        ((buffer.new ≡ buffer.old) × (size.new ≡ size.old))
+        (λ old new. (new ≡ old)
+        × CopiesMembers (arc_value old.interface) (body_of (client_entry old.end.calls id))
+        (c_order_of little_endian) buffer.old buffer.new size.old size.new result) }
+{
+    let Some(mut caller) = client.take(alloc) else {
+        return CLOSED;
+    };
+    let status = caller.members(alloc, id, order_of(little_endian), buffer, size);
+    *client = ClientHandle::of(caller);
+    status
+}
+
+/// Copies the reference to which the Reply under an id forwards, as a text without a null, and
+/// writes its size. It answers OK; SMALL; WAITS, where there is no such Reply; NO_MEMORY; FAULT,
+/// where no octets spell the reference; or CLOSED.
+#[unsafe(no_mangle)]
+pub extern "C" fn giop_client_forward(
+    alloc: Global,
+    client: &mut ClientHandle,
+    id: u32,
+    buffer: &mut [u8],
+    size: &mut usize,
+) -> u32
+    ensures { At client.old.value client.new.value result
+        ((buffer.new ≡ buffer.old) × (size.new ≡ size.old))
+        (λ old new. (new ≡ old)
+        × CopiesReference (forward_in (body_of (client_entry old.end.calls id)))
+        buffer.old buffer.new size.old size.new result) }
+{
+    let Some(mut caller) = client.take(alloc) else {
+        return CLOSED;
+    };
+    let status = caller.forward(alloc, id, buffer, size);
+    *client = ClientHandle::of(caller);
+    status
+}
