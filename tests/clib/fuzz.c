@@ -357,7 +357,7 @@ int main(int argc, char **argv) {
         }
         return wrong;
     }
-    uint32_t turns = argc > 1 ? (uint32_t)atoi(argv[1]) : 300;
+    uint32_t turns = argc > 1 ? (uint32_t)atoi(argv[1]) : 150;
     for (uint32_t turn = 0; turn < turns; turn++) {
         one_turn(turn);
     }

@@ -238,7 +238,7 @@ static void one_turn(uint32_t turn) {
 }
 
 int main(int argc, char **argv) {
-    uint32_t turns = argc > 1 ? (uint32_t)atoi(argv[1]) : 300;
+    uint32_t turns = argc > 1 ? (uint32_t)atoi(argv[1]) : 150;
     for (uint32_t turn = 0; turn < turns; turn++) {
         one_turn(turn);
     }
