@@ -104,6 +104,19 @@ fn add(alloc: Global, client: &mut ClientHandle, fault: &mut EndFault) -> u32 {
     )
 }
 
+// The outs under the id 1, little endian, in a buffer of three octets.
+fn outs_in_three(alloc: Global, client: &mut ClientHandle) -> u32 {
+    let (mut buffer, mut size) = ([9; 3], 99);
+    giop_client_outs(alloc, client, 1, 1, &mut buffer, &mut size)
+}
+
+// The same in a buffer of four.
+fn outs_in_four(alloc: Global, client: &mut ClientHandle) -> (u32, [u8; 4], usize) {
+    let (mut buffer, mut size) = ([9; 4], 99);
+    let status = giop_client_outs(alloc, client, 1, 1, &mut buffer, &mut size);
+    (status, buffer, size)
+}
+
 fn blank() -> ClientRow {
     ClientRow {
         exception: 99,
@@ -173,15 +186,8 @@ fn a_call_is_made_answered_and_taken_out(rt: HostRuntime) {
         outcome: 3,
     };
     assert_eq!(rt; row, done);
-    assert_eq!(rt;
-        giop_client_outs(alloc, &mut client, 1, 1, &mut buffer[..3], &mut size),
-        SMALL
-    );
-    assert_eq!(rt;
-        giop_client_outs(alloc, &mut client, 1, 1, &mut buffer, &mut size),
-        OK
-    );
-    assert_eq!(rt; (buffer[0], buffer[3], size), (7, 0, 4));
+    assert_eq!(rt; outs_in_three(alloc, &mut client), SMALL);
+    assert_eq!(rt; outs_in_four(alloc, &mut client), (OK, [7, 0, 0, 0], 4));
     assert_eq!(rt; giop_client_blocks(alloc, &mut client, &mut size), OK);
     assert_eq!(rt; size, 0);
     assert_eq!(rt; giop_client_take(alloc, &mut client, 1, &mut fault), OK);
