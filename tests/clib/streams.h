@@ -183,7 +183,7 @@ static size_t put_piece(struct octets *to, const struct octets *message, size_t 
 }
 
 /* Some messages, of which up to four are sent a piece of each in turn. */
-static void put_stream(struct octets *to, uint32_t messages, uint32_t ids) {
+static inline void put_stream(struct octets *to, uint32_t messages, uint32_t ids) {
     static struct octets lanes[4];
     size_t sent[4] = {0, 0, 0, 0};
     to->size = 0;
@@ -202,7 +202,7 @@ static void put_stream(struct octets *to, uint32_t messages, uint32_t ids) {
 }
 
 /* Some octets are changed, dropped, sent twice or put in. */
-static void damage(struct octets *it) {
+static inline void damage(struct octets *it) {
     size_t at = at_random((uint32_t)it->size + 1), size = at_random(12);
     size = size > it->size - at ? it->size - at : size;
     switch (at_random(5)) {
