@@ -117,6 +117,13 @@ fn outs_in_four(alloc: Global, client: &mut ClientHandle) -> (u32, [u8; 4], usiz
     (status, buffer, size)
 }
 
+// The text of the forward under the id 1, in a buffer as long as that.
+fn forward_in_36(alloc: Global, client: &mut ClientHandle) -> (u32, [u8; 36], usize) {
+    let (mut buffer, mut size) = ([9; 36], 99);
+    let status = giop_client_forward(alloc, client, 1, &mut buffer, &mut size);
+    (status, buffer, size)
+}
+
 fn blank() -> ClientRow {
     ClientRow {
         exception: 99,
@@ -231,12 +238,9 @@ fn an_exception_and_a_forward_are_told(rt: HostRuntime) {
     );
     assert_eq!(rt; giop_client_entry_of(alloc, &mut client, 1, &mut row), OK);
     assert_eq!(rt; (row.kind, row.status, row.exception), (11, 3, 0));
-    assert_eq!(rt;
-        giop_client_forward(alloc, &mut client, 1, &mut buffer, &mut size),
-        OK
-    );
-    assert_eq!(rt; &buffer[..36], NOWHERE);
-    assert_eq!(rt; size, 36);
+    let (status, text, size_of_text) = forward_in_36(alloc, &mut client);
+    assert_eq!(rt; (status, size_of_text), (OK, 36));
+    assert_eq!(rt; text.as_slice(), NOWHERE);
     assert_eq!(rt;
         giop_client_members(alloc, &mut client, 1, 0, &mut buffer, &mut size),
         WAITS
