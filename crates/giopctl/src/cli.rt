@@ -1,16 +1,19 @@
 //! The command line: the commands, their arguments and their help. The words of `call` and `serve`
 //! are session_words.rt, those of limits limit_words.rt. A change here is one in docs/giopctl.md
 //! and tests/program too.
-ghost use Rattle.giopctl.specs.Check.{AreLimits};
+ghost use Rattle.giop_commands.specs.Check.{AreLimits};
 
-use crate::commands::session::words::{call, call_words, serve, serve_words};
-pub use crate::commands::session::words::{CallWords, ServeWords};
-use crate::commands::{LineForm, Way};
+mod limit_words;
+mod session_words;
+
+use crate::cli::limit_words::{limited, limits_of, message_limit, message_limit_of};
+use crate::cli::session_words::{call, call_words, serve, serve_words};
+pub use crate::cli::session_words::{CallWords, ServeWords};
 use crate::files::apart;
-use crate::limit_words::{limited, limits_of, message_limit, message_limit_of};
 use clap::error::ErrorKind;
 use clap::{Arg, ArgAction, ArgMatches, Command, Error};
 use giop_cdr::Order;
+use giop_commands::{LineForm, Way};
 use giop_session::Limits;
 use std::alloc::{AllocError, Global};
 

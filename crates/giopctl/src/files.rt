@@ -1,8 +1,8 @@
 //! The files that a command reads; `-` is the standard input.
 ghost use Rattle.std.specs.Prelude.{◌≡◌, ◌≢◌, IfErr, OnOk, codes};
 
-use crate::commands::BehindFault;
-use crate::failure::Failure;
+use giop_commands::BehindFault;
+use giop_commands::failure::Failure;
 use std::io::Read;
 use std::{fs, io};
 

@@ -3,23 +3,18 @@
 #![tactic(auto)]
 
 mod cli;
-mod commands;
-mod failure;
 mod files;
-mod limit_words;
-mod lines;
-mod pieces;
 mod places;
 mod report;
-mod status;
+mod runs;
 #[cfg(test)]
 mod tests;
 
 use cli::Task;
-use commands::BehindFault;
-use failure::Failure;
 use files::OUTPUT_BUFFER;
-use status::Status;
+use giop_commands::BehindFault;
+use giop_commands::failure::Failure;
+use giop_commands::status::Status;
 use std::io::{BufWriter, Read, Write};
 use std::process::ExitCode;
 use std::{env, io};
@@ -35,11 +30,11 @@ fn run(rt: &HostRuntime) -> Status {
     };
     match cli::task_of(rt.alloc(), words.as_slice()) {
         Ok(Some(Task::Dump { file, limit })) => report::answer(rt, file, dump(rt, file, limit)),
-        Ok(Some(Task::Check(words))) => commands::check::files::check(rt, words),
-        Ok(Some(Task::Trace(words))) => commands::trace::files::trace(rt, words),
-        Ok(Some(Task::Convert { file, kind })) => commands::convert::files::convert(rt, file, kind),
-        Ok(Some(Task::Call(words))) => commands::call::files::call(rt, words),
-        Ok(Some(Task::Serve(words))) => commands::serve::files::serve(rt, words),
+        Ok(Some(Task::Check(words))) => runs::check::check(rt, words),
+        Ok(Some(Task::Trace(words))) => runs::trace::trace(rt, words),
+        Ok(Some(Task::Convert { file, kind })) => runs::convert::convert(rt, file, kind),
+        Ok(Some(Task::Call(words))) => runs::call::call(rt, words),
+        Ok(Some(Task::Serve(words))) => runs::serve::serve(rt, words),
         Ok(None) => Status::Usage,
         Err(error) => report::usage(rt, &error),
     }
@@ -65,7 +60,7 @@ fn dump_from<R: Read>(
     behind: BehindFault,
 ) -> Result<Status, Failure> {
     let mut writer = BufWriter::with_capacity(rt.alloc(), OUTPUT_BUFFER, io::writer(rt))?;
-    let status = commands::dump_stream(rt.alloc(), limit, reader, &mut writer, behind)?;
+    let status = giop_commands::dump_stream(rt.alloc(), limit, reader, &mut writer, behind)?;
     writer.flush()?;
     Ok(status)
 }

@@ -1,6 +1,8 @@
 //! Where a refused file of an interface, a description or a value is at fault, as giop_where tells
 //! it. Nothing is told where that isn't known, as when it is out of memory.
 
+pub mod sessions;
+
 use giop_types::{FormFault, parse_json};
 use giop_where::{Part, Place, Role, fault_code};
 use serde_json::Value as Json;

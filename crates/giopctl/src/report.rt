@@ -2,12 +2,13 @@
 ghost use Rattle.std.specs.Prelude.{◌≡◌, ◌≢◌, ◌⊎◌};
 ghost use Rattle.std.specs.IoError.{error_kind};
 ghost use Rattle.clap.specs.Words.{kind_of};
-ghost use Rattle.giopctl.specs.Status.{answered_status, usage_status};
+ghost use Rattle.giop_commands.specs.Status.{answered_status};
+ghost use Rattle.giopctl.specs.Usage.{usage_status};
 
-use crate::failure::Failure;
 use crate::places;
-use crate::status::{Limit, Status};
 use clap::error::ErrorKind as UsageKind;
+use giop_commands::failure::Failure;
+use giop_commands::status::{Limit, Status};
 use giop_types::{FormFault, Interface};
 use giop_where::{Place, Role};
 use hex::FromHexError;

@@ -1,0 +1,15 @@
+pub mod DumpLemmas
+pub mod PiecesLemmas
+pub mod ConvertLemmas
+pub mod BodiesLemmas
+pub mod CheckLemmas
+pub mod StepLemmas
+pub mod ActLemmas
+pub mod CallFormLemmas
+pub mod FitLemmas
+pub mod FoundLemmas
+pub mod TurnLemmas
+pub mod TargetLemmas
+pub mod ServingLemmas
+pub mod SessionsLemmas
+pub mod StreamingLemmas

@@ -1,0 +1,86 @@
+-- What is told of a session.
+use Rattle.std.proofs.Common.{◌≡◌, ℕ, false, List, ◌++◌, Option, None, Result, Ok, Err, IfOk, OnOk, sym, subst}
+use Rattle.std.specs.FinMap as finite
+use Rattle.std.specs.Io.KnownBytes.{Appends}
+use Rattle.giop_msg.specs.Stream.{Unread}
+use Rattle.giop_session.specs.declared.session_fault.SessionFault.{SessionFault}
+use Rattle.giop_session.specs.Pumping.{Between, between}
+use Rattle.giop_types.specs.declared.json.interface.Interface.{Interface}
+use Rattle.giop_commands.specs.declared.failure.Failure.{Failure}
+use Rattle.giop_commands.specs.declared.status.Status.{Status}
+use Rattle.giop_commands.specs.declared.status.Status.TheVariants.{Done, Refused, LimitPassed, Usage, InputOutput, Memory}
+use Rattle.giop_commands.specs.Acts.{Outbox}
+use Rattle.giop_commands.specs.Calling.{Asked, CallsAll, ClientCalls, Converses, ConversesIf, Talks, are_over, begun, client_hears, new_box}
+use Rattle.giop_commands.specs.Dump.{ended}
+use Rattle.giop_commands.specs.Sessions.{Calls, IsCalled, IsServed, Serves, Wire, call_status, connection_line, serve_status, session_text, told}
+use Rattle.giop_commands.specs.Serving as serving
+use Rattle.giop_commands.specs.Serving.{Served, ServerCalls, new_server}
+use Rattle.giop_commands.specs.Turns.{Waits}
+use Rattle.giop_commands.specs.Table.{client_entry_line, server_entry_line}
+
+-- the calls of a client's end, its table and its fault
+pub called : (asked : Asked) (before after : Wire) (old new : Option (List ℕ)) (refused : Option SessionFault) (box : Outbox ClientCalls) (outgoing : List ℕ)
+    (unread : Unread) (left : ClientCalls) (fault : Option SessionFault) (r : Result Status Failure)
+    → CallsAll asked None (new_box asked.limits) refused box
+    → Talks asked.interface refused (begun asked.limits before.input before.output box) (between after.input after.output outgoing unread left fault)
+    → OnOk r (Appends old new (session_text (client_entry_line asked.interface) left.table (told refused fault)))
+    → IfOk r (λ status. status ≡ call_status refused fault left.table) → IfOk r (IsCalled asked before after old new)
+called asked before after old new refused box outgoing unread left fault (Err failure) calls talks text is = tt
+called asked before after old new refused box outgoing unread left fault (Ok status) calls talks text is = record {
+  refused = refused;
+  box = box;
+  calls = calls;
+  outgoing = outgoing;
+  unread = unread;
+  left = left;
+  fault = fault;
+  talks = talks;
+  text = text;
+  is = is;
+}
+
+-- the same by its status
+pub calls_told : (asked : Asked) (before after : Wire) (old new : Option (List ℕ)) (status : Status) → IsCalled asked before after old new status
+    → Calls asked before after old new status
+calls_told asked before after old new Done is = is
+calls_told asked before after old new Refused is = is
+calls_told asked before after old new (LimitPassed limit) is = is
+calls_told asked before after old new Usage is = is
+calls_told asked before after old new InputOutput is = tt
+calls_told asked before after old new Memory is = tt
+
+-- the connection of a server's end: its number, its table and its fault
+pub served : (number : ℕ) (it : Served) (before after : Wire) (old new : Option (List ℕ)) (refused : Option SessionFault) (outgoing : List ℕ)
+    (unread : Unread) (left : ServerCalls) (fault : Option SessionFault) (r : Result Status Failure)
+    → serving.Converses it it.limits (new_server it.limits before.input before.output) refused (between after.input after.output outgoing unread left fault)
+    → OnOk r (Appends old new (ended (connection_line number) ++ session_text (server_entry_line it.interface) left.table (told refused fault)))
+    → IfOk r (λ status. status ≡ serve_status (told refused fault)) → IfOk r (IsServed number it before after old new)
+served number it before after old new refused outgoing unread left fault (Err failure) talks text is = tt
+served number it before after old new refused outgoing unread left fault (Ok status) talks text is = record {
+  refused = refused;
+  outgoing = outgoing;
+  unread = unread;
+  left = left;
+  fault = fault;
+  talks = talks;
+  text = text;
+  is = is;
+}
+
+-- the same by its status
+pub serves_told : (number : ℕ) (it : Served) (before after : Wire) (old new : Option (List ℕ)) (status : Status)
+    → IsServed number it before after old new status → Serves number it before after old new status
+serves_told number it before after old new Done is = is
+serves_told number it before after old new Refused is = is
+serves_told number it before after old new (LimitPassed limit) is = is
+serves_told number it before after old new Usage is = is
+serves_told number it before after old new InputOutput is = tt
+serves_told number it before after old new Memory is = tt
+
+-- a client's turns, where its calls aren't over at first
+pub converses_by : (interface : Interface) (s t : Between ClientCalls) (ids : List ℕ) (r : Result (Unit {0}) Failure) → ids ≡ finite.keys s.state.calls.table
+    → are_over ids s.state.calls ≡ false → Waits (client_hears interface) (are_over ids) s r t → OnOk r (Converses interface s t)
+converses_by interface s t ids (Err failure) is still waits = tt
+converses_by interface s t ids (Ok tt) is still waits =
+    let over = subst (λ l. are_over l s.state.calls ≡ false) is still in
+    subst (λ b. ConversesIf interface b s t) (sym over) (subst (λ l. Waits (client_hears interface) (are_over l) s (Ok tt) t) is waits)

@@ -1,0 +1,137 @@
+-- Calls that are told when they are over.
+use Rattle.std.proofs.Common.{◌≡◌, ℕ, ◌+◌, ◌<◌, ◌≤◌, Bool, true, List, length, drop, get_or, Option, Some, None, Result, Ok, Err, IfOk, OnOk, refl, sym, ap, subst, ◌∙◌}
+use Rattle.std.proofs.Math.ListN.{drop_of_length-le}
+use Rattle.std.proofs.lemmas.List.{drop_more}
+use Rattle.std.specs.Io.KnownBytes.{Appends}
+use Rattle.giop_ids.specs.ById.{ById}
+use Rattle.giop_msg.specs.Stream.{Unread}
+use Rattle.giop_session.specs.declared.calls.slot.Slot.{Slot}
+use Rattle.giop_session.specs.declared.end.End.{End}
+use Rattle.giop_session.specs.declared.limits.Limits.{Limits}
+use Rattle.giop_session.specs.declared.session_fault.SessionFault.{SessionFault}
+use Rattle.giop_session.specs.Calls.CallTable.{Held}
+use Rattle.giop_calls.specs.declared.fault.CallFault.{CallFault}
+use Rattle.giop_calls.specs.declared.server.entry.ServerEntry.{ServerEntry}
+use Rattle.giop_calls.specs.declared.server.event.ServerEvent.{ServerEvent}
+use Rattle.giop_calls.specs.declared.server.rule.ServerRule.{ServerRule}
+use Rattle.giop_calls.specs.ServerTable.{is_closed}
+use Rattle.giop_msg.specs.declared.msg.Msg.{Msg}
+use Rattle.giop_session.specs.Pumping.{Between, Feeds, State, between}
+use Rattle.giop_commands.specs.declared.failure.Failure.{Failure}
+use Rattle.giop_commands.specs.declared.status.Status.{Status}
+use Rattle.giop_commands.specs.Dump.{ended}
+use Rattle.giop_commands.specs.Serving.{ServeEnds, Served, ServerCalls, TurnAnswers, new_server}
+use Rattle.giop_commands.specs.Sessions.{Wire, connection_line, serve_status, told}
+use Rattle.giop_commands.specs.StreamLines.{server_told_line}
+use Rattle.giop_commands.specs.Streaming.{IsStreamed, Shown, Streams, TurnTells, left_text, opened, over_text, shown, still_open, without_ended, without_over}
+use Rattle.giop_commands.specs.Turns.{GoesOn, most_turns}
+use Rattle.giop_commands.proofs.StepLemmas.{Counted}
+
+-- ---- a table
+
+-- the calls of one more id are taken out, if they are over
+pub over_passed : {E : Type 0} (closed : E → Bool) (ids : List ℕ) (i d : ℕ) (table next all : ById (Slot E)) → i < length ids
+    → next ≡ without_ended closed (get_or ids i d) table → without_over closed (drop i ids) table ≡ all → without_over closed (drop (i + 1) ids) next ≡ all
+over_passed closed ids i d table next all within is before =
+    ap (without_over closed (drop (i + 1) ids)) is ∙ sym (ap (λ l. without_over closed l table) (drop_more ids i d within)) ∙ before
+
+-- those of all ids are
+pub none_passed : {E : Type 0} (closed : E → Bool) (ids : List ℕ) (i : ℕ) (table all : ById (Slot E)) → length ids ≤ i
+    → without_over closed (drop i ids) table ≡ all → table ≡ all
+none_passed closed ids i table all passed before = sym (ap (λ l. without_over closed l table) (drop_of_length-le ids passed)) ∙ before
+
+-- ---- an end, of which nothing but the table changes
+module _ {R E V A F : Type 0} where
+  table_on : (old new : End R E V A F) (table : ById (Slot E)) → new ≡ record old { calls = record old.calls { table = table } } → new.calls.table ≡ table
+  table_on old new table same = ap (λ (e : End R E V A F). e.calls.table) same
+
+  same_rule : (old new : End R E V A F) → new ≡ record old { calls = record old.calls { table = new.calls.table } } → new.calls.rule ≡ old.calls.rule
+  same_rule old new same = ap (λ (e : End R E V A F). e.calls.rule) same
+
+  pub table_stepped : (old mid new : End R E V A F) (closed : R → E → Bool) (id : ℕ)
+      → mid ≡ record old { calls = record old.calls { table = mid.calls.table } }
+      → new ≡ record mid { calls = record mid.calls { table = without_ended (closed mid.calls.rule) id mid.calls.table } }
+      → new.calls.table ≡ without_ended (closed old.calls.rule) id mid.calls.table
+  table_stepped old mid new closed id first second =
+      table_on mid new (without_ended (closed mid.calls.rule) id mid.calls.table) second
+      ∙ ap (λ r. without_ended (closed r) id mid.calls.table) (same_rule old mid first)
+
+  pub unfailed_on : (old new : End R E V A F) → new ≡ record old { calls = record old.calls { table = new.calls.table } } → new.fault ≡ old.fault
+  unfailed_on old new same = ap (λ (e : End R E V A F). e.fault) same
+
+  pub tables_on : (old mid new : End R E V A F) (table : ById (Slot E)) → mid ≡ record old { calls = record old.calls { table = mid.calls.table } }
+      → new ≡ record mid { calls = record mid.calls { table = table } } → new ≡ record old { calls = record old.calls { table = new.calls.table } }
+  tables_on old mid new table first second =
+      let is : new ≡ record old { calls = record old.calls { table = table } } =
+      second ∙ ap (λ (e : End R E V A F). record e { calls = record e.calls { table = table } }) first in
+      is ∙ ap (λ t. record old { calls = record old.calls { table = t } }) (sym (table_on mid new table second))
+
+-- ---- a connection that is served so
+
+-- nothing is wrong with an end that was fed well
+fed_well : {S : Type 0} (Hears : Msg → S → Result (Unit {0}) SessionFault → S → Type 0) (s t : State S) (octets : List ℕ) (fault : Option SessionFault)
+    → s.fault ≡ fault → Feeds Hears s octets (Ok tt) t → t.fault ≡ None
+fed_well Hears s t octets None is fed = fed.stands is
+fed_well Hears s t octets (Some why) is fed = absurd (cc (fed.failed why is).0)
+
+-- nor with one of which the session continues
+pub unfailed : {S : Type 0} (Hears : Msg → S → Result (Unit {0}) SessionFault → S → Type 0) (s t : Between S) → GoesOn Hears s (Ok true) t
+    → t.state.fault ≡ None
+unfailed Hears s t goes =
+    fed_well Hears s.state t.state goes.2.ends.0 s.state.fault refl goes.2.ends.2.fed
+
+-- an end of which the calls that are over are taken out
+pub opened_by : (old new : End ServerRule ServerEntry ServerEvent (Unit {0}) CallFault) (input output : Option (List ℕ))
+    → new ≡ record old { calls = still_open old.calls }
+    → between input output new.outgoing new.framer new.calls new.fault ≡ opened (between input output old.outgoing old.framer old.calls old.fault)
+opened_by old new input output same =
+    ap (λ (e : End ServerRule ServerEntry ServerEvent (Unit {0}) CallFault). between input output e.outgoing e.framer e.calls e.fault) same
+
+-- what is left of it
+pub told_on : {R E V A F : Type 0} (old new : End R E V A F) (calls : Held R E) → new ≡ record old { calls = calls }
+    → new ≡ record old { outgoing = new.outgoing; framer = new.framer; calls = new.calls; fault = new.fault }
+told_on {R} {E} {V} {A} {F} old new calls same =
+    same
+    ∙ ap (λ (e : End R E V A F). record old { outgoing = e.outgoing; framer = e.framer; calls = e.calls; fault = e.fault }) (sym same)
+
+-- a turn, its answers, and what is told behind them
+pub turn_told : (it : Served) (limits : Limits) (s mid t : Between ServerCalls) (old new : Option (List ℕ)) → TurnAnswers it limits s None mid
+    → Appends old new (over_text is_closed (server_told_line it.interface) mid.state.calls.table) → t ≡ opened mid
+    → TurnTells it limits (shown s old) (shown t new)
+turn_told it limits s mid t old new answers tells left = record { mid = mid; answers = answers; tells = tells; left = left }
+
+-- how the turns end behind so many
+pub streamed : (it : Served) (limits : Limits) (n : ℕ) (s mid : Shown) (t : Between ServerCalls) (refused : Option SessionFault)
+    → Counted (λ turn s t. TurnTells it limits s t) n s mid → n < most_turns → ServeEnds it limits mid.end refused t
+    → Streams it limits s refused (shown t mid.text)
+streamed it limits n s mid t refused before few ends = record {
+  turns = before.steps;
+  few = subst (λ k. k < most_turns) (sym before.count) few;
+  mid = mid;
+  each = before.each;
+  ends = ends;
+  text = refl;
+}
+
+-- the whole of it
+pub is_streamed : (number : ℕ) (it : Served) (before after : Wire) (old named text new : Option (List ℕ)) (refused : Option SessionFault)
+    (outgoing : List ℕ) (unread : Unread) (left : ServerCalls) (fault : Option SessionFault) (r : Result Status Failure)
+    → Appends old named (ended (connection_line number))
+    → Streams it it.limits (shown (new_server it.limits before.input before.output) named) refused
+    (shown (between after.input after.output outgoing unread left fault) text)
+    → OnOk r (Appends text new (left_text it left (told refused fault) unread)) → IfOk r (λ status. status ≡ serve_status (told refused fault))
+    → IfOk r (IsStreamed number it before after old new)
+is_streamed number it before after old named text new refused outgoing unread left fault (Err failure) name streams last is = tt
+is_streamed number it before after old named text new refused outgoing unread left fault (Ok status) name streams last is = record {
+  named = named;
+  name = name;
+  refused = refused;
+  outgoing = outgoing;
+  unread = unread;
+  left = left;
+  fault = fault;
+  text = text;
+  streams = streams;
+  last = last;
+  is = is;
+}

@@ -1,0 +1,4 @@
+use Rattle.giop_commands.proofs.check.strict.all_decoded.Goals as goal
+
+pub returns : goal.returns
+returns c = rw (c.as_slice.ensures.value, c.in_ok-ids.ensures) at c.are_decoded.ensures

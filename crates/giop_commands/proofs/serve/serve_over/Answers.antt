@@ -1,0 +1,19 @@
+use Rattle.giop_session.specs.Pumping.{between}
+use Rattle.giop_commands.specs.Serving.{Served, served_of}
+use Rattle.giop_commands.proofs.SessionsLemmas.{served}
+use Rattle.giop_commands.proofs.serve.serve_over.Goals as goal
+
+pub returns : goal.returns
+returns g c =
+    let it : Served = served_of c.args.serving in
+    served c.args.number it _ _ _ _ c.in_ok-refused.refused c.converse.new.end.outgoing c.converse.new.end.framer c.converse.new.end.calls
+    c.converse.new.end.fault c.tell.result
+    (rw (
+      c.new-end.ensures.limits,
+      c.new-end.ensures.fault,
+      c.new-end.ensures.calls,
+      c.new-end.ensures.outgoing,
+      c.new-end.ensures.unread,
+    )
+    at c.in_ok-refused.ensures.converses)
+    (rw (c.told-fault.ensures, c.fault.ensures) at c.tell.ensures.text) (rw (c.told-fault.ensures, c.fault.ensures) at c.tell.ensures.ok)

@@ -1,0 +1,6 @@
+use Rattle.std.proofs.Common.{sym, ◌∙◌}
+use Rattle.giop_commands.proofs.CallFormLemmas.{string_sound}
+use Rattle.giop_commands.proofs.session.json.octets_of.Goals as goal
+
+pub returns-in_default : goal.returns-in_default
+returns-in_default c = let fault = sym string_sound ∙ c.in_default.ensures.err in absurd (cc fault)

@@ -1,0 +1,13 @@
+use Rattle.std.proofs.Common.{◌≡◌, None}
+use Rattle.giop_commands.specs.Acts.{SendsRound, outbox}
+use Rattle.giop_commands.proofs.StepLemmas.{Counted}
+use Rattle.giop_commands.proofs.session.sending.send_all.Given as goal
+
+abbrev pub invariant-rounds : goal.invariant-rounds
+invariant-rounds g l = record {
+  sent :
+      Counted (λ round s t. SendsRound g.R.CallRule.next g.R.CallRule.closed g.R.Side.gathering g.R.Hearing.in_call g.R.Sender.sends l.fn.end.fault
+      g.R.Sender.left_in l.ids.items round s None t)
+      l.done (outbox l.fn.end.calls l.fn.end.outgoing) (outbox l.end.calls l.end.outgoing);
+  others : l.end ≡ record l.fn.end { calls = l.end.calls; outgoing = l.end.outgoing };
+}

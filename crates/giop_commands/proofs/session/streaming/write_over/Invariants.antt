@@ -1,0 +1,10 @@
+use Rattle.std.proofs.Common.{take}
+use Rattle.std.specs.List.{flat_map}
+use Rattle.std.specs.Io.KnownBytes.{Appends}
+use Rattle.giop_commands.specs.Streaming.{over_at}
+use Rattle.giop_commands.proofs.session.streaming.write_over.Given as goal
+
+abbrev pub invariant-loop-id : goal.invariant-loop-id
+invariant-loop-id g l =
+    Appends (g.W.Write.contents l.fn.writer) (g.W.Write.contents l.writer)
+    (flat_map (over_at (g.R.CallRule.closed l.end.calls.rule) (g.R.Streamed.told l.interface) l.end.calls.table) (take l.id-index l.ids))

@@ -1,0 +1,186 @@
+-- The whole text of `convert`, and what a run of it does: by the status that it answers, what its
+-- input was and how the writer's contents grew.
+use Rattle.std.specs.Prelude.{◌≡◌, ◌≢◌, ◌⊎◌, ℕ, ◌-◌, ◌==◌, ◌&&◌, Bool, if◌then◌else◌, List, [], ◌++◌, length, take, slice_index, Option, Some, None, Result, Ok, Err}
+use Rattle.std.specs.List.{flat_map}
+use Rattle.std.specs.Io.KnownBytes.{Appends}
+use Rattle.hex.specs.declared.error.FromHexError.{FromHexError}
+use Rattle.hex.specs.Hex.{decode_of, encode_lower}
+use Rattle.serde_json.specs.Data.{Data}
+use Rattle.serde_json.specs.Written.{compact_text}
+use Rattle.giop_cdr.specs.declared.encode_fault.EncodeFault.TheVariants.{Unfit}
+use Rattle.giop_cdr.specs.declared.fault.CdrFault.{CdrFault}
+use Rattle.giop_cdr.specs.declared.fault.CdrKind.TheVariants.{Trailing}
+use Rattle.giop_cdr.specs.declared.order.Order.{Order}
+use Rattle.giop_cdr.specs.Reading.Cursor.{Cursor}
+use Rattle.giop_cdr.specs.Writing.Output.{Output}
+use Rattle.giop_cdr.specs.Reading.Values.{fault}
+use Rattle.giop_ior.specs.declared.addresses.corbaloc.Corbaloc.{Corbaloc}
+use Rattle.giop_ior.specs.declared.addresses.corbaloc_fault.CorbalocFault.{CorbalocFault}
+use Rattle.giop_ior.specs.declared.references.tagged_profile.TaggedProfile.{TaggedProfile}
+use Rattle.giop_ior.specs.Corbaloc.{CorbalocText}
+use Rattle.giop_ior.specs.CorbalocReading.{corbaloc_of}
+use Rattle.giop_ior.specs.CorbalocWriting.{corbaloc_text}
+use Rattle.giop_ior.specs.Iiop.{Profile, iiop_of}
+use Rattle.giop_ior.specs.Ior.{Reference, ior_layout}
+use Rattle.giop_ior.specs.ToIor.{ior_of, are_profiles}
+use Rattle.giop_types.specs.JsonForms.DescFromJson.{json_in, desc_told}
+use Rattle.giop_types.specs.declared.json.form_fault.FormFault.{FormFault}
+use Rattle.giop_types.specs.declared.json.form_fault.FormFault.TheVariants.{BadJson}
+use Rattle.giop_types.specs.declared.ior_text_fault.IorTextFault.{IorTextFault}
+use Rattle.giop_types.specs.declared.ior_text_fault.IorTextFault.TheVariants.{Cdr}
+use Rattle.giop_types.specs.Coding.Decoding.{decode_at}
+use Rattle.giop_types.specs.JsonForms.FromJson.{from_data}
+use Rattle.giop_types.specs.IorText.{IorText, RefusedText, text_written}
+use Rattle.giop_types.specs.Descriptions.Shape.{Shape}
+use Rattle.giop_types.specs.JsonForms.ToJson.{to_data}
+use Rattle.giop_types.specs.Values.Tree.{Tree}
+use Rattle.giop_types.specs.Coding.Written.{value_out}
+use Rattle.giop_lines.specs.declared.refusal.RefusalLine.{RefusalLine}
+use Rattle.giop_lines.specs.declared.refusal.RefusalLine.TheVariants as refusal
+use Rattle.giop_commands.specs.declared.convert.described.Way.{Way}
+use Rattle.giop_commands.specs.declared.convert.described.Way.TheVariants.{Encode, Decode}
+use Rattle.giop_commands.specs.declared.status.Status.{Status}
+use Rattle.giop_commands.specs.declared.status.Status.TheVariants.{Done, Refused}
+use Rattle.giop_lines.specs.ConvertLines.{refusal_line, type_line, iiop_line, profile_line}
+use Rattle.giop_commands.specs.Dump.{ended}
+
+-- whether the last octet is a newline
+abbrev pub ends_line : List ℕ → Bool
+ends_line text = slice_index text (length text - 1) == 10
+
+-- a file's text: one newline at its end is dropped
+abbrev pub unended : List ℕ → List ℕ
+unended text = if ends_line text then take (length text - 1) text else text
+
+-- the contents grew by the line of a refusal
+abbrev pub Tells : Option (List ℕ) → Option (List ℕ) → RefusalLine → Type 0
+Tells old new line = Appends old new (ended (refusal_line line))
+
+-- ---- references
+
+-- the line of a profile: as IIOP where it is of tag 0 and has a view
+abbrev pub viewed_line : TaggedProfile → Result Profile CdrFault → List ℕ
+viewed_line p (Ok view) = iiop_line view
+viewed_line p (Err e) = profile_line p
+
+-- the line of a profile by its tag
+abbrev pub line_of_profile : TaggedProfile → List ℕ
+line_of_profile p = if p.tag == 0 then viewed_line p (iiop_of p.octets) else profile_line p
+
+-- a line for each profile
+abbrev pub profile_lines : List TaggedProfile → List ℕ
+profile_lines profiles = flat_map (λ p. ended (line_of_profile p)) profiles
+
+-- the text of a reference, written again
+abbrev pub reference_text : Reference → List ℕ
+reference_text ior = text_written ior_layout.written ior
+
+-- the type id, the profiles, and the text
+abbrev pub reference_lines : Reference → List ℕ
+reference_lines ior =
+    ended (type_line ior.type_id) ++ (profile_lines ior.profiles ++ ended (reference_text ior))
+
+-- how a refused text of a reference is reported: a fault of its octets as that
+abbrev pub ior_refusal : IorTextFault → RefusalLine
+ior_refusal (Cdr e) = refusal.Octets e
+ior_refusal e = refusal.IorText e
+
+-- `convert ior` of a file's octets
+abbrev pub ConvertsIor : List ℕ → Option (List ℕ) → Option (List ℕ) → Status → Type 0
+ConvertsIor octets old new Done =
+    (ior : Reference) × IorText ior_layout.spells ior (unended octets)
+    × Appends old new (reference_lines ior)
+ConvertsIor octets old new Refused =
+    (e : IorTextFault) × RefusedText ior_layout.refused (unended octets) e
+    × Tells old new (ior_refusal e)
+ConvertsIor octets old new _ = ⊥
+
+-- the text of the reference of a corbaloc, where octets spell it
+abbrev pub text_of_corbaloc : Corbaloc → Option (List ℕ)
+text_of_corbaloc c =
+    if are_profiles c && ior_layout.fits (ior_of c) then Some (reference_text (ior_of c)) else None
+
+-- the corbaloc again, and its reference
+abbrev pub corbaloc_lines : Corbaloc → List ℕ → List ℕ
+corbaloc_lines c text = ended (corbaloc_text c) ++ ended text
+
+-- `convert corbaloc` of a file's octets
+abbrev pub ConvertsCorbaloc : List ℕ → Option (List ℕ) → Option (List ℕ) → Status → Type 0
+ConvertsCorbaloc octets old new Done =
+    (c : Corbaloc) × (text : List ℕ) × CorbalocText c (unended octets)
+    × (text_of_corbaloc c ≡ Some text) × Appends old new (corbaloc_lines c text)
+ConvertsCorbaloc octets old new Refused =
+    ((e : CorbalocFault) × (corbaloc_of (unended octets) ≡ Err e)
+    × Tells old new (refusal.Corbaloc e))
+    ⊎ ((c : Corbaloc) × CorbalocText c (unended octets)
+    × (text_of_corbaloc c ≡ None) × Tells old new (refusal.Reference Unfit))
+ConvertsCorbaloc octets old new _ = ⊥
+
+-- ---- values
+
+-- where the writing of a value begins
+abbrev pub blank : Order → Output
+blank order = record { order = order; at = 0; octets = [] }
+
+-- what is written of a value from offset 0 on
+abbrev pub value_octets : Shape → Order → Tree → List ℕ
+value_octets shape order tree = (value_out shape tree (blank order)).octets
+
+-- a text is no JSON, or a JSON value of which the description has no value
+abbrev pub RefusedForm : Shape → List ℕ → FormFault → Type 0
+RefusedForm shape text e =
+    ((e ≡ BadJson) × (json_in text ≡ None))
+    ⊎ ((d : Data) × (json_in text ≡ Some d) × (from_data shape d ≡ Err e))
+
+-- `convert encode` of a file's octets
+abbrev pub ConvertsEncode : Shape → Order → List ℕ → Option (List ℕ) → Option (List ℕ) → Status
+    → Type 0
+ConvertsEncode shape order octets old new Done =
+    (d : Data) × (tree : Tree) × (json_in (unended octets) ≡ Some d) × (from_data shape d ≡ Ok tree)
+    × Appends old new (ended (encode_lower (value_octets shape order tree)))
+ConvertsEncode shape order octets old new Refused =
+    (e : FormFault) × RefusedForm shape (unended octets) e × Tells old new (refusal.Form e)
+ConvertsEncode shape order octets old new _ = ⊥
+
+-- the reader of a value's octets
+abbrev pub reader_of : Order → List ℕ → Cursor
+reader_of order octets = record { order = order; at = 0; rest = octets }
+
+-- why octets are no value: they are refused, or some are left behind one
+abbrev pub RefusedOctets : Shape → Order → List ℕ → CdrFault → Type 0
+RefusedOctets shape order octets e =
+    (decode_at shape (reader_of order octets) ≡ Err e)
+    ⊎ ((tree : Tree) × (after : Cursor)
+    × (decode_at shape (reader_of order octets) ≡ Ok (tree, after))
+    × (after.rest ≢ []) × (e ≡ fault after.at Trailing))
+
+-- `convert decode` of a file's octets
+abbrev pub ConvertsDecode : Shape → Order → List ℕ → Option (List ℕ) → Option (List ℕ) → Status
+    → Type 0
+ConvertsDecode shape order octets old new Done =
+    (said : List ℕ) × (tree : Tree) × (after : Cursor) × (decode_of (unended octets) ≡ Ok said)
+    × (decode_at shape (reader_of order said) ≡ Ok (tree, after)) × (after.rest ≡ [])
+    × Appends old new (ended (compact_text (to_data shape tree)))
+ConvertsDecode shape order octets old new Refused =
+    ((e : FromHexError) × (decode_of (unended octets) ≡ Err e) × Tells old new refusal.BadHex)
+    ⊎ ((said : List ℕ) × (e : CdrFault) × (decode_of (unended octets) ≡ Ok said)
+    × RefusedOctets shape order said e × Tells old new (refusal.Octets e))
+ConvertsDecode shape order octets old new _ = ⊥
+
+-- ---- values by the text of a description
+
+-- converting a value one of the two ways, by a description
+abbrev pub ConvertsBy : Way → Shape → Order → List ℕ → Option (List ℕ) → Option (List ℕ) → Status
+    → Type 0
+ConvertsBy Encode = ConvertsEncode
+ConvertsBy Decode = ConvertsDecode
+
+-- `convert encode` or `convert decode`, by the description that a text is; where it is none, its
+-- fault is reported, and no other
+abbrev pub ConvertsValue : Way → Order → List ℕ → List ℕ → Option (List ℕ) → Option (List ℕ)
+    → Status → Type 0
+ConvertsValue way order description octets old new status =
+    ((shape : Shape) × (desc_told (json_in description) ≡ Ok shape)
+    × ConvertsBy way shape order octets old new status)
+    ⊎ ((status ≡ Refused) × ((e : FormFault) × (desc_told (json_in description) ≡ Err e)
+    × Tells old new (refusal.Form e)))

@@ -1,0 +1,124 @@
+-- The whole text of `dump`, and what a run of it does.
+use Rattle.std.specs.Prelude.{◌≡◌, ◌≢◌, ℕ, ◌+◌, ◌-◌, List, [], ◌∷◌, ◌++◌, Option, Some, None, length, take, nat_le, if◌then◌else◌, Result, Ok, Err, ⊤}
+use Rattle.std.specs.List.{flat_map}
+use Rattle.std.specs.Io.KnownBytes.{Appends}
+use Rattle.giop_cdr.specs.declared.fault.CdrFault.{CdrFault}
+use Rattle.giop_msg.specs.declared.fault.WireFault.{WireFault}
+use Rattle.giop_msg.specs.declared.kind.Kind.{Kind}
+use Rattle.giop_msg.specs.declared.kind.Kind.TheVariants.{Request, Reply, LocateRequest, LocateReply}
+use Rattle.giop_msg.specs.declared.msg.Msg.{Msg}
+use Rattle.giop_msg.specs.declared.locate_reply_head.LocateReplyHead.{LocateReplyHead}
+use Rattle.giop_msg.specs.Joined.{body_place, head_of_joined, right_behind, whole_of_joined}
+use Rattle.giop_msg.specs.Locate.{AnyLocateRequest, locate_reply_head, locate_request}
+use Rattle.giop_msg.specs.ReplyHead.{AnyReplyHead, reply_head}
+use Rattle.giop_msg.specs.RequestHead.{Head, request_head}
+use Rattle.giop_msg.specs.Header.{header_fault}
+use Rattle.giop_msg.specs.Msg.{message_octets}
+use Rattle.giop_msg.specs.RequestId.{request_id_of}
+use Rattle.giop_msg.specs.Stream.{Msgs}
+use Rattle.giop_commands.specs.declared.status.Status.{Status}
+use Rattle.giop_commands.specs.declared.status.Status.TheVariants.{Done, Refused, LimitPassed, Usage, InputOutput, Memory}
+use Rattle.giop_lines.specs.Lines.{message_line, request_line, reply_line, locate_request_line, locate_reply_line, head_fault_line}
+use Rattle.giop_lines.specs.Lines.{fault_line, rest_line}
+use Rattle.giop_commands.specs.Status.{header_status}
+
+-- a line and its newline
+abbrev pub ended : List ℕ → List ℕ
+ended line = line ++ 10 ∷ []
+
+-- the offset behind a message's last octet
+abbrev pub end_of : Msg → ℕ
+end_of m = 12 + length m.payload
+
+-- the line of a Request's head and of the body that ends at an offset, or of the head's fault
+abbrev pub request_text : ℕ → Result (Head × ℕ) CdrFault → List ℕ
+request_text end (Ok head) = ended (request_line head.0 (end - head.1))
+request_text end (Err e) = ended (head_fault_line e)
+
+-- the line of a Reply's head and of the body that ends at an offset, or of the head's fault
+abbrev pub reply_text : ℕ → Result (AnyReplyHead × ℕ) CdrFault → List ℕ
+reply_text end (Ok head) = ended (reply_line head.0 (end - head.1))
+reply_text end (Err e) = ended (head_fault_line e)
+
+-- the line of a LocateRequest, or of its fault
+abbrev pub locate_request_text : Result AnyLocateRequest CdrFault → List ℕ
+locate_request_text (Ok request) = ended (locate_request_line request)
+locate_request_text (Err e) = ended (head_fault_line e)
+
+-- the line of a LocateReply and of the octets behind its status, or of its fault
+abbrev pub locate_reply_text : ℕ → Result (LocateReplyHead × ℕ) CdrFault → List ℕ
+locate_reply_text end (Ok head) = ended (locate_reply_line head.0 (end - head.1))
+locate_reply_text end (Err e) = ended (head_fault_line e)
+
+-- the second line of a message of a kind, where it has one
+unfoldable pub second_text : Kind → Msg → List ℕ
+second_text Request m =
+    request_text (end_of m)
+    (head_of_joined (request_head m.version) (body_place m.version) m.order m.payload)
+second_text Reply m =
+    reply_text (end_of m)
+    (head_of_joined (reply_head m.version) (body_place m.version) m.order m.payload)
+second_text LocateRequest m =
+    locate_request_text (whole_of_joined (locate_request m.version) m.order m.payload)
+second_text LocateReply m =
+    locate_reply_text (end_of m)
+    (head_of_joined (locate_reply_head m.version) right_behind m.order m.payload)
+second_text _ m = []
+
+-- the lines of a message that begins at an offset of the file; a first fragment has one line alone
+abbrev pub message_text : ℕ → Msg → List ℕ
+message_text at m =
+    ended (message_line at m (request_id_of m)) ++ (if m.more then [] else second_text m.kind m)
+
+-- the lines of messages, the first of which begins at an offset of the file
+abbrev pub messages_text : ℕ → List Msg → List ℕ
+messages_text at [] = []
+messages_text at (m ∷ ms) = message_text at m ++ messages_text (at + length (message_octets m)) ms
+
+-- the fault in the header that begins the rest, if that is whole and wrong
+abbrev pub rest_fault : ℕ → List ℕ → Option WireFault
+rest_fault limit rest = if nat_le 12 (length rest) then header_fault limit (take 12 rest) else None
+
+-- the last line: the fault, or how many octets are left
+abbrev pub end_line : ℕ → List ℕ → Option WireFault → List ℕ
+end_line at rest (Some e) = fault_line at e
+end_line at rest None = rest_line (length rest)
+
+-- the text of a file that is these messages and a rest
+abbrev pub dump_text : ℕ → List Msg → List ℕ → List ℕ
+dump_text limit messages rest =
+    messages_text 0 messages
+    ++ ended (end_line (length (flat_map message_octets messages)) rest (rest_fault limit rest))
+
+-- the octets are these messages and a rest, and the writer's contents grew by their text
+pub record Prints (limit : ℕ) (octets : List ℕ) (old new : Option (List ℕ)) (messages : List Msg)
+    (rest : List ℕ) : Type 0 where
+  pub split : Msgs limit octets messages rest
+  pub text : Appends old new (dump_text limit messages rest)
+
+-- the status where octets are left: that of the fault in the header that begins them, if there is one
+abbrev pub left_status : Option WireFault → Status
+left_status (Some e) = header_status e.kind
+left_status None = Refused
+
+-- octets are left behind the messages, and the status says why
+abbrev pub Leaves : ℕ → List ℕ → Option (List ℕ) → Option (List ℕ) → Status → Type 0
+Leaves limit octets old new status =
+    (messages : List Msg) × (rest : List ℕ) × Prints limit octets old new messages rest
+    × (rest ≢ []) × (status ≡ left_status (rest_fault limit rest))
+
+-- what a dump of these octets does to the writer's contents, by the status that it answers: it is
+-- done exactly where the octets are messages and nothing else
+abbrev pub Dumps : ℕ → List ℕ → Option (List ℕ) → Option (List ℕ) → Status → Type 0
+Dumps limit octets old new Done = (messages : List Msg) × Prints limit octets old new messages []
+Dumps limit octets old new Refused = Leaves limit octets old new Refused
+Dumps limit octets old new (LimitPassed passed) =
+    Leaves limit octets old new (LimitPassed passed)
+Dumps limit octets old new Usage = ⊥
+Dumps limit octets old new InputOutput = ⊤
+Dumps limit octets old new Memory = ⊤
+
+-- what a dump does of the octets that a reader gives, where they are known
+abbrev pub DumpsKnown : ℕ → Option (List ℕ) → Option (List ℕ) → Option (List ℕ) → Status → Type 0
+DumpsKnown limit None old new status = ⊤
+DumpsKnown limit (Some octets) old new status = Dumps limit octets old new status

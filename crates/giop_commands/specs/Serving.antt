@@ -1,0 +1,129 @@
+-- What the program of `serve` does at its end: after each read it answers what waits for an answer,
+-- in ascending order of the ids, and puts every piece out (CORBA 3.3 Part 2, 9.4).
+use Rattle.std.specs.Prelude.{◌≡◌, ℕ, ◌<◌, true, false, List, [], length, Option, Some, None, Ok}
+use Rattle.std.specs.FinMap as finite
+use Rattle.serde_json.specs.Data.{Data}
+use Rattle.serde_json.specs.View.{view}
+use Rattle.giop_types.specs.declared.json.interface.Interface.{Interface}
+use Rattle.giop_msg.specs.declared.messages.reply.Reply.{Reply as AnyReply}
+use Rattle.giop_calls.specs.declared.server.entry.ServerEntry.{ServerEntry}
+use Rattle.giop_calls.specs.declared.server.event.ServerEvent.TheVariants as event
+use Rattle.giop_calls.specs.declared.server.rule.ServerRule.{ServerRule}
+use Rattle.giop_calls.specs.ServerTable.{server_step, is_closed, is_gathering, left_of}
+use Rattle.giop_session.specs.declared.acts.form.Form.{Form}
+use Rattle.giop_session.specs.declared.limits.Limits.{Limits}
+use Rattle.giop_session.specs.declared.session_fault.SessionFault.{SessionFault}
+use Rattle.giop_session.specs.Calls.Begun.{no_calls}
+use Rattle.giop_session.specs.Calls.CallTable.{Held, rules_of}
+use Rattle.giop_session.specs.Hearing.Heard.{in_call}
+use Rattle.giop_session.specs.Pumping.{Between, between}
+use Rattle.giop_session.specs.Calls.Sending.{entry_of}
+use Rattle.giop_session.specs.Acts.ServerAnswers.{IsAnswer, IsLocateAnswer, answer_fault, locate_in, question_in}
+use Rattle.giop_commands.specs.declared.serve.answering.Due.{Due}
+use Rattle.giop_commands.specs.declared.serve.answering.Due.TheVariants.{Nothing, Locate, Reply}
+use Rattle.giop_commands.specs.declared.serve.given.Serving.{Serving}
+use Rattle.giop_commands.specs.Acts.{ActsOrTells, Outbox, SendsAll, outbox}
+use Rattle.giop_commands.specs.Answering.{due_to, reply_of}
+use Rattle.giop_commands.specs.Check.{nothing_read, server_hears}
+use Rattle.giop_commands.specs.Steps.{AndThen, Each, Upto}
+use Rattle.giop_commands.specs.Turns.{GoesOn, most_turns}
+
+-- the calls of a server
+abbrev pub ServerCalls : Type 0
+ServerCalls = Held ServerRule ServerEntry
+
+-- the pieces that are left of all answers are put out
+abbrev pub AnswersSent : Option SessionFault → Outbox ServerCalls → Option SessionFault
+    → Outbox ServerCalls → Type 0
+AnswersSent fault =
+    SendsAll (λ rule. server_step) (λ rule. is_closed) is_gathering in_call event.Send fault left_of
+
+-- what is served: the object of a key, with answers to the operations of an interface, in a form,
+-- by an end with these limits
+pub record Served : Type 0 where
+  pub interface : Interface
+  pub answers : Data
+  pub key : List ℕ
+  pub form : Form
+  pub limits : Limits
+
+abbrev pub served_of : Serving → Served
+served_of serving = record {
+  interface = serving.interface.now;
+  answers = view serving.answers.now.json;
+  key = serving.key.now;
+  form = serving.form;
+  limits = serving.limits;
+}
+
+-- an end with these limits, at which this fault stands, if one does
+module _ (served : Served) (limits : Limits) (fault : Option SessionFault) where
+  -- a Reply to what is stored for an id is sent, unless it is refused
+  abbrev pub Replies : ServerEntry → AnyReply → Outbox ServerCalls → Option SessionFault
+      → Outbox ServerCalls → Type 0
+  Replies entry reply =
+      ActsOrTells (rules_of server_step is_closed is_gathering) in_call fault reply.id
+      (answer_fault served.interface limits (question_in entry) reply served.form)
+      (IsAnswer served.interface (question_in entry) reply served.form)
+
+  -- what is due to what is stored for an id is sent
+  abbrev pub SendsDue : ℕ → ServerEntry → Due → Outbox ServerCalls → Option SessionFault
+      → Outbox ServerCalls → Type 0
+  SendsDue id entry Nothing s refused t = (refused ≡ None) × (t ≡ s)
+  SendsDue id entry (Locate here) s refused t =
+      ActsOrTells (rules_of server_step is_closed is_gathering) in_call fault id None
+      (IsLocateAnswer id here served.form.order (locate_in here entry)) s refused t
+  SendsDue id entry (Reply version answer) s refused t =
+      Replies entry (reply_of served.interface served.answers id entry version answer) s refused t
+
+  -- what is stored for an id is answered, where something is
+  abbrev pub Answers : ℕ → Option ServerEntry → Outbox ServerCalls → Option SessionFault
+      → Outbox ServerCalls → Type 0
+  Answers id None s refused t = (refused ≡ None) × (t ≡ s)
+  Answers id (Some entry) s refused t = SendsDue id entry (due_to served.key entry) s refused t
+
+  abbrev pub AnswersOne : ℕ → Outbox ServerCalls → Option SessionFault → Outbox ServerCalls
+      → Type 0
+  AnswersOne id s = Answers id (entry_of (finite.get s.calls.table id)) s
+
+  -- what is stored for each id is answered, ascending, and then the pieces that are left are put
+  -- out
+  abbrev pub AnswersAll : Outbox ServerCalls → Option SessionFault → Outbox ServerCalls → Type 0
+  AnswersAll s =
+      AndThen (Upto AnswersOne (finite.keys s.calls.table)) (AnswersSent fault) s
+
+-- the calls of an end between a reader and a writer, and its outgoing octets
+abbrev pub box_of : Between ServerCalls → Outbox ServerCalls
+box_of s = outbox s.state.calls s.outgoing
+
+-- the same end with others of both
+abbrev pub with_box : Between ServerCalls → Outbox ServerCalls → Between ServerCalls
+with_box s box = between s.input s.output box.outgoing s.state.unread box.calls s.state.fault
+
+module _ (served : Served) (limits : Limits) where
+  -- the session continues behind a turn, and what waits for an answer is answered
+  pub record TurnAnswers (s : Between ServerCalls) (refused : Option SessionFault)
+      (t : Between ServerCalls) : Type 0 where
+    pub mid : Between ServerCalls
+    pub turn : GoesOn (server_hears served.interface) s (Ok true) mid
+    pub box : Outbox ServerCalls
+    pub answers : AnswersAll served limits mid.state.fault (box_of mid) refused box
+    pub others : t ≡ with_box mid box
+
+  -- so it goes, turn by turn, up to one that ends the session, or behind which an answer is refused
+  abbrev pub ServeEnds : Between ServerCalls → Option SessionFault → Between ServerCalls → Type 0
+  ServeEnds s None t = GoesOn (server_hears served.interface) s (Ok false) t
+  ServeEnds s (Some why) t = TurnAnswers s (Some why) t
+
+  pub record Converses (s : Between ServerCalls) (refused : Option SessionFault)
+      (t : Between ServerCalls) : Type 0 where
+    pub turns : List ℕ
+    pub few : length turns < most_turns
+    pub mid : Between ServerCalls
+    pub each : Each (λ turn s t. TurnAnswers s None t) turns s mid
+    pub ends : ServeEnds mid refused t
+
+-- a new server's end with these limits, between a reader and a writer
+abbrev pub new_server : Limits → Option (List ℕ) → Option (List ℕ) → Between ServerCalls
+new_server limits input output =
+    between input output [] (nothing_read limits) (no_calls (record {}) limits) None

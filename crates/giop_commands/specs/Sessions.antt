@@ -1,0 +1,142 @@
+-- What `call` and `serve` print of a session, and the status that it ends with.
+use Rattle.std.specs.Prelude.{◌≡◌, ℕ, ◌==◌, Bool, true, false, List, [], ◌++◌, Option, Some, None, ⊤, if◌then◌else◌, codes}
+use Rattle.std.specs.Fmt.{decimal}
+use Rattle.std.specs.FinMap as finite
+use Rattle.std.specs.List.{list_all}
+use Rattle.std.specs.Io.KnownBytes.{Appends}
+use Rattle.giop_ids.specs.ById.{ById}
+use Rattle.giop_msg.specs.Messages.Reply.{status_of}
+use Rattle.giop_msg.specs.Stream.{Unread}
+use Rattle.giop_types.specs.declared.json.interface.Interface.{Interface}
+use Rattle.giop_calls.specs.declared.client.entry.ClientEntry.{ClientEntry}
+use Rattle.giop_calls.specs.declared.client.entry.ClientEntry.TheVariants.{Done as done, OnewaySent}
+use Rattle.giop_calls.specs.declared.server.entry.ServerEntry.{ServerEntry}
+use Rattle.giop_session.specs.declared.session_fault.SessionFault.{SessionFault}
+use Rattle.giop_session.specs.declared.calls.slot.Slot.{Slot}
+use Rattle.giop_session.specs.Pumping.{between}
+use Rattle.giop_session.specs.Calls.Sending.{entry_of}
+use Rattle.giop_commands.specs.declared.status.Status.{Status}
+use Rattle.giop_commands.specs.declared.status.Status.TheVariants.{Done, Refused, InputOutput, Memory}
+use Rattle.giop_commands.specs.Acts.{Outbox}
+use Rattle.giop_commands.specs.Calling.{Asked, CallsAll, ClientCalls, Talks, begun, new_box}
+use Rattle.giop_commands.specs.Check.{fault_status}
+use Rattle.giop_commands.specs.Dump.{ended}
+use Rattle.giop_commands.specs.Serving as serving
+use Rattle.giop_commands.specs.Serving.{Served, ServerCalls, new_server}
+use Rattle.giop_commands.specs.SessionLines.{session_fault_line}
+use Rattle.giop_commands.specs.Status.{broken_status}
+use Rattle.giop_commands.specs.Table.{client_entry_line, server_entry_line, table_text}
+
+-- ---- what is printed
+
+-- the line of the fault that ended a session, where one did
+abbrev pub fault_text : Option SessionFault → List ℕ
+fault_text (Some why) = ended (session_fault_line why)
+fault_text None = []
+
+-- the table of an end, and the fault that ended its session
+abbrev pub session_text : {E : Type 0} → (ℕ → E → List ℕ) → ById (Slot E) → Option SessionFault
+    → List ℕ
+session_text line table fault = table_text line table ++ fault_text fault
+
+-- which connection it is, counted from 1: connection NUMBER
+abbrev pub connection_line : ℕ → List ℕ
+connection_line number = codes "connection " ++ decimal number
+
+-- ---- the calls of a client
+
+-- whether a call went well: it got its result, or was sent and has none
+abbrev pub went_well : ClientEntry → Bool
+went_well (done request reply) = status_of reply.body == 0
+went_well (OnewaySent request) = true
+went_well _ = false
+
+-- whether what is stored for an id went well
+abbrev pub is_well : Option ClientEntry → Bool
+is_well (Some entry) = went_well entry
+is_well None = true
+
+-- whether all that stands in a table went well
+abbrev pub all_well : ById (Slot ClientEntry) → Bool
+all_well table = list_all (λ id. is_well (entry_of (finite.get table id))) (finite.keys table)
+
+-- the status of calls that didn't go well, in a session with this fault or without
+abbrev pub unwell_status : Option SessionFault → Status
+unwell_status (Some why) = broken_status why
+unwell_status None = Refused
+
+-- the status of calls, by the fault of a refused one and the end's own: done where none was refused
+-- at this end and all went well
+abbrev pub call_status : Option SessionFault → Option SessionFault → ById (Slot ClientEntry)
+    → Status
+call_status None fault table = if all_well table then Done else unwell_status fault
+call_status (Some why) fault table = broken_status why
+
+-- the fault that is reported: that of the call which was refused at this end, else the end's own
+abbrev pub told : Option SessionFault → Option SessionFault → Option SessionFault
+told (Some why) fault = Some why
+told None fault = fault
+
+-- what a session reads and writes: the octets that its reader will still give, and those that its
+-- writer holds, where they are known
+pub record Wire : Type 0 where
+  pub input : Option (List ℕ)
+  pub output : Option (List ℕ)
+
+abbrev pub wire : Option (List ℕ) → Option (List ℕ) → Wire
+wire input output = record { input = input; output = output }
+
+-- these calls were made at a new client's end, which then talked over the wire; and what is printed
+-- of them is the table that its calls are left with, its fault, and this status
+pub record IsCalled (asked : Asked) (before after : Wire) (old new : Option (List ℕ))
+    (status : Status) : Type 0 where
+  pub refused : Option SessionFault
+  pub box : Outbox ClientCalls
+  pub calls : CallsAll asked None (new_box asked.limits) refused box
+  pub outgoing : List ℕ
+  pub unread : Unread
+  pub left : ClientCalls
+  pub fault : Option SessionFault
+  pub talks :
+      Talks asked.interface refused (begun asked.limits before.input before.output box)
+      (between after.input after.output outgoing unread left fault)
+  pub text : Appends old new
+      (session_text (client_entry_line asked.interface) left.table (told refused fault))
+  pub is : status ≡ call_status refused fault left.table
+
+-- what `call` did, by the status that the calls end with
+abbrev pub Calls : Asked → Wire → Wire → Option (List ℕ) → Option (List ℕ) → Status → Type 0
+Calls asked before after old new InputOutput = ⊤
+Calls asked before after old new Memory = ⊤
+Calls asked before after old new status = IsCalled asked before after old new status
+
+-- ---- the connection of a server
+
+-- the status of a connection that ended with a fault, or without: an orderly end is none
+abbrev pub serve_status : Option SessionFault → Status
+serve_status (Some why) = fault_status why
+serve_status None = Done
+
+-- a connection of this number was served by a new server's end, which talked over the wire; and
+-- what is printed of it is its number, the table that its calls are left with, its fault, and this
+-- status
+pub record IsServed (number : ℕ) (served : Served) (before after : Wire)
+    (old new : Option (List ℕ)) (status : Status) : Type 0 where
+  pub refused : Option SessionFault
+  pub outgoing : List ℕ
+  pub unread : Unread
+  pub left : ServerCalls
+  pub fault : Option SessionFault
+  pub talks :
+      serving.Converses served served.limits (new_server served.limits before.input before.output) refused
+      (between after.input after.output outgoing unread left fault)
+  pub text : Appends old new (ended (connection_line number)
+      ++ session_text (server_entry_line served.interface) left.table (told refused fault))
+  pub is : status ≡ serve_status (told refused fault)
+
+-- what `serve` did, by the status that the connection ends with
+abbrev pub Serves : ℕ → Served → Wire → Wire → Option (List ℕ) → Option (List ℕ) → Status → Type 0
+Serves number served before after old new InputOutput = ⊤
+Serves number served before after old new Memory = ⊤
+Serves number served before after old new status =
+    IsServed number served before after old new status

@@ -1,0 +1,115 @@
+-- What `serve --stream` and `call --stream` do with the calls that are over: after each turn they are
+-- told, in ascending order of their ids, and taken out.
+use Rattle.std.specs.Prelude.{◌≡◌, ℕ, ◌<◌, Bool, false, List, [], ◌∷◌, ◌++◌, length, Option, Some, None, if◌then◌else◌}
+use Rattle.std.specs.FinMap as finite
+use Rattle.std.specs.List.{flat_map}
+use Rattle.std.specs.Io.KnownBytes.{Appends}
+use Rattle.giop_ids.specs.ById.{ById, put}
+use Rattle.giop_msg.specs.Stream.{Unread}
+use Rattle.giop_session.specs.declared.calls.slot.Slot.{Slot}
+use Rattle.giop_session.specs.declared.limits.Limits.{Limits}
+use Rattle.giop_session.specs.declared.session_fault.SessionFault.{SessionFault}
+use Rattle.giop_session.specs.Calls.Sending.{entry_of}
+use Rattle.giop_session.specs.Pumping.{Between, between}
+use Rattle.giop_calls.specs.ServerTable.{is_closed}
+use Rattle.giop_commands.specs.declared.status.Status.{Status}
+use Rattle.giop_commands.specs.Dump.{ended}
+use Rattle.giop_commands.specs.SessionLines.{last_line}
+use Rattle.giop_commands.specs.Serving.{ServeEnds, Served, ServerCalls, TurnAnswers, new_server}
+use Rattle.giop_commands.specs.Sessions.{Wire, connection_line, serve_status, told}
+use Rattle.giop_commands.specs.Steps.{Each}
+use Rattle.giop_commands.specs.StreamLines.{server_told_line}
+use Rattle.giop_commands.specs.Table.{table_text, text_at}
+use Rattle.giop_commands.specs.Turns.{most_turns}
+
+-- ---- the calls that are over
+
+-- of calls that are over by this
+module _ {E : Type 0} (closed : E → Bool) where
+  -- whether something is stored, of a call that is over
+  abbrev pub has_ended : Option E → Bool
+  has_ended (Some entry) = closed entry
+  has_ended None = false
+
+  abbrev pub ended_at : ById (Slot E) → ℕ → Bool
+  ended_at table id = has_ended (entry_of (finite.get table id))
+
+  -- the line of what is stored for an id, where its call is over
+  abbrev pub over_at : (ℕ → E → List ℕ) → ById (Slot E) → ℕ → List ℕ
+  over_at line table id = if ended_at table id then text_at line table id else []
+
+  -- a line for each id whose call is over, ascending
+  abbrev pub over_text : (ℕ → E → List ℕ) → ById (Slot E) → List ℕ
+  over_text line table = flat_map (over_at line table) (finite.keys table)
+
+  -- a table without what is stored for an id, where its call is over
+  abbrev pub without_ended : ℕ → ById (Slot E) → ById (Slot E)
+  without_ended id table = if ended_at table id then put table id None else table
+
+  -- a table without the calls of these ids that are over
+  abbrev pub without_over : List ℕ → ById (Slot E) → ById (Slot E)
+  without_over [] table = table
+  without_over (id ∷ ids) table = without_over ids (without_ended id table)
+
+-- ---- a connection that is served so
+
+-- the same calls without those that are over
+abbrev pub still_open : ServerCalls → ServerCalls
+still_open calls = record calls {
+  table = without_over is_closed (finite.keys calls.table) calls.table;
+}
+
+-- a session, and what is printed of it so far, where that is known
+pub record Shown : Type 0 where
+  pub end : Between ServerCalls
+  pub text : Option (List ℕ)
+
+abbrev pub shown : Between ServerCalls → Option (List ℕ) → Shown
+shown end text = record { end = end; text = text }
+
+-- an end of which the calls that are over are taken out
+abbrev pub opened : Between ServerCalls → Between ServerCalls
+opened s = between s.input s.output s.outgoing s.state.unread (still_open s.state.calls) s.state.fault
+
+module _ (served : Served) (limits : Limits) where
+  -- behind a turn and its answers, the calls that are over are told and taken out
+  pub record TurnTells (s t : Shown) : Type 0 where
+    pub mid : Between ServerCalls
+    pub answers : TurnAnswers served limits s.end None mid
+    pub tells :
+        Appends s.text t.text
+        (over_text is_closed (server_told_line served.interface) mid.state.calls.table)
+    pub left : t.end ≡ opened mid
+
+  -- so it goes, turn by turn, up to one that ends the session, or behind which an answer is refused
+  pub record Streams (s : Shown) (refused : Option SessionFault) (t : Shown) : Type 0 where
+    pub turns : List ℕ
+    pub few : length turns < most_turns
+    pub mid : Shown
+    pub each : Each (λ turn s t. TurnTells s t) turns s mid
+    pub ends : ServeEnds served limits mid.end refused t.end
+    pub text : t.text ≡ mid.text
+
+-- what is told at the end: what is left, and the last line
+abbrev pub left_text : Served → ServerCalls → Option SessionFault → Unread → List ℕ
+left_text served left fault unread =
+    table_text (server_told_line served.interface) left.table
+    ++ ended (last_line fault (length unread.octets))
+
+-- a connection of this number was served by a new server's end: what is printed is its number, each
+-- call when it is over, and then what is left, and the last line
+pub record IsStreamed (number : ℕ) (served : Served) (before after : Wire)
+    (old new : Option (List ℕ)) (status : Status) : Type 0 where
+  pub named : Option (List ℕ)
+  pub name : Appends old named (ended (connection_line number))
+  pub refused : Option SessionFault
+  pub outgoing : List ℕ
+  pub unread : Unread
+  pub left : ServerCalls
+  pub fault : Option SessionFault
+  pub text : Option (List ℕ)
+  pub streams :
+      Streams served served.limits (shown (new_server served.limits before.input before.output) named)
+      refused (shown (between after.input after.output outgoing unread left fault) text)
+  pub last : Appends text new (left_text served left (told refused fault) unread)
+  pub is : status ≡ serve_status (told refused fault)

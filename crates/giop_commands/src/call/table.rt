@@ -1,0 +1,104 @@
+//! The lines of a client's table. Their text is specs/Table.antt and specs/TableLines.antt.
+ghost use Rattle.std.specs.Prelude.{◌≡◌, map, IfOk};
+ghost use Rattle.std.specs.String.{string_bytes};
+ghost use Rattle.giop_types.specs.Values.Views.{value_view};
+ghost use Rattle.giop_msg.specs.Messages.Reply.{exception_of, listed, outs_of};
+ghost use Rattle.giop_msg.specs.Messages.Request.{operation_of};
+ghost use Rattle.giop_commands.specs.Bodies.{brought_by, brought_text, values_text};
+
+use crate::failure::Failure;
+use crate::session::bodies::{forward_text, values_text};
+use crate::session::table::Tabled;
+use giop_calls::{ClientEntry, ClientRule};
+use giop_cdr::OctetList;
+use giop_lines::ClientEntryLine;
+use giop_msg::{ReplyBody, Request};
+use giop_types::{Interface, Value};
+use std::alloc::{AllocError, Global};
+use std::io::Write;
+
+impl Tabled for ClientRule {
+    ghost use Rattle.giop_commands.specs.Table.{client_entry_line};
+
+    ghost line = { client_entry_line };
+
+    fn write_entry<W: Write>(
+        alloc: Global,
+        interface: &Interface,
+        id: u32,
+        entry: &ClientEntry,
+        writer: &mut W,
+    ) -> Result<(), Failure> {
+        let brought = brought_text(alloc, interface, entry)?;
+        let brought = brought.as_str();
+        writeln!(writer, "{}", ClientEntryLine { id, entry, brought })?;
+        Ok(())
+    }
+}
+
+// What the Reply of an entry brought, as text; empty where the entry has none.
+fn brought_text(
+    alloc: Global,
+    interface: &Interface,
+    entry: &ClientEntry,
+) -> Result<String, AllocError>
+    ensures { IfOk result (λ text. string_bytes text ≡ brought_text interface.now entry.now) }
+{
+    match entry {
+        ClientEntry::Done { request, reply } => brought_by(alloc, interface, request, &reply.body),
+        _ => Ok(String::new(alloc)),
+    }
+}
+
+/// What a Reply to a Request brought, as text; empty where its status has no values.
+pub fn brought_by(
+    alloc: Global,
+    interface: &Interface,
+    request: &Request,
+    body: &ReplyBody,
+) -> Result<String, AllocError>
+    ensures { IfOk result (λ text. string_bytes text
+        ≡ brought_by interface.now request.now body.now) }
+{
+    match body {
+        ReplyBody::NoException(outs) => outs_text(alloc, interface, request, outs.as_slice()),
+        ReplyBody::UserException { id, members } => {
+            members_text(alloc, interface, id, members.as_slice())
+        }
+        ReplyBody::SystemException { .. } => Ok(String::new(alloc)),
+        ReplyBody::Forward(ior) => forward_text(alloc, ior),
+        ReplyBody::ForwardPerm(ior) => forward_text(alloc, ior),
+        ReplyBody::NeedsAddressing(_) => Ok(String::new(alloc)),
+    }
+}
+
+fn outs_text(
+    alloc: Global,
+    interface: &Interface,
+    request: &Request,
+    values: &[Value],
+) -> Result<String, AllocError>
+    ensures { IfOk result (λ text. string_bytes text ≡ values_text
+        (outs_of (operation_of interface.now request.now.head.operation))
+        (map value_view values.now)) }
+{
+    match interface.operation(request.head.operation.as_slice()) {
+        Some(operation) => values_text(alloc, operation.outs.as_slice(), values),
+        None => values_text(alloc, &[], values),
+    }
+}
+
+fn members_text(
+    alloc: Global,
+    interface: &Interface,
+    id: &OctetList,
+    values: &[Value],
+) -> Result<String, AllocError>
+    ensures { IfOk result (λ text. string_bytes text ≡ values_text
+        (listed (exception_of interface.now id.now)) (map value_view values.now)) }
+{
+    match interface.exception(id.as_slice()) {
+        Some(members) => values_text(alloc, members.as_slice(), values),
+        None => values_text(alloc, &[], values),
+    }
+}

@@ -1,0 +1,142 @@
+//! `check`: a server's end that hears a file. Its meaning is specs/Check.antt: change both.
+ghost use Rattle.std.specs.Prelude.{◌≡◌, ◌≢◌, [], IfOk, OnOk, Some, None, length};
+ghost use Rattle.std.specs.Io.KnownBytes.{Appends, IsAtEnd};
+ghost use Rattle.giop_session.specs.declared.session_fault.SessionFault.TheVariants.{NoMemory};
+ghost use Rattle.giop_session.specs.Hearing.Heard.{hears_by};
+ghost use Rattle.giop_commands.specs.Check.{AreLimits, Checks, ChecksKnown, HeardKnown, default_limits, fault_status, last_status};
+ghost use Rattle.giop_commands.specs.Dump.{ended};
+ghost use Rattle.giop_commands.specs.SessionLines.{last_line, session_fault_line};
+
+pub mod strict;
+pub mod text;
+
+use crate::check::strict::strictly;
+use crate::dump::BehindFault;
+use crate::dump::messages::write_rest;
+use crate::failure::Failure;
+use crate::pieces::{PieceBuffer, drain};
+use crate::session::fault_line::SessionFaultLine;
+use crate::session::table::write_table;
+use crate::status::Status;
+use giop_session::{End, Hearing, Limits, ServerEnd, SessionFault};
+use giop_types::Interface;
+use std::alloc::Global;
+use std::io;
+use std::io::{ErrorKind, Read, Write};
+
+/// Writes the table of a server's end that hears the octets of a file, a line for each of its
+/// calls, and then how many octets are left, or the fault that ends it. It is `Done` where no
+/// octets are left, and where the one fault is that the client closed the connection; `LimitPassed`
+/// where a limit ended it; else `Refused`.
+///
+/// Where writing fails, it is `InputOutput`. Where it is out of memory, it is `Memory`. After
+/// either, a part of the text may be written.
+pub fn check_octets<W: Write>(
+    alloc: Global,
+    interface: &Interface,
+    octets: &[u8],
+    writer: &mut W,
+) -> Status
+    ensures { Checks interface.now default_limits octets.now (W.contents writer.old) (W.contents writer.new)
+        result }
+{
+    let mut left = octets;
+    match check_stream(
+        alloc,
+        interface,
+        Limits::default(),
+        false,
+        &mut left,
+        writer,
+        BehindFault::Read,
+    ) {
+        Ok(status) => status,
+        Err(failure) => failure.status(),
+    }
+}
+
+/// Does what `check_octets` does, for the octets that a reader gives and an end with these limits.
+/// Where it is strict, it is `Refused` also where anything can't be decoded. Where something fails,
+/// what failed is returned in place of a status. No more octets are held than a message, a piece,
+/// and the calls. Nothing is written before all is heard.
+pub fn check_stream<R: Read, W: Write>(
+    alloc: Global,
+    interface: &Interface,
+    limits: Limits,
+    strict: bool,
+    reader: &mut R,
+    writer: &mut W,
+    behind: BehindFault,
+) -> Result<Status, Failure>
+    requires { AreLimits limits }
+    ensures text { IfOk result (ChecksKnown interface.now limits strict (R.remaining reader.old)
+        (W.contents writer.old) (W.contents writer.new)) }
+    ensures end { OnOk result (behind ≡ BehindFault.Read → IsAtEnd (R.remaining reader.new)) }
+{
+    let mut end = ServerEnd::new(alloc, interface, limits);
+    hear(alloc, &mut end, reader, behind)?;
+    write_table(alloc, interface, &end, writer)?;
+    let status = write_last(&end, writer)?;
+    strictly(alloc, strict, &end, status)
+}
+
+// Feeds an end with what a reader gives, to its end or to the first fault.
+fn hear<S: Hearing, R: Read>(
+    alloc: Global,
+    end: &mut End<'_, S>,
+    reader: &mut R,
+    behind: BehindFault,
+) -> Result<(), Failure>
+    requires begins { end.old.framer.octets ≡ [] }
+    requires sound { end.old.fault ≡ None }
+    ensures heard { OnOk result (HeardKnown (hears_by S.next S.closed S.gathering S.in_call
+        S.breaks (S.befalls end.old.interface.now)) (R.remaining reader.old)
+        end.old.framer end.old.calls end.new.fault end.new.framer end.new.calls) }
+    ensures memory { OnOk result (end.new.fault ≢ Some NoMemory) }
+    ensures end { OnOk result (behind ≡ BehindFault.Read → IsAtEnd (R.remaining reader.new)) }
+{
+    let mut buffer = PieceBuffer::new(alloc)?;
+    'pieces: for _ in 0..u64::MAX {
+        let piece = buffer.fill(reader)?;
+        if piece.is_empty() {
+            return Ok(());
+        }
+        if let Err(fault) = end.feed(piece) {
+            if fault == SessionFault::NoMemory {
+                return Err(Failure::Memory);
+            }
+            if behind == BehindFault::Read {
+                drain(&mut buffer, reader)?;
+            }
+            return Ok(());
+        }
+    }
+    Err(Failure::Input(io::Error::from(ErrorKind::FileTooLarge)))
+}
+
+// The last line: the fault that ended the session, or how many octets are unread.
+fn write_last<S: Hearing, W: Write>(end: &End<'_, S>, writer: &mut W) -> Result<Status, Failure>
+    ensures text { OnOk result (Appends (W.contents writer.old) (W.contents writer.new)
+        (ended (last_line end.now.fault (length end.now.framer.octets)))) }
+    ensures ok { IfOk result (λ status. status
+        ≡ last_status end.now.fault (length end.now.framer.octets)) }
+{
+    match end.fault() {
+        Some(fault) => write_fault(fault, writer),
+        None => write_rest(end.rest(), writer),
+    }
+}
+
+// The last line of a session that a fault ended. That the client closed the connection is no
+// refusal.
+fn write_fault<W: Write>(fault: SessionFault, writer: &mut W) -> Result<Status, Failure>
+    ensures text { OnOk result (Appends (W.contents writer.old) (W.contents writer.new)
+        (ended (session_fault_line fault))) }
+    ensures ok { IfOk result (λ status. status ≡ fault_status fault) }
+{
+    writeln!(writer, "{}", SessionFaultLine(fault))?;
+    Ok(match fault {
+        SessionFault::Closed => Status::Done,
+        fault => Status::broken_by(fault),
+    })
+}

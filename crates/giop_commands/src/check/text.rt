@@ -1,0 +1,61 @@
+//! `check` by the text of an interface. Its meaning is `ChecksText` in specs/Check.antt: change
+//! both.
+ghost use Rattle.std.specs.Prelude.{◌≡◌, IfOk, OnOk};
+ghost use Rattle.std.specs.Io.KnownBytes.{IsAtEnd};
+ghost use Rattle.giop_commands.specs.Check.{AreLimits, ChecksText};
+
+use crate::check::check_stream;
+use crate::convert::refuse;
+use crate::convert::value::form_refusal;
+use crate::dump::BehindFault;
+use crate::failure::Failure;
+use crate::pieces::{PieceBuffer, drain};
+use crate::status::Status;
+use giop_session::Limits;
+use giop_types::Interface;
+use std::alloc::Global;
+use std::io::{Read, Write};
+
+/// Checks the octets that a reader gives by an interface in JSON, as `check_stream` says. Where the
+/// text is no interface, the line of its fault is written, whatever the reader gives; `Refused`. A
+/// read that fails is reported before that: any read to the end, where the input is read behind a
+/// fault; else the first read.
+pub fn check_text<R: Read, W: Write>(
+    alloc: Global,
+    interface: &[u8],
+    limits: Limits,
+    strict: bool,
+    reader: &mut R,
+    writer: &mut W,
+    behind: BehindFault,
+) -> Result<Status, Failure>
+    requires { AreLimits limits }
+    ensures text { IfOk result (ChecksText interface.now limits strict (R.remaining reader.old)
+        (W.contents writer.old) (W.contents writer.new)) }
+    ensures end { OnOk result (behind ≡ BehindFault.Read → IsAtEnd (R.remaining reader.new)) }
+{
+    match Interface::from_json(alloc, interface) {
+        Ok(interface) => {
+            check_stream(alloc, &interface, limits, strict, reader, writer, behind)
+        },
+        Err(fault) => {
+            let line = form_refusal(fault)?;
+            read_on(alloc, reader, behind)?;
+            refuse(line, writer)
+        }
+    }
+}
+
+// Reads to the end, or once where the input may have none.
+fn read_on<R: Read>(alloc: Global, reader: &mut R, behind: BehindFault) -> Result<(), Failure>
+    ensures { OnOk result (behind ≡ BehindFault.Read → IsAtEnd (R.remaining reader.new)) }
+{
+    let mut buffer = PieceBuffer::new(alloc)?;
+    match behind {
+        BehindFault::Read => drain(&mut buffer, reader),
+        BehindFault::Leave => match buffer.fill(reader) {
+            Ok(_) => Ok(()),
+            Err(failure) => Err(failure),
+        },
+    }
+}

@@ -1,0 +1,168 @@
+//! `convert ior` and `convert corbaloc` (CORBA 3.3 Part 2, 7.6.9 and 7.6.10.1). What they print is
+//! `ConvertsIor` and `ConvertsCorbaloc` in specs/Convert.antt: change both.
+ghost use Rattle.std.specs.Prelude.{◌≡◌, ◌≢◌, true, IfErr, IfOk, OnOk, option_map};
+ghost use Rattle.std.specs.Io.KnownBytes.{Appends};
+ghost use Rattle.giop_ior.specs.Ior.{ior_layout};
+ghost use Rattle.giop_types.specs.declared.ior_text_fault.IorTextFault.TheVariants.{NoMemory};
+ghost use Rattle.giop_commands.specs.declared.failure.Failure.TheVariants.{Memory};
+ghost use Rattle.giop_commands.specs.Convert.{ConvertsIor, ConvertsCorbaloc, line_of_profile, profile_lines, reference_lines, text_of_corbaloc, corbaloc_lines, ior_refusal};
+ghost use Rattle.giop_commands.specs.Dump.{ended};
+
+use crate::convert::{refuse, unended, write_line};
+use crate::failure::Failure;
+use crate::status::Status;
+use giop_cdr::{CdrKind, EncodeFault};
+use giop_ior::{
+    Corbaloc, CorbalocKind, Ior, IorTextFault, TaggedProfile, corbaloc_from_text, corbaloc_to_text,
+    iiop_view, ior_from_text, ior_to_text,
+};
+use giop_lines::{IiopLine, ProfileLine, RefusalLine, TypeLine};
+use std::alloc::{AllocError, Global};
+use std::io::Write;
+
+/// Writes what the text of a reference says (CORBA 3.3 Part 2, 7.6.9), which a file's octets are:
+/// its type id, a line for each profile, and the text again; `Done`. Where they are no such text,
+/// the line of its fault is written; `Refused`.
+pub fn convert_ior<W: Write>(
+    alloc: Global,
+    octets: &[u8],
+    writer: &mut W,
+) -> Result<Status, Failure>
+    ensures { IfOk result (ConvertsIor octets.now (W.contents writer.old) (W.contents writer.new)) }
+{
+    match ior_from_text(alloc, unended(octets)) {
+        Ok(ior) => {
+            write_reference(alloc, &ior, writer)?;
+            Ok(Status::Done)
+        }
+        Err(fault) => refuse(ior_refusal(fault)?, writer),
+    }
+}
+
+/// The line of a refused text of a reference. A fault of its octets is reported as a fault of
+/// octets. Memory where the text was refused for being out of memory.
+pub fn ior_refusal(fault: IorTextFault) -> Result<RefusalLine, Failure>
+    ensures value { IfOk result (λ line. line ≡ ior_refusal fault) }
+    ensures refused { OnOk result (fault ≢ NoMemory) }
+    ensures err { IfErr result (λ failure. failure ≡ Memory) }
+{
+    match fault {
+        IorTextFault::Cdr(fault) => Ok(RefusalLine::Octets(fault)),
+        IorTextFault::BadPrefix | IorTextFault::BadHex => Ok(RefusalLine::IorText(fault)),
+        IorTextFault::NoMemory => Err(Failure::Memory),
+    }
+}
+
+// The lines of a reference.
+fn write_reference<W: Write>(alloc: Global, ior: &Ior, writer: &mut W) -> Result<(), Failure>
+    requires { ior_layout.fits ior.now ≡ true }
+    ensures { OnOk result
+        (Appends (W.contents writer.old) (W.contents writer.new) (reference_lines ior.now)) }
+{
+    let text = match ior_to_text(alloc, ior) {
+        Ok(text) => text,
+        Err(EncodeFault::NoMemory) => return Err(Failure::Memory),
+        Err(EncodeFault::Unfit) => unreachable!(),
+    };
+    writeln!(writer, "{}", TypeLine(ior.type_id.as_slice()))?;
+    write_profiles(alloc, ior.profiles.as_slice(), writer)?;
+    write_line(text.as_slice(), writer)
+}
+
+fn write_profiles<W: Write>(
+    alloc: Global,
+    profiles: &[TaggedProfile],
+    writer: &mut W,
+) -> Result<(), Failure>
+    ensures { OnOk result
+        (Appends (W.contents writer.old) (W.contents writer.new) (profile_lines profiles.now)) }
+{
+    for profile in profiles {
+        write_profile(alloc, profile, writer)?;
+    }
+    Ok(())
+}
+
+// The line of a profile.
+fn write_profile<W: Write>(
+    alloc: Global,
+    profile: &TaggedProfile,
+    writer: &mut W,
+) -> Result<(), Failure>
+    ensures { OnOk result (Appends (W.contents writer.old) (W.contents writer.new)
+        (ended (line_of_profile profile.now))) }
+{
+    if profile.tag != 0 {
+        writeln!(writer, "{}", ProfileLine(profile))?;
+        return Ok(());
+    }
+    if profile.octets.len() > 1 << 62 {
+        return Err(Failure::Memory);
+    }
+    match iiop_view(alloc, profile) {
+        Ok(view) => writeln!(writer, "{}", IiopLine(&view))?,
+        Err(fault) => match fault.kind {
+            CdrKind::NoMemory => return Err(Failure::Memory),
+            _ => writeln!(writer, "{}", ProfileLine(profile))?,
+        },
+    }
+    Ok(())
+}
+
+/// Writes a corbaloc (7.6.10.1), which a file's octets are, in full, and the text of its reference;
+/// `Done`. Where they are no corbaloc, the line of its fault is written, and where the reference is
+/// too long for its counts `fault 1 Unfit`; `Refused`.
+pub fn convert_corbaloc<W: Write>(
+    alloc: Global,
+    octets: &[u8],
+    writer: &mut W,
+) -> Result<Status, Failure>
+    ensures { IfOk result
+        (ConvertsCorbaloc octets.now (W.contents writer.old) (W.contents writer.new)) }
+{
+    let corbaloc = match corbaloc_from_text(alloc, unended(octets)) {
+        Ok(corbaloc) => corbaloc,
+        Err(fault) => match fault.kind {
+            CorbalocKind::NoMemory => return Err(Failure::Memory),
+            _ => return refuse(RefusalLine::Corbaloc(fault), writer),
+        },
+    };
+    match text_of_corbaloc(alloc, &corbaloc)? {
+        Some(text) => write_corbaloc(alloc, &corbaloc, text.as_slice(), writer),
+        None => refuse(RefusalLine::Reference(EncodeFault::Unfit), writer),
+    }
+}
+
+// The text of the reference of a corbaloc, where octets spell it.
+fn text_of_corbaloc(alloc: Global, corbaloc: &Corbaloc) -> Result<Option<Vec<u8>>, AllocError>
+    ensures { IfOk result
+        (λ text. option_map (λ octets. octets.items) text ≡ text_of_corbaloc corbaloc.now) }
+{
+    let ior = match corbaloc.to_ior(alloc) {
+        Ok(ior) => ior,
+        Err(EncodeFault::Unfit) => return Ok(None),
+        Err(EncodeFault::NoMemory) => return Err(AllocError),
+    };
+    match ior_to_text(alloc, &ior) {
+        Ok(text) => Ok(Some(text)),
+        Err(EncodeFault::Unfit) => Ok(None),
+        Err(EncodeFault::NoMemory) => Err(AllocError),
+    }
+}
+
+// The lines of a corbaloc.
+fn write_corbaloc<W: Write>(
+    alloc: Global,
+    corbaloc: &Corbaloc,
+    reference: &[u8],
+    writer: &mut W,
+) -> Result<Status, Failure>
+    ensures text { OnOk result (Appends (W.contents writer.old) (W.contents writer.new)
+        (corbaloc_lines corbaloc.now reference.now)) }
+    ensures ok { IfOk result (λ status. status ≡ Status.Done) }
+{
+    let text = corbaloc_to_text(alloc, corbaloc)?;
+    write_line(text.as_slice(), writer)?;
+    write_line(reference, writer)?;
+    Ok(Status::Done)
+}

@@ -1,0 +1,253 @@
+//! `serve`: a server's end between a reader and a writer. Its meaning is specs/Serving.antt, and
+//! specs/Sessions.antt for what is printed: change both.
+ghost use Rattle.std.specs.Prelude.{◌≡◌, ◌++◌, IfOk, OnOk};
+ghost use Rattle.std.specs.Io.KnownBytes.{Appends};
+ghost use Rattle.serde_json.specs.View.{view};
+ghost use Rattle.giop_session.specs.Acts.Form.{IsForm};
+ghost use Rattle.giop_session.specs.Pumping.{between};
+ghost use Rattle.giop_commands.specs.Acts.{outbox};
+ghost use Rattle.giop_commands.specs.Check.{default_limits};
+ghost use Rattle.giop_commands.specs.Dump.{ended};
+ghost use Rattle.giop_commands.specs.Serving.{AnswersAll, AnswersOne, Converses, served_of};
+ghost use Rattle.giop_commands.specs.Sessions.{IsServed, Serves, connection_line, serve_status, session_text, wire};
+ghost use Rattle.giop_commands.specs.Steps.{Upto};
+ghost use Rattle.giop_commands.specs.Table.{server_entry_line};
+
+pub mod answering;
+pub mod answers;
+pub mod given;
+pub mod streaming;
+pub mod table;
+
+use crate::failure::Failure;
+use crate::serve::answering::{Due, due_to, reply_to};
+use crate::serve::answers::Answers;
+use crate::serve::given::Serving;
+use crate::session::sending::send_all;
+use crate::session::{TURNS, goes_on, told, told_of, write_session};
+use crate::status::Status;
+use giop_session::{Form, Limits, ServerEnd, SessionFault};
+use giop_types::Interface;
+use std::alloc::Global;
+use std::io::{Read, Write};
+
+/// Serves a connection of this number by a new server's end with the default limits. After each
+/// read, what waits for an answer is answered in a form, in ascending order of the ids. A Request
+/// whose target is this key is answered by what is given for its operation, else by the exception
+/// that says what is wrong with it. A LocateRequest is answered by whether its target is this key.
+/// Then the pieces that are left are put out, one of each id in turn. At the end of the input, or
+/// at a fault, the line of the connection is written to `out`, the table, and the fault, where
+/// there is one.
+///
+/// A peer that breaks the protocol is sent a MessageError. An answer that can't be sent, such as
+/// one that passes a limit, ends the session with its fault.
+///
+/// It is `Done` where there is no fault, or the peer closed the connection; `LimitPassed` where a
+/// limit ended it; else `Refused`. Where reading or writing fails, it is `InputOutput`. Where it is out of
+/// memory, it is `Memory`. After either, a part of the text may be written.
+pub fn serve_session<R: Read, W: Write, O: Write>(
+    alloc: Global,
+    number: u32,
+    interface: &Interface,
+    answers: &Answers,
+    key: &[u8],
+    form: Form,
+    reader: &mut R,
+    writer: &mut W,
+    out: &mut O,
+) -> Status
+    requires { IsForm form }
+    ensures { Serves number (record {
+      interface = interface.now;
+      answers = view answers.now.json;
+      key = key.now;
+      form = form;
+      limits = default_limits;
+    })
+        (wire (R.remaining reader.old) (W.contents writer.old))
+        (wire (R.remaining reader.new) (W.contents writer.new))
+        (O.contents out.old) (O.contents out.new) result }
+{
+    let serving = Serving {
+        interface,
+        answers,
+        key,
+        form,
+        limits: Limits::default(),
+    };
+    match serve_over(alloc, number, serving, reader, writer, out) {
+        Ok(status) => status,
+        Err(failure) => failure.status(),
+    }
+}
+
+/// Does what `serve_session` does, with the limits of `serving`. Where something fails, what failed
+/// is returned in place of a status.
+pub fn serve_over<R: Read, W: Write, O: Write>(
+    alloc: Global,
+    number: u32,
+    serving: Serving<'_>,
+    reader: &mut R,
+    writer: &mut W,
+    out: &mut O,
+) -> Result<Status, Failure>
+    ensures { IfOk result (IsServed number (served_of serving.entry)
+        (wire (R.remaining reader.old) (W.contents writer.old))
+        (wire (R.remaining reader.new) (W.contents writer.new))
+        (O.contents out.old) (O.contents out.new)) }
+{
+    let interface = serving.interface;
+    let mut end = ServerEnd::new(alloc, interface, serving.limits);
+    let refused = converse(alloc, &mut end, serving, reader, writer)?;
+    let fault = told(refused, end.fault());
+    tell(alloc, number, interface, &end, fault, out)
+}
+
+// Writes the line of a connection, its table and its fault, and returns the status.
+fn tell<O: Write>(
+    alloc: Global,
+    number: u32,
+    interface: &Interface,
+    end: &ServerEnd<'_>,
+    fault: Option<SessionFault>,
+    out: &mut O,
+) -> Result<Status, Failure>
+    ensures text { OnOk result (Appends (O.contents out.old) (O.contents out.new)
+        (ended (connection_line number)
+        ++ session_text (server_entry_line interface.now) end.now.calls.table fault)) }
+    ensures ok { IfOk result (λ status. status ≡ serve_status fault) }
+{
+    write_connection(number, out)?;
+    write_session(alloc, interface, end, fault, out)?;
+    Ok(serve_status(fault))
+}
+
+fn write_connection<W: Write>(number: u32, writer: &mut W) -> Result<(), Failure>
+    ensures { OnOk result (Appends (W.contents writer.old) (W.contents writer.new)
+        (ended (connection_line number))) }
+{
+    writeln!(writer, "connection {number}")?;
+    Ok(())
+}
+
+fn serve_status(fault: Option<SessionFault>) -> Status
+    ensures { result ≡ serve_status fault }
+{
+    match fault {
+        Some(SessionFault::Closed) | None => Status::Done,
+        Some(fault) => Status::broken_by(fault),
+    }
+}
+
+// Takes turns, and answers after each, until the input ends or the end fails. Returns the fault of
+// what could not be sent, at which it stops.
+fn converse<R: Read, W: Write>(
+    alloc: Global,
+    end: &mut ServerEnd<'_>,
+    serving: Serving<'_>,
+    reader: &mut R,
+    writer: &mut W,
+) -> Result<Option<SessionFault>, Failure>
+    requires { end.old.interface.now ≡ serving.interface.now }
+    ensures converses { IfOk result (λ refused. Converses (served_of serving.entry) end.old.limits
+        (between (R.remaining reader.old) (W.contents writer.old) end.old.outgoing end.old.framer
+        end.old.calls end.old.fault)
+        refused
+        (between (R.remaining reader.new) (W.contents writer.new) end.new.outgoing end.new.framer
+        end.new.calls end.new.fault)) }
+    ensures others { end.new ≡ record end.old {
+      outgoing = end.new.outgoing;
+      framer = end.new.framer;
+      calls = end.new.calls;
+      fault = end.new.fault;
+    } }
+{
+    'turns: for done in 0..TURNS {
+        if !goes_on(end, reader, writer)? {
+            return Ok(None);
+        }
+        if let Some(fault) = answer_all(alloc, end, serving)? {
+            return Ok(Some(fault));
+        }
+    }
+    Err(Failure::TurnsSpent)
+}
+
+// Answers all that waits for an answer, and puts out every piece. Returns the fault of what could
+// not be sent, at which it stops.
+fn answer_all(
+    alloc: Global,
+    end: &mut ServerEnd<'_>,
+    serving: Serving<'_>,
+) -> Result<Option<SessionFault>, Failure>
+    requires { end.old.interface.now ≡ serving.interface.now }
+    ensures answers { IfOk result (λ refused. AnswersAll (served_of serving.entry) end.old.limits
+        end.old.fault (outbox end.old.calls end.old.outgoing) refused
+        (outbox end.new.calls end.new.outgoing)) }
+    ensures others { end.new ≡ record end.old {
+      calls = end.new.calls;
+      outgoing = end.new.outgoing;
+    } }
+{
+    let ids = end.ids(alloc)?;
+    if let Some(fault) = answer_each(alloc, end, serving, ids.as_slice())? {
+        return Ok(Some(fault));
+    }
+    send_all(alloc, end)
+}
+
+// Answers what is stored for each of these ids. Returns the fault of an answer that could not be
+// sent, at which it stops.
+fn answer_each(
+    alloc: Global,
+    end: &mut ServerEnd<'_>,
+    serving: Serving<'_>,
+    ids: &[u32],
+) -> Result<Option<SessionFault>, Failure>
+    requires { end.old.interface.now ≡ serving.interface.now }
+    ensures answers { IfOk result (λ refused. Upto (AnswersOne (served_of serving.entry) end.old.limits
+        end.old.fault) ids.now (outbox end.old.calls end.old.outgoing) refused
+        (outbox end.new.calls end.new.outgoing)) }
+    ensures others { end.new ≡ record end.old {
+      calls = end.new.calls;
+      outgoing = end.new.outgoing;
+    } }
+{
+    'ids: for id in ids {
+        if let Some(fault) = answer(alloc, end, serving, *id)? {
+            return Ok(Some(fault));
+        }
+    }
+    Ok(None)
+}
+
+// Answers what is stored for an id, where something is due to it. Returns the fault of an answer
+// that could not be sent.
+fn answer(
+    alloc: Global,
+    end: &mut ServerEnd<'_>,
+    serving: Serving<'_>,
+    id: u32,
+) -> Result<Option<SessionFault>, Failure>
+    requires { end.old.interface.now ≡ serving.interface.now }
+    ensures answers { IfOk result (λ refused. AnswersOne (served_of serving.entry) end.old.limits
+        end.old.fault id (outbox end.old.calls end.old.outgoing) refused
+        (outbox end.new.calls end.new.outgoing)) }
+    ensures others { end.new ≡ record end.old {
+      calls = end.new.calls;
+      outgoing = end.new.outgoing;
+    } }
+{
+    let Some(entry) = end.entry(id) else {
+        return Ok(None);
+    };
+    match due_to(serving.key, entry) {
+        Due::Nothing => Ok(None),
+        Due::Locate { here } => told_of(end.answer_locate(id, here, serving.form.order)),
+        Due::Reply { version, answer } => {
+            let (interface, answers) = (serving.interface, serving.answers);
+            let reply = reply_to(alloc, interface, answers, id, entry, version, answer)?;
+            told_of(end.answer(reply, serving.form))
+        }
+    }
+}

@@ -1,0 +1,232 @@
+//! The answers that a file gives `serve`, in JSON (docs/FORMATS.md, "Calls and answers"). Their
+//! form is `answers_in` in specs/AnswerForms.antt: change both.
+ghost use Rattle.std.specs.Prelude.{◌≡◌, ◌⊎◌, IfOk, IfErr, string_bytes};
+ghost use Rattle.serde_json.specs.View.{view};
+ghost use Rattle.giop_types.specs.declared.json.form_fault.FormFault.TheVariants.{NoMemory};
+ghost use Rattle.giop_types.specs.JsonForms.FromJson.{Shows};
+ghost use Rattle.giop_types.specs.JsonForms.JsonText.{text_of};
+ghost use Rattle.giop_commands.specs.AnswerForms.{answered, answers_in, are_fit, given_by, given_in, given_under, is_fit, raised, raised_in, result_in};
+
+use crate::session::json::{is_object_of, octets_of, values_of};
+use giop_cdr::OctetList;
+use giop_types::{FormFault, Interface, Operation, Parameters, ValueList, parse_json};
+use serde_json::Value as Json;
+use std::alloc::{AllocError, Global};
+
+/// What an operation is answered.
+#[derive(Debug, Drop)]
+pub enum AnswerGiven {
+    /// Its result, and the inout and out parameters, in their order.
+    Ok(ValueList),
+    /// An exception of the interface.
+    User {
+        /// The repository id of the exception.
+        id: OctetList,
+        /// The members of the exception, in their order.
+        members: ValueList,
+    },
+}
+
+/// What the operations of an interface are answered, each but the oneway ones.
+#[derive(Debug, Drop)]
+pub struct Answers {
+    /// An object with a member for each of them.
+    pub json: Json,
+}
+
+impl Answers {
+    /// What an operation of this name is answered, by the interface for which the answers were
+    /// read. `None` where nothing is given, as for a oneway operation.
+    pub fn given(
+        &self,
+        alloc: Global,
+        interface: &Interface,
+        name: &[u8],
+    ) -> Result<Option<AnswerGiven>, AllocError>
+        ensures { IfOk result (λ given. given ≡ given_in interface.now (view self.now.json) name.now) }
+    {
+        let Some(operation) = interface.operation(name) else {
+            return Ok(None);
+        };
+        match given_under(alloc, interface, name, &self.json, operation) {
+            Ok(given) => Ok(given),
+            Err(FormFault::NoMemory) => Err(AllocError),
+            Err(_) => Ok(None),
+        }
+    }
+}
+
+/// The answers that a JSON text gives: an object with a member for each operation of the interface
+/// that isn't oneway, and no other. A member is `{"ok":[VALUE,..]}` with the operation's outs, or
+/// `{"user":ID,"members":[VALUE,..]}` with an exception of the interface and its members.
+///
+/// Refused as the first of these that holds; in place of any it may be NoMemory, where it is out of
+/// memory:
+///
+/// - BadJson, where the text is no JSON.
+/// - BadShape, where it, or a part of it, has another form, or an exception isn't in the interface.
+/// - Unfit, where a value doesn't fit, or there are more or fewer values than outs or members.
+pub fn answers_from_json(
+    alloc: Global,
+    interface: &Interface,
+    text: &[u8],
+) -> Result<Answers, FormFault>
+    ensures ok { IfOk result (λ answers. answers_in interface.now text.now
+        ≡ Ok (view answers.json)) }
+    ensures err { IfErr result
+        (λ e. (e ≡ NoMemory) ⊎ (answers_in interface.now text.now ≡ Err e)) }
+{
+    let json = parse_json(alloc, text)?;
+    if !is_object_of(answered(interface), &json) {
+        return Err(FormFault::BadShape);
+    }
+    if are_fit(alloc, interface, &json)? {
+        Ok(Answers { json })
+    } else {
+        Err(FormFault::Unfit)
+    }
+}
+
+// How many operations are answered: those that aren't oneway.
+fn answered(interface: &Interface) -> usize
+    ensures { result ≡ answered interface.now }
+{
+    let mut count: usize = 0;
+    for operation in interface.operations().values() {
+        if !operation.oneway {
+            count += 1;
+        }
+    }
+    count
+}
+
+// Whether what is given for each operation fits.
+fn are_fit(alloc: Global, interface: &Interface, json: &Json) -> Result<bool, FormFault>
+    ensures { Shows (λ fit. fit) result
+        (are_fit interface.now (view json.now) interface.now.operations.entries) }
+{
+    let mut fit = true;
+    for (name, operation) in interface.operations().iter() {
+        let one = is_fit(alloc, interface, json, name.as_slice(), operation)?;
+        fit = fit && one;
+    }
+    Ok(fit)
+}
+
+// Whether what is given for an operation fits; nothing is for a oneway one.
+fn is_fit(
+    alloc: Global,
+    interface: &Interface,
+    json: &Json,
+    name: &[u8],
+    operation: &Operation,
+) -> Result<bool, FormFault>
+    ensures { Shows (λ fit. fit) result
+        (is_fit interface.now (view json.now) name.now operation.now) }
+{
+    if operation.oneway {
+        return Ok(true);
+    }
+    let given = given_under(alloc, interface, name, json, operation)?;
+    Ok(given.is_some())
+}
+
+// What an operation is answered, by the member of its name.
+fn given_under(
+    alloc: Global,
+    interface: &Interface,
+    name: &[u8],
+    json: &Json,
+    operation: &Operation,
+) -> Result<Option<AnswerGiven>, FormFault>
+    ensures { Shows (λ given. given) result
+        (given_under interface.now name.now (view json.now) operation.now) }
+{
+    let key = text_of(alloc, name)?;
+    match json.get(key.as_str()) {
+        Some(json) => given_of(alloc, interface, operation, json),
+        None => Err(FormFault::BadShape),
+    }
+}
+
+// What an operation is answered; `None` where the form is right, and a value doesn't fit.
+fn given_of(
+    alloc: Global,
+    interface: &Interface,
+    operation: &Operation,
+    json: &Json,
+) -> Result<Option<AnswerGiven>, FormFault>
+    ensures { Shows (λ given. given) result
+        (given_by interface.now operation.now (view json.now)) }
+{
+    if let Some(outs) = json.get("ok") {
+        if !is_object_of(1, json) {
+            return Err(FormFault::BadShape);
+        }
+        return result_of(alloc, operation, outs);
+    }
+    match json.get("user") {
+        Some(id) if is_object_of(2, json) => exception_of(alloc, interface, id, json),
+        _ => Err(FormFault::BadShape),
+    }
+}
+
+// A result, by the list of its outs.
+fn result_of(
+    alloc: Global,
+    operation: &Operation,
+    outs: &Json,
+) -> Result<Option<AnswerGiven>, FormFault>
+    ensures { Shows (λ given. given) result (result_in operation.now (view outs.now)) }
+{
+    match values_of(alloc, operation.outs.as_slice(), outs)? {
+        Some(outs) => Ok(Some(AnswerGiven::Ok(outs))),
+        None => Ok(None),
+    }
+}
+
+// An exception of the interface, by its id and the object that has its members.
+fn exception_of(
+    alloc: Global,
+    interface: &Interface,
+    id: &Json,
+    json: &Json,
+) -> Result<Option<AnswerGiven>, FormFault>
+    ensures { Shows (λ given. given) result
+        (raised_in interface.now (view id.now) (view json.now)) }
+{
+    let id = octets_of(alloc, id)?;
+    let Some(members) = json.get("members") else {
+        return Err(FormFault::BadShape);
+    };
+    match interface.exception(id.as_slice()) {
+        Some(parameters) => raised(alloc, parameters, id, members),
+        None => Err(FormFault::BadShape),
+    }
+}
+
+// An exception of these members.
+fn raised(
+    alloc: Global,
+    parameters: &Parameters,
+    id: OctetList,
+    members: &Json,
+) -> Result<Option<AnswerGiven>, FormFault>
+    ensures { Shows (λ given. given) result (raised id (view members.now) (Some parameters.now)) }
+{
+    match values_of(alloc, parameters.as_slice(), members)? {
+        Some(members) => Ok(Some(AnswerGiven::User { id, members })),
+        None => Ok(None),
+    }
+}
+
+// The text of octets: the octet n is the character U+00n.
+fn text_of(alloc: Global, octets: &[u8]) -> Result<String, AllocError>
+    ensures { IfOk result (λ text. string_bytes text ≡ text_of octets.now) }
+{
+    let mut text = String::with_capacity(alloc, octets.len())?;
+    for octet in octets {
+        text.push(char::from(*octet))?;
+    }
+    Ok(text)
+}

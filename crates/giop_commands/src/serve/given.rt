@@ -1,0 +1,42 @@
+//! What `serve` takes beside a connection.
+ghost use Rattle.giop_session.specs.Acts.Form.{IsForm};
+ghost use Rattle.giop_commands.specs.Check.{AreLimits};
+
+use crate::serve::answers::Answers;
+use giop_session::{Form, Limits};
+use giop_types::Interface;
+
+/// The object that is served, how, and within which limits.
+#[derive(Clone, Copy)]
+pub struct Serving<'a> {
+    /// The operations of the object.
+    pub interface: &'a Interface,
+    /// What the operations are answered.
+    pub answers: &'a Answers,
+    /// The key of the object.
+    pub key: &'a [u8],
+    /// The form of what is sent.
+    pub form: Form,
+    /// What the end holds at most.
+    pub limits: Limits,
+    ghost sent: { IsForm form },
+    ghost bounded: { AreLimits limits },
+}
+
+/// When the calls of a connection are told.
+#[derive(Clone, Copy, Debug, PartialEq, Eq)]
+pub enum Telling {
+    /// All of them, when the connection has ended.
+    AtTheEnd,
+    /// Each when it is over.
+    WhenOver,
+}
+
+/// An object key, as it stands on the command line.
+#[derive(Clone, Copy, Debug)]
+pub enum KeyWord<'a> {
+    /// Pairs of hexadecimal digits.
+    Hex(&'a str),
+    /// A text, whose octets are the key.
+    Text(&'a str),
+}

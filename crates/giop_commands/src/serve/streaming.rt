@@ -1,0 +1,193 @@
+//! `serve --stream`: a connection whose calls are told as soon as they are over, and taken out. Its
+//! meaning is specs/Streaming.antt: change both.
+ghost use Rattle.std.specs.Prelude.{◌≡◌, ◌++◌, IfOk, None, OnOk, length};
+ghost use Rattle.std.specs.Io.KnownBytes.{Appends};
+ghost use Rattle.giop_session.specs.Pumping.{between};
+ghost use Rattle.giop_commands.specs.Dump.{ended};
+ghost use Rattle.giop_commands.specs.Serving.{served_of};
+ghost use Rattle.giop_commands.specs.SessionLines.{last_line};
+ghost use Rattle.giop_commands.specs.Sessions.{connection_line, serve_status, wire};
+ghost use Rattle.giop_commands.specs.StreamLines.{answered_line, server_told_line};
+ghost use Rattle.giop_commands.specs.Streaming.{IsStreamed, Streams, shown};
+ghost use Rattle.giop_commands.specs.Table.{table_text};
+
+use crate::call::table::brought_by;
+use crate::failure::Failure;
+use crate::serve::given::Serving;
+use crate::serve::table::request_ins;
+use crate::serve::{answer_all, serve_status, write_connection};
+use crate::session::fault_line::SessionFaultLine;
+use crate::session::streaming::{Streamed, tell_left, tell_over};
+use crate::session::table::Tabled;
+use crate::session::{TURNS, goes_on, told};
+use crate::status::Status;
+use giop_calls::{Question, ServerEntry, ServerRule};
+use giop_lines::{AskedText, ReplyText, RequestFaultText, RestLine};
+use giop_msg::ReplyBody;
+use giop_session::{ServerEnd, SessionFault};
+use giop_types::Interface;
+use std::alloc::Global;
+use std::io::{Read, Write};
+
+impl Streamed for ServerRule {
+    ghost use Rattle.giop_commands.specs.StreamLines.{server_told_line};
+
+    ghost told = { server_told_line };
+
+    fn is_over(entry: &ServerEntry) -> bool {
+        entry.is_closed()
+    }
+
+    fn write_told<W: Write>(
+        alloc: Global,
+        interface: &Interface,
+        id: u32,
+        entry: &ServerEntry,
+        writer: &mut W,
+    ) -> Result<(), Failure> {
+        match entry {
+            ServerEntry::Answered { asked, reply, .. } => {
+                write_answered(alloc, interface, id, asked, &reply.body, writer)
+            }
+            _ => ServerRule::write_entry(alloc, interface, id, entry, writer),
+        }
+    }
+}
+
+// Writes the line of a call that was answered.
+fn write_answered<W: Write>(
+    alloc: Global,
+    interface: &Interface,
+    id: u32,
+    asked: &Question,
+    body: &ReplyBody,
+    writer: &mut W,
+) -> Result<(), Failure>
+    ensures { OnOk result (Appends (W.contents writer.old) (W.contents writer.new)
+        (ended (answered_line interface.now id asked.now body.now))) }
+{
+    match asked {
+        Question::Request(request) => {
+            let ins = request_ins(alloc, interface, request)?;
+            let brought = brought_by(alloc, interface, request, body)?;
+            let asked = AskedText(request, ins.as_str());
+            let reply = ReplyText(body, brought.as_str());
+            writeln!(writer, "{id} Asked {asked} Answered {reply}")?;
+        }
+        Question::Undecoded(fault) => {
+            let fault = RequestFaultText(*fault);
+            let reply = ReplyText(body, "");
+            writeln!(writer, "{id} Undecoded {fault} Answered {reply}")?;
+        }
+    }
+    Ok(())
+}
+
+/// Serves a connection of this number as `serve_over` does, and tells its calls as they end. The
+/// line of the connection is written at first. After the answers to each read, each call that is
+/// over has its line, in ascending order of the ids, and is taken out. So a connection of any number
+/// of calls takes the memory of those that are open. At the end there are the lines of the calls
+/// that are left, and then how many octets are unread, or the fault. `out` is flushed before each
+/// read.
+///
+/// The status is that of `serve_over`, and so are the failures. Where the connection fails, the
+/// calls that are left have their lines before the failure is returned.
+pub fn stream_over<R: Read, W: Write, O: Write>(
+    alloc: Global,
+    number: u32,
+    serving: Serving<'_>,
+    reader: &mut R,
+    writer: &mut W,
+    out: &mut O,
+) -> Result<Status, Failure>
+    ensures { IfOk result (IsStreamed number (served_of serving.entry)
+        (wire (R.remaining reader.old) (W.contents writer.old))
+        (wire (R.remaining reader.new) (W.contents writer.new))
+        (O.contents out.old) (O.contents out.new)) }
+{
+    let interface = serving.interface;
+    tell_begin(number, out)?;
+    let mut end = ServerEnd::new(alloc, interface, serving.limits);
+    match converse(alloc, &mut end, serving, reader, writer, out) {
+        Ok(refused) => tell_end(alloc, interface, &end, told(refused, end.fault()), out),
+        Err(failure) => {
+            tell_left(alloc, interface, &end, out)?;
+            out.flush()?;
+            Err(failure)
+        }
+    }
+}
+
+// Writes the line of the connection.
+fn tell_begin<O: Write>(number: u32, out: &mut O) -> Result<(), Failure>
+    ensures { OnOk result (Appends (O.contents out.old) (O.contents out.new)
+        (ended (connection_line number))) }
+{
+    write_connection(number, out)?;
+    out.flush()?;
+    Ok(())
+}
+
+// Writes the lines of the calls that are left, and the last line, and returns the status.
+fn tell_end<O: Write>(
+    alloc: Global,
+    interface: &Interface,
+    end: &ServerEnd<'_>,
+    fault: Option<SessionFault>,
+    out: &mut O,
+) -> Result<Status, Failure>
+    ensures text { OnOk result (Appends (O.contents out.old) (O.contents out.new)
+        (table_text (server_told_line interface.now) end.now.calls.table
+        ++ ended (last_line fault (length end.now.framer.octets)))) }
+    ensures ok { IfOk result (λ status. status ≡ serve_status fault) }
+{
+    tell_left(alloc, interface, end, out)?;
+    write_last(fault, end.rest(), out)?;
+    Ok(serve_status(fault))
+}
+
+// The last line: the fault, or how many octets are unread.
+fn write_last<W: Write>(
+    fault: Option<SessionFault>,
+    rest: usize,
+    writer: &mut W,
+) -> Result<(), Failure>
+    ensures { OnOk result (Appends (W.contents writer.old) (W.contents writer.new)
+        (ended (last_line fault rest))) }
+{
+    match fault {
+        Some(fault) => writeln!(writer, "{}", SessionFaultLine(fault))?,
+        None => writeln!(writer, "{}", RestLine(rest))?,
+    }
+    Ok(())
+}
+
+// Takes turns, answers after each, and tells the calls that are over, until the input ends or the
+// end fails. Returns the fault of what could not be sent, at which it stops.
+fn converse<R: Read, W: Write, O: Write>(
+    alloc: Global,
+    end: &mut ServerEnd<'_>,
+    serving: Serving<'_>,
+    reader: &mut R,
+    writer: &mut W,
+    out: &mut O,
+) -> Result<Option<SessionFault>, Failure>
+    requires { end.old.interface.now ≡ serving.interface.now }
+    ensures { IfOk result (λ refused. Streams (served_of serving.entry) end.old.limits
+        (shown (between (R.remaining reader.old) (W.contents writer.old) end.old.outgoing
+        end.old.framer end.old.calls end.old.fault) (O.contents out.old))
+        refused
+        (shown (between (R.remaining reader.new) (W.contents writer.new) end.new.outgoing
+        end.new.framer end.new.calls end.new.fault) (O.contents out.new))) }
+{
+    'turns: for done in 0..TURNS {
+        if !goes_on(end, reader, writer)? {
+            return Ok(None);
+        }
+        if let Some(fault) = answer_all(alloc, end, serving)? {
+            return Ok(Some(fault));
+        }
+        tell_over(alloc, serving.interface, end, out)?;
+    }
+    Err(Failure::TurnsSpent)
+}

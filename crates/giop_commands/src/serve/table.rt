@@ -1,0 +1,59 @@
+//! The lines of a server's table. Their text is specs/Table.antt and specs/TableLines.antt.
+ghost use Rattle.std.specs.Prelude.{◌≡◌, IfOk};
+ghost use Rattle.std.specs.String.{string_bytes};
+ghost use Rattle.giop_commands.specs.Bodies.{ins_text, request_ins};
+
+use crate::failure::Failure;
+use crate::session::bodies::values_text;
+use crate::session::table::Tabled;
+use giop_calls::{ServerEntry, ServerRule};
+use giop_lines::ServerEntryLine;
+use giop_msg::Request;
+use giop_types::Interface;
+use std::alloc::{AllocError, Global};
+use std::io::Write;
+
+impl Tabled for ServerRule {
+    ghost use Rattle.giop_commands.specs.Table.{server_entry_line};
+
+    ghost line = { server_entry_line };
+
+    fn write_entry<W: Write>(
+        alloc: Global,
+        interface: &Interface,
+        id: u32,
+        entry: &ServerEntry,
+        writer: &mut W,
+    ) -> Result<(), Failure> {
+        let ins = ins_text(alloc, interface, entry)?;
+        let ins = ins.as_str();
+        writeln!(writer, "{}", ServerEntryLine { id, entry, ins })?;
+        Ok(())
+    }
+}
+
+// The ins of the decoded Request of an entry, as a JSON list; empty where the entry has none.
+fn ins_text(alloc: Global, interface: &Interface, entry: &ServerEntry) -> Result<String, AllocError>
+    ensures { IfOk result (λ text. string_bytes text ≡ ins_text interface.now entry.now) }
+{
+    match entry {
+        ServerEntry::Asked { request } => request_ins(alloc, interface, request),
+        ServerEntry::Delivered { request } => request_ins(alloc, interface, request),
+        _ => Ok(String::new(alloc)),
+    }
+}
+
+/// The ins of a Request, as a JSON list.
+pub fn request_ins(
+    alloc: Global,
+    interface: &Interface,
+    request: &Request,
+) -> Result<String, AllocError>
+    ensures { IfOk result (λ text. string_bytes text ≡ request_ins interface.now request.now) }
+{
+    let values = request.body.as_slice();
+    match interface.operation(request.head.operation.as_slice()) {
+        Some(operation) => values_text(alloc, operation.ins.as_slice(), values),
+        None => values_text(alloc, &[], values),
+    }
+}

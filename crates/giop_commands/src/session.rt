@@ -1,0 +1,177 @@
+//! What the sessions of `call` and `serve` have in common: a turn, the MessageError to a peer
+//! (CORBA 3.3 Part 2, 9.4.8), and what is printed at the end. Its meaning is specs/Turns.antt and
+//! specs/Sessions.antt: change both.
+ghost use Rattle.std.specs.Prelude.{◌≡◌, ◌≢◌, ◌⊎◌, [], false, Some, None, Ok, Err, IfOk, IfErr, OnOk};
+ghost use Rattle.std.specs.Io.KnownBytes.{Appends};
+ghost use Rattle.giop_session.specs.declared.session_fault.SessionFault.TheVariants.{NoMemory};
+ghost use Rattle.giop_session.specs.Hearing.Heard.{hears_by};
+ghost use Rattle.giop_session.specs.Pumping.{Writes, between};
+ghost use Rattle.giop_session.specs.Calls.SessionFaults.{error_message_of};
+ghost use Rattle.giop_commands.specs.declared.failure.Failure.TheVariants.{Memory};
+ghost use Rattle.giop_commands.specs.Check.{answer_of};
+ghost use Rattle.giop_commands.specs.Sessions.{fault_text, session_text, told};
+ghost use Rattle.giop_commands.specs.Turns.{GoesOn, IsOfConnection, peer_octets};
+
+pub mod bodies;
+pub mod fault_line;
+pub mod json;
+pub mod sending;
+pub mod streaming;
+pub mod table;
+pub mod target;
+
+use crate::failure::Failure;
+use crate::session::fault_line::SessionFaultLine;
+use crate::session::table::{Tabled, write_table};
+use giop_session::{End, Hearing, PumpFault, SessionFault, turn, write_out};
+use giop_types::Interface;
+use std::alloc::Global;
+use std::io::{Read, Write};
+
+/// A session has so many turns at most: none takes as many.
+pub const TURNS: u64 = u64::MAX;
+
+/// Takes a turn, and returns whether the session continues: the input hasn't ended, and the end
+/// hasn't failed. A peer that the fault is due to is sent a MessageError.
+pub fn goes_on<R: Hearing, I: Read, W: Write>(
+    end: &mut End<'_, R>,
+    reader: &mut I,
+    writer: &mut W,
+) -> Result<bool, Failure>
+    ensures goes { GoesOn (hears_by R.next R.closed R.gathering R.in_call R.breaks
+        (R.befalls end.old.interface.now))
+        (between (I.remaining reader.old) (W.contents writer.old) end.old.outgoing end.old.framer
+        end.old.calls end.old.fault)
+        result
+        (between (I.remaining reader.new) (W.contents writer.new) end.new.outgoing end.new.framer
+        end.new.calls end.new.fault) }
+    ensures others { end.new ≡ record end.old {
+      outgoing = end.new.outgoing;
+      framer = end.new.framer;
+      calls = end.new.calls;
+      fault = end.new.fault;
+    } }
+{
+    match turn(end, reader, writer) {
+        Ok(read) => Ok(read > 0),
+        Err(PumpFault::Session(why)) => break_off(end, why, writer),
+        Err(PumpFault::Read(error)) => Err(Failure::connection(error)),
+        Err(PumpFault::Write(error)) => Err(Failure::connection(error)),
+        Err(PumpFault::TurnsSpent) => Err(Failure::TurnsSpent),
+    }
+}
+
+/// Writes what is outgoing, without a read.
+pub fn write_all_out<R: Hearing, W: Write>(
+    end: &mut End<'_, R>,
+    writer: &mut W,
+) -> Result<(), Failure>
+    ensures writes { Writes (W.contents writer.old) (W.contents writer.new) end.old.outgoing
+        end.new.outgoing }
+    ensures all { OnOk result (end.new.outgoing ≡ []) }
+    ensures others { end.new ≡ record end.old { outgoing = end.new.outgoing } }
+{
+    match write_out(end, writer) {
+        Ok(()) => Ok(()),
+        Err(error) => Err(Failure::connection(error)),
+    }
+}
+
+// Ends the session at a fault that a turn met, and returns that it doesn't continue.
+fn break_off<R: Hearing, W: Write>(
+    end: &End<'_, R>,
+    why: SessionFault,
+    writer: &mut W,
+) -> Result<bool, Failure>
+    ensures ok { IfOk result (λ goes. (goes ≡ false) × (why ≢ NoMemory)
+        × Appends (W.contents writer.old) (W.contents writer.new) (peer_octets end.now.fault)) }
+    ensures err { IfErr result (λ failure.
+        ((failure ≡ Memory) × (why ≡ NoMemory)
+        × (W.contents writer.new ≡ W.contents writer.old))
+        ⊎ ((why ≢ NoMemory) × (error_message_of end.now.fault ≢ None) × IsOfConnection failure)) }
+{
+    if why == SessionFault::NoMemory {
+        return Err(Failure::Memory);
+    }
+    tell_peer(end, writer)?;
+    Ok(false)
+}
+
+// Sends the MessageError to the peer, where the end's fault is one that the peer is sent one for.
+fn tell_peer<R: Hearing, W: Write>(end: &End<'_, R>, writer: &mut W) -> Result<(), Failure>
+    ensures tells { OnOk result (Appends (W.contents writer.old) (W.contents writer.new)
+        (peer_octets end.now.fault)) }
+    ensures err { IfErr result (λ failure. (error_message_of end.now.fault ≢ None)
+        × IsOfConnection failure) }
+{
+    let Some(message) = end.error_message() else {
+        return Ok(());
+    };
+    match writer.write_all(&message) {
+        Ok(()) => Ok(()),
+        Err(error) => Err(Failure::connection(error)),
+    }
+}
+
+// The fault of a refused act of this end's own. Memory where it was out of memory.
+fn refusal(fault: SessionFault) -> Result<SessionFault, Failure>
+    ensures ok { OnOk result ((result ≡ Ok fault) × (fault ≢ NoMemory)) }
+    ensures err { IfErr result (λ failure. (failure ≡ Memory) × (fault ≡ NoMemory)) }
+{
+    match fault {
+        SessionFault::NoMemory => Err(Failure::Memory),
+        _ => Ok(fault),
+    }
+}
+
+/// What an act of this end's own came to: the fault that it was refused for, if it was. Memory
+/// where it was out of memory.
+pub fn told_of(acted: Result<(), SessionFault>) -> Result<Option<SessionFault>, Failure>
+    ensures ok { IfOk result (λ why. (acted ≡ answer_of why) × (why ≢ Some NoMemory)) }
+    ensures err { IfErr result (λ failure. (failure ≡ Memory) × (acted ≡ Err NoMemory)) }
+{
+    match acted {
+        Ok(()) => Ok(None),
+        Err(fault) => Ok(Some(refusal(fault)?)),
+    }
+}
+
+/// The fault that is reported of a session: that of what was refused at this end, else the end's
+/// own.
+pub fn told(refused: Option<SessionFault>, fault: Option<SessionFault>) -> Option<SessionFault>
+    ensures { result ≡ told refused fault }
+{
+    match refused {
+        Some(refused) => Some(refused),
+        None => fault,
+    }
+}
+
+/// Writes the table of an end, a line for each of its calls, and the fault that ended its session,
+/// where one did.
+pub fn write_session<R: Tabled, W: Write>(
+    alloc: Global,
+    interface: &Interface,
+    end: &End<'_, R>,
+    fault: Option<SessionFault>,
+    writer: &mut W,
+) -> Result<(), Failure>
+    ensures { OnOk result (Appends (W.contents writer.old) (W.contents writer.new)
+        (session_text (R.line interface.now) end.now.calls.table fault)) }
+{
+    write_table(alloc, interface, end, writer)?;
+    write_fault(fault, writer)
+}
+
+fn write_fault<W: Write>(fault: Option<SessionFault>, writer: &mut W) -> Result<(), Failure>
+    ensures { OnOk result (Appends (W.contents writer.old) (W.contents writer.new)
+        (fault_text fault)) }
+{
+    match fault {
+        Some(fault) => {
+            writeln!(writer, "{}", SessionFaultLine(fault))?;
+            Ok(())
+        }
+        None => Ok(()),
+    }
+}

@@ -1,0 +1,158 @@
+//! Pieces of calls and of answers (CORBA 3.3 Part 2, 9.4.9) are put out, one of each id in turn.
+//! The order is `SendsAll` in specs/Acts.antt: change both.
+ghost use Rattle.std.specs.Prelude.{◌≡◌, map, max, IfOk};
+ghost use Rattle.giop_commands.specs.Acts.{SendsAll, SendsNext, SendsRound, left_at, most, outbox};
+
+use crate::failure::Failure;
+use crate::session::told_of;
+use giop_calls::{ClientEntry, ClientRule, ServerEntry, ServerRule};
+use giop_mux::CallRule;
+use giop_session::{End, Hearing, SessionFault, Side};
+use std::alloc::Global;
+
+/// A side of a connection whose program puts out messages in pieces.
+pub trait Sender: Hearing {
+    ghost use Rattle.std.specs.Prelude.{◌≡◌, ℕ};
+    ghost use Rattle.giop_commands.specs.Acts.{SendsPiece, outbox};
+
+    ghost left_in: { Self.Entry → ℕ };
+
+    ghost sends: { Self.Event };
+
+    /// How many pieces of a call with this entry aren't put out yet.
+    fn left(entry: &Self::Entry) -> u32
+        ensures { result ≡ left_in entry.now };
+
+    /// Puts out the next piece of the message of an id.
+    fn send(end: &mut End<'_, Self>, id: u32) -> Result<(), SessionFault>
+        ensures sent { SendsPiece ⟦<Self as CallRule>⟧.next ⟦<Self as CallRule>⟧.closed
+            ⟦<Self as Side>⟧.gathering ⟦<Self as Hearing>⟧.in_call sends end.old.fault id
+            (outbox end.old.calls end.old.outgoing) result
+            (outbox end.new.calls end.new.outgoing) }
+        ensures others { end.new ≡ record end.old {
+          calls = end.new.calls;
+          outgoing = end.new.outgoing;
+        } };
+}
+
+impl Sender for ClientRule {
+    ghost use Rattle.giop_calls.specs.ClientTable.{left_of};
+    ghost use Rattle.giop_calls.specs.declared.client.event.ClientEvent.TheVariants.{Send};
+
+    ghost left_in = { left_of };
+
+    ghost sends = { Send };
+
+    fn left(entry: &ClientEntry) -> u32 {
+        entry.left()
+    }
+
+    fn send(end: &mut End<'_, ClientRule>, id: u32) -> Result<(), SessionFault> {
+        end.send(id)
+    }
+}
+
+impl Sender for ServerRule {
+    ghost use Rattle.giop_calls.specs.ServerTable.{left_of};
+    ghost use Rattle.giop_calls.specs.declared.server.event.ServerEvent.TheVariants.{Send};
+
+    ghost left_in = { left_of };
+
+    ghost sends = { Send };
+
+    fn left(entry: &ServerEntry) -> u32 {
+        entry.left()
+    }
+
+    fn send(end: &mut End<'_, ServerRule>, id: u32) -> Result<(), SessionFault> {
+        end.send(id)
+    }
+}
+
+/// Puts out one piece of each id that has pieces left, in ascending order of the ids, and so on
+/// until none is left. Returns the fault of a refused one, at which it stops.
+pub fn send_all<R: Sender>(
+    alloc: Global,
+    end: &mut End<'_, R>,
+) -> Result<Option<SessionFault>, Failure>
+    ensures sends { IfOk result (λ refused. SendsAll R.next R.closed R.gathering R.in_call R.sends
+        end.old.fault R.left_in (outbox end.old.calls end.old.outgoing) refused
+        (outbox end.new.calls end.new.outgoing)) }
+    ensures others { end.new ≡ record end.old {
+      calls = end.new.calls;
+      outgoing = end.new.outgoing;
+    } }
+{
+    let ids = end.ids(alloc)?;
+    let most = most_left(end, ids.as_slice());
+    'rounds: for done in 0..most {
+        if let Some(fault) = send_each(end, ids.as_slice())? {
+            return Ok(Some(fault));
+        }
+    }
+    Ok(None)
+}
+
+// How many pieces are left of the id that has the most of them.
+fn most_left<R: Sender>(end: &End<'_, R>, ids: &[u32]) -> u32
+    ensures { result ≡ most (map (left_at R.next R.closed R.gathering R.in_call R.sends
+        end.now.fault R.left_in end.now.calls) ids.now) }
+{
+    let mut most = 0;
+    for id in ids {
+        most = greater(most, left_of(end, *id));
+    }
+    most
+}
+
+// The greater of two counts.
+fn greater(one: u32, other: u32) -> u32
+    ensures { result ≡ max one other }
+{
+    if one < other { other } else { one }
+}
+
+// How many pieces are left of an id.
+fn left_of<R: Sender>(end: &End<'_, R>, id: u32) -> u32
+    ensures { result ≡ left_at R.next R.closed R.gathering R.in_call R.sends end.now.fault R.left_in
+        end.now.calls id }
+{
+    match end.entry(id) {
+        Some(entry) => R::left(entry),
+        None => 0,
+    }
+}
+
+// Puts out one piece of each id that has some left.
+fn send_each<R: Sender>(end: &mut End<'_, R>, ids: &[u32]) -> Result<Option<SessionFault>, Failure>
+    ensures sends { IfOk result (λ refused. SendsRound R.next R.closed R.gathering R.in_call
+        R.sends end.old.fault R.left_in ids.now 0 (outbox end.old.calls end.old.outgoing) refused
+        (outbox end.new.calls end.new.outgoing)) }
+    ensures others { end.new ≡ record end.old {
+      calls = end.new.calls;
+      outgoing = end.new.outgoing;
+    } }
+{
+    'ids: for id in ids {
+        if let Some(fault) = send_next(end, *id)? {
+            return Ok(Some(fault));
+        }
+    }
+    Ok(None)
+}
+
+// Puts out the next piece of an id, where it has some left.
+fn send_next<R: Sender>(end: &mut End<'_, R>, id: u32) -> Result<Option<SessionFault>, Failure>
+    ensures sends { IfOk result (λ refused. SendsNext R.next R.closed R.gathering R.in_call R.sends
+        end.old.fault R.left_in id (outbox end.old.calls end.old.outgoing) refused
+        (outbox end.new.calls end.new.outgoing)) }
+    ensures others { end.new ≡ record end.old {
+      calls = end.new.calls;
+      outgoing = end.new.outgoing;
+    } }
+{
+    if left_of(end, id) == 0 {
+        return Ok(None);
+    }
+    told_of(R::send(end, id))
+}

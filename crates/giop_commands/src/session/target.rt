@@ -1,0 +1,166 @@
+//! The object that is called, by the text of its reference (CORBA 3.3 Part 2, 7.6.9) or by a
+//! corbaloc (7.6.10.1). Its meaning is specs/Target.antt: change both.
+ghost use Rattle.std.specs.Prelude.{◌≡◌, IfOk, IfErr};
+ghost use Rattle.giop_ior.specs.CorbalocReading.{corbaloc_of};
+ghost use Rattle.giop_ior.specs.Ior.{ior_layout};
+ghost use Rattle.giop_msg.specs.Version.{version_of};
+ghost use Rattle.giop_types.specs.IorText.{ior_text_of};
+ghost use Rattle.giop_commands.specs.declared.failure.Failure.TheVariants.{Memory};
+ghost use Rattle.giop_commands.specs.Target.{at_first, at_profile, by_corbaloc, by_reference, first_iiop, iiop_in, is_reference, said, target_of};
+
+use crate::convert::reference::ior_refusal;
+use crate::failure::Failure;
+use giop_cdr::{CdrKind, OctetList};
+use giop_ior::{
+    Address, CorbalocKind, IiopProfile, TaggedProfile, corbaloc_from_text, iiop_view, ior_from_text,
+};
+use giop_lines::RefusalLine;
+use giop_msg::Version;
+use std::alloc::Global;
+
+/// Where an object is reached, in which version, and by which key.
+#[derive(Debug, Drop)]
+pub struct Endpoint {
+    /// The host's name or its address, in octets.
+    pub host: OctetList,
+    /// The TCP port.
+    pub port: u16,
+    /// The version in which it is spoken to: 1.2 where its minor number is greater than 2.
+    pub version: Version,
+    /// The object key.
+    pub key: OctetList,
+}
+
+/// What a text of a target says: an object, or how the text is refused.
+#[derive(Drop)]
+pub enum Targeted {
+    /// The object.
+    At(Endpoint),
+    /// The refusal.
+    Refused(RefusalLine),
+}
+
+/// The object of a target's text. A text that begins with `IOR:`, in upper or lower case, is that
+/// of a reference (CORBA 3.3 Part 2, 7.6.9), of which the first IIOP profile is taken that can be
+/// read. Any other is a corbaloc (7.6.10.1), of which the first address is taken.
+///
+/// Refused as by `convert`; a reference without such a profile is refused as NoIiopProfile.
+pub fn target_of(alloc: Global, text: &[u8]) -> Result<Targeted, Failure>
+    ensures ok { IfOk result (λ targeted. said targeted ≡ target_of text.now) }
+    ensures err { IfErr result (λ failure. failure ≡ Memory) }
+{
+    if is_reference(text) {
+        by_reference(alloc, text)
+    } else {
+        by_corbaloc(alloc, text)
+    }
+}
+
+fn is_reference(text: &[u8]) -> bool
+    ensures { result ≡ is_reference text.now }
+{
+    text.len() >= 4 && text[..4].eq_ignore_ascii_case(b"IOR:")
+}
+
+fn by_reference(alloc: Global, text: &[u8]) -> Result<Targeted, Failure>
+    ensures ok { IfOk result (λ targeted. said targeted
+        ≡ by_reference (ior_text_of ior_layout.read text.now)) }
+    ensures err { IfErr result (λ failure. failure ≡ Memory) }
+{
+    match ior_from_text(alloc, text) {
+        Ok(ior) => Ok(at_profile(first_iiop(alloc, ior.profiles.as_slice())?)),
+        Err(fault) => Ok(Targeted::Refused(ior_refusal(fault)?)),
+    }
+}
+
+// Where the object of an IIOP profile is reached; refused where there is none.
+fn at_profile(profile: Option<IiopProfile>) -> Targeted
+    ensures { said result ≡ at_profile profile }
+{
+    match profile {
+        Some(iiop) => Targeted::At(Endpoint {
+            host: iiop.host,
+            port: iiop.port,
+            version: version_of(iiop.minor),
+            key: iiop.key,
+        }),
+        None => Targeted::Refused(RefusalLine::NoIiopProfile),
+    }
+}
+
+// What the first of some profiles says that is one of IIOP.
+fn first_iiop(alloc: Global, profiles: &[TaggedProfile]) -> Result<Option<IiopProfile>, Failure>
+    ensures ok { IfOk result (λ first. first ≡ first_iiop profiles.now) }
+    ensures err { IfErr result (λ failure. failure ≡ Memory) }
+{
+    for profile in profiles {
+        if let Some(iiop) = iiop_in(alloc, profile)? {
+            return Ok(Some(iiop));
+        }
+    }
+    Ok(None)
+}
+
+// What a profile says where it is one of IIOP.
+fn iiop_in(alloc: Global, profile: &TaggedProfile) -> Result<Option<IiopProfile>, Failure>
+    ensures ok { IfOk result (λ view. view ≡ iiop_in profile.now) }
+    ensures err { IfErr result (λ failure. failure ≡ Memory) }
+{
+    if profile.tag != 0 {
+        return Ok(None);
+    }
+    if profile.octets.len() > 1 << 62 {
+        return Err(Failure::Memory);
+    }
+    match iiop_view(alloc, profile) {
+        Ok(view) => Ok(Some(view)),
+        Err(fault) => match fault.kind {
+            CdrKind::NoMemory => Err(Failure::Memory),
+            _ => Ok(None),
+        },
+    }
+}
+
+fn by_corbaloc(alloc: Global, text: &[u8]) -> Result<Targeted, Failure>
+    ensures ok { IfOk result (λ targeted. said targeted ≡ by_corbaloc (corbaloc_of text.now)) }
+    ensures err { IfErr result (λ failure. failure ≡ Memory) }
+{
+    match corbaloc_from_text(alloc, text) {
+        Ok(corbaloc) => at_first(
+            alloc,
+            corbaloc.addresses.as_slice(),
+            corbaloc.key.as_slice(),
+        ),
+        Err(fault) => match fault.kind {
+            CorbalocKind::NoMemory => Err(Failure::Memory),
+            _ => Ok(Targeted::Refused(RefusalLine::Corbaloc(fault))),
+        },
+    }
+}
+
+// Where the object of a key is reached by the first of some addresses.
+fn at_first(alloc: Global, addresses: &[Address], key: &[u8]) -> Result<Targeted, Failure>
+    ensures ok { IfOk result (λ targeted. said targeted ≡ at_first addresses.now key.now) }
+    ensures err { IfErr result (λ failure. failure ≡ Memory) }
+{
+    match addresses.first() {
+        Some(address) => Ok(Targeted::At(Endpoint {
+            host: OctetList::from_slice(alloc, address.host.as_slice())?,
+            port: address.port,
+            version: version_of(address.minor),
+            key: OctetList::from_slice(alloc, key)?,
+        })),
+        None => Ok(Targeted::Refused(RefusalLine::NoIiopProfile)),
+    }
+}
+
+// The version that a minor number of IIOP is spoken to in: 1.2 for any above 1.
+fn version_of(minor: u8) -> Version
+    ensures { result ≡ version_of minor }
+{
+    match minor {
+        0 => Version::V10,
+        1 => Version::V11,
+        _ => Version::V12,
+    }
+}

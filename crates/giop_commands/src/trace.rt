@@ -1,0 +1,278 @@
+//! `trace`: both directions of one connection, a line for each call when it is over.
+ghost use Rattle.std.specs.Prelude.{◌≡◌, ◌↔◌, None, IfNone, IfOk, OnOk, false};
+ghost use Rattle.std.specs.Io.KnownBytes.{IsAtEnd};
+ghost use Rattle.giop_commands.specs.Trace.{status_of_both};
+
+mod answer_part;
+mod answered;
+mod asked;
+mod asked_part;
+pub mod call_line;
+mod incoming;
+mod json;
+pub mod text;
+
+use crate::failure::Failure;
+use crate::status::Status;
+use crate::trace::call_line::{LineForm, Unanswered, write_call};
+use crate::trace::incoming::{Brought, Incoming};
+use giop_trace::{Direction, Observer};
+use giop_types::Interface;
+use std::alloc::{AllocError, Global};
+use std::io;
+use std::io::{ErrorKind, Read, Write};
+
+/// Which directions of a connection are heard.
+#[derive(Clone, Copy, Debug, PartialEq, Eq)]
+pub enum Heard {
+    /// What the client sent, alone.
+    Client,
+    /// What both sent.
+    Both,
+}
+
+// The observer of a connection, what is left of each direction, and a message of the server that
+// waits for its request.
+#[derive(Drop)]
+struct Tracing {
+    form: LineForm,
+    observer: Observer,
+    client: Incoming,
+    server: Incoming,
+    held: Option<Brought>,
+}
+
+/// Writes a line for each call of a connection when it is over, then one for each that is open, by
+/// the octets that two readers give: what the client sent, and what the server sent. Where the
+/// client alone is heard, nothing is read from the other reader, and a call is over when its
+/// request is whole. The last lines are how many octets of each direction are left, or the fault
+/// that ends it. It is `Done` where none are left, `LimitPassed` where a message is larger than the
+/// limit, else `Refused`. Each line has this form.
+///
+/// After each message of the client, those of the server are read up to the first Reply whose
+/// request isn't whole yet; that one waits. At the end of the client's, what is left of the
+/// server's is read. No more is held than a message and a piece of each, and the calls that are
+/// open.
+pub fn trace_stream<C: Read, S: Read, W: Write>(
+    alloc: Global,
+    interface: &Interface,
+    limit: u32,
+    form: LineForm,
+    heard: Heard,
+    client: &mut C,
+    server: &mut S,
+    writer: &mut W,
+) -> Result<Status, Failure>
+    ensures client { IfOk result (λ status. status ≡ Status.Done
+        → IsAtEnd (C.remaining client.new)) }
+    ensures server { IfOk result (λ status. status ≡ Status.Done → heard ≡ Heard.Both
+        → IsAtEnd (S.remaining server.new)) }
+    ensures alone { heard ≡ Heard.Client → S.remaining server.new ≡ S.remaining server.old }
+{
+    let mut tracing = begun(alloc, limit, form, heard)?;
+    if heard == Heard::Client {
+        hear_client(alloc, interface, &mut tracing, client, writer)?;
+        write_open(alloc, interface, &tracing, writer)?;
+        return tracing.client.write_end(form, Direction::Client, writer);
+    }
+    hear_both(alloc, interface, &mut tracing, client, server, writer)?;
+    write_open(alloc, interface, &tracing, writer)?;
+    let client = tracing.client.write_end(form, Direction::Client, writer)?;
+    let server = tracing.server.write_end(form, Direction::Server, writer)?;
+    Ok(status_of_both(client, server))
+}
+
+// Nothing of a connection is read. Messages of both directions may have this size.
+fn begun(alloc: Global, limit: u32, form: LineForm, heard: Heard) -> Result<Tracing, AllocError>
+    ensures client { IfOk result (λ tracing. tracing.client.framer.limit ≡ limit) }
+    ensures server { IfOk result (λ tracing. tracing.server.framer.limit ≡ limit) }
+    ensures form { IfOk result (λ tracing. tracing.form ≡ form) }
+{
+    Ok(Tracing {
+        form,
+        observer: Observer::new(alloc, heard == Heard::Client),
+        client: Incoming::new(alloc, limit)?,
+        server: Incoming::new(alloc, limit)?,
+        held: None,
+    })
+}
+
+// The status of two directions: done exactly where both are; a limit that was passed is told before
+// a refusal.
+fn status_of_both(client: Status, server: Status) -> Status
+    ensures value { result ≡ status_of_both client server }
+    ensures done { (result ≡ Status.Done) ↔ ((client ≡ Status.Done) × (server ≡ Status.Done)) }
+{
+    match (client, server) {
+        (Status::Done, _) => server,
+        (Status::Refused, Status::LimitPassed(_)) => server,
+        _ => client,
+    }
+}
+
+// Hears all messages of the client.
+fn hear_client<C: Read, W: Write>(
+    alloc: Global,
+    interface: &Interface,
+    tracing: &mut Tracing,
+    client: &mut C,
+    writer: &mut W,
+) -> Result<(), Failure>
+    ensures { OnOk result (tracing.new.client.fault ≡ None
+        → IsAtEnd (C.remaining client.new)) }
+{
+    'messages: for _ in 0..u64::MAX {
+        let Some(message) = tracing.client.next(client, writer)? else {
+            return Ok(());
+        };
+        tell(
+            alloc,
+            interface,
+            tracing,
+            Direction::Client,
+            message,
+            writer,
+        )?;
+    }
+    Err(too_long())
+}
+
+// Hears all messages of both.
+fn hear_both<C: Read, S: Read, W: Write>(
+    alloc: Global,
+    interface: &Interface,
+    tracing: &mut Tracing,
+    client: &mut C,
+    server: &mut S,
+    writer: &mut W,
+) -> Result<(), Failure>
+    ensures client { OnOk result (tracing.new.client.fault ≡ None
+        → IsAtEnd (C.remaining client.new)) }
+    ensures server { OnOk result (tracing.new.server.fault ≡ None
+        → IsAtEnd (S.remaining server.new)) }
+{
+    'messages: for _ in 0..u64::MAX {
+        let Some(message) = tracing.client.next(client, writer)? else {
+            return hear_server(alloc, interface, tracing, false, server, writer);
+        };
+        tell(
+            alloc,
+            interface,
+            tracing,
+            Direction::Client,
+            message,
+            writer,
+        )?;
+        hear_server(alloc, interface, tracing, true, server, writer)?;
+    }
+    Err(too_long())
+}
+
+// Hears the messages of the server: to their end, or up to the first whose request isn't whole yet.
+fn hear_server<S: Read, W: Write>(
+    alloc: Global,
+    interface: &Interface,
+    tracing: &mut Tracing,
+    waits: bool,
+    server: &mut S,
+    writer: &mut W,
+) -> Result<(), Failure>
+    ensures end { OnOk result (waits ≡ false → tracing.new.server.fault ≡ None
+        → IsAtEnd (S.remaining server.new)) }
+    ensures same { tracing.new.client ≡ tracing.old.client }
+{
+    'messages: for _ in 0..u64::MAX {
+        let Some(message) = next_of_server(tracing, server, writer)? else {
+            return Ok(());
+        };
+        if waits && tracing.observer.is_early(&message.message) {
+            tracing.held = Some(message);
+            return Ok(());
+        }
+        tell(
+            alloc,
+            interface,
+            tracing,
+            Direction::Server,
+            message,
+            writer,
+        )?;
+    }
+    Err(too_long())
+}
+
+// The message of the server that waits, or else the next one.
+fn next_of_server<S: Read, W: Write>(
+    tracing: &mut Tracing,
+    server: &mut S,
+    writer: &mut W,
+) -> Result<Option<Brought>, Failure>
+    ensures end { IfOk result (λ o. IfNone o (tracing.new.server.fault ≡ None
+        → IsAtEnd (S.remaining server.new))) }
+    ensures same { tracing.new.client ≡ tracing.old.client }
+{
+    match tracing.held.take() {
+        Some(message) => Ok(Some(message)),
+        None => tracing.server.next(server, writer),
+    }
+}
+
+// Writes the lines of the calls that are over by a message.
+fn tell<W: Write>(
+    alloc: Global,
+    interface: &Interface,
+    tracing: &mut Tracing,
+    direction: Direction,
+    brought: Brought,
+    writer: &mut W,
+) -> Result<(), Failure>
+    ensures client { tracing.new.client ≡ tracing.old.client }
+    ensures server { tracing.new.server ≡ tracing.old.server }
+{
+    let told = tracing.observer.hear(direction, brought.message)?;
+    let form = tracing.form;
+    let unanswered = if tracing.observer.alone {
+        Unanswered::Untold
+    } else {
+        Unanswered::Oneway
+    };
+    if let Some(flow) = &told.earlier {
+        let open = still_open(&tracing.observer);
+        write_call(alloc, interface, form, told.id, flow, open, writer)?;
+    }
+    if let Some(flow) = &told.over {
+        write_call(alloc, interface, form, told.id, flow, unanswered, writer)?;
+    }
+    Ok(())
+}
+
+// Writes the lines of the calls that are open at the end, in ascending order of their ids.
+fn write_open<W: Write>(
+    alloc: Global,
+    interface: &Interface,
+    tracing: &Tracing,
+    writer: &mut W,
+) -> Result<(), Failure> {
+    let (observer, form) = (&tracing.observer, tracing.form);
+    let ids = observer.ids(alloc)?;
+    let open = still_open(observer);
+    for id in &ids {
+        if let Some(flow) = observer.flow(*id) {
+            write_call(alloc, interface, form, Some(*id), flow, open, writer)?;
+        }
+    }
+    Ok(())
+}
+
+// What is said of a call without an answer that is open at its end.
+fn still_open(observer: &Observer) -> Unanswered {
+    if observer.alone {
+        Unanswered::Untold
+    } else {
+        Unanswered::NoAnswer
+    }
+}
+
+fn too_long() -> Failure {
+    Failure::Input(io::Error::from(ErrorKind::FileTooLarge))
+}

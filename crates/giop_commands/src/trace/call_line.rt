@@ -1,0 +1,118 @@
+//! The line of a call, in text or in JSON.
+
+use crate::failure::Failure;
+use crate::trace::answer_part::write_answer;
+use crate::trace::answered::{Answered, answered_by};
+use crate::trace::asked::{Asked, asked_of, request_in};
+use crate::trace::asked_part::write_asked;
+use crate::trace::json::write_call_json;
+use giop_lines::IdText;
+use giop_msg::{Msg, Request};
+use giop_trace::Flow;
+use giop_types::Interface;
+use std::alloc::Global;
+use std::io::Write;
+
+/// The form of a line.
+#[derive(Clone, Copy, Debug, PartialEq, Eq)]
+pub enum LineForm {
+    /// Words (docs/giopctl.md, "trace").
+    Text,
+    /// An object of JSON (docs/FORMATS.md, "Lines of trace").
+    Json,
+}
+
+/// What is said of a call that has no answer and wasn't cancelled.
+#[derive(Clone, Copy, Debug, PartialEq, Eq)]
+pub enum Unanswered {
+    /// No reply is expected.
+    Oneway,
+    /// None came.
+    NoAnswer,
+    /// Nothing: the server isn't heard.
+    Untold,
+}
+
+/// What is told of a call.
+#[derive(Clone, Copy)]
+pub struct Told<'a> {
+    /// Its id, where it has one that can be read.
+    pub id: Option<u32>,
+    /// Its messages.
+    pub flow: &'a Flow,
+    /// What was asked.
+    pub asked: &'a Asked,
+    /// What its answer is, if it has one.
+    pub answered: &'a Option<Answered>,
+    /// What is said of it where it has none and wasn't cancelled.
+    pub unanswered: Unanswered,
+}
+
+/// Writes the line of a call: its id, what was asked, and what it came to.
+pub fn write_call<W: Write>(
+    alloc: Global,
+    interface: &Interface,
+    form: LineForm,
+    id: Option<u32>,
+    flow: &Flow,
+    unanswered: Unanswered,
+    writer: &mut W,
+) -> Result<(), Failure> {
+    let asked = asked_of(alloc, interface, &flow.asked)?;
+    let answered = answered_of(alloc, interface, request_in(&asked), &flow.answer)?;
+    let told = Told {
+        id,
+        flow,
+        asked: &asked,
+        answered: &answered,
+        unanswered,
+    };
+    match form {
+        LineForm::Text => write_call_text(alloc, interface, told, writer),
+        LineForm::Json => write_call_json(alloc, interface, told, writer),
+    }
+}
+
+// What the answer of a call is, if it has one.
+fn answered_of(
+    alloc: Global,
+    interface: &Interface,
+    request: Option<&Request>,
+    answer: &Option<Msg>,
+) -> Result<Option<Answered>, Failure> {
+    match answer {
+        Some(message) => Ok(Some(answered_by(alloc, interface, request, message)?)),
+        None => Ok(None),
+    }
+}
+
+fn write_call_text<W: Write>(
+    alloc: Global,
+    interface: &Interface,
+    told: Told<'_>,
+    writer: &mut W,
+) -> Result<(), Failure> {
+    let Told { flow, asked, .. } = told;
+    write!(writer, "{}", IdText(told.id))?;
+    write_asked(alloc, interface, flow, asked, writer)?;
+    match (&flow.answer, told.answered) {
+        (Some(message), Some(answered)) => {
+            let request = request_in(asked);
+            write_answer(alloc, interface, request, message, answered, writer)?
+        }
+        _ if !asked.is_call() => {}
+        _ if flow.cancelled => write!(writer, " Cancelled")?,
+        _ => write_unanswered(told.unanswered, writer)?,
+    }
+    writeln!(writer)?;
+    Ok(())
+}
+
+fn write_unanswered<W: Write>(unanswered: Unanswered, writer: &mut W) -> Result<(), Failure> {
+    match unanswered {
+        Unanswered::Oneway => write!(writer, " OnewaySent")?,
+        Unanswered::NoAnswer => write!(writer, " NoAnswer")?,
+        Unanswered::Untold => {}
+    }
+    Ok(())
+}

@@ -1,0 +1,95 @@
+//! What was asked, in the JSON line of a call.
+
+use crate::failure::Failure;
+use crate::serve::table::request_ins;
+use crate::trace::asked::{Asked, is_answer};
+use crate::trace::json::{write_message, write_null, write_what};
+use giop_cdr::CdrFault;
+use giop_lines::{CdrFaultJson, HexJson, TargetJson, TextJson};
+use giop_msg::{Msg, Request, RequestFault};
+use giop_trace::Flow;
+use giop_types::Interface;
+use std::alloc::Global;
+use std::io::Write;
+
+/// Writes what was asked; null where a message of the server has no place in a call.
+pub fn write_asked_json<W: Write>(
+    alloc: Global,
+    interface: &Interface,
+    flow: &Flow,
+    asked: &Asked,
+    writer: &mut W,
+) -> Result<(), Failure> {
+    match (asked, &flow.asked) {
+        (Asked::Request(request), _) => write_request(alloc, interface, request, writer),
+        (Asked::Locate(request), _) => {
+            let target = TargetJson(&request.target);
+            write!(writer, "{{\"what\":\"locate\"{target}}}")?;
+            Ok(())
+        }
+        (Asked::Undecoded(fault), Some(message)) => write_undecoded(*fault, message, writer),
+        (Asked::Pieces, Some(message)) => write_message("unfinished", message, writer),
+        (_, Some(message)) => write_message("other", message, writer),
+        (_, None) => write_unasked(&flow.answer, writer),
+    }
+}
+
+fn write_request<W: Write>(
+    alloc: Global,
+    interface: &Interface,
+    request: &Request,
+    writer: &mut W,
+) -> Result<(), Failure> {
+    let ins = request_ins(alloc, interface, request)?;
+    let target = TargetJson(&request.head.target);
+    let operation = TextJson(request.head.operation.as_slice());
+    write!(
+        writer,
+        "{{\"what\":\"request\"{target},\"operation\":{operation},\"ins\":{}}}",
+        ins.as_str()
+    )?;
+    Ok(())
+}
+
+// That no one asked for an answer.
+fn write_unasked<W: Write>(answer: &Option<Msg>, writer: &mut W) -> Result<(), Failure> {
+    match answer {
+        Some(message) if is_answer(message.kind) => write_what("nothing", writer),
+        _ => write_null(writer),
+    }
+}
+
+fn write_undecoded<W: Write>(
+    fault: RequestFault,
+    message: &Msg,
+    writer: &mut W,
+) -> Result<(), Failure> {
+    match fault {
+        RequestFault::Header(fault) => write_part("header", fault, message, writer),
+        RequestFault::Operation => {
+            let octets = HexJson(message.payload.as_slice());
+            write!(
+                writer,
+                "{{\"what\":\"undecoded\",\"part\":\"operation\",\"octets\":{octets}}}"
+            )?;
+            Ok(())
+        }
+        RequestFault::Body(fault) => write_part("body", fault, message, writer),
+    }
+}
+
+// A part that can't be decoded, and why.
+fn write_part<W: Write>(
+    part: &str,
+    fault: CdrFault,
+    message: &Msg,
+    writer: &mut W,
+) -> Result<(), Failure> {
+    let fault = CdrFaultJson(fault);
+    let octets = HexJson(message.payload.as_slice());
+    write!(
+        writer,
+        "{{\"what\":\"undecoded\",\"part\":\"{part}\",\"fault\":{fault},\"octets\":{octets}}}"
+    )?;
+    Ok(())
+}

@@ -1,0 +1,5 @@
+//! What no clause of giop_commands and giop_lines says.
+#![tactic(auto)]
+
+#[cfg(test)]
+mod tests;

@@ -1,0 +1,85 @@
+//! Connections that break. What is answered to each message is cases of the built
+//! program (tests/cases/serving).
+use crate::tests::session_files::interface;
+use giop_commands::serve::answers::{Answers, answers_from_json};
+use giop_commands::serve_session;
+use giop_commands::status::Status;
+use giop_session::Form;
+use giop_types::Interface;
+use std::alloc::Global;
+use std::io;
+use std::io::{ErrorKind, Read, Write};
+use std::test::Fail;
+
+const KEY: &[u8] = b"k";
+
+const ANSWERS: &str = "{\"ping\":{\"ok\":[]},\"add\":{\"ok\":[7]},\"list\":{\"ok\":[]}}";
+
+fn answers(alloc: Global, interface: &Interface, text: &str) -> Result<Answers, Fail> {
+    match answers_from_json(alloc, interface, text.as_bytes()) {
+        Ok(answers) => Ok(answers),
+        Err(_) => Err(Fail::new("the answers are refused")),
+    }
+}
+
+// A connection that takes so many octets and gives these.
+#[derive(Drop)]
+struct Breaking {
+    room: usize,
+}
+
+impl Write for Breaking {
+    fn write(&mut self, buf: &[u8]) -> io::Result<usize> {
+        let n = buf.len().min(self.room);
+        if n == 0 {
+            return Err(io::Error::from(ErrorKind::ConnectionReset));
+        }
+        self.room -= n;
+        Ok(n)
+    }
+
+    fn flush(&mut self) -> io::Result<()> {
+        Ok(())
+    }
+}
+
+fn served<R: Read, W: Write>(
+    alloc: Global,
+    reader: &mut R,
+    writer: &mut W,
+) -> Result<Status, Fail> {
+    let interface = interface(alloc)?;
+    let answers = answers(alloc, &interface, ANSWERS)?;
+    let form = Form::default();
+    if !form.is_valid() {
+        return Err(Fail::new("the form is none"));
+    }
+    let mut out: Vec<u8> = Vec::new(alloc);
+    Ok(serve_session(
+        alloc, 1, &interface, &answers, KEY, form, reader, writer, &mut out,
+    ))
+}
+
+#[test]
+fn a_writer_that_fails_ends_a_connection(rt: HostRuntime) -> Result<(), Fail> {
+    let octets = hex::decode(
+        rt.alloc(),
+        "47494F50010200000000002C000000040300000000000000000000016B00000000000004\
+        6164640000000000000000000000000200000005",
+    )?;
+    for room in 0..29 {
+        let mut reader = octets.as_slice();
+        let mut writer = Breaking { room };
+        let wanted = if room < 28 {
+            Status::InputOutput
+        } else {
+            Status::Done
+        };
+        assert_eq!(rt;
+            served(rt.alloc(), &mut reader, &mut writer)?,
+            wanted,
+            "{room}"
+        );
+    }
+    Ok(())
+}

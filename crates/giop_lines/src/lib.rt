@@ -1,0 +1,36 @@
+//! The lines that giopctl writes, without their newlines: of messages, of the entries of calls, of
+//! references and of what a trace tells, in words and as JSON. Each is pinned to a text in
+//! specs/Lines.antt, TableLines.antt, ConvertLines.antt, TraceLines.antt or JsonLines.antt, and
+//! docs/giopctl.md or docs/FORMATS.md shows it: change all three.
+#![tactic(auto)]
+
+mod cdr_fault;
+mod client_entry;
+mod end;
+mod json;
+mod locate;
+mod message;
+mod octets;
+mod reference;
+mod refusal;
+mod reply;
+mod request;
+mod server_entry;
+mod target;
+mod traced;
+
+pub use cdr_fault::CdrFaultText;
+pub use client_entry::{ClientEntryLine, CompletionText, ReplyText};
+pub use end::{FaultLine, HeadFaultLine, RestLine};
+pub use json::{
+    CdrFaultJson, DirectionEndJson, HexJson, IdJson, RefusedJson, TargetJson, TextJson,
+};
+pub use locate::{LocateReplyLine, LocateRequestLine};
+pub use message::MessageLine;
+pub use octets::{EscapedText, HexText};
+pub use reference::{IiopLine, ProfileLine, TypeLine};
+pub use refusal::RefusalLine;
+pub use reply::ReplyLine;
+pub use request::RequestLine;
+pub use server_entry::{AskedText, RequestFaultText, ServerEntryLine};
+pub use traced::{DirectionEndLine, IdText, MinorText, OwnTargetText};

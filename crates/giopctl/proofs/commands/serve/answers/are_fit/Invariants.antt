@@ -1,9 +1,0 @@
-use Rattle.std.proofs.Common.{◌≡◌, ◌&&◌, option_map}
-use Rattle.serde_json.specs.View.{view}
-use Rattle.giopctl.specs.AnswerForms.{are_fit}
-use Rattle.giopctl.proofs.commands.serve.answers.are_fit.Given as goal
-
--- whether what was read so far fits, and what is still to be read
-abbrev pub invariant-loop-name : goal.invariant-loop-name
-invariant-loop-name l =
-    option_map (λ more. l.fit && more) (are_fit l.interface (view l.json) l.name-iterator) ≡ are_fit l.interface (view l.json) l.interface.operations.entries

@@ -1,6 +1,0 @@
-use Rattle.std.proofs.Common.{sym, ◌∙◌}
-use Rattle.giopctl.proofs.CallFormLemmas.{ulong_sound}
-use Rattle.giopctl.proofs.commands.session.json.ulong_of.Goals as goal
-
-pub returns-in_default : goal.returns-in_default
-returns-in_default c = let fault = sym ulong_sound ∙ c.in_default.ensures.err in absurd (cc fault)

@@ -1,5 +1,0 @@
-use Rattle.std.proofs.Common.{◌≡◌}
-use Rattle.giopctl.proofs.commands.trace.hear_server.Given as goal
-
-abbrev pub invariant-messages : goal.invariant-messages
-invariant-messages g l = l.tracing.client ≡ l.fn.tracing.client

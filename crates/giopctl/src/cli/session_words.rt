@@ -1,0 +1,333 @@
+//! The words of `call` and `serve`: their arguments and their help. A change here is one in
+//! docs/giopctl.md and tests/program too.
+ghost use Rattle.std.specs.Prelude.{IfOk};
+ghost use Rattle.giop_session.specs.Acts.Form.{IsForm};
+ghost use Rattle.giop_commands.specs.Check.{AreLimits};
+
+use crate::cli::limit_words::{limited, limits_of};
+use crate::files::apart;
+use clap::builder::ValueParser;
+use clap::{Arg, ArgAction, ArgMatches, Command};
+use giop_cdr::Order;
+use giop_commands::serve::given::{KeyWord, Telling};
+use giop_session::{Form, Limits};
+use std::alloc::{AllocError, Global};
+
+/// What `call` is asked for.
+#[derive(Clone, Copy, Debug)]
+pub struct CallWords<'a> {
+    /// The text of the object's reference, or a corbaloc.
+    pub target: &'a str,
+    /// The name of the interface's file, or `-` for the standard input.
+    pub interface: &'a str,
+    /// The name of the file of the calls, or `-` for the standard input.
+    pub file: &'a str,
+    /// How Requests are sent.
+    pub form: Form,
+    /// What the end holds at most.
+    pub limits: Limits,
+    pub ghost sent: { IsForm form },
+    pub ghost bounded: { AreLimits limits },
+}
+
+/// What `serve` is asked for.
+#[derive(Clone, Copy, Debug)]
+pub struct ServeWords<'a> {
+    /// The port, 1 to 65,535; 0 for one that is free.
+    pub port: u16,
+    /// The name of the interface's file, or `-` for the standard input.
+    pub interface: &'a str,
+    /// The name of the file of the answers, or `-` for the standard input.
+    pub answers: &'a str,
+    /// The object key.
+    pub key: KeyWord<'a>,
+    /// How many connections are served, 1 to 65,535.
+    pub connections: u32,
+    /// When the calls are told.
+    pub telling: Telling,
+    /// How Replies are sent.
+    pub form: Form,
+    /// What the end of each connection holds at most.
+    pub limits: Limits,
+    pub ghost sent: { IsForm form },
+    pub ghost bounded: { AreLimits limits },
+}
+
+const CALL_HELP: &str = "\
+The target is the text of a reference, IOR: and hexadecimal digits, of which the first IIOP profile
+is taken, or a corbaloc, of which the first address is taken; quote it, since a shell reads some of
+its signs. It says the version that is spoken: a corbaloc without one is of 1.0, and
+corbaloc::1.2@HOST:PORT/KEY of 1.2.
+The file is a JSON list of calls, each with a request id of its own:
+  [{\"id\":1,\"operation\":\"add\",\"ins\":[2,5]},{\"id\":2,\"operation\":\"ping\",\"ins\":[]}]
+All of them are sent, then replies are read until all are there or the server closes the connection.
+Each call has a line, in ascending order of the id:
+  Done 0 OUTS           its result, and the inout and out parameters, as a JSON list
+  Done 1 ID MEMBERS     an exception of the interface
+  Done 2 ID MINOR COMPLETION   a system exception; completed: 0 yes, 1 no, 2 maybe
+  Done 3 IOR, Done 4 IOR       the object is elsewhere, for this call or for good
+  Done 5 DISPOSITION    the server wants the object addressed in another way
+  OnewaySent            it has no reply
+  Undecoded reply FAULT the reply can't be decoded, and where, from the message's first octet on
+  Sending, Waiting, Gathering   all of it isn't sent; no reply came; a part of it came
+The last line is the fault that ended the session, where there is one.
+
+Exit statuses:
+  0  each call got its result, or was sent and has none
+  1  one got none, or was refused; or the target, the interface or the calls are refused
+  2  usage
+  3  reading, writing or the connection failed
+  4  out of memory
+
+Example, while the example of giopctl serve --help runs:
+  giopctl call --target corbaloc::1.2@127.0.0.1:2810/k --interface examples/calculator.json \
+examples/calls.json";
+
+const SERVE_HELP: &str = "\
+It listens at 127.0.0.1 alone, and serves one connection after the other. The file of the answers is
+a JSON object with a member for each operation that isn't oneway: its result, inout and out
+parameters, or an exception of the interface and its members:
+  {\"ping\":{\"ok\":[]},\"add\":{\"ok\":[7]},\"list\":{\"user\":\"IDL:Demo/Bad:1.0\",\"members\":[]}}
+A Request of the object of the key is answered so, one of another object by OBJECT_NOT_EXIST, an
+unknown operation by BAD_OPERATION, and one that can't be decoded by MARSHAL. A LocateRequest is told
+whether its object is here.
+When a connection has ended its number is shown, and then a line for each of its calls, as by check,
+and for those that were answered:
+  Answered STATUS       a Request: 0 a result, 1 an exception, 2 a system exception
+  LocateAnswered 1      a LocateRequest: 1 here, 0 not
+The last line is the fault that ended it, where there is one.
+With --stream the number is shown at once, and each call as soon as it is over. Then it is forgotten,
+so that a connection may have any number of calls. Of a Request that is answered its line says
+  Asked OPERATION INS Answered REPLY, or Undecoded FAULT Answered REPLY
+with what giopctl call shows behind Done as REPLY. The calls that are still open have their lines at
+the end, and the last line is rest N, the octets that are no whole message, or the fault.
+
+Exit statuses, of which the greatest of all connections is taken:
+  0  the connection ended, or the client closed it
+  1  another fault ended it; or the interface or the answers are refused
+  2  usage
+  3  reading, writing, listening or the connection failed
+  4  out of memory
+
+Example:
+  giopctl serve --port 2810 --interface examples/calculator.json --answers examples/answers.json \
+--key 6b";
+
+/// The command `call`.
+pub fn call<'a>(alloc: Global) -> Result<Command<'a>, AllocError> {
+    let target = Arg::new(alloc, "target")
+        .long("target")
+        .required(true)
+        .value_name("TEXT")
+        .help("The object: the text of its reference, or a corbaloc");
+    let file = Arg::new(alloc, "FILE").required(true).help(
+        "The file of the calls, in JSON, or - for the standard input",
+    );
+    let command = Command::new(alloc, "call")
+        .about("Calls operations of an object, and shows the replies")
+        .after_help(CALL_HELP)
+        .arg(target)?
+        .arg(interface(alloc))?;
+    sent(alloc, command)?.arg(file)
+}
+
+/// The command `serve`.
+pub fn serve<'a>(alloc: Global) -> Result<Command<'a>, AllocError> {
+    let port = number(
+        alloc,
+        "port",
+        "The port that is listened at, on 127.0.0.1; 0 for one that is free",
+    )
+    .required(true)
+    .value_parser(ValueParser::Unsigned(0, 65_535));
+    let answers = Arg::new(alloc, "answers")
+        .long("answers")
+        .required(true)
+        .value_name("FILE")
+        .help("The file of the answers, in JSON");
+    let connections = number(
+        alloc,
+        "connections",
+        "How many connections are served, one after the other",
+    )
+    .default_value("1")
+    .value_parser(ValueParser::Unsigned(1, 65_535));
+    let command = Command::new(alloc, "serve")
+        .about("Answers the calls of one object")
+        .after_help(SERVE_HELP)
+        .arg(port)?
+        .arg(interface(alloc))?
+        .arg(answers)?
+        .arg(key(alloc)?)?
+        .arg(key_text(alloc)?)?
+        .arg(connections)?
+        .arg(stream(alloc))?;
+    sent(alloc, command)
+}
+
+fn key<'a>(alloc: Global) -> Result<Arg<'a>, AllocError> {
+    Arg::new(alloc, "key")
+        .long("key")
+        .value_name("HEX")
+        .help("The object key, in hexadecimal digits")
+        .required_unless_present("key-text")
+}
+
+fn key_text<'a>(alloc: Global) -> Result<Arg<'a>, AllocError> {
+    Arg::new(alloc, "key-text")
+        .long("key-text")
+        .value_name("TEXT")
+        .help("The object key, as a text, in place of --key")
+        .conflicts_with("key")
+}
+
+fn stream<'a>(alloc: Global) -> Arg<'a> {
+    Arg::new(alloc, "stream")
+        .long("stream")
+        .action(ArgAction::SetTrue)
+        .help("Each call is shown as soon as it is over, and forgotten")
+}
+
+fn interface<'a>(alloc: Global) -> Arg<'a> {
+    Arg::new(alloc, "interface")
+        .long("interface")
+        .required(true)
+        .value_name("FILE")
+        .help("The file of the interface, in JSON")
+}
+
+fn number<'a>(alloc: Global, name: &'a str, help: &'a str) -> Arg<'a> {
+    Arg::new(alloc, name).long(name).value_name("N").help(help)
+}
+
+// A command with the options of how messages are sent, and of the limits.
+fn sent<'a>(alloc: Global, command: Command<'a>) -> Result<Command<'a>, AllocError> {
+    let piece = number(
+        alloc,
+        "piece",
+        "The most octets of a message, a multiple of 8 from 24 to 1048584",
+    )
+    .default_value("4096")
+    .value_parser(ValueParser::Unsigned(24, 1_048_584));
+    let little = Arg::new(alloc, "little")
+        .long("little")
+        .action(ArgAction::SetTrue)
+        .help("Messages are sent little-endian, not big-endian");
+    limited(alloc, command.arg(piece)?.arg(little)?)
+}
+
+/// What `call` is asked for, or what is wrong with a word.
+pub fn call_words<'a>(matches: &ArgMatches<'a>) -> Result<CallWords<'a>, &'static str> {
+    let form = form_of(matches)?;
+    let limits = limits_of(matches)?;
+    let (Some(target), Some(interface), Some(file)) = (
+        matches.get_str("target"),
+        matches.get_str("interface"),
+        matches.get_str("FILE"),
+    ) else {
+        return Err("--target, --interface and FILE are wanted");
+    };
+    apart(interface, file)?;
+    Ok(CallWords {
+        target,
+        interface,
+        file,
+        form,
+        limits,
+    })
+}
+
+/// What `serve` is asked for, or what is wrong with a word.
+pub fn serve_words<'a>(matches: &ArgMatches<'a>) -> Result<ServeWords<'a>, &'static str> {
+    let form = form_of(matches)?;
+    let limits = limits_of(matches)?;
+    let Some(port) = port_of(matches) else {
+        return Err("--port is a number from 0 to 65535, in decimal digits");
+    };
+    let Some(connections) = connections_of(matches) else {
+        return Err("--connections is a number from 1 to 65535, in decimal digits");
+    };
+    let (Some(interface), Some(answers)) = (
+        matches.get_str("interface"),
+        matches.get_str("answers"),
+    ) else {
+        return Err("--interface and --answers are wanted");
+    };
+    apart(interface, answers)?;
+    Ok(ServeWords {
+        port,
+        interface,
+        answers,
+        key: key_of(matches)?,
+        connections,
+        telling: telling_of(matches),
+        form,
+        limits,
+    })
+}
+
+// The object key, of which there is one word.
+fn key_of<'a>(matches: &ArgMatches<'a>) -> Result<KeyWord<'a>, &'static str> {
+    match (matches.get_str("key"), matches.get_str("key-text")) {
+        (Some(digits), None) if is_hexadecimal(digits) => Ok(KeyWord::Hex(digits)),
+        (Some(_), None) => Err("--key is pairs of hexadecimal digits"),
+        (None, Some(text)) => Ok(KeyWord::Text(text)),
+        _ => Err("one of --key and --key-text is wanted"),
+    }
+}
+
+fn telling_of(matches: &ArgMatches) -> Telling {
+    if matches.get_flag("stream") {
+        Telling::WhenOver
+    } else {
+        Telling::AtTheEnd
+    }
+}
+
+// How messages are sent.
+fn form_of(matches: &ArgMatches) -> Result<Form, &'static str>
+    ensures { IfOk result (λ form. IsForm form) }
+{
+    let order = if matches.get_flag("little") {
+        Order::Little
+    } else {
+        Order::Big
+    };
+    if let Some(piece) = decimal(matches, "piece") {
+        let form = Form { order, piece };
+        if form.is_valid() && piece <= 1_048_584 {
+            return Ok(form);
+        }
+    }
+    Err("--piece is a multiple of 8 from 24 to 1048584, in decimal digits")
+}
+
+fn port_of(matches: &ArgMatches) -> Option<u16> {
+    u16::try_from(decimal(matches, "port")?).ok()
+}
+
+fn connections_of(matches: &ArgMatches) -> Option<u32> {
+    match decimal(matches, "connections")? {
+        connections if connections > 0 && connections <= 65_535 => Some(connections),
+        _ => None,
+    }
+}
+
+// The number of an argument, where its word is decimal digits and nothing else.
+fn decimal(matches: &ArgMatches, name: &str) -> Option<u32> {
+    let text = matches.get_str(name)?;
+    if text.as_bytes().iter().all(|octet| octet.is_ascii_digit()) {
+        text.parse::<u32>().ok()
+    } else {
+        None
+    }
+}
+
+// Whether a text is pairs of hexadecimal digits.
+fn is_hexadecimal(text: &str) -> bool {
+    text.len() % 2 == 0
+        && text
+            .as_bytes()
+            .iter()
+            .all(|octet| octet.is_ascii_hexdigit())
+}

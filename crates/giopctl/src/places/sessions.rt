@@ -1,0 +1,265 @@
+//! Where refused calls and answers are at fault: the first call, or answer, that alone is refused
+//! with the fault of the file, and in it the first part that is.
+
+use giop_commands::call::calls::calls_from_json;
+use giop_commands::serve::answers::answers_from_json;
+use giop_types::{FormFault, Interface, parse_json};
+use giop_where::{NoPlace, Part, Place, Role, Step, fault_code};
+use serde_json::{Value as Json, json};
+use std::alloc::{AllocError, Global};
+
+/// Where the texts of an interface and of calls of it, which are refused with this fault, have it.
+pub fn of_calls(alloc: Global, interface: &[u8], calls: &[u8], fault: FormFault) -> Option<Place> {
+    let (Ok(offered), Ok(calls)) = (parse_json(alloc, interface), parse_json(alloc, calls)) else {
+        return None;
+    };
+    let Ok(checked) = Interface::from_json(alloc, interface) else {
+        return None;
+    };
+    match calls_place(alloc, &checked, &offered, &calls, fault_code(fault)) {
+        Ok(place) => Some(place),
+        Err(_) => None,
+    }
+}
+
+fn calls_place(
+    alloc: Global,
+    interface: &Interface,
+    offered: &Json,
+    calls: &Json,
+    number: u8,
+) -> Result<Place, NoPlace> {
+    let Some(list) = calls.as_array() else {
+        return whole(alloc, Role::Calls, calls, number);
+    };
+    for (i, call) in list.as_slice().iter().enumerate() {
+        if call_refusal(alloc, interface, call)? == number {
+            let place = call_place(alloc, interface, offered, call, number)?;
+            return Ok(place.under(Step::Index(i))?);
+        }
+    }
+    whole(alloc, Role::Calls, calls, number)
+}
+
+// The number of the fault of a call that stands alone, 0 where it has none.
+fn call_refusal(alloc: Global, interface: &Interface, call: &Json) -> Result<u8, AllocError> {
+    let text = json!(in alloc; [call])?.to_string(alloc)?;
+    match calls_from_json(alloc, interface, text.as_bytes()) {
+        Ok(_) => Ok(0),
+        Err(fault) => Ok(fault_code(fault)),
+    }
+}
+
+// Where a call has the fault: at its id, its operation or its ins, or else as a whole.
+fn call_place(
+    alloc: Global,
+    interface: &Interface,
+    offered: &Json,
+    call: &Json,
+    number: u8,
+) -> Result<Place, NoPlace> {
+    let (Some(id), Some(name), Some(ins)) = (call.get("id"), call.get("operation"), call.get("ins"))
+    else {
+        return whole(alloc, Role::Call, call, number);
+    };
+    if let Some(place) = leaf_place(alloc, "id", "ulong", id, number)? {
+        return Ok(place);
+    }
+    if let Some(place) = leaf_place(alloc, "operation", "string", name, number)? {
+        return Ok(place);
+    }
+    match operation_of(interface, offered, name) {
+        Some(operation) => match operation.get("ins") {
+            Some(beside) => arguments_place(alloc, "ins", beside, ins, call, Role::Call, number),
+            None => whole(alloc, Role::Call, call, number),
+        },
+        None => {
+            let place = whole(alloc, Role::Offered, name, number)?;
+            Ok(place.under(key(alloc, "operation")?)?)
+        }
+    }
+}
+
+// The operation of this name, as JSON, where the interface has it.
+fn operation_of<'a>(interface: &Interface, offered: &'a Json, name: &Json) -> Option<&'a Json> {
+    let name = name.as_str()?;
+    offered.get("operations")?.get(name)
+}
+
+// The fault of what stands under a key, by the name of its description.
+fn leaf_place(
+    alloc: Global,
+    name: &str,
+    desc: &str,
+    json: &Json,
+    number: u8,
+) -> Result<Option<Place>, NoPlace> {
+    let beside = Json::try_from_str(alloc, desc)?;
+    let part = Part {
+        role: Role::Value,
+        beside: &beside,
+        json,
+    };
+    if part.refusal(alloc)? != number {
+        return Ok(None);
+    }
+    let place = Place::find(alloc, part, number)?;
+    Ok(Some(place.under(key(alloc, name)?)?))
+}
+
+// The fault of a list of values, or of the whole that it stands in.
+fn arguments_place(
+    alloc: Global,
+    name: &str,
+    beside: &Json,
+    json: &Json,
+    all: &Json,
+    role: Role,
+    number: u8,
+) -> Result<Place, NoPlace> {
+    let part = Part {
+        role: Role::Arguments,
+        beside,
+        json,
+    };
+    let place = Place::find(alloc, part, number)?;
+    if place.path.is_empty() && json.is_array() {
+        return whole(alloc, role, all, number);
+    }
+    Ok(place.under(key(alloc, name)?)?)
+}
+
+// A part that is at fault as a whole.
+fn whole(alloc: Global, role: Role, json: &Json, number: u8) -> Result<Place, NoPlace> {
+    let part = Part {
+        role,
+        beside: json,
+        json,
+    };
+    Place::find(alloc, part, number)
+}
+
+fn key(alloc: Global, name: &str) -> Result<Step, AllocError> {
+    Ok(Step::Key(String::from_str(alloc, name)?))
+}
+
+/// Where the texts of an interface and of answers, which are refused with this fault, have it.
+pub fn of_answers(
+    alloc: Global,
+    interface: &[u8],
+    answers: &[u8],
+    fault: FormFault,
+) -> Option<Place> {
+    let (Ok(offered), Ok(answers)) = (parse_json(alloc, interface), parse_json(alloc, answers))
+    else {
+        return None;
+    };
+    match answers_place(alloc, &offered, &answers, fault_code(fault)) {
+        Ok(place) => Some(place),
+        Err(_) => None,
+    }
+}
+
+fn answers_place(
+    alloc: Global,
+    offered: &Json,
+    answers: &Json,
+    number: u8,
+) -> Result<Place, NoPlace> {
+    let Some(object) = answers.as_object() else {
+        return whole(alloc, Role::Answers, answers, number);
+    };
+    for (name, answer) in object.iter() {
+        if let Some(place) = answer_place(alloc, offered, name.as_str(), answer, number)? {
+            return Ok(place.under(Step::Key(name.clone()?))?);
+        }
+    }
+    whole(alloc, Role::Answers, answers, number)
+}
+
+// Where an answer has the fault, if it alone is refused with it.
+fn answer_place(
+    alloc: Global,
+    offered: &Json,
+    name: &str,
+    answer: &Json,
+    number: u8,
+) -> Result<Option<Place>, NoPlace> {
+    let operation = match offered.get("operations") {
+        Some(operations) => operations.get(name),
+        None => None,
+    };
+    let Some(operation) = operation else {
+        let name = Json::try_from_str(alloc, name)?;
+        return Ok(Some(whole(alloc, Role::Offered, &name, number)?));
+    };
+    if answer_refusal(alloc, offered, name, operation, answer)? != number {
+        return Ok(None);
+    }
+    Ok(Some(refused_answer(alloc, offered, operation, answer, number)?))
+}
+
+// The number of the fault of an answer to an operation that stands alone in its interface, 0 where
+// it has none.
+fn answer_refusal(
+    alloc: Global,
+    offered: &Json,
+    name: &str,
+    operation: &Json,
+    answer: &Json,
+) -> Result<u8, AllocError> {
+    let interface = match offered.get("exceptions") {
+        Some(exceptions) => {
+            json!(in alloc; {"operations": {(name): operation}, "exceptions": exceptions})?
+        }
+        None => json!(in alloc; {"operations": {(name): operation}})?,
+    };
+    let interface = interface.to_string(alloc)?;
+    let text = json!(in alloc; {(name): answer})?.to_string(alloc)?;
+    match Interface::from_json(alloc, interface.as_bytes()) {
+        Ok(interface) => match answers_from_json(alloc, &interface, text.as_bytes()) {
+            Ok(_) => Ok(0),
+            Err(fault) => Ok(fault_code(fault)),
+        },
+        Err(_) => Ok(0),
+    }
+}
+
+// Where a refused answer has the fault: at a value, at the id of its exception, or as a whole.
+fn refused_answer(
+    alloc: Global,
+    offered: &Json,
+    operation: &Json,
+    answer: &Json,
+    number: u8,
+) -> Result<Place, NoPlace> {
+    if let (Some(values), Some(outs)) = (answer.get("ok"), operation.get("outs")) {
+        return arguments_place(alloc, "ok", outs, values, answer, Role::Answer, number);
+    }
+    let (Some(id), Some(values)) = (answer.get("user"), answer.get("members")) else {
+        return whole(alloc, Role::Answer, answer, number);
+    };
+    match exception_of(offered, id) {
+        Some(members) => {
+            arguments_place(
+                alloc,
+                "members",
+                members,
+                values,
+                answer,
+                Role::Answer,
+                number,
+            )
+        }
+        None => {
+            let place = whole(alloc, Role::Raised, id, number)?;
+            Ok(place.under(key(alloc, "user")?)?)
+        }
+    }
+}
+
+// The members of the exception of this id, as JSON, where the interface has it.
+fn exception_of<'a>(offered: &'a Json, id: &Json) -> Option<&'a Json> {
+    let id = id.as_str()?;
+    offered.get("exceptions")?.get(id)
+}

@@ -1,0 +1,8 @@
+//! Each command with the files, the connections and the standard output that it runs over.
+
+pub mod call;
+pub mod check;
+pub mod convert;
+pub mod serve;
+pub mod session;
+pub mod trace;

@@ -1,0 +1,99 @@
+//! `call` over files, a connection and the standard output. What it sends, reads and prints is
+//! commands/call.rt, over any reader and writer; here are the files and the socket.
+
+use crate::cli::CallWords;
+use crate::files::OUTPUT_BUFFER;
+use crate::places::sessions::of_calls;
+use crate::report;
+use crate::runs::session::{interface_of, read, refused, refused_form};
+use giop_commands::call::calls::{CallLine, calls_from_json};
+use giop_commands::failure::Failure;
+use giop_commands::status::Status;
+use giop_commands::{Calling, Endpoint, Targeted, call_over, target_of};
+use giop_lines::EscapedText;
+use std::io::{BufWriter, ErrorKind, Write};
+use std::net::TcpStream;
+use std::{io, str};
+
+/// Reads the file of the interface and that of the calls, connects to where the target says, and
+/// calls. What is refused is reported before anything is connected: the target, the interface, the
+/// calls, in this order.
+pub fn call(rt: &HostRuntime, words: CallWords) -> Status {
+    match called(rt, words) {
+        Ok(status) => status,
+        Err(status) => status,
+    }
+}
+
+fn called(rt: &HostRuntime, words: CallWords) -> Result<Status, Status> {
+    let offered = read(rt, words.interface)?;
+    let calls = read(rt, words.file)?;
+    let endpoint = endpoint_of(rt, words.target)?;
+    let interface = interface_of(rt, words.interface, offered.as_slice())?;
+    let calls = match calls_from_json(rt.alloc(), &interface, calls.as_slice()) {
+        Ok(calls) => calls,
+        Err(fault) => {
+            let at = of_calls(rt.alloc(), offered.as_slice(), calls.as_slice(), fault);
+            return Err(refused_form(rt, words.file, calls.as_slice(), fault, at));
+        }
+    };
+    let peer = match peer_of(rt, &endpoint) {
+        Ok(peer) => peer,
+        Err(failure) => return Err(report::answer(rt, words.target, Err(failure))),
+    };
+    let calling = Calling {
+        interface: &interface,
+        key: endpoint.key.as_slice(),
+        version: endpoint.version,
+        form: words.form,
+        limits: words.limits,
+    };
+    let answered = call_at(rt, calls, &endpoint, calling);
+    Ok(report::answer(rt, peer.as_str(), answered))
+}
+
+fn endpoint_of(rt: &HostRuntime, target: &str) -> Result<Endpoint, Status> {
+    match target_of(rt.alloc(), target.as_bytes()) {
+        Ok(Targeted::At(endpoint)) => Ok(endpoint),
+        Ok(Targeted::Refused(line)) => Err(refused(rt, line)),
+        Err(failure) => Err(report::answer(rt, target, Err(failure))),
+    }
+}
+
+// The name of a peer, as standard error has it: `HOST:PORT`.
+fn peer_of(rt: &HostRuntime, endpoint: &Endpoint) -> Result<String, Failure> {
+    let host = EscapedText(endpoint.host.as_slice());
+    Ok(format!(in rt.alloc(); "{host}:{}", endpoint.port)?)
+}
+
+fn call_at(
+    rt: &HostRuntime,
+    calls: Vec<CallLine>,
+    endpoint: &Endpoint,
+    calling: Calling<'_>,
+) -> Result<Status, Failure> {
+    let stream = connected(rt, endpoint)?;
+    let mut out = BufWriter::with_capacity(rt.alloc(), OUTPUT_BUFFER, io::writer(rt))?;
+    let status = call_over(
+        rt.alloc(),
+        calling,
+        calls,
+        &mut &stream,
+        &mut &stream,
+        &mut out,
+    )?;
+    out.flush()?;
+    Ok(status)
+}
+
+// A connection to where an object is reached. A name is looked up, and each of its addresses is
+// tried.
+fn connected(rt: &HostRuntime, endpoint: &Endpoint) -> Result<TcpStream, Failure> {
+    let Ok(host) = str::from_utf8(endpoint.host.as_slice()) else {
+        return Err(Failure::Connection(io::Error::from(ErrorKind::InvalidInput)));
+    };
+    match TcpStream::connect(rt, (host, endpoint.port)) {
+        Ok(stream) => Ok(stream),
+        Err(error) => Err(Failure::connection(error)),
+    }
+}

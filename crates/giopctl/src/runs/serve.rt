@@ -1,0 +1,138 @@
+//! `serve` over files, connections and the standard output. What it reads, sends and prints is
+//! commands/serve.rt, over any reader and writer; here are the files and the sockets.
+
+use crate::cli::ServeWords;
+use crate::files::OUTPUT_BUFFER;
+use crate::places::sessions::of_answers;
+use crate::report;
+use crate::runs::session::{interface_of, read, refused_form};
+use giop_commands::failure::Failure;
+use giop_commands::serve::answers::answers_from_json;
+use giop_commands::serve::given::{KeyWord, Telling};
+use giop_commands::serve::streaming::stream_over;
+use giop_commands::status::Status;
+use giop_commands::{Serving, serve_over};
+use std::io;
+use std::io::{BufWriter, Write};
+use std::net::{Ipv4Addr, TcpListener, TcpStream};
+
+// The address that is listened at, as standard error has it.
+const HERE: &str = "127.0.0.1";
+
+/// Reads the file of the interface and that of the answers, listens at a port of 127.0.0.1, and
+/// serves so many connections one after the other. The status is the greatest of theirs. What is
+/// refused is reported before the port is bound: the interface, then the answers.
+pub fn serve(rt: &HostRuntime, words: ServeWords) -> Status {
+    match served(rt, words) {
+        Ok(status) => status,
+        Err(status) => status,
+    }
+}
+
+fn served(rt: &HostRuntime, words: ServeWords) -> Result<Status, Status> {
+    let offered = read(rt, words.interface)?;
+    let answers = read(rt, words.answers)?;
+    let key = key_of(rt, words.key)?;
+    let interface = interface_of(rt, words.interface, offered.as_slice())?;
+    let answers = match answers_from_json(rt.alloc(), &interface, answers.as_slice()) {
+        Ok(answers) => answers,
+        Err(fault) => {
+            let at = of_answers(rt.alloc(), offered.as_slice(), answers.as_slice(), fault);
+            return Err(refused_form(rt, words.answers, answers.as_slice(), fault, at));
+        }
+    };
+    let serving = Serving {
+        interface: &interface,
+        answers: &answers,
+        key: key.as_slice(),
+        form: words.form,
+        limits: words.limits,
+    };
+    let listener = listening(rt, words.port)?;
+    Ok(serve_each(rt, &listener, &words, &serving))
+}
+
+// The octets of an object key.
+fn key_of(rt: &HostRuntime, key: KeyWord<'_>) -> Result<Vec<u8>, Status> {
+    let octets = match key {
+        KeyWord::Hex(digits) => hex::decode(rt.alloc(), digits).ok(),
+        KeyWord::Text(text) => Vec::from_slice(rt.alloc(), text.as_bytes()).ok(),
+    };
+    match octets {
+        Some(octets) => Ok(octets),
+        None => Err(report::answer(rt, "--key", Err(Failure::Memory))),
+    }
+}
+
+// Listens at a port, or where that is 0 at one that is free, and says which it is.
+fn listening(rt: &HostRuntime, port: u16) -> Result<TcpListener, Status> {
+    match bound(rt, port) {
+        Ok((listener, port)) => {
+            let _ = eprintln!(rt; "giopctl: listening on {HERE}:{port}");
+            Ok(listener)
+        }
+        Err(error) => {
+            let failure = Failure::connection(error);
+            let _ = eprintln!(rt; "giopctl: {HERE}:{port}: {failure}");
+            Err(failure.status())
+        }
+    }
+}
+
+fn bound(rt: &HostRuntime, port: u16) -> io::Result<(TcpListener, u16)> {
+    let listener = TcpListener::bind(rt, (Ipv4Addr::LOCALHOST, port))?;
+    let port = listener.local_addr()?.port();
+    Ok((listener, port))
+}
+
+// Serves so many connections, and continues whatever one of them ends with.
+fn serve_each(
+    rt: &HostRuntime,
+    listener: &TcpListener,
+    words: &ServeWords<'_>,
+    serving: &Serving<'_>,
+) -> Status {
+    let mut status = Status::Done;
+    for served in 0..words.connections {
+        status = status.or_greater(serve_next(rt, listener, served + 1, words.telling, serving));
+    }
+    status
+}
+
+// Waits for a connection, and serves it.
+fn serve_next(
+    rt: &HostRuntime,
+    listener: &TcpListener,
+    number: u32,
+    telling: Telling,
+    serving: &Serving<'_>,
+) -> Status {
+    let (stream, peer) = match listener.accept() {
+        Ok(accepted) => accepted,
+        Err(error) => return report::answer(rt, HERE, Err(Failure::connection(error))),
+    };
+    let _ = eprintln!(rt; "giopctl: connection {number} from {peer}");
+    let answered = serve_stream(rt, &stream, number, telling, serving);
+    match format!(in rt.alloc(); "connection {number}") {
+        Ok(name) => report::answer(rt, name.as_str(), answered),
+        Err(_) => report::answer(rt, HERE, answered),
+    }
+}
+
+fn serve_stream(
+    rt: &HostRuntime,
+    stream: &TcpStream,
+    number: u32,
+    telling: Telling,
+    serving: &Serving<'_>,
+) -> Result<Status, Failure> {
+    let (mut reader, mut writer) = (stream, stream);
+    let mut out = BufWriter::with_capacity(rt.alloc(), OUTPUT_BUFFER, io::writer(rt))?;
+    let (reader, writer) = (&mut reader, &mut writer);
+    let status = match telling {
+        Telling::AtTheEnd => serve_over(rt.alloc(), number, *serving, reader, writer, &mut out)?,
+        Telling::WhenOver => stream_over(rt.alloc(), number, *serving, reader, writer, &mut out)?,
+    };
+    out.flush()?;
+    Ok(status)
+}

@@ -1,0 +1,63 @@
+//! The files that `call` and `serve` read, and how they are refused.
+
+use crate::files::OUTPUT_BUFFER;
+use crate::{files, report};
+use giop_commands::failure::Failure;
+use giop_commands::status::Status;
+use giop_commands::{form_refusal, refuse};
+use giop_lines::RefusalLine;
+use giop_types::{FormFault, Interface};
+use giop_where::Place;
+use std::io;
+use std::io::{BufWriter, Write};
+
+/// The octets of a file, or the status where it can't be read, which is reported.
+pub fn read(rt: &HostRuntime, file: &str) -> Result<Vec<u8>, Status> {
+    match files::read(rt, file) {
+        Ok(octets) => Ok(octets),
+        Err(failure) => Err(report::answer(rt, file, Err(failure))),
+    }
+}
+
+/// The interface that a file's text is, or the status where it is refused, which is reported.
+pub fn interface_of(rt: &HostRuntime, file: &str, text: &[u8]) -> Result<Interface, Status> {
+    match Interface::from_json(rt.alloc(), text) {
+        Ok(interface) => Ok(interface),
+        Err(fault) => {
+            report::interface(rt, rt.alloc(), file, text);
+            Err(refused_line(rt, file, form_refusal(fault)))
+        }
+    }
+}
+
+/// Reports that the text of a file of calls or answers is refused, and where it is at fault.
+pub fn refused_form(
+    rt: &HostRuntime,
+    file: &str,
+    text: &[u8],
+    fault: FormFault,
+    at: Option<Place>,
+) -> Status {
+    report::form(rt, rt.alloc(), file, text, fault, at);
+    refused_line(rt, file, form_refusal(fault))
+}
+
+/// Writes the line of a refusal to the standard output.
+pub fn refused(rt: &HostRuntime, line: RefusalLine) -> Status {
+    refused_line(rt, "-", Ok(line))
+}
+
+fn refused_line(rt: &HostRuntime, file: &str, line: Result<RefusalLine, Failure>) -> Status {
+    let answered = match line {
+        Ok(line) => written(rt, line),
+        Err(failure) => Err(failure),
+    };
+    report::answer(rt, file, answered)
+}
+
+fn written(rt: &HostRuntime, line: RefusalLine) -> Result<Status, Failure> {
+    let mut writer = BufWriter::with_capacity(rt.alloc(), OUTPUT_BUFFER, io::writer(rt))?;
+    let status = refuse(line, &mut writer)?;
+    writer.flush()?;
+    Ok(status)
+}
