@@ -14,3 +14,4 @@ pub mod ServingLemmas
 pub mod SessionsLemmas
 pub mod StreamingLemmas
 pub mod AheadLemmas
+pub mod CallStreamingLemmas

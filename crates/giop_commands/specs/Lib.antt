@@ -17,4 +17,5 @@ pub mod Serving
 pub mod Sessions
 pub mod StreamLines
 pub mod Streaming
+pub mod CallStreaming
 pub mod Target

@@ -17,6 +17,7 @@ ghost use Rattle.giop_commands.specs.Turns.{Waits};
 
 pub mod calls;
 pub mod given;
+pub mod streaming;
 pub mod table;
 
 use crate::call::calls::CallLine;

@@ -164,7 +164,7 @@ pub fn write_session<R: Tabled, W: Write>(
     write_fault(fault, writer)
 }
 
-fn write_fault<W: Write>(fault: Option<SessionFault>, writer: &mut W) -> Result<(), Failure>
+pub fn write_fault<W: Write>(fault: Option<SessionFault>, writer: &mut W) -> Result<(), Failure>
     ensures { OnOk result (Appends (W.contents writer.old) (W.contents writer.new)
         (fault_text fault)) }
 {

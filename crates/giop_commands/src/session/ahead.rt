@@ -1,5 +1,5 @@
-//! A connection is read while it takes no more of what is written, so that two ends which both write
-//! don't wait for each other.
+//! A connection is read while it takes no more of what is written, so that two ends which both
+//! write don't wait for each other.
 ghost use Rattle.std.specs.Prelude.{◌≡◌, ◌≤◌, ◌+◌, ◌++◌, [], length, OnOk};
 ghost use Rattle.std.specs.Io.{ReadsAtMost, WritesAtMost};
 ghost use Rattle.std.specs.Io.KnownBytes.{Keeps, ReadConsumes, WriteAppends, prepend_known};
@@ -57,11 +57,11 @@ impl Ahead {
     }
 
     /// Writes as many of the octets as the writer takes. While it takes none and would have to wait
-    /// (`WouldBlock`, or `Interrupted`), all that `reader` has is read ahead, up to 64 MiB; no octet
-    /// of it is lost. A reader that would have to wait has nothing.
+    /// (`WouldBlock`, or `Interrupted`), all that `reader` has is read ahead, up to 64 MiB; no
+    /// octet of it is lost. A reader that would have to wait has nothing.
     ///
-    /// Another error of the writer or of the reader is returned, and `OutOfMemory` where there is no
-    /// room for what would be read.
+    /// Another error of the writer or of the reader is returned, and `OutOfMemory` where there is
+    /// no room for what would be read.
     #[tactic(auto, using(crate::proofs::AheadLemmas::kept, crate::proofs::AheadLemmas::kept_on, crate::proofs::AheadLemmas::written_on))]
     pub fn write<R: Read, W: Write>(
         &mut self,
