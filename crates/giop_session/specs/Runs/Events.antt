@@ -1,6 +1,6 @@
 -- What an end meets: the messages of its peer, and its own acts on its calls; and what a run of
 -- these leaves of each call.
-use Rattle.std.specs.Prelude.{◌≡◌, ℕ, ◌==◌, Bool, if◌then◌else◌, List, [], ◌∷◌, Option, Ok, IsOk}
+use Rattle.std.specs.Prelude.{◌≡◌, ℕ, ◌==◌, Bool, if◌then◌else◌, List, [], ◌∷◌, Option, None, Ok, IsOk}
 use Rattle.giop_ids.specs.Runs.{left}
 use Rattle.giop_ids.specs.Runs.{Does as DoesAct}
 use Rattle.giop_msg.specs.declared.msg.Msg.{Msg}
@@ -27,6 +27,15 @@ pub data Event (V : Type 0) : Type 0 where
 abbrev pub act_of : {V : Type 0} → Local V → Act V
 act_of (IsTold planned) = Hears planned Nothing
 act_of TakesOut = IsTaken
+
+-- what an act is to the rule of its call, its messages and octets aside
+abbrev pub happening : {V : Type 0} → Act V → Happening V
+happening (Hears planned brings) = IsTold planned.event
+happening IsTaken = TakesOut
+
+-- an id under which nothing is stored
+abbrev pub no_call : {E : Type 0} → Call E
+no_call = record { slot = None; pieces = None }
 
 -- whether an event is one of the call of an id
 abbrev pub is_of : {V : Type 0} → ℕ → Event V → Bool
@@ -66,3 +75,9 @@ module _ {E V A F : Type 0} (turn : Call E → Act V → Turned E A F)
   Follows call [] after = after ≡ call
   Follows call (e ∷ events) after = IsOk (turn call (what e call))
       × Follows (left call (turn call (what e call))) events after
+
+  -- what these events are to its rule, one after another: a message as it is read where it comes
+  abbrev pub history : Call E → List (Event V) → List (Happening V)
+  history call [] = []
+  history call (e ∷ events) =
+      happening (what e call) ∷ history (left call (turn call (what e call))) events
