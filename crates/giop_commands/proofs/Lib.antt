@@ -13,3 +13,4 @@ pub mod TargetLemmas
 pub mod ServingLemmas
 pub mod SessionsLemmas
 pub mod StreamingLemmas
+pub mod AheadLemmas

@@ -84,7 +84,7 @@ pub fn call_session<R: Read, W: Write, O: Write>(
 }
 
 /// Does what `call_session` does, with the limits of `calling`. Where something fails, what failed
-/// is returned in place of a status.
+/// is returned in place of a status; where that is the connection, the table is written before.
 pub fn call_over<R: Read, W: Write, O: Write>(
     alloc: Global,
     calling: Calling<'_>,
@@ -101,8 +101,15 @@ pub fn call_over<R: Read, W: Write, O: Write>(
     let mut end = ClientEnd::new(alloc, calling.interface, calling.limits);
     let (key, version, form) = (calling.key, calling.version, calling.form);
     let refused = call_all(alloc, &mut end, calls, key, version, form)?;
-    talk(alloc, &mut end, refused, reader, writer)?;
-    tell(alloc, calling.interface, &end, refused, out)
+    match talk(alloc, &mut end, refused, reader, writer) {
+        Ok(()) => tell(alloc, calling.interface, &end, refused, out),
+        Err(Failure::Memory) => Err(Failure::Memory),
+        Err(failure) => {
+            write_session(alloc, calling.interface, &end, None, out)?;
+            out.flush()?;
+            Err(failure)
+        }
+    }
 }
 
 // Writes the table of the calls and the fault of the session, and returns the status.

@@ -82,7 +82,8 @@ pub fn serve_session<R: Read, W: Write, O: Write>(
 }
 
 /// Does what `serve_session` does, with the limits of `serving`. Where something fails, what failed
-/// is returned in place of a status.
+/// is returned in place of a status; where that is the connection, its line and the table are
+/// written before.
 pub fn serve_over<R: Read, W: Write, O: Write>(
     alloc: Global,
     number: u32,
@@ -98,9 +99,23 @@ pub fn serve_over<R: Read, W: Write, O: Write>(
 {
     let interface = serving.interface;
     let mut end = ServerEnd::new(alloc, interface, serving.limits);
-    let refused = converse(alloc, &mut end, serving, reader, writer)?;
-    let fault = told(refused, end.fault());
-    tell(alloc, number, interface, &end, fault, out)
+    match converse(alloc, &mut end, serving, reader, writer) {
+        Ok(refused) => tell(
+            alloc,
+            number,
+            interface,
+            &end,
+            told(refused, end.fault()),
+            out,
+        ),
+        Err(Failure::Memory) => Err(Failure::Memory),
+        Err(failure) => {
+            write_connection(number, out)?;
+            write_session(alloc, interface, &end, None, out)?;
+            out.flush()?;
+            Err(failure)
+        }
+    }
 }
 
 // Writes the line of a connection, its table and its fault, and returns the status.

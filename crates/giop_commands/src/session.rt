@@ -12,6 +12,7 @@ ghost use Rattle.giop_commands.specs.Check.{answer_of};
 ghost use Rattle.giop_commands.specs.Sessions.{fault_text, session_text, told};
 ghost use Rattle.giop_commands.specs.Turns.{GoesOn, IsOfConnection, peer_octets};
 
+pub mod ahead;
 pub mod bodies;
 pub mod fault_line;
 pub mod json;

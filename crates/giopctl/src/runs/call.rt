@@ -5,7 +5,7 @@ use crate::cli::CallWords;
 use crate::files::OUTPUT_BUFFER;
 use crate::places::sessions::of_calls;
 use crate::report;
-use crate::runs::session::{interface_of, read, refused, refused_form};
+use crate::runs::session::{interface_of, linked, read, refused, refused_form};
 use giop_commands::call::calls::{CallLine, calls_from_json};
 use giop_commands::failure::Failure;
 use giop_commands::status::Status;
@@ -72,16 +72,11 @@ fn call_at(
     endpoint: &Endpoint,
     calling: Calling<'_>,
 ) -> Result<Status, Failure> {
-    let stream = connected(rt, endpoint)?;
+    let link = linked(rt, connected(rt, endpoint)?)?;
     let mut out = BufWriter::with_capacity(rt.alloc(), OUTPUT_BUFFER, io::writer(rt))?;
-    let status = call_over(
-        rt.alloc(),
-        calling,
-        calls,
-        &mut &stream,
-        &mut &stream,
-        &mut out,
-    )?;
+    let (mut reader, mut writer) = (&link, &link);
+    let (reader, writer) = (&mut reader, &mut writer);
+    let status = call_over(rt.alloc(), calling, calls, reader, writer, &mut out)?;
     out.flush()?;
     Ok(status)
 }

@@ -5,7 +5,7 @@ use crate::cli::ServeWords;
 use crate::files::OUTPUT_BUFFER;
 use crate::places::sessions::of_answers;
 use crate::report;
-use crate::runs::session::{interface_of, read, refused_form};
+use crate::runs::session::{interface_of, linked, read, refused_form};
 use giop_commands::failure::Failure;
 use giop_commands::serve::answers::answers_from_json;
 use giop_commands::serve::given::{KeyWord, Telling};
@@ -112,7 +112,7 @@ fn serve_next(
         Err(error) => return report::answer(rt, HERE, Err(Failure::connection(error))),
     };
     let _ = eprintln!(rt; "giopctl: connection {number} from {peer}");
-    let answered = serve_stream(rt, &stream, number, telling, serving);
+    let answered = serve_stream(rt, stream, number, telling, serving);
     match format!(in rt.alloc(); "connection {number}") {
         Ok(name) => report::answer(rt, name.as_str(), answered),
         Err(_) => report::answer(rt, HERE, answered),
@@ -121,12 +121,13 @@ fn serve_next(
 
 fn serve_stream(
     rt: &HostRuntime,
-    stream: &TcpStream,
+    stream: TcpStream,
     number: u32,
     telling: Telling,
     serving: &Serving<'_>,
 ) -> Result<Status, Failure> {
-    let (mut reader, mut writer) = (stream, stream);
+    let link = linked(rt, stream)?;
+    let (mut reader, mut writer) = (&link, &link);
     let mut out = BufWriter::with_capacity(rt.alloc(), OUTPUT_BUFFER, io::writer(rt))?;
     let (reader, writer) = (&mut reader, &mut writer);
     let status = match telling {

@@ -1,6 +1,7 @@
-//! The files that `call` and `serve` read, and how they are refused.
+//! The files that `call` and `serve` read, how they are refused, and the connection.
 
 use crate::files::OUTPUT_BUFFER;
+use crate::runs::link::Link;
 use crate::{files, report};
 use giop_commands::failure::Failure;
 use giop_commands::status::Status;
@@ -10,6 +11,7 @@ use giop_types::{FormFault, Interface};
 use giop_where::Place;
 use std::io;
 use std::io::{BufWriter, Write};
+use std::net::TcpStream;
 
 /// The octets of a file, or the status where it can't be read, which is reported.
 pub fn read(rt: &HostRuntime, file: &str) -> Result<Vec<u8>, Status> {
@@ -60,4 +62,12 @@ fn written(rt: &HostRuntime, line: RefusalLine) -> Result<Status, Failure> {
     let status = refuse(line, &mut writer)?;
     writer.flush()?;
     Ok(status)
+}
+
+/// A connection that is read while it is written to.
+pub fn linked(rt: &HostRuntime, stream: TcpStream) -> Result<Link, Failure> {
+    match Link::new(rt.alloc(), stream, None) {
+        Ok(link) => Ok(link),
+        Err(error) => Err(Failure::connection(error)),
+    }
 }

@@ -5,8 +5,8 @@ use Rattle.giop_commands.proofs.ActLemmas.{same_fault, same_interface, same_unre
 use Rattle.giop_commands.proofs.SessionsLemmas.{called}
 use Rattle.giop_commands.proofs.call.call_over.Goals as goal
 
-pub returns : goal.returns
-returns g c =
+pub returns-in-Ok : goal.returns-in-Ok
+returns-in-Ok g c =
     let asked : Asked = asked_of c.args.calling c.args.calls.items in
     let fault = same_fault c.new-end.result c.call_all.new.end c.call_all.ensures.others ∙ c.new-end.ensures.fault in
     let interface = same_interface c.new-end.result c.call_all.new.end c.call_all.ensures.others ∙ c.new-end.ensures.interface in
@@ -15,4 +15,4 @@ returns g c =
     c.talk.new.end.calls c.talk.new.end.fault c.tell.result
     (rw (c.new-end.ensures.interface, c.new-end.ensures.limits, c.new-end.ensures.fault, c.new-end.ensures.calls, c.new-end.ensures.outgoing)
     at c.in_ok-refused.ensures.calls)
-    (rw (interface, unread, fault) at c.in_ok-talk.ensures.talks) c.tell.ensures.text c.tell.ensures.ok
+    (rw (interface, unread, fault) at c.in-Ok.ensures.talks) c.tell.ensures.text c.tell.ensures.ok

@@ -3,10 +3,10 @@ use Rattle.giop_commands.specs.Serving.{Served, served_of}
 use Rattle.giop_commands.proofs.SessionsLemmas.{served}
 use Rattle.giop_commands.proofs.serve.serve_over.Goals as goal
 
-pub returns : goal.returns
-returns g c =
+pub returns-in-Ok : goal.returns-in-Ok
+returns-in-Ok g c =
     let it : Served = served_of c.args.serving in
-    served c.args.number it _ _ _ _ c.in_ok-refused.refused c.converse.new.end.outgoing c.converse.new.end.framer c.converse.new.end.calls
+    served c.args.number it _ _ _ _ c.in-Ok.refused c.converse.new.end.outgoing c.converse.new.end.framer c.converse.new.end.calls
     c.converse.new.end.fault c.tell.result
     (rw (
       c.new-end.ensures.limits,
@@ -15,5 +15,5 @@ returns g c =
       c.new-end.ensures.outgoing,
       c.new-end.ensures.unread,
     )
-    at c.in_ok-refused.ensures.converses)
-    (rw (c.told-fault.ensures, c.fault.ensures) at c.tell.ensures.text) (rw (c.told-fault.ensures, c.fault.ensures) at c.tell.ensures.ok)
+    at c.in-Ok.ensures.converses)
+    (rw (c.told.ensures, c.fault.ensures) at c.tell.ensures.text) (rw (c.told.ensures, c.fault.ensures) at c.tell.ensures.ok)
