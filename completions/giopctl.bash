@@ -16,12 +16,12 @@ _giopctl() {
         esac
     done
     case "$path $before" in
-        'giopctl check --interface'|'giopctl trace --interface'|'giopctl convert encode --desc'|'giopctl convert decode --desc'|'giopctl call --interface'|'giopctl serve --interface'|'giopctl serve --answers') files=yes ;;
-        'giopctl dump --message-limit'|'giopctl check --message-limit'|'giopctl check --calls-limit'|'giopctl check --gathered-limit'|'giopctl trace --message-limit'|'giopctl call --target'|'giopctl call --piece'|'giopctl call --message-limit'|'giopctl call --calls-limit'|'giopctl call --gathered-limit'|'giopctl serve --port'|'giopctl serve --key'|'giopctl serve --key-text'|'giopctl serve --connections'|'giopctl serve --piece'|'giopctl serve --message-limit'|'giopctl serve --calls-limit'|'giopctl serve --gathered-limit') return ;;
+        'giopctl dump --interface'|'giopctl check --interface'|'giopctl trace --interface'|'giopctl convert encode --desc'|'giopctl convert decode --desc'|'giopctl call --interface'|'giopctl serve --interface'|'giopctl serve --answers') files=yes ;;
+        'giopctl dump --message-limit'|'giopctl dump --gathered-limit'|'giopctl check --message-limit'|'giopctl check --calls-limit'|'giopctl check --gathered-limit'|'giopctl trace --message-limit'|'giopctl call --target'|'giopctl call --piece'|'giopctl call --message-limit'|'giopctl call --calls-limit'|'giopctl call --gathered-limit'|'giopctl serve --port'|'giopctl serve --key'|'giopctl serve --key-text'|'giopctl serve --connections'|'giopctl serve --piece'|'giopctl serve --message-limit'|'giopctl serve --calls-limit'|'giopctl serve --gathered-limit') return ;;
         *)
             case "$path:$word" in
                 'giopctl:-'*) words='-h --help -V --version' ;;
-                'giopctl dump:-'*) words='--message-limit -h --help' ;;
+                'giopctl dump:-'*) words='--interface --message-limit --gathered-limit -h --help' ;;
                 'giopctl check:-'*) words='--interface --strict --message-limit --calls-limit --gathered-limit -h --help' ;;
                 'giopctl trace:-'*) words='--interface --json --message-limit -h --help' ;;
                 'giopctl convert:-'*) words='-h --help' ;;

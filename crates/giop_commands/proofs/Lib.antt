@@ -1,4 +1,5 @@
 pub mod DumpLemmas
+pub mod JoiningLemmas
 pub mod PiecesLemmas
 pub mod ConvertLemmas
 pub mod BodiesLemmas

@@ -1,5 +1,7 @@
 pub mod Status
 pub mod Dump
+pub mod Joining
+pub mod DumpBodies
 pub mod Convert
 pub mod SessionLines
 pub mod Bodies

@@ -1,13 +1,19 @@
 //! `dump`: each message of a file, and how the file ends. Its meaning is `Dumps` and `DumpsKnown`
 //! in specs/Dump.antt: change both.
-ghost use Rattle.std.specs.Prelude.{◌≡◌, ◌++◌, IfErr, IfOk, OnOk};
+ghost use Rattle.std.specs.Prelude.{◌≡◌, ◌++◌, IfErr, IfOk, OnOk, option_copied};
 ghost use Rattle.std.specs.Io.KnownBytes.{IsAtEnd};
-ghost use Rattle.giop_commands.specs.Dump.{Dumps, DumpsKnown};
+ghost use Rattle.giop_commands.specs.DumpBodies.{telling_by};
+ghost use Rattle.giop_commands.specs.Dump.{Dumps, DumpsKnown, heads_alone, no_lists};
 
+pub mod bodies;
 pub mod heads;
+pub mod joining;
 pub mod messages;
+pub mod teller;
+pub mod text;
 
-use crate::dump::messages::{write_fault, write_message, write_rest};
+use crate::dump::messages::{write_fault, write_rest};
+use crate::dump::teller::Teller;
 use crate::failure::Failure;
 use crate::pieces::{PieceBuffer, drain};
 use crate::status::Status;
@@ -35,7 +41,7 @@ pub enum BehindFault {
 /// Where writing fails, it is `InputOutput`. Where it is out of memory, it is `Memory`. After
 /// either, a part of the text may be written.
 pub fn dump_octets<W: Write>(alloc: Global, octets: &[u8], writer: &mut W) -> Status
-    ensures { Dumps MESSAGE_LIMIT octets.now (W.contents writer.old)
+    ensures { Dumps heads_alone MESSAGE_LIMIT octets.now (W.contents writer.old)
         (W.contents writer.new) result }
 {
     let mut left = octets;
@@ -58,7 +64,28 @@ pub fn dump_stream<R: Read, W: Write>(
     writer: &mut W,
     behind: BehindFault,
 ) -> Result<Status, Failure>
-    ensures text { IfOk result (DumpsKnown limit (R.remaining reader.old)
+    ensures text { IfOk result (DumpsKnown heads_alone limit (R.remaining reader.old)
+        (W.contents writer.old) (W.contents writer.new)) }
+    ensures end { OnOk result (behind ≡ BehindFault.Read → IsAtEnd (R.remaining reader.new)) }
+    ensures done { IfOk result (λ status. status ≡ Status.Done → IsAtEnd (R.remaining reader.new)) }
+{
+    let mut teller = Teller::of_heads(alloc);
+    dump_by(alloc, &mut teller, limit, reader, writer, behind)
+}
+
+/// Does what `dump_stream` does, with the lines that a teller writes of each message.
+pub fn dump_by<R: Read, W: Write>(
+    alloc: Global,
+    teller: &mut Teller<'_>,
+    limit: u32,
+    reader: &mut R,
+    writer: &mut W,
+    behind: BehindFault,
+) -> Result<Status, Failure>
+    requires { teller.old.gather.lists ≡ no_lists }
+    ensures text { let telling = telling_by (option_copied teller.old.interface)
+        teller.old.gather.limit in
+        IfOk result (DumpsKnown telling limit (R.remaining reader.old)
         (W.contents writer.old) (W.contents writer.new)) }
     ensures end { OnOk result (behind ≡ BehindFault.Read → IsAtEnd (R.remaining reader.new)) }
     ensures done { IfOk result (λ status. status ≡ Status.Done → IsAtEnd (R.remaining reader.new)) }
@@ -69,7 +96,7 @@ pub fn dump_stream<R: Read, W: Write>(
     'messages: for _ in 0..u64::MAX {
         match framer.next() {
             Ok(Some(message)) => {
-                write_message(at, &message, writer)?;
+                teller.tell(at, &message, writer)?;
                 let Some(next) = at.checked_add(12 + message.payload.len()) else {
                     break;
                 };

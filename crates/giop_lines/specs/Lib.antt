@@ -4,3 +4,4 @@ pub mod ConvertLines
 pub mod TableLines
 pub mod TraceLines
 pub mod JsonLines
+pub mod BodyLines

@@ -1,9 +1,10 @@
 //! The lines that giopctl writes, without their newlines: of messages, of the entries of calls, of
 //! references and of what a trace tells, in words and as JSON. Each is pinned to a text in
-//! specs/Lines.antt, TableLines.antt, ConvertLines.antt, TraceLines.antt or JsonLines.antt, and
-//! docs/giopctl.md or docs/FORMATS.md shows it: change all three.
+//! specs/Lines.antt, BodyLines.antt, TableLines.antt, ConvertLines.antt, TraceLines.antt or
+//! JsonLines.antt, and docs/giopctl.md or docs/FORMATS.md shows it: change all three.
 #![tactic(auto)]
 
+mod body;
 mod cdr_fault;
 mod client_entry;
 mod end;
@@ -19,6 +20,7 @@ mod server_entry;
 mod target;
 mod traced;
 
+pub use body::{InsLine, JoinedLine, UndecodedLine, UnjoinedLine};
 pub use cdr_fault::CdrFaultText;
 pub use client_entry::{ClientEntryLine, CompletionText, ReplyText};
 pub use end::{FaultLine, HeadFaultLine, RestLine};

@@ -3,6 +3,7 @@ pub mod EventLemmas
 pub mod InputLemmas
 pub mod LeftLemmas
 pub mod FollowedLemmas
+pub mod HistoryLemmas
 pub mod ClientLeftLemmas
 pub mod DrivenLemmas
 pub mod AheadLemmas

@@ -26,6 +26,7 @@ mod left;
 mod limits;
 mod running;
 mod sent;
+mod standing;
 mod world;
 
 use crate::{Hearing, Side};
@@ -51,6 +52,7 @@ pub use running::{run_client, run_server};
 pub use sent::{
     what_is_on_its_way, what_is_sent_is_an_item, what_is_sent_is_framed, what_is_sent_names_its_id,
 };
+pub use standing::{entries_stand_at_client, entries_stand_at_server};
 pub use world::{World, run_world};
 
 /// A run of acts continues after refusals. Whatever happens to other ids in it, a call has the

@@ -1,12 +1,15 @@
 //! The command line: the commands, their arguments and their help. The words of `call` and `serve`
 //! are session_words.rt, those of limits limit_words.rt. A change here is one in docs/giopctl.md
 //! and tests/program too.
+ghost use Rattle.std.specs.Prelude.{◌≤◌, ◌^◌};
 ghost use Rattle.giop_commands.specs.Check.{AreLimits};
 
 mod limit_words;
 mod session_words;
 
-use crate::cli::limit_words::{limited, limits_of, message_limit, message_limit_of};
+use crate::cli::limit_words::{
+    gathered_limit, gathered_limit_of, limited, limits_of, message_limit, message_limit_of,
+};
 use crate::cli::session_words::{call, call_words, serve, serve_words};
 pub use crate::cli::session_words::{CallWords, ServeWords};
 use crate::files::apart;
@@ -21,12 +24,7 @@ use std::alloc::{AllocError, Global};
 #[derive(Clone, Copy, Debug)]
 pub enum Task<'a> {
     /// Show each message of a file.
-    Dump {
-        /// The file's name, or `-` for the standard input.
-        file: &'a str,
-        /// The greatest message size, the header not counted.
-        limit: u32,
-    },
+    Dump(DumpWords<'a>),
     /// Show what becomes of the calls of a file.
     Check(CheckWords<'a>),
     /// Show each call of a connection.
@@ -42,6 +40,21 @@ pub enum Task<'a> {
     Call(CallWords<'a>),
     /// Serve an object.
     Serve(ServeWords<'a>),
+}
+
+/// What `dump` is asked for.
+#[derive(Clone, Copy, Debug)]
+pub struct DumpWords<'a> {
+    /// The name of the interface's file, or `-` for the standard input; `None` where heads alone
+    /// are shown.
+    pub interface: Option<&'a str>,
+    /// The file's name, or `-` for the standard input.
+    pub file: &'a str,
+    /// The greatest message size, the header not counted.
+    pub limit: u32,
+    /// The most octets of all Requests of which a piece is still to come.
+    pub gathered: u64,
+    pub ghost bounded: { gathered ≤ 2 ^ 62 },
 }
 
 /// What `check` is asked for.
@@ -183,17 +196,23 @@ second line, behind two spaces; `body` tells how many octets stand behind its fi
   LocateReply    status, body
   any of them    what is wrong with its fields, and where, from the message's first octet on
 A target is an object key in hexadecimal, a profile's tag, or the number of a reference's profile.
+With --interface a Request has a line of its body, if its head can be read:
+  ins INS               its values as a JSON list
+  undecoded FAULT       why they can't be read: operation or body, and where
+The last Fragment of a Request has `joined`, how many octets its pieces are together, and then the
+lines of the whole Request. A piece that isn't joined has `unjoined` and why.
 The last line tells how many octets are left, or what is wrong with the header that stands there.
 
 Exit statuses:
   0  the file is messages and nothing else
-  1  octets are left, or a header is wrong
+  1  octets are left, or a header is wrong; or the interface is refused
   2  usage
   3  reading or writing failed
   4  out of memory
 
-Example:
-  giopctl dump examples/ping.giop";
+Examples:
+  giopctl dump examples/ping.giop
+  giopctl dump --interface examples/calculator.json examples/add.giop";
 
 const CONVERT_HELP: &str = "\
 One newline at the file's end is dropped. What is refused is told as `fault NUMBER NAME`, with the
@@ -311,10 +330,20 @@ fn value_conversion<'a>(
 
 fn dumped<'a>(matches: &ArgMatches<'a>) -> Result<Option<Task<'a>>, &'static str> {
     let limit = message_limit_of(matches)?;
+    let gathered = gathered_limit_of(matches)?;
     let Some(file) = matches.get_str("FILE") else {
         return Ok(None);
     };
-    Ok(Some(Task::Dump { file, limit }))
+    let interface = matches.get_str("interface");
+    if let Some(interface) = interface {
+        apart(interface, file)?;
+    }
+    Ok(Some(Task::Dump(DumpWords {
+        interface,
+        file,
+        limit,
+        gathered,
+    })))
 }
 
 fn checked<'a>(matches: &ArgMatches<'a>) -> Result<Option<Task<'a>>, &'static str> {
@@ -395,10 +424,16 @@ fn dump<'a>(alloc: Global) -> Result<Command<'a>, AllocError> {
     let file = Arg::new(alloc, "FILE")
         .required(true)
         .help("A file of GIOP messages, or - for the standard input");
+    let interface = Arg::new(alloc, "interface")
+        .long("interface")
+        .value_name("FILE")
+        .help("The file of an interface, in JSON, by which bodies of Requests are shown");
     Command::new(alloc, "dump")
         .about("Shows each message of a file")
         .after_help(DUMP_HELP)
+        .arg(interface)?
         .arg(message_limit(alloc))?
+        .arg(gathered_limit(alloc))?
         .arg(file)
 }
 

@@ -11,11 +11,7 @@ mod runs;
 mod tests;
 
 use cli::Task;
-use files::OUTPUT_BUFFER;
-use giop_commands::BehindFault;
-use giop_commands::failure::Failure;
 use giop_commands::status::Status;
-use std::io::{BufWriter, Read, Write};
 use std::process::ExitCode;
 use std::{env, io};
 
@@ -29,7 +25,7 @@ fn run(rt: &HostRuntime) -> Status {
         Err(error) => return report::arguments(rt, &error),
     };
     match cli::task_of(rt.alloc(), words.as_slice()) {
-        Ok(Some(Task::Dump { file, limit })) => report::answer(rt, file, dump(rt, file, limit)),
+        Ok(Some(Task::Dump(words))) => runs::dump::dump(rt, words),
         Ok(Some(Task::Check(words))) => runs::check::check(rt, words),
         Ok(Some(Task::Trace(words))) => runs::trace::trace(rt, words),
         Ok(Some(Task::Convert { file, kind })) => runs::convert::convert(rt, file, kind),
@@ -43,24 +39,4 @@ fn run(rt: &HostRuntime) -> Status {
 // The words of the command line, the program's name first.
 fn words(rt: &HostRuntime) -> io::Result<Vec<String>> {
     Ok(env::args(rt)?.collect(rt.alloc())?)
-}
-
-fn dump(rt: &HostRuntime, file: &str, limit: u32) -> Result<Status, Failure> {
-    if file == "-" {
-        return dump_from(rt, limit, &mut rt.reader(), BehindFault::Leave);
-    }
-    let (mut file, behind) = files::opened(rt, file)?;
-    dump_from(rt, limit, &mut file, behind)
-}
-
-fn dump_from<R: Read>(
-    rt: &HostRuntime,
-    limit: u32,
-    reader: &mut R,
-    behind: BehindFault,
-) -> Result<Status, Failure> {
-    let mut writer = BufWriter::with_capacity(rt.alloc(), OUTPUT_BUFFER, io::writer(rt))?;
-    let status = giop_commands::dump_stream(rt.alloc(), limit, reader, &mut writer, behind)?;
-    writer.flush()?;
-    Ok(status)
 }

@@ -3,6 +3,7 @@
 pub mod call;
 pub mod check;
 pub mod convert;
+pub mod dump;
 pub mod link;
 pub mod serve;
 pub mod session;

@@ -22,9 +22,9 @@ use Rattle.giop_calls.specs.ClientTable.{client_step, is_closed, is_gathering}
 use Rattle.giop_ids.specs.Runs.{Does}
 use Rattle.giop_session.specs.Calls.Begun.{no_calls}
 use Rattle.giop_session.specs.Calls.CallTable.{Act, Answers, Call, First, Hears, Held, More, Nothing, at, put_call, rules_of}
-use Rattle.giop_session.specs.Hearing.ClientHears.{client_befalls, client_breaks}
+use Rattle.giop_session.specs.Hearing.ClientHears.{client_befalls, client_breaks, client_side}
 use Rattle.giop_session.specs.Runs.EndRuns.{ClientTakes}
-use Rattle.giop_session.specs.Hearing.Heard.{hears_by, in_call, kept}
+use Rattle.giop_session.specs.Hearing.Heard.{kept, hears as hears_at}
 use Rattle.giop_session.specs.Runs.Inputs.{nothing_unread}
 use Rattle.giop_session.specs.declared.limits.Limits.{Limits}
 use Rattle.giop_session.specs.declared.calls.plan.Plan.TheVariants.{Next, Put}
@@ -213,7 +213,7 @@ module _ (interface : Interface) where
 
   -- and what it hears
   abbrev Hears_it : Msg → End → End → Type 0
-  Hears_it m h k = hears_by (λ rule. client_step) (λ rule. is_closed) is_gathering in_call client_breaks (client_befalls interface) m h (Ok tt) k
+  Hears_it m h k = hears_at (client_side interface) m h (Ok tt) k
 
   pub one_begins : Hears_it here_begins one_4 one_5
   one_begins =

@@ -30,8 +30,8 @@ use Rattle.giop_session.specs.Acts.ClientCalls.{IsCancel, cancel_fault, locate_f
 use Rattle.giop_session.specs.Acts.Sent.{sends_one}
 use Rattle.giop_session.specs.Calls.CallTable.{Call, Gives, Held, IsTaken, Nothing, at, put_call, rules_of, turn}
 use Rattle.giop_session.specs.Calls.Sending.{entry_of}
-use Rattle.giop_session.specs.Hearing.ClientHears.{client_befalls, client_breaks}
-use Rattle.giop_session.specs.Hearing.Heard.{hears_by, in_call, kept}
+use Rattle.giop_session.specs.Hearing.ClientHears.{client_befalls, client_breaks, client_side}
+use Rattle.giop_session.specs.Hearing.Heard.{kept, hears as hears_at}
 use Rattle.giop_session.specs.Items.Carries.{Carries, Did}
 use Rattle.giop_session.specs.Items.ClientCarries.{ClientItem, client_telling, unknown}
 use Rattle.giop_session.specs.Runs.ClientRuns.{ClientRuns, ClientTakesAs, client_entry}
@@ -86,7 +86,7 @@ module _ (interface : Interface) (forms : Forms) where
   State = EndState (Held ClientRule ClientEntry)
 
   abbrev Hears_it : Msg → End → End → Type 0
-  Hears_it m h k = hears_by (λ rule. client_step) (λ rule. is_closed) is_gathering in_call client_breaks (client_befalls interface) m h (Ok tt) k
+  Hears_it m h k = hears_at (client_side interface) m h (Ok tt) k
 
   stands_0 : Stands (new limits) limits (7 ∷ 9 ∷ []) 0
   stands_0 = stands_none (record {}) limits (7 ∷ 9 ∷ [])

@@ -1,5 +1,5 @@
 -- As which acts a run takes what a client's end is given, whatever its calls are then.
-use Rattle.std.proofs.Common.{◌≡◌, ℕ, ◌+◌, ◌-◌, ◌<◌, ◌≤◌, Bool, true, false, List, [], ◌∷◌, ◌++◌, length, drop, Option, Some, None, refl, sym, ap, subst, ◌∙◌, inl, inr, arith, rules}
+use Rattle.std.proofs.Common.{◌≡◌, ℕ, ◌+◌, ◌-◌, ◌<◌, ◌≤◌, true, false, List, [], ◌∷◌, ◌++◌, length, drop, Option, Some, None, refl, sym, ap, subst, ◌∙◌, inl, inr, arith, rules}
 use Rattle.std.proofs.Math.ListN.{length-drop}
 use Rattle.giop_cdr.specs.Ending.{ended}
 use Rattle.giop_cdr.specs.Layout.{number, signed, octets, such, field, gives, chosen}
@@ -24,7 +24,6 @@ use Rattle.giop_calls.specs.declared.client.entry.ClientEntry.{ClientEntry}
 use Rattle.giop_calls.specs.declared.client.event.ClientEvent.{ClientEvent}
 use Rattle.giop_calls.specs.declared.client.event.ClientEvent.TheVariants as event
 use Rattle.giop_calls.specs.declared.client.rule.ClientRule.{ClientRule}
-use Rattle.giop_calls.specs.ClientTable.{client_step, is_closed, is_gathering}
 use Rattle.giop_session.specs.declared.acts.form.Form.{Form}
 use Rattle.giop_session.specs.declared.laws.inputs.Answered.{Answered}
 use Rattle.giop_session.specs.declared.laws.inputs.ClientInput.{ClientInput}
@@ -34,10 +33,9 @@ use Rattle.giop_session.specs.declared.calls.plan.Plan.TheVariants.{Put}
 use Rattle.giop_session.specs.declared.calls.plan.Planned.{Planned}
 use Rattle.giop_session.specs.Calls.CallTable.{Held}
 use Rattle.giop_session.specs.Acts.ClientCalls.{IsCancel, IsLocate, locate_octets, open_version}
-use Rattle.giop_session.specs.Hearing.ClientHears.{client_befalls, client_breaks}
+use Rattle.giop_session.specs.Hearing.ClientHears.{client_side}
 use Rattle.giop_session.specs.Runs.ClientRuns.{client_deed, client_entry}
 use Rattle.giop_session.specs.Runs.Driven.{IsAct, TakesAs}
-use Rattle.giop_session.specs.Hearing.Heard.{in_call}
 use Rattle.giop_session.specs.Runs.Inputs.{Does, Input, Reads}
 use Rattle.laws_in_use.specs.Asking.{Acts, one_way_by}
 use Rattle.laws_in_use.specs.Locating.{door, door_begins, door_ends, key, key_big, key_little}
@@ -77,7 +75,7 @@ module _ (interface : Interface) (limits : Limits) where
 
   pub are_acted : (unread left : Unread) (h k : Held ClientRule ClientEntry) (inputs : List ClientInput) (answers : List (Answered ClientEntry))
       (acts : List (Input ClientEvent))
-      → TakesAs (λ rule. client_step) (λ rule. is_closed) is_gathering in_call client_breaks (client_befalls interface)
+      → TakesAs (client_side interface)
       (client_deed interface limits) unread h inputs answers acts left k
       → AreActed inputs acts
   are_acted unread left h k [] [] acts taken = taken.0

@@ -25,8 +25,8 @@ use Rattle.giop_session.specs.declared.calls.plan.Plan.TheVariants.{Next, Put}
 use Rattle.giop_session.specs.Acts.ClientCalls.{locate_fault}
 use Rattle.giop_session.specs.Calls.CallTable.{Call, First, Held, Hears, More, Nothing, at, put_call}
 use Rattle.giop_session.specs.Calls.Sending.{entry_of}
-use Rattle.giop_session.specs.Hearing.ClientHears.{client_befalls, client_breaks}
-use Rattle.giop_session.specs.Hearing.Heard.{hears_by, in_call, kept}
+use Rattle.giop_session.specs.Hearing.ClientHears.{client_befalls, client_breaks, client_side}
+use Rattle.giop_session.specs.Hearing.Heard.{kept, hears as hears_at}
 use Rattle.giop_session.specs.Items.Carries.{Carries}
 use Rattle.giop_session.specs.Items.ClientCarries.{ClientItem, client_telling, unknown}
 use Rattle.giop_session.specs.Runs.ClientRuns.{ClientRuns, ClientTakesAs, client_entry}
@@ -100,7 +100,7 @@ module _ (interface : Interface) (forms : Forms) where
   at_3 = at-put seven_2 7 gathering 7
 
   abbrev Hears_it : Msg → End → End → Type 0
-  Hears_it m h k = hears_by (λ rule. client_step) (λ rule. is_closed) is_gathering in_call client_breaks (client_befalls interface) m h (Ok tt) k
+  Hears_it m h k = hears_at (client_side interface) m h (Ok tt) k
 
   sends : Does_it 7 (record { event = event.Send; plan = Next }) door_ends (one_1 interface) seven_2
   sends =

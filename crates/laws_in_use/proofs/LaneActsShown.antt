@@ -27,10 +27,10 @@ use Rattle.giop_calls.specs.declared.server.entry.ServerEntry.{ServerEntry}
 use Rattle.giop_calls.specs.declared.server.entry.ServerEntry.TheVariants.{Gathering}
 use Rattle.giop_session.specs.declared.session_fault.SessionFault.{SessionFault}
 use Rattle.giop_session.specs.declared.session_fault.SessionFault.TheVariants.{NoMemory}
-use Rattle.giop_session.specs.Calls.CallTable.{Act, Call, Hears, Nothing, at, put_call}
-use Rattle.giop_session.specs.Hearing.ClientHears.{client_befalls, client_breaks}
+use Rattle.giop_session.specs.Calls.CallTable.{Call, Hears, Nothing, at, put_call}
+use Rattle.giop_session.specs.Hearing.ClientHears.{client_befalls, client_breaks, client_side}
 use Rattle.giop_session.specs.Worlds.Coding.{coding}
-use Rattle.giop_session.specs.Hearing.Heard.{hears_by, in_call, kept}
+use Rattle.giop_session.specs.Hearing.Heard.{kept, hears as hears_at}
 use Rattle.giop_session.specs.Worlds.LaneAtEnds.{IsOfLimit}
 use Rattle.giop_session.specs.Worlds.Tracks.{ClientShows, IsToClient, IsToServer, ServerShows}
 use Rattle.laws_in_use.specs.Asking.{here}
@@ -122,7 +122,7 @@ unfolding locate_reply locate_reply_head locate_status leads made_of remainder n
 befalls interface = refl
 
 pub heard_answer : (interface : Interface)
-    → hears_by (λ rule. client.client_step) (λ rule. client.is_closed) client.is_gathering in_call client_breaks (client_befalls interface)
+    → hears_at (client_side interface)
     here_big awaiting (Ok tt) (put_call awaiting 7 (asking.located))
 heard_answer interface =
     hears client.client_step client.is_closed client.is_gathering client_breaks (client_befalls interface) awaiting limits ids 0 here_big 7

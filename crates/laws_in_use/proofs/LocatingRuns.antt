@@ -21,9 +21,9 @@ use Rattle.giop_ids.specs.Runs.{Does}
 use Rattle.giop_session.specs.Calls.CallTable.{Act, Answers, Call, First, Hears, Held, More, Nothing, Reply, at, put_call, rules_of}
 use Rattle.giop_session.specs.Runs.EndRuns.{ServerTakes}
 use Rattle.giop_session.specs.Hearing.Feeding.{Fed, Through}
-use Rattle.giop_session.specs.Hearing.Heard.{hears_by, in_call, kept, silent}
+use Rattle.giop_session.specs.Hearing.Heard.{kept, silent, hears as hears_at}
 use Rattle.giop_session.specs.Runs.Inputs.{nothing_unread}
-use Rattle.giop_session.specs.Hearing.ServerHears.{server_befalls, server_breaks}
+use Rattle.giop_session.specs.Hearing.ServerHears.{server_befalls, server_breaks, server_side}
 use Rattle.giop_session.specs.declared.session_fault.SessionFault.{SessionFault}
 use Rattle.giop_session.specs.declared.limits.Limits.{Limits}
 use Rattle.laws_in_use.specs.Locating.{bad, cancel_big, cancel_little, door, door_begins, door_ends, door_whole, here_big, here_little, key, key_big, key_little, limits, one_way, other_way, tight_limits}
@@ -142,7 +142,7 @@ module _ (interface : Interface) where
 
   -- what a message does at these ends
   abbrev pub Hears_it : Msg → End → End → Type 0
-  Hears_it m h k = hears_by (λ rule. server_step) (λ rule. is_closed) is_gathering in_call server_breaks (server_befalls interface) m h (Ok tt) k
+  Hears_it m h k = hears_at (server_side interface) m h (Ok tt) k
 
   pub begun : Hears_it door_begins (new limits) one_1
   begun = hears server_step is_closed is_gathering server_breaks (server_befalls interface) (new limits) limits ids 0 door_begins 7

@@ -9,7 +9,6 @@ use Rattle.giop_calls.specs.declared.server.entry.ServerEntry.{ServerEntry}
 use Rattle.giop_calls.specs.declared.server.event.ServerEvent.{ServerEvent}
 use Rattle.giop_calls.specs.declared.server.event.ServerEvent.TheVariants as event
 use Rattle.giop_calls.specs.declared.server.rule.ServerRule.{ServerRule}
-use Rattle.giop_calls.specs.ServerTable.{is_closed, is_gathering, server_step}
 use Rattle.giop_session.specs.declared.laws.inputs.Answered.{Answered}
 use Rattle.giop_session.specs.declared.laws.inputs.ServerInput.{ServerInput}
 use Rattle.giop_session.specs.declared.laws.inputs.ServerInput.TheVariants as input
@@ -19,10 +18,9 @@ use Rattle.giop_session.specs.Calls.CallTable.{Held}
 use Rattle.giop_session.specs.Items.Carries.{done_by}
 use Rattle.giop_session.specs.Runs.Driven.{IsAct, TakesAs}
 use Rattle.giop_session.specs.Runs.Events.{Local}
-use Rattle.giop_session.specs.Hearing.Heard.{in_call}
 use Rattle.giop_session.specs.Runs.Inputs.{Does, Input, Reads}
 use Rattle.giop_session.specs.Acts.ServerAnswers.{IsLocateAnswer, locate_of}
-use Rattle.giop_session.specs.Hearing.ServerHears.{server_befalls, server_breaks}
+use Rattle.giop_session.specs.Hearing.ServerHears.{server_side}
 use Rattle.giop_session.specs.Runs.ServerRuns.{server_deed, server_entry}
 use Rattle.laws_in_use.specs.Locating.{one_way_by}
 use Rattle.laws_in_use.specs.Runs.{server_given}
@@ -59,7 +57,7 @@ module _ (interface : Interface) (limits : Limits) where
 
   pub are_acted : (unread left : Unread) (h k : Held ServerRule ServerEntry) (inputs : List ServerInput) (answers : List (Answered ServerEntry))
       (acts : List (Input ServerEvent))
-      → TakesAs (λ rule. server_step) (λ rule. is_closed) is_gathering in_call server_breaks (server_befalls interface)
+      → TakesAs (server_side interface)
       (server_deed interface limits) unread h inputs answers acts left k
       → AreActed inputs acts
   are_acted unread left h k [] [] acts taken = taken.0

@@ -1,5 +1,5 @@
 -- What a run of a server's end is given holds the calls that are said, by whatever message it answers.
-use Rattle.std.proofs.Common.{◌≡◌, ℕ, true, List, [], ◌∷◌, ◌++◌, map, None, refl, sym, subst}
+use Rattle.std.proofs.Common.{◌≡◌, ◌∙◌, ℕ, true, List, [], ◌∷◌, ◌++◌, ap, map, None, refl, sym, subst}
 use Rattle.giop_types.specs.declared.json.interface.Interface.{Interface}
 use Rattle.giop_msg.specs.Laws.{IsTable}
 use Rattle.giop_msg.specs.Locate.{locate_request}
@@ -8,23 +8,28 @@ use Rattle.giop_msg.specs.declared.version.Version.TheVariants.{V10, V12}
 use Rattle.giop_mux.specs.Runs.{Hears, IsTaken}
 use Rattle.giop_calls.specs.declared.server.entry.ServerEntry.{ServerEntry}
 use Rattle.giop_calls.specs.declared.server.event.ServerEvent.{ServerEvent}
-use Rattle.giop_calls.specs.declared.server.event.ServerEvent.TheVariants.{AnswerLocate}
+use Rattle.giop_calls.specs.declared.server.event.ServerEvent.TheVariants.{AnswerLocate, First, Last}
+use Rattle.giop_calls.specs.declared.kind.CallKind.TheVariants as kind
+use Rattle.giop_calls.specs.ServerTable.{is_closed, is_gathering, server_step}
 use Rattle.giop_calls.specs.declared.server.heard.HeardCall.TheVariants as heard
 use Rattle.giop_calls.specs.declared.server.rule.ServerRule.{ServerRule}
 use Rattle.giop_session.specs.declared.laws.inputs.Answered.{Answered}
 use Rattle.giop_session.specs.declared.laws.inputs.ServerInput.{ServerInput}
 use Rattle.giop_session.specs.Calls.Begun.{no_calls}
-use Rattle.giop_session.specs.Calls.CallTable.{Held}
+use Rattle.giop_session.specs.Calls.CallTable.{Held, turn}
+use Rattle.giop_session.specs.Hearing.ServerHears.{server_befalls}
 use Rattle.giop_session.specs.Items.Carries.{CarriesItem, Did, Got, done_by}
-use Rattle.giop_session.specs.Runs.Events.{Comes, Event, Local, own_events}
+use Rattle.giop_session.specs.Runs.Events.{Comes, Event, Local, history, no_call, own_events}
+use Rattle.giop_session.specs.Runs.Fits.{server_history}
 use Rattle.giop_session.specs.Runs.Events.{Does as DoesTo}
 use Rattle.giop_session.specs.Runs.Inputs.{Does, Holds, Input, nothing_unread}
 use Rattle.giop_session.specs.Items.ServerCarries.{server_telling}
 use Rattle.giop_session.specs.Runs.ServerRuns.{ServerHolds, ServerTakesAs}
-use Rattle.laws_in_use.specs.Locating.{door, door_begins, door_ends, limits, said_of_nine}
-use Rattle.laws_in_use.specs.Runs.{said_and_taken, server_given, server_said}
+use Rattle.laws_in_use.specs.Locating.{answering, door, door_begins, door_ends, here_big, limits, said_of_nine}
+use Rattle.laws_in_use.specs.Runs.{history_of_door, said_and_taken, server_given, server_said}
 use Rattle.laws_in_use.proofs.ByIds.{by_id, if_is}
 use Rattle.laws_in_use.proofs.LocatingHolds.{CarriesSaid, one_are_then, one_by, one_events_by, one_nine, one_own, one_seven_then}
+use Rattle.laws_in_use.proofs.LocatingMessages.{decoded}
 use Rattle.laws_in_use.proofs.LocatingReads.{wide}
 use Rattle.laws_in_use.proofs.ServerRunActs.{AreActed, are_acted, of_run, run_acts}
 
@@ -44,6 +49,13 @@ module _ (interface : Interface) (old : IsTable (locate_request V10)) (table : I
         (one_seven_then interface old table cut act answers (Did IsTaken ∷ []) takes (takes, [], refl, (7, IsTaken, refl, refl), refl))
         (one_nine interface old table cut act answers) refl (λ id. own_events id (one_events_by act ++ takes)) (one_own act takes),
   )
+
+  -- and the table is told this of 7
+  pub door_told : server_history interface 7 (run_holds (answering here_big) refl).0 ≡ history_of_door
+  unfolding run_holds
+  door_told =
+      ap (history (turn server_step is_closed is_gathering) (server_befalls interface) no_call) (one_own (answering here_big) takes 7)
+      ∙ ap (λ call. Hears (First kind.Locate) ∷ Hears (Last true call) ∷ Hears (AnswerLocate true) ∷ IsTaken ∷ []) (decoded interface).door_joined
 
   -- so do the acts as which any end takes that
   pub holds_of_run : (inputs : List ServerInput) (answers : List (Answered ServerEntry)) (left : Unread) (k : Held ServerRule ServerEntry)

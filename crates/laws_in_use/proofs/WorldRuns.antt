@@ -51,11 +51,11 @@ use Rattle.giop_session.specs.Acts.ClientCalls.{IsLocate, cancel_fault, locate_f
 use Rattle.giop_session.specs.Runs.ClientRuns.{ClientIsGiven, client_entry}
 use Rattle.giop_session.specs.Runs.Driven.{EndState, Says, new_end}
 use Rattle.giop_session.specs.Hearing.Feeding.{Fed, Through}
-use Rattle.giop_session.specs.Hearing.Heard.{hears_by, in_call, kept}
+use Rattle.giop_session.specs.Hearing.Heard.{in_call, kept, hears}
 use Rattle.giop_session.specs.Acts.Putting.{Befell, Puts, octets_of}
 use Rattle.giop_session.specs.Calls.Sending.{entry_of, message_of, unsent_of}
 use Rattle.giop_session.specs.Calls.Unsent.{first_of}
-use Rattle.giop_session.specs.Hearing.ServerHears.{server_befalls, server_breaks}
+use Rattle.giop_session.specs.Hearing.ServerHears.{server_befalls, server_side}
 use Rattle.giop_session.specs.Runs.ServerRuns.{ServerIsGiven, server_entry}
 use Rattle.giop_session.specs.Worlds.World.{Told, WorldRuns, WorldState, new_world, told_of_answer}
 use Rattle.laws_in_use.specs.Left.{new_client}
@@ -141,7 +141,7 @@ module _ (interface : Interface)
     → IsAccepted client.client_step 9 planned (new_client limits) [] k out')
     (split : OneSplit)
     (own : (k : Held ServerRule ServerEntry)
-    → Through (hears_by (λ rule. server.server_step) (λ rule. server.is_closed) server.is_gathering in_call server_breaks (server_befalls interface))
+    → Through (hears (server_side interface))
     (new_server limits) (key_little ∷ []) k
     → at k 9
     ≡ alone_heard (turn server.server_step server.is_closed server.is_gathering) (server_befalls interface) (at (new_server limits) 9)
@@ -187,7 +187,7 @@ module _ (interface : Interface)
 
   -- and stands then
   stands : (k : Held ServerRule ServerEntry)
-      → Through (hears_by (λ rule. server.server_step) (λ rule. server.is_closed) server.is_gathering in_call server_breaks (server_befalls interface))
+      → Through (hears (server_side interface))
       (new_server limits) (key_little ∷ []) k
       → server_entry k 9 ≡ Some (LocateAsked key)
   stands k through =

@@ -4,12 +4,20 @@ use Rattle.std.specs.Prelude.{◌≡◌, ℕ, true, ◌==◌, if◌then◌else�
 use Rattle.giop_cdr.specs.declared.fault.CdrKind.TheVariants.{Short}
 use Rattle.giop_cdr.specs.declared.order.Order.TheVariants.{Big, Little}
 use Rattle.giop_msg.specs.Msg.{message_octets}
-use Rattle.giop_mux.specs.Runs.{IsTaken}
+use Rattle.giop_msg.specs.declared.version.Version.TheVariants.{V12}
+use Rattle.giop_mux.specs.Runs.{Happening, Hears, IsTaken}
 use Rattle.giop_calls.specs.declared.client.call.Call.TheVariants.{Locate}
 use Rattle.giop_calls.specs.declared.client.entry.ClientEntry.{ClientEntry}
 use Rattle.giop_calls.specs.declared.client.entry.ClientEntry.TheVariants.{Undecoded}
+use Rattle.giop_calls.specs.declared.client.event.ClientEvent.{ClientEvent}
+use Rattle.giop_calls.specs.declared.client.event.ClientEvent.TheVariants as at_client
+use Rattle.giop_calls.specs.declared.client.heard.HeardReply.TheVariants as replied
+use Rattle.giop_calls.specs.declared.kind.CallKind.TheVariants as kind
 use Rattle.giop_calls.specs.declared.server.entry.ServerEntry.{ServerEntry}
 use Rattle.giop_calls.specs.declared.server.entry.ServerEntry.TheVariants.{LocateAnswered}
+use Rattle.giop_calls.specs.declared.server.event.ServerEvent.{ServerEvent}
+use Rattle.giop_calls.specs.declared.server.event.ServerEvent.TheVariants as at_server
+use Rattle.giop_calls.specs.declared.server.heard.HeardCall.TheVariants as asked
 use Rattle.giop_session.specs.declared.laws.inputs.Answered.{Answered}
 use Rattle.giop_session.specs.declared.laws.inputs.Answered.TheVariants as answer
 use Rattle.giop_session.specs.declared.laws.inputs.CheckedForm.{CheckedForm}
@@ -20,7 +28,7 @@ use Rattle.giop_session.specs.declared.laws.inputs.ServerInput.TheVariants as se
 use Rattle.giop_session.specs.Items.Carries.{Did}
 use Rattle.giop_session.specs.Items.ClientCarries.{ClientItem}
 use Rattle.giop_session.specs.Items.ServerCarries.{ServerItem}
-use Rattle.laws_in_use.specs.Asking.{here_begins, here_ends, short, told_of_nine, told_of_seven, unknown_little}
+use Rattle.laws_in_use.specs.Asking.{here, here_begins, here_ends, short, told_of_nine, told_of_seven, unknown_little}
 use Rattle.laws_in_use.specs.Locating.{bad, cancel_big, door, door_begins, door_ends, key, key_little, said_of_nine, said_of_seven}
 
 -- octets come in four reads; before the last the server answers that `door` is here, and at the end
@@ -54,6 +62,16 @@ door_taken = answer.Taken (Some (LocateAnswered (Some door.target) true))
 abbrev pub server_answers : List (Answered ServerEntry)
 server_answers =
     answer.Done ∷ answer.Done ∷ answer.Done ∷ answer.Done ∷ answer.Done ∷ door_taken ∷ []
+
+-- what the server's table is told of 7: `door` is asked for in two pieces, which are read together,
+-- it is answered, and the entry is taken out
+abbrev pub history_of_door : List (Happening ServerEvent)
+history_of_door =
+    Hears (at_server.First kind.Locate)
+    ∷ Hears (at_server.Last true (asked.Locate door))
+    ∷ Hears (at_server.AnswerLocate true)
+    ∷ IsTaken
+    ∷ []
 
 -- what that says of 7
 abbrev pub said_and_taken : List ServerItem
@@ -97,6 +115,15 @@ abbrev pub client_answers : List (Answered ClientEntry)
 client_answers =
     answer.Done ∷ answer.Done ∷ answer.Done ∷ answer.Done ∷ answer.Done ∷ answer.Done
     ∷ answer.Done ∷ answer.Done ∷ key_taken ∷ []
+
+-- what the client's table is told of 7: it asks for `door` in two pieces, and is answered in two
+abbrev pub history_of_asking : List (Happening ClientEvent)
+history_of_asking =
+    Hears (at_client.Call (Locate door) 2)
+    ∷ Hears at_client.Send
+    ∷ Hears (at_client.First kind.Locate V12)
+    ∷ Hears (at_client.Last true (replied.Locate here))
+    ∷ []
 
 -- what that says of 9
 abbrev pub told_and_taken : List ClientItem

@@ -8,9 +8,9 @@ ghost use Rattle.giop_calls.specs.ServerTable.{is_closed, is_gathering, left_of,
 ghost use Rattle.giop_session.specs.Calls.CallTable.{at, is_of_call, rules_of};
 ghost use Rattle.giop_session.specs.Runs.Events.{Comes, Meets};
 ghost use Rattle.giop_session.specs.Hearing.Feeding.{Fed, Through};
-ghost use Rattle.giop_session.specs.Hearing.Heard.{hears_by, in_call};
+ghost use Rattle.giop_session.specs.Hearing.Heard.{hears};
 ghost use Rattle.giop_session.specs.Runs.LeftToSend.{ArePlanned, IsLeft, ServerPlans};
-ghost use Rattle.giop_session.specs.Hearing.ServerHears.{server_befalls, server_breaks};
+ghost use Rattle.giop_session.specs.Hearing.ServerHears.{server_side};
 ghost use Rattle.laws_in_use.specs.Heard.{asked_and_begun, asks, begins, begun_and_asked, gathering, reads, silence, unread};
 ghost use Rattle.laws_in_use.specs.Limited.{new_server};
 ghost use Rattle.laws_in_use.specs.Locating.{door_begins, key_little, limits};
@@ -26,29 +26,22 @@ use giop_session::laws::{
 /// of either is unsent.
 pub fn two_messages_are_heard(rule: &ServerRule)
     ensures heard { (interface : Interface) → (k : _)
-        × Through (hears_by (λ rule. server_step) (λ rule. is_closed) is_gathering in_call
-        server_breaks (server_befalls interface)) (new_server limits) begun_and_asked k }
+        × Through (hears (server_side interface)) (new_server limits) begun_and_asked k }
     ensures seven { (interface : Interface) (k : _)
-        → Through (hears_by (λ rule. server_step) (λ rule. is_closed) is_gathering in_call
-        server_breaks (server_befalls interface)) (new_server limits) begun_and_asked k
+        → Through (hears (server_side interface)) (new_server limits) begun_and_asked k
         → at k 7 ≡ gathering }
     ensures either { (interface : Interface) (k k' : _)
-        → Through (hears_by (λ rule. server_step) (λ rule. is_closed) is_gathering in_call
-        server_breaks (server_befalls interface)) (new_server limits) begun_and_asked k
-        → Through (hears_by (λ rule. server_step) (λ rule. is_closed) is_gathering in_call
-        server_breaks (server_befalls interface)) (new_server limits) asked_and_begun k'
+        → Through (hears (server_side interface)) (new_server limits) begun_and_asked k
+        → Through (hears (server_side interface)) (new_server limits) asked_and_begun k'
         → (id : ℕ) → at k id ≡ at k' id }
     ensures in_one { (interface : Interface) → (k : _)
-        × Fed (hears_by (λ rule. server_step) (λ rule. is_closed) is_gathering in_call
-        server_breaks (server_befalls interface)) reads (new_server limits) (Ok tt)
+        × Fed (hears (server_side interface)) reads (new_server limits) (Ok tt)
         unread k }
     ensures came { (interface : Interface) → (k : _)
-        × Meets (λ rule. server_step) (λ rule. is_closed) is_gathering in_call server_breaks
-        (server_befalls interface) (new_server limits) (Comes door_begins ∷ []) k }
+        × Meets (server_side interface) (new_server limits) (Comes door_begins ∷ []) k }
     ensures planned { ArePlanned ServerPlans (Comes door_begins ∷ []) }
     ensures left { (interface : Interface) (k : _)
-        → Meets (λ rule. server_step) (λ rule. is_closed) is_gathering in_call server_breaks
-        (server_befalls interface) (new_server limits) (Comes door_begins ∷ []) k
+        → Meets (server_side interface) (new_server limits) (Comes door_begins ∷ []) k
         → (id : ℕ) → IsLeft left_of (finite.get k.table id) }
 {
     own_messages_alone(rule);
@@ -81,8 +74,7 @@ pub fn two_acts_in_two_orders(rule: &ServerRule)
         → ((id : ℕ) → MeetsNoLimit is_of_call id (asks ∷ begins ∷ []) results')
         → (id : ℕ) → at k id ≡ at k' id }
     ensures met { (interface : Interface) (k : _)
-        → Meets (λ rule. server_step) (λ rule. is_closed) is_gathering in_call server_breaks
-        (server_befalls interface) (new_server limits)
+        → Meets (server_side interface) (new_server limits)
         (Comes door_begins ∷ Comes key_little ∷ []) k
         → at k 7 ≡ gathering }
 {

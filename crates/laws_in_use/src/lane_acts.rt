@@ -10,15 +10,13 @@ ghost use Rattle.giop_calls.specs.declared.kind.CallKind.TheVariants as kind;
 ghost use Rattle.giop_calls.specs.declared.server.entry.ServerEntry.{ServerEntry};
 ghost use Rattle.giop_calls.specs.declared.server.entry.ServerEntry.TheVariants.{Gathering};
 ghost use Rattle.giop_calls.specs.declared.server.rule.ServerRule.{ServerRule};
-ghost use Rattle.giop_calls.specs.ClientTable as client;
-ghost use Rattle.giop_calls.specs.ServerTable as server;
 ghost use Rattle.giop_session.specs.declared.session_fault.SessionFault.TheVariants.{NoMemory};
 ghost use Rattle.giop_session.specs.Calls.CallTable.{at, Held};
-ghost use Rattle.giop_session.specs.Hearing.ClientHears.{client_befalls, client_breaks};
+ghost use Rattle.giop_session.specs.Hearing.ClientHears.{client_side};
 ghost use Rattle.giop_session.specs.Worlds.Coding.{coding};
-ghost use Rattle.giop_session.specs.Hearing.Heard.{hears_by, in_call};
+ghost use Rattle.giop_session.specs.Hearing.Heard.{hears};
 ghost use Rattle.giop_session.specs.Calls.Sending.{entry_of};
-ghost use Rattle.giop_session.specs.Hearing.ServerHears.{server_befalls, server_breaks};
+ghost use Rattle.giop_session.specs.Hearing.ServerHears.{server_side};
 ghost use Rattle.giop_session.specs.Worlds.Tracks.{ClientShows, IsToClient, IsToServer, ServerShows};
 ghost use Rattle.laws_in_use.specs.LaneActs.{answered_acts, answered_lane, asked_acts, asked_lane, awaiting};
 ghost use Rattle.laws_in_use.specs.Limited.{new_server};
@@ -35,17 +33,14 @@ pub fn a_server_gathers_as_its_lane()
     ensures shows { ServerShows 7 (at (new_server limits) 7) asked_lane }
     ensures next { IsToServer 7 door_begins }
     ensures heard { (interface : Interface) → (k : _)
-        × hears_by (λ rule. server.server_step) (λ rule. server.is_closed) server.is_gathering
-        in_call server_breaks (server_befalls interface) door_begins (new_server limits) (Ok tt) k }
+        × hears (server_side interface) door_begins (new_server limits) (Ok tt) k }
     ensures gathers { (interface : Interface) (h k : Held ServerRule ServerEntry)
         → ServerShows 7 (at h 7) asked_lane
-        → hears_by (λ rule. server.server_step) (λ rule. server.is_closed) server.is_gathering
-        in_call server_breaks (server_befalls interface) door_begins h (Ok tt) k
+        → hears (server_side interface) door_begins h (Ok tt) k
         → (entry_of (at k 7).slot ≡ Some (Gathering kind.Locate))
         × ((other : ℕ) → other ≢ 7 → at k other ≡ at h other) }
     ensures refused { (interface : Interface) (k : Held ServerRule ServerEntry) (why : _)
-        → hears_by (λ rule. server.server_step) (λ rule. server.is_closed) server.is_gathering
-        in_call server_breaks (server_befalls interface) door_begins (new_server limits) (Err why)
+        → hears (server_side interface) door_begins (new_server limits) (Err why)
         k → (k ≡ new_server limits) × (why ≡ NoMemory) }
 {
     servers_do_the_lanes_act();
@@ -60,17 +55,14 @@ pub fn a_client_is_answered_as_its_lane()
     ensures shows { ClientShows 7 (at awaiting 7) answered_lane }
     ensures next { IsToClient 7 here_big }
     ensures heard { (interface : Interface) → (k : _)
-        × hears_by (λ rule. client.client_step) (λ rule. client.is_closed) client.is_gathering
-        in_call client_breaks (client_befalls interface) here_big awaiting (Ok tt) k }
+        × hears (client_side interface) here_big awaiting (Ok tt) k }
     ensures answered { (interface : Interface) (h k : Held ClientRule ClientEntry)
         → ClientShows 7 (at h 7) answered_lane
-        → hears_by (λ rule. client.client_step) (λ rule. client.is_closed) client.is_gathering
-        in_call client_breaks (client_befalls interface) here_big h (Ok tt) k
+        → hears (client_side interface) here_big h (Ok tt) k
         → (entry_of (at k 7).slot ≡ Some (LocateDone door here))
         × ((other : ℕ) → other ≢ 7 → at k other ≡ at h other) }
     ensures refused { (interface : Interface) (k : Held ClientRule ClientEntry) (why : _)
-        → hears_by (λ rule. client.client_step) (λ rule. client.is_closed) client.is_gathering
-        in_call client_breaks (client_befalls interface) here_big awaiting (Err why) k
+        → hears (client_side interface) here_big awaiting (Err why) k
         → (k ≡ awaiting) × (why ≡ NoMemory) }
 {
     clients_do_the_lanes_act();

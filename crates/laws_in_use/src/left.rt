@@ -18,7 +18,7 @@ ghost use Rattle.giop_calls.specs.ServerTable as server;
 ghost use Rattle.giop_session.specs.declared.session_fault.SessionFault.TheVariants.{Call as InCall};
 ghost use Rattle.giop_session.specs.Calls.CallTable.{Held, rules_of};
 ghost use Rattle.giop_session.specs.Acts.ClientCalls.{IsCall, IsCancel, IsLocate};
-ghost use Rattle.giop_session.specs.Hearing.ClientHears.{client_befalls, client_breaks};
+ghost use Rattle.giop_session.specs.Hearing.ClientHears.{client_side};
 ghost use Rattle.giop_session.specs.Runs.Events.{Does, Meets};
 ghost use Rattle.giop_session.specs.Hearing.Heard.{in_call};
 ghost use Rattle.giop_session.specs.Runs.LeftToSend.{ArePlanned, ClientPlans, IsLeft};
@@ -56,12 +56,10 @@ pub fn what_a_client_plans()
         → length messages ≡ 1 }
     ensures planned { ArePlanned ClientPlans (Does 7 asking ∷ []) }
     ensures met { (interface : Interface) → (k : _)
-        × Meets (λ rule. client.client_step) (λ rule. client.is_closed) client.is_gathering
-        in_call client_breaks (client_befalls interface) (new_client limits)
+        × Meets (client_side interface) (new_client limits)
         (Does 7 asking ∷ []) k }
     ensures left { (interface : Interface) (k : _)
-        → Meets (λ rule. client.client_step) (λ rule. client.is_closed) client.is_gathering
-        in_call client_breaks (client_befalls interface) (new_client limits)
+        → Meets (client_side interface) (new_client limits)
         (Does 7 asking ∷ []) k
         → (id : ℕ) → IsLeft client.left_of (finite.get k.table id) }
 {

@@ -1,14 +1,11 @@
 //! Limits in use: what is within them meets none in any order, and what meets one isn't within.
 ghost use Rattle.std.specs.Prelude.{◌≡◌, ◌≢◌, ◌∷◌, []};
 ghost use Rattle.giop_types.specs.declared.json.interface.Interface.{Interface};
-ghost use Rattle.giop_calls.specs.ClientTable as client;
-ghost use Rattle.giop_calls.specs.ServerTable.{is_closed, is_gathering, server_step};
 ghost use Rattle.giop_session.specs.declared.session_fault.SessionFault.TheVariants.{GatherFull, TooManyCalls, WrongDirection};
-ghost use Rattle.giop_session.specs.Hearing.ClientHears.{client_befalls, client_breaks};
+ghost use Rattle.giop_session.specs.Hearing.ClientHears.{client_side};
 ghost use Rattle.giop_session.specs.Runs.Events.{Comes, Does, Meets};
-ghost use Rattle.giop_session.specs.Hearing.Heard.{in_call};
 ghost use Rattle.giop_session.specs.Runs.Limits.{AreWithinAtClient, AreWithinAtServer, IsNext, Refuses};
-ghost use Rattle.giop_session.specs.Hearing.ServerHears.{server_befalls, server_breaks};
+ghost use Rattle.giop_session.specs.Hearing.ServerHears.{server_side};
 ghost use Rattle.laws_in_use.specs.Asking.{asking, sending};
 ghost use Rattle.laws_in_use.specs.Left.{new_client};
 ghost use Rattle.laws_in_use.specs.Limited.{all, asked, new_server, one_call, two_calls};
@@ -23,22 +20,16 @@ pub fn a_limit_that_is_met()
     ensures within { AreWithinAtServer limits all }
     ensures next { IsNext all (Comes door_begins ∷ []) (Comes key_little) }
     ensures came { (interface : Interface) → (h : _)
-        × Meets (λ rule. server_step) (λ rule. is_closed) is_gathering in_call server_breaks
-        (server_befalls interface) (new_server limits) (Comes door_begins ∷ []) h }
-    ensures refused { (interface : Interface) → Refuses (λ rule. server_step) (λ rule. is_closed)
-        is_gathering in_call server_breaks (server_befalls interface) (Comes here_big)
+        × Meets (server_side interface) (new_server limits) (Comes door_begins ∷ []) h }
+    ensures refused { (interface : Interface) → Refuses (server_side interface) (Comes here_big)
         (new_server limits) WrongDirection }
     ensures none { (interface : Interface) (h why : _)
-        → Meets (λ rule. server_step) (λ rule. is_closed) is_gathering in_call server_breaks
-        (server_befalls interface) (new_server limits) (Comes door_begins ∷ []) h
-        → Refuses (λ rule. server_step) (λ rule. is_closed) is_gathering in_call server_breaks
-        (server_befalls interface) (Comes key_little) h why
+        → Meets (server_side interface) (new_server limits) (Comes door_begins ∷ []) h
+        → Refuses (server_side interface) (Comes key_little) h why
         → (why ≢ TooManyCalls) × (why ≢ GatherFull) }
     ensures met { (interface : Interface) (h : _)
-        → Meets (λ rule. server_step) (λ rule. is_closed) is_gathering in_call server_breaks
-        (server_befalls interface) (new_server one_call) (Comes key_little ∷ []) h
-        → Refuses (λ rule. server_step) (λ rule. is_closed) is_gathering in_call server_breaks
-        (server_befalls interface) (Comes door_whole) h TooManyCalls
+        → Meets (server_side interface) (new_server one_call) (Comes key_little ∷ []) h
+        → Refuses (server_side interface) (Comes door_whole) h TooManyCalls
         → AreWithinAtServer one_call two_calls → ⊥ }
     ensures few { AreWithinAtServer limits (Comes key_little ∷ []) }
     ensures at_client { AreWithinAtClient limits asked }
@@ -53,11 +44,9 @@ pub fn limits_at_a_client()
     ensures within { AreWithinAtClient limits asked }
     ensures next { IsNext asked (Does 7 asking ∷ []) (Does 7 sending) }
     ensures none { (interface : Interface) (h why : _)
-        → Meets (λ rule. client.client_step) (λ rule. client.is_closed) client.is_gathering
-        in_call client_breaks (client_befalls interface) (new_client limits)
+        → Meets (client_side interface) (new_client limits)
         (Does 7 asking ∷ []) h
-        → Refuses (λ rule. client.client_step) (λ rule. client.is_closed) client.is_gathering
-        in_call client_breaks (client_befalls interface) (Does 7 sending) h why
+        → Refuses (client_side interface) (Does 7 sending) h why
         → (why ≢ TooManyCalls) × (why ≢ GatherFull) }
 {
     limits_in_any_order_at_client();

@@ -6,6 +6,11 @@ ghost use Rattle.giop_types.specs.declared.json.interface.Interface.{Interface a
 ghost use Rattle.giop_msg.specs.Msg.{message_octets};
 ghost use Rattle.giop_msg.specs.declared.messages.request_fault.RequestFault.TheVariants.{Header};
 ghost use Rattle.giop_msg.specs.declared.version.Version.TheVariants.{V10};
+ghost use Rattle.giop_ids.specs.Runs.{alone};
+ghost use Rattle.giop_calls.specs.ClientItems.{client_turn};
+ghost use Rattle.giop_calls.specs.ClientStanding as client_latest;
+ghost use Rattle.giop_calls.specs.ServerItems.{server_turn};
+ghost use Rattle.giop_calls.specs.ServerStanding as server_latest;
 ghost use Rattle.giop_calls.specs.declared.kind.CallKind.TheVariants as kind;
 ghost use Rattle.giop_calls.specs.declared.client.entry.ClientEntry.TheVariants.{LocateDone};
 ghost use Rattle.giop_calls.specs.declared.server.entry.ServerEntry.TheVariants.{Undecoded};
@@ -17,17 +22,18 @@ ghost use Rattle.giop_session.specs.Runs.ClientRuns.{client_entry, client_named,
 ghost use Rattle.giop_session.specs.Runs.Driven.{NoneRefused, own_answers};
 ghost use Rattle.giop_session.specs.Runs.RunLimits.{ClientIsGivenWithin, NoneForALimit, ServerIsGivenWithin};
 ghost use Rattle.giop_session.specs.Acts.Sent.{close_connection};
-ghost use Rattle.giop_session.specs.Runs.Fits.{ClientFits, ClientIsAsAlone, ClientSays, ServerFits, ServerIsAsAlone, ServerSays};
+ghost use Rattle.giop_session.specs.Runs.Fits.{client_history, ClientFits, ClientIsAsAlone, ClientSays, server_history, ServerFits, ServerIsAsAlone, ServerSays};
 ghost use Rattle.giop_session.specs.Runs.ServerRuns.{server_entry, server_named, ServerHolds, ServerTakesAs};
 ghost use Rattle.laws_in_use.specs.Asking.{here};
 ghost use Rattle.laws_in_use.specs.Locating as locating;
-ghost use Rattle.laws_in_use.specs.Runs.{client_answers, client_given, client_told, door_taken, Forms, key_taken, server_answers, server_given, server_given_otherwise, server_said};
+ghost use Rattle.laws_in_use.specs.Runs.{client_answers, client_given, client_told, door_taken, Forms, history_of_asking, history_of_door, key_taken, server_answers, server_given, server_given_otherwise, server_said};
 
 use giop_calls::{ClientEntry, ServerEntry};
 use giop_msg::laws::{locate_replies_are_spelled, locate_requests_are_spelled};
 use giop_session::laws::{
-    Answered, ClientInput, ServerInput, run_client, run_server, what_is_cut_is_carried,
-    what_is_taken_is_held_at_client, what_is_taken_is_held_at_server,
+    Answered, ClientInput, ServerInput, entries_stand_at_client, entries_stand_at_server,
+    run_client, run_server, what_is_cut_is_carried, what_is_taken_is_held_at_client,
+    what_is_taken_is_held_at_server,
 };
 use giop_session::{ClientEnd, Limits, ServerEnd};
 use giop_types::Interface;
@@ -38,7 +44,9 @@ use std::alloc::{AllocError, Global};
 /// that; it answers the first one, and takes its entry out. It takes all of it and gives these
 /// answers, none of which refuses, and it holds these calls. All of it is within its limits, and
 /// fits the end: each of the two calls alone is refused nothing. So it is in another order. That
-/// some calls are held, needs no look at them.
+/// some calls are held, needs no look at them. What it has stored for 7 is what the table's steps
+/// come to by the messages of 7, as they are read, and its acts; and what stands by them without
+/// steps.
 pub fn what_a_server_is_given()
     ensures taken { (interface : Described) → (acts : _) × (left : _) × (k : _)
         × ServerTakesAs interface locating.limits server_given server_answers acts left k }
@@ -55,7 +63,13 @@ pub fn what_a_server_is_given()
     ensures otherwise { (interface : Described)
         → (fits : ServerFits interface locating.limits server_given_otherwise)
         × ((id : ℕ) → ServerSays (fits.alone id) (server_said id)) }
+    ensures stands { (interface : Described) → (left : _) × (k : _) × (held :
+        ServerHolds interface locating.limits server_given server_answers left k server_said)
+        × (server_history interface 7 held.holds.0 ≡ history_of_door)
+        × (server_entry k 7 ≡ None) × (alone server_turn None history_of_door ≡ None)
+        × (server_latest.standing history_of_door ≡ None) }
 {
+    entries_stand_at_server();
     locate_requests_are_spelled();
     what_is_cut_is_carried();
     what_is_taken_is_held_at_server();
@@ -122,7 +136,9 @@ pub fn a_run_of_a_server<'a>(
 /// the late one to the second between, and octets that spell nothing; it takes that entry out. It
 /// takes all of it and gives these answers, none of which refuses, and it holds these calls. All of
 /// it is within its limits, and fits the end: each of the two calls alone is refused nothing. That
-/// some calls are held, needs no look at them.
+/// some calls are held, needs no look at them. What it has stored for 7 is what the table's steps
+/// come to by its acts and the messages of 7, as they are read; and what stands by them without
+/// steps.
 pub fn what_a_client_is_given()
     ensures forms { Forms }
     ensures taken { (interface : Described) (forms : Forms) → (acts : _) × (left : _) × (k : _)
@@ -140,7 +156,15 @@ pub fn what_a_client_is_given()
     ensures says { (interface : Described) (forms : Forms)
         → (fits : ClientFits interface locating.limits (client_given forms))
         × ((id : ℕ) → ClientSays (fits.alone id) (client_told id)) }
+    ensures stands { (interface : Described) (forms : Forms) → (left : _) × (k : _) × (held :
+        ClientHolds interface locating.limits (client_given forms) client_answers left k
+        client_told)
+        × (client_history interface 7 held.holds.0 ≡ history_of_asking)
+        × (client_entry k 7 ≡ Some (LocateDone locating.door here))
+        × (alone client_turn None history_of_asking ≡ Some (LocateDone locating.door here))
+        × (client_latest.standing history_of_asking ≡ Some (LocateDone locating.door here)) }
 {
+    entries_stand_at_client();
     locate_replies_are_spelled();
     what_is_taken_is_held_at_client();
 }

@@ -1,7 +1,7 @@
 //! The second line that `dump` writes of a message: what its head says (CORBA 3.3 Part 2, 9.4.2,
 //! 9.4.3, 9.4.5 and 9.4.6), or why it isn't read. Its text is `second_text` in specs/Dump.antt:
 //! change both.
-ghost use Rattle.std.specs.Prelude.{◌≡◌, ◌+◌, ◌-◌, ◌^◌, ◌<◌, length, OnOk};
+ghost use Rattle.std.specs.Prelude.{◌≡◌, ◌+◌, ◌-◌, ◌^◌, ◌≤◌, length, OnOk};
 ghost use Rattle.std.specs.Io.KnownBytes.{Appends};
 ghost use Rattle.giop_msg.specs.Joined.{body_place, head_of_joined, right_behind, whole_of_joined};
 ghost use Rattle.giop_msg.specs.Locate.{locate_reply_head, locate_request};
@@ -21,7 +21,7 @@ use std::io::Write;
 /// The second line of a message that no fragments follow, where its kind has one.
 #[tactic(auto, unfolding(crate::specs::Dump::second_text))]
 pub fn write_second<W: Write>(message: &Msg, writer: &mut W) -> Result<(), Failure>
-    requires { length message.now.payload < 2 ^ 32 }
+    requires { length message.now.payload ≤ 2 ^ 62 }
     ensures { OnOk result (Appends (W.contents writer.old) (W.contents writer.new)
         (second_text message.now.kind message.now)) }
 {
@@ -43,7 +43,7 @@ fn write_fault<W: Write>(fault: CdrFault, writer: &mut W) -> Result<(), Failure>
 }
 
 fn write_request<W: Write>(message: &Msg, writer: &mut W) -> Result<(), Failure>
-    requires { length message.now.payload < 2 ^ 32 }
+    requires { length message.now.payload ≤ 2 ^ 62 }
     ensures { OnOk result (Appends (W.contents writer.old) (W.contents writer.new)
         (request_text (end_of message.now) (head_of_joined (request_head message.now.version)
         (body_place message.now.version) message.now.order message.now.payload))) }
@@ -63,7 +63,7 @@ fn write_request_head<W: Write>(
     octets: usize,
     writer: &mut W,
 ) -> Result<(), Failure>
-    requires { octets < 2 ^ 32 }
+    requires { octets ≤ 2 ^ 62 }
     ensures { OnOk result (Appends (W.contents writer.old) (W.contents writer.new)
         (ended (request_line head.now (12 + octets - place)))) }
 {
@@ -73,7 +73,7 @@ fn write_request_head<W: Write>(
 }
 
 fn write_reply<W: Write>(message: &Msg, writer: &mut W) -> Result<(), Failure>
-    requires { length message.now.payload < 2 ^ 32 }
+    requires { length message.now.payload ≤ 2 ^ 62 }
     ensures { OnOk result (Appends (W.contents writer.old) (W.contents writer.new)
         (reply_text (end_of message.now) (head_of_joined (reply_head message.now.version)
         (body_place message.now.version) message.now.order message.now.payload))) }
@@ -92,7 +92,7 @@ fn write_reply_head<W: Write>(
     octets: usize,
     writer: &mut W,
 ) -> Result<(), Failure>
-    requires { octets < 2 ^ 32 }
+    requires { octets ≤ 2 ^ 62 }
     ensures { OnOk result (Appends (W.contents writer.old) (W.contents writer.new)
         (ended (reply_line head.now (12 + octets - place)))) }
 {
@@ -102,7 +102,7 @@ fn write_reply_head<W: Write>(
 }
 
 fn write_locate_request<W: Write>(message: &Msg, writer: &mut W) -> Result<(), Failure>
-    requires { length message.now.payload < 2 ^ 32 }
+    requires { length message.now.payload ≤ 2 ^ 62 }
     ensures { OnOk result (Appends (W.contents writer.old) (W.contents writer.new)
         (locate_request_text (whole_of_joined (locate_request message.now.version)
         message.now.order message.now.payload))) }
@@ -118,7 +118,7 @@ fn write_locate_request<W: Write>(message: &Msg, writer: &mut W) -> Result<(), F
 }
 
 fn write_locate_reply<W: Write>(message: &Msg, writer: &mut W) -> Result<(), Failure>
-    requires { length message.now.payload < 2 ^ 32 }
+    requires { length message.now.payload ≤ 2 ^ 62 }
     ensures { OnOk result (Appends (W.contents writer.old) (W.contents writer.new)
         (locate_reply_text (end_of message.now)
         (head_of_joined (locate_reply_head message.now.version)
@@ -138,7 +138,7 @@ fn write_locate_reply_head<W: Write>(
     octets: usize,
     writer: &mut W,
 ) -> Result<(), Failure>
-    requires { octets < 2 ^ 32 }
+    requires { octets ≤ 2 ^ 62 }
     ensures { OnOk result (Appends (W.contents writer.old) (W.contents writer.new)
         (ended (locate_reply_line head (12 + octets - place)))) }
 {

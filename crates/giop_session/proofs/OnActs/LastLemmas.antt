@@ -1,5 +1,5 @@
 -- Out of memory comes last: an act that is refused for it would have been accepted, and one that would not is refused for its own fault.
-use Rattle.std.proofs.Common.{◌≡◌, ◌↔◌, ℕ, ◌==◌, ◌-◌, not, Bool, true, false, cond, List, [], Option, Some, None, Result, Ok, Err, IsOk, is_ok, IsErrOf, refl, sym, ap, subst, ◌∙◌, inl, inr, append-nil}
+use Rattle.std.proofs.Common.{◌≡◌, ◌↔◌, ℕ, ◌==◌, ◌-◌, not, Bool, true, false, cond, List, Option, Some, None, Result, Ok, Err, IsOk, is_ok, IsErrOf, refl, sym, ap, inl, inr, append-nil}
 use Rattle.std.specs.FinMap as finite
 use Rattle.giop_cdr.specs.declared.encode_fault.EncodeFault.{EncodeFault}
 use Rattle.giop_cdr.specs.declared.encode_fault.EncodeFault.TheVariants as encode
@@ -23,7 +23,6 @@ use Rattle.giop_calls.specs.declared.server.entry.ServerEntry.{ServerEntry}
 use Rattle.giop_calls.specs.declared.server.entry.ServerEntry.TheVariants as server
 use Rattle.giop_calls.specs.declared.server.event.ServerEvent.{ServerEvent}
 use Rattle.giop_calls.specs.declared.server.event.ServerEvent.TheVariants as event
-use Rattle.giop_calls.specs.declared.server.undecoded.UndecodedCall.{UndecodedCall}
 use Rattle.giop_calls.specs.ClientTable as client_table
 use Rattle.giop_calls.specs.ServerTable as server_table
 use Rattle.giop_session.specs.declared.acts.form.Form.{Form}
@@ -37,7 +36,7 @@ use Rattle.giop_session.specs.declared.calls.table_fault.TableFault.TheVariants 
 use Rattle.giop_session.specs.declared.session_fault.SessionFault.{SessionFault}
 use Rattle.giop_session.specs.declared.session_fault.SessionFault.TheVariants.{NoMemory}
 use Rattle.giop_session.specs.Acts.Putting.{Befell, Puts}
-use Rattle.giop_session.specs.Acts.ServerAnswers.{IsAnswer, IsFitAnswer, answer_fault, expects_locate, is_locate, locate_of, question_of, unasked_fault, undecoded_locate, undecoded_question}
+use Rattle.giop_session.specs.Acts.ServerAnswers.{IsAnswer, IsFitAnswer, answer_fault, expects_locate, locate_of, question_of, unasked_fault, undecoded_locate, undecoded_question}
 use Rattle.giop_session.specs.Calls.CallTable.{Held, Hears, Nothing, at, brought, event_reply, limit, rules_of, turned}
 use Rattle.giop_session.specs.Calls.Sending.{entry_of, settled_by, unsent_of}
 use Rattle.giop_session.specs.Hearing.Heard.{in_call, kept, told_of}

@@ -18,7 +18,6 @@ use Rattle.giop_msg.specs.declared.version.Version.{Version}
 use Rattle.giop_msg.specs.Cut.{AreFragments, IsCut}
 use Rattle.giop_msg.specs.Msg.{message_octets}
 use Rattle.giop_msg.specs.RequestId.{request_id_of}
-use Rattle.giop_mux.specs.declared.step.Step.{Step}
 use Rattle.giop_session.specs.declared.laws.inputs.Answered.{Answered}
 use Rattle.giop_session.specs.declared.laws.inputs.Answered.TheVariants as answer
 use Rattle.giop_session.specs.declared.calls.plan.Plan.{Plan}
@@ -29,10 +28,10 @@ use Rattle.giop_session.specs.declared.session_fault.SessionFault.{SessionFault}
 use Rattle.giop_session.specs.declared.calls.slot.Slot.{Slot}
 use Rattle.giop_session.specs.declared.calls.table_fault.TableFault.{TableFault}
 use Rattle.giop_session.specs.Calls.CallTable.{Act, Answers, Call, Held, Hears, IsTaken, Nothing, Reply, at}
-use Rattle.giop_session.specs.Calls.CallTable.{brought, event_reply, put_call, rules_of, taken, turn, turned}
+use Rattle.giop_session.specs.Calls.CallTable.{brought, event_reply, put_call, taken, turned}
 use Rattle.giop_session.specs.Runs.Driven.{Closes, Deed, EndRuns, EndState, Feeds, IsDoneBy, IsGivenBy, PutsOut, TakesOut}
 use Rattle.giop_session.specs.Hearing.Feeding.{Through}
-use Rattle.giop_session.specs.Hearing.Heard.{Befalls, Breaks, Heard, IsHeardAs, heard_by, heard_of, hears_by}
+use Rattle.giop_session.specs.Hearing.Heard.{Befalls, Breaks, Heard, IsHeardAs, heard_by, heard_of, SideOf, turn_at, rules_at, hears}
 use Rattle.giop_session.specs.Acts.PutOut.{AreOf, ArePutOut}
 use Rattle.giop_session.specs.Acts.Putting.{Puts, octets_of, put_out}
 use Rattle.giop_session.specs.Calls.Sending.{entry_of, message_of, sending_step, settled_by, slot_of, unsent_after, unsent_of}
@@ -124,8 +123,7 @@ module _ (sends : Kind → Bool) where
   DeedIsOf {V} (TakesOut id) = Unit {0}
   DeedIsOf {V} Closes = sends CloseConnection ≡ true
 
-  module _ {R E V A F : Type 0} (next : R → Option E → V → Step E A F) (closed : R → E → Bool) (gathering : E → Bool)
-      (of_rule : ℕ → F → SessionFault) (breaks : Msg → Option SessionFault) (befalls : Msg → Call E → Act V) where
+  module _ {R E V A F : Type 0} (side : SideOf R E V A F) where
     slot_is : (entry : Option E) (unsent : List Msg) → AreOf sends unsent → SlotIsOf (slot_of entry unsent)
     slot_is None unsent are = tt
     slot_is (Some entry) unsent are = are
@@ -147,7 +145,7 @@ module _ (sends : Kind → Bool) where
     settled_sends entry plan unsent (Err why) sent is planned are = absurd cc
 
     turned_is : (pieces : Option Pieces) (call : Call E) (slot : Option (Slot E)) (outcome : Result (Sends A) F) → SlotIsOf call.slot
-        → SlotIsOf slot → SlotIsOf (left call (turned gathering pieces slot outcome)).slot
+        → SlotIsOf slot → SlotIsOf (left call (turned side.gathering pieces slot outcome)).slot
     turned_is pieces call slot (Ok sent) before after = after
     turned_is pieces call slot (Err why) before after = before
 
@@ -158,13 +156,13 @@ module _ (sends : Kind → Bool) where
     taken_is (Some false) call is = is
 
     turn_is : (rule : R) (call : Call E) (act : Act V) → SlotIsOf call.slot → ActIsOf act
-        → SlotIsOf (left call (turn (next rule) (closed rule) gathering call act)).slot
+        → SlotIsOf (left call (turn_at side rule call act)).slot
     turn_is rule call (Hears planned brings) is act =
-        turned_is (brought brings call.pieces) call (sending_step (next rule) call.slot planned).entry
-        (sending_step (next rule) call.slot planned).outcome is
-        (settled_is (next rule (entry_of call.slot) planned.event).entry planned.plan (unsent_of call.slot)
-        (next rule (entry_of call.slot) planned.event).outcome act is)
-    turn_is rule call IsTaken is act = taken_is (option_map (λ slot. closed rule slot.entry) call.slot) call is
+        turned_is (brought brings call.pieces) call (sending_step (side.next rule) call.slot planned).entry
+        (sending_step (side.next rule) call.slot planned).outcome is
+        (settled_is (side.next rule (entry_of call.slot) planned.event).entry planned.plan (unsent_of call.slot)
+        (side.next rule (entry_of call.slot) planned.event).outcome act is)
+    turn_is rule call IsTaken is act = taken_is (option_map (λ slot. side.closed rule slot.entry) call.slot) call is
 
     put_is : (h : Held R E) (id : ℕ) (call : Call E) → TableIsOf h → SlotIsOf call.slot → TableIsOf (put_call h id call)
     put_is h id call table is q = subst SlotIsOf (sym (get-put h.table id call.slot q)) (by_test (q == id))
@@ -174,11 +172,11 @@ module _ (sends : Kind → Bool) where
         by_test false = table q
 
     does_is : (h k : Held R E) (id : ℕ) (act : Act V) (result : Result (Reply E A) (TableFault F))
-        → Does (rules_of (next h.rule) (closed h.rule) gathering) h (record { id = id; what = act }) result k
+        → Does (rules_at side h.rule) h (record { id = id; what = act }) result k
         → TableIsOf h → ActIsOf act → TableIsOf k
     does_is h k id act (Ok reply) does table is =
         subst TableIsOf (sym does.leaves)
-        (put_is h id (left (at h id) (turn (next h.rule) (closed h.rule) gathering (at h id) act)) table
+        (put_is h id (left (at h id) (turn_at side h.rule (at h id) act)) table
         (turn_is h.rule (at h id) act (table id) is))
     does_is h k id act (Err why) does table is = subst TableIsOf (sym does.leaves) table
 
@@ -188,26 +186,26 @@ module _ (sends : Kind → Bool) where
     sent_in _ other = other
 
     turned_sends : (over : Option (TableFault F)) (pieces : Option Pieces) (slot : Option (Slot E)) (outcome : Result (Sends A) F) (sent : Sends A)
-        → told (within over (turned {E = E} gathering pieces slot outcome)) ≡ Ok (Answers sent) → outcome ≡ Ok sent
+        → told (within over (turned {E = E} side.gathering pieces slot outcome)) ≡ Ok (Answers sent) → outcome ≡ Ok sent
     turned_sends None pieces slot (Ok one) sent is = ap (λ r. Ok (sent_in r sent)) is
     turned_sends (Some why) pieces slot (Ok one) sent is = absurd cc
     turned_sends None pieces slot (Err why) sent is = absurd cc
     turned_sends (Some over) pieces slot (Err why) sent is = absurd cc
 
     does_sends : (h k : Held R E) (id : ℕ) (planned : Planned V) (answered : Result (Sends A) (TableFault F)) (out : List ℕ)
-        → Does (rules_of (next h.rule) (closed h.rule) gathering) h (record { id = id; what = Hears planned Nothing }) (event_reply answered) k
+        → Does (rules_at side h.rule) h (record { id = id; what = Hears planned Nothing }) (event_reply answered) k
         → TableIsOf h → PlanIsOf planned.plan → ArePutOut sends out → ArePutOut sends (out ++ put_out answered)
     does_sends h k id planned (Err why) out does table is put = rw (append-nil out) put
     does_sends h k id planned (Ok sent) out does table is put =
         message_more out sent.message put
-        (settled_sends (next h.rule (entry_of (finite.get h.table id)) planned.event).entry planned.plan (unsent_of (finite.get h.table id))
-        (next h.rule (entry_of (finite.get h.table id)) planned.event).outcome sent
-        (turned_sends _ (brought Nothing (finite.get h.gathered id)) (sending_step (next h.rule) (finite.get h.table id) planned).entry
-        (sending_step (next h.rule) (finite.get h.table id) planned).outcome sent does.answer) is (table id))
+        (settled_sends (side.next h.rule (entry_of (finite.get h.table id)) planned.event).entry planned.plan (unsent_of (finite.get h.table id))
+        (side.next h.rule (entry_of (finite.get h.table id)) planned.event).outcome sent
+        (turned_sends _ (brought Nothing (finite.get h.gathered id)) (sending_step (side.next h.rule) (finite.get h.table id) planned).entry
+        (sending_step (side.next h.rule) (finite.get h.table id) planned).outcome sent does.answer) is (table id))
 
     puts_is : (h k : Held R E) (id : ℕ) (refusal : Option F) (Plans : Planned V → Type 0) (out out' : List ℕ)
         (result : Result (Unit {0}) SessionFault) → ((planned : Planned V) → Plans planned → PlanIsOf planned.plan)
-        → Puts (rules_of (next h.rule) (closed h.rule) gathering) of_rule id refusal Plans h out result k out'
+        → Puts (rules_at side h.rule) side.of_rule id refusal Plans h out result k out'
         → TableIsOf h → ArePutOut sends out → TableIsOf k × ArePutOut sends out'
     puts_is h k id refusal Plans out out' result plans (inl (wanting, calls, is)) table put =
         (subst TableIsOf (sym calls) table, subst (ArePutOut sends) (sym is) put)
@@ -227,26 +225,26 @@ module _ (sends : Kind → Bool) where
     heard_is None (Some (Err fault)) act is = tt
 
     hears_as : (heard : Heard V) (h k : Held R E) (result : Result (Unit {0}) SessionFault) → HeardIsOf heard
-        → IsHeardAs (rules_of (next h.rule) (closed h.rule) gathering) of_rule heard h result k → TableIsOf h → TableIsOf k
+        → IsHeardAs (rules_at side h.rule) side.of_rule heard h result k → TableIsOf h → TableIsOf k
     hears_as (Breaks why) h k result is (told_so, same) table = subst TableIsOf (sym same) table
     hears_as (Befalls id act) h k result is (answered, does, told_so) table = does_is h k id act (event_reply answered) does table is
 
-    module _ (comes : (m : Msg) (call : Call E) → ActIsOf (befalls m call)) where
+    module _ (comes : (m : Msg) (call : Call E) → ActIsOf (side.befalls m call)) where
       hears_is : (m : Msg) (h k : Held R E) (result : Result (Unit {0}) SessionFault)
-          → hears_by next closed gathering of_rule breaks befalls m h result k → TableIsOf h → TableIsOf k
+          → hears side m h result k → TableIsOf h → TableIsOf k
       hears_is m h k result (inl (wanting, same)) table = subst TableIsOf (sym same) table
       hears_is m h k result (inr heard) table =
-          hears_as (heard_of breaks befalls h m) h k result
-          (heard_is (breaks m) (request_id_of m) (λ id. befalls m (at h id)) (λ id. comes m (at h id))) heard table
+          hears_as (heard_of side.breaks side.befalls h m) h k result
+          (heard_is (side.breaks m) (request_id_of m) (λ id. side.befalls m (at h id)) (λ id. comes m (at h id))) heard table
 
       through_is : (h k : Held R E) (messages : List Msg)
-          → Through (hears_by next closed gathering of_rule breaks befalls) h messages k → TableIsOf h → TableIsOf k
+          → Through (hears side) h messages k → TableIsOf h → TableIsOf k
       through_is h k [] through table = subst TableIsOf (sym through) table
       through_is h k (m ∷ messages) (mid, first, rest) table =
           through_is mid k messages rest (hears_is m h mid (Ok tt) first table)
 
       done_is : (deed : Deed V F) (s t : EndState (Held R E)) (answered : Answered E) → DeedIsOf deed
-          → IsDoneBy next closed gathering of_rule breaks befalls deed s answered t → EndIsOf s → EndIsOf t
+          → IsDoneBy side deed s answered t → EndIsOf s → EndIsOf t
       done_is (Feeds octets) s t answer.Done is (fed, same) (table, put) =
           (through_is s.calls t.calls fed.messages fed.heard table, subst (ArePutOut sends) (sym (ap (λ e. e.outgoing) same)) put)
       done_is (Feeds octets) s t (answer.Taken entry) is done both = absurd done
@@ -269,14 +267,14 @@ module _ (sends : Kind → Bool) where
       done_is Closes s t (answer.Refused why) is done both = absurd done
 
       by_fault : (fault : Option SessionFault) (deed : Deed V F) (s t : EndState (Held R E)) (answered : Answered E) → DeedIsOf deed
-          → IsGivenBy next closed gathering of_rule breaks befalls fault deed s answered t → EndIsOf s → EndIsOf t
+          → IsGivenBy side fault deed s answered t → EndIsOf s → EndIsOf t
       by_fault (Some why) deed s t answered is (refused, same) both = subst EndIsOf (sym same) both
       by_fault None deed s t answered is done both = done_is deed s t answered is done both
 
       -- a run of inputs that put such messages out
       pub run_is : {I : Type 0} (deed : Held R E → I → Deed V F) → ((h : Held R E) (input : I) → DeedIsOf (deed h input))
           → (s t : EndState (Held R E)) (inputs : List I) (answers : List (Answered E))
-          → EndRuns next closed gathering of_rule breaks befalls deed s inputs answers t → EndIsOf s → EndIsOf t
+          → EndRuns side deed s inputs answers t → EndIsOf s → EndIsOf t
       run_is deed are s t [] [] run both = subst EndIsOf (sym run) both
       run_is deed are s t [] (one ∷ answers) run both = absurd run
       run_is deed are s t (input ∷ inputs) [] run both = absurd run

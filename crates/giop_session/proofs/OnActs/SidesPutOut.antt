@@ -8,8 +8,6 @@ use Rattle.giop_msg.specs.declared.kind.Kind.TheVariants as message
 use Rattle.giop_msg.specs.declared.messages.request.Request.{Request}
 use Rattle.giop_msg.specs.declared.msg.Msg.{Msg}
 use Rattle.giop_msg.specs.declared.version.Version.{Version}
-use Rattle.giop_calls.specs.ClientTable as client_table
-use Rattle.giop_calls.specs.ServerTable as server_table
 use Rattle.giop_calls.specs.declared.client.call.Call.{Call as Asked}
 use Rattle.giop_calls.specs.declared.kind.CallKind.{CallKind}
 use Rattle.giop_calls.specs.declared.kind.CallKind.TheVariants as kind
@@ -33,16 +31,15 @@ use Rattle.giop_session.specs.declared.calls.plan.Planned.{Planned}
 use Rattle.giop_session.specs.Calls.CallTable.{Act, Call, Held}
 use Rattle.giop_session.specs.Acts.ClientCalls.{IsCancel, open_version}
 use Rattle.giop_session.specs.Hearing.ClientHears as client_hears
-use Rattle.giop_session.specs.Hearing.ClientHears.{client_befalls, client_breaks}
+use Rattle.giop_session.specs.Hearing.ClientHears.{client_befalls, client_side}
 use Rattle.giop_session.specs.Runs.ClientRuns.{ClientRuns, client_deed, client_entry}
 use Rattle.giop_session.specs.Runs.Driven.{EndState, new_end}
-use Rattle.giop_session.specs.Hearing.Heard.{in_call}
 use Rattle.giop_session.specs.Acts.PutOut.{AreOf, ArePutOut, is_of_client, is_of_server}
 use Rattle.giop_session.specs.Calls.Sending.{unsent_of}
 use Rattle.giop_session.specs.Acts.Sent.{IsSent}
 use Rattle.giop_session.specs.Acts.ServerAnswers.{IsAnswer, IsLocateAnswer, locate_of, question_of, reply_octets}
 use Rattle.giop_session.specs.Hearing.ServerHears as server_hears
-use Rattle.giop_session.specs.Hearing.ServerHears.{server_befalls, server_breaks}
+use Rattle.giop_session.specs.Hearing.ServerHears.{server_befalls, server_side}
 use Rattle.giop_session.specs.Runs.ServerRuns.{ServerRuns, server_deed, server_entry}
 use Rattle.giop_session.proofs.OnActs.PutOutLemmas.{ActIsOf, DeedIsOf, PlanIsOf, cut_are, run_is}
 
@@ -102,8 +99,7 @@ client_deeds interface limits h client.Close = refl
 pub client_puts_out : (interface : Interface) (limits : Limits) (inputs : List ClientInput) (answers : List (Answered ClientEntry))
     (s : EndState (Held ClientRule ClientEntry)) → ClientRuns interface limits inputs answers s → ArePutOut is_of_client s.outgoing
 client_puts_out interface limits inputs answers s run =
-    (run_is is_of_client (λ rule. client_table.client_step) (λ rule. client_table.is_closed) client_table.is_gathering in_call client_breaks
-    (client_befalls interface) (client_comes interface) (client_deed interface limits) (client_deeds interface limits)
+    (run_is is_of_client (client_side interface) (client_comes interface) (client_deed interface limits) (client_deeds interface limits)
     (new_end (record {}) limits) s inputs answers run
     ((λ id. subst (λ slot. AreOf is_of_client (unsent_of slot)) (sym (finite.get-empty nat_cmp id)) tt), record { messages = []; own = tt; whole = refl })).1
 
@@ -154,7 +150,6 @@ server_deeds interface limits h server.Close = refl
 pub server_puts_out : (interface : Interface) (limits : Limits) (inputs : List ServerInput) (answers : List (Answered ServerEntry))
     (s : EndState (Held ServerRule ServerEntry)) → ServerRuns interface limits inputs answers s → ArePutOut is_of_server s.outgoing
 server_puts_out interface limits inputs answers s run =
-    (run_is is_of_server (λ rule. server_table.server_step) (λ rule. server_table.is_closed) server_table.is_gathering in_call server_breaks
-    (server_befalls interface) (server_comes interface) (server_deed interface limits) (server_deeds interface limits)
+    (run_is is_of_server (server_side interface) (server_comes interface) (server_deed interface limits) (server_deeds interface limits)
     (new_end (record {}) limits) s inputs answers run
     ((λ id. subst (λ slot. AreOf is_of_server (unsent_of slot)) (sym (finite.get-empty nat_cmp id)) tt), record { messages = []; own = tt; whole = refl })).1

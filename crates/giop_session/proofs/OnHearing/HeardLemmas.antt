@@ -6,13 +6,12 @@ use Rattle.giop_cdr.specs.declared.fault.CdrFault.{CdrFault}
 use Rattle.giop_msg.specs.declared.msg.Msg.{Msg}
 use Rattle.giop_msg.specs.RequestId.{request_id_of}
 use Rattle.giop_ids.specs.Runs.{Rules, left}
-use Rattle.giop_mux.specs.declared.step.Step.{Step}
 use Rattle.giop_session.specs.declared.session_fault.SessionFault.{SessionFault}
 use Rattle.giop_session.specs.declared.calls.table_fault.TableFault.{TableFault}
 use Rattle.giop_session.specs.Runs.Alone.{alone_heard, call_after, names, names_by, own_messages}
-use Rattle.giop_session.specs.Calls.CallTable.{Act, Call, Held, Reply, at, rules_of, turn}
+use Rattle.giop_session.specs.Calls.CallTable.{Act, Call, Held, Reply, at}
 use Rattle.giop_session.specs.Hearing.Feeding.{Through}
-use Rattle.giop_session.specs.Hearing.Heard.{Heard, Breaks, Befalls, IsHeard, heard_by, hears_by}
+use Rattle.giop_session.specs.Hearing.Heard.{Heard, Breaks, Befalls, IsHeard, heard_by, SideOf, turn_at, rules_at, hears}
 use Rattle.giop_session.proofs.OnCalls.TableLemmas.{table_apart}
 
 module _ {R E V A F : Type 0} (rules : Rules (Held R E) (Call E) (Act V) (Reply E A) (TableFault F)) (of_rule : ℕ → F → SessionFault) where
@@ -23,24 +22,23 @@ module _ {R E V A F : Type 0} (rules : Rules (Held R E) (Call E) (Act V) (Reply 
   refused_keeps (Befalls id act) h k why (inr (Ok reply, does, is)) = absurd cc
   refused_keeps (Befalls id act) h k why (inr (Err fault, does, is)) = does.leaves
 
-module _ {R E V A F : Type 0} (next : R → Option E → V → Step E A F) (closed : R → E → Bool) (gathering : E → Bool)
-    (of_rule : ℕ → F → SessionFault) (breaks : Msg → Option SessionFault) (befalls : Msg → Call E → Act V) where
-  pub keeps : (m : Msg) (h k : Held R E) (why : SessionFault) → hears_by next closed gathering of_rule breaks befalls m h (Err why) k → k ≡ h
+module _ {R E V A F : Type 0} (side : SideOf R E V A F) where
+  pub keeps : (m : Msg) (h k : Held R E) (why : SessionFault) → hears side m h (Err why) k → k ≡ h
   keeps m h k why heard =
-      refused_keeps (rules_of (next h.rule) (closed h.rule) gathering) of_rule (heard_by (breaks m) (request_id_of m) (λ id. befalls m (at h id))) h k why heard
+      refused_keeps (rules_at side h.rule) side.of_rule (heard_by (side.breaks m) (request_id_of m) (λ id. side.befalls m (at h id))) h k why heard
 
   -- so it is refused where it stopped the end, too
-  pub keeps_there : (m : Msg) (h k : Held R E) (why : SessionFault) → hears_by next closed gathering of_rule breaks befalls m h (Err why) k
-      → hears_by next closed gathering of_rule breaks befalls m k (Err why) k
+  pub keeps_there : (m : Msg) (h k : Held R E) (why : SessionFault) → hears side m h (Err why) k
+      → hears side m k (Err why) k
   keeps_there m h k why heard =
-      subst (λ s. hears_by next closed gathering of_rule breaks befalls m s (Err why) k) (sym (keeps m h k why heard)) heard
+      subst (λ s. hears side m s (Err why) k) (sym (keeps m h k why heard)) heard
 
   -- what an accepted message leaves: the rule, and of each call what it does to it
   abbrev after : R → Msg → Call E → Call E
-  after rule m = call_after (turn (next rule) (closed rule) gathering) befalls m
+  after rule m = call_after (turn_at side rule) side.befalls m
 
   one : (m : Msg) (h k : Held R E) (broken : Option SessionFault) (name : Option (Result ℕ CdrFault))
-      → IsHeard (rules_of (next h.rule) (closed h.rule) gathering) of_rule (heard_by broken name (λ id. befalls m (at h id))) h (Ok tt) k
+      → IsHeard (rules_at side h.rule) side.of_rule (heard_by broken name (λ id. side.befalls m (at h id))) h (Ok tt) k
       → (k.rule ≡ h.rule) × ((q : ℕ) → at k q ≡ (if names_by name q then after h.rule m (at h q) else at h q))
   one m h k broken name (inl both) = absurd cc
   one m h k (Some why) name (inr both) = absurd cc
@@ -49,28 +47,28 @@ module _ {R E V A F : Type 0} (next : R → Option E → V → Step E A F) (clos
   one m h k None (Some (Ok id)) (inr (Err why, does, is)) = absurd cc
   one m h k None (Some (Ok id)) (inr (Ok reply, does, is)) =
       let moved = does.leaves in
-      let call = left (at h id) (turn (next h.rule) (closed h.rule) gathering (at h id) (befalls m (at h id))) in
-      (ap (λ s. s.rule) moved, λ q. ap (λ s. at s q) moved ∙ table_apart (next h.rule) (closed h.rule) gathering h id call q ∙ by_id q (q == id) refl)
+      let call = left (at h id) (turn_at side h.rule (at h id) (side.befalls m (at h id))) in
+      (ap (λ s. s.rule) moved, λ q. ap (λ s. at s q) moved ∙ table_apart (side.next h.rule) (side.closed h.rule) side.gathering h id call q ∙ by_id q (q == id) refl)
     where
       by_id : (q : ℕ) (b : Bool) → (q == id) ≡ b
-          → cond b (left (at h id) (turn (next h.rule) (closed h.rule) gathering (at h id) (befalls m (at h id)))) (at h q)
+          → cond b (left (at h id) (turn_at side h.rule (at h id) (side.befalls m (at h id)))) (at h q)
           ≡ cond b (after h.rule m (at h q)) (at h q)
       by_id q true is = let same : q ≡ id = grind (arith, nat_tests) in ap (after h.rule m) (ap (at h) (sym same))
       by_id q false is = refl
 
   -- after messages of which none is refused, each call is what its own messages make of it
   pub calls_alone : (h k : Held R E) (messages : List Msg) (id : ℕ)
-      → Through (hears_by next closed gathering of_rule breaks befalls) h messages k
-      → at k id ≡ alone_heard (turn (next h.rule) (closed h.rule) gathering) befalls (at h id) (own_messages id messages)
+      → Through (hears side) h messages k
+      → at k id ≡ alone_heard (turn_at side h.rule) side.befalls (at h id) (own_messages id messages)
   calls_alone h k [] id is = ap (λ s. at s id) is
   calls_alone h k (m ∷ messages) id (mid, heard, rest) =
-      let step = one m h mid (breaks m) (request_id_of m) heard in
+      let step = one m h mid (side.breaks m) (request_id_of m) heard in
       let behind = calls_alone mid k messages id rest in
-      subst (λ rule. at k id ≡ alone_heard (turn (next rule) (closed rule) gathering) befalls (at mid id) (own_messages id messages)) step.0 behind
+      subst (λ rule. at k id ≡ alone_heard (turn_at side rule) side.befalls (at mid id) (own_messages id messages)) step.0 behind
       ∙ by_name (names m id) (at mid id) (step.1 id)
     where
       by_name : (b : Bool) (call : Call E) → call ≡ cond b (after h.rule m (at h id)) (at h id)
-          → alone_heard (turn (next h.rule) (closed h.rule) gathering) befalls call (own_messages id messages)
-          ≡ alone_heard (turn (next h.rule) (closed h.rule) gathering) befalls (at h id) (cond b (m ∷ own_messages id messages) (own_messages id messages))
-      by_name true call same = ap (λ call. alone_heard (turn (next h.rule) (closed h.rule) gathering) befalls call (own_messages id messages)) same
-      by_name false call same = ap (λ call. alone_heard (turn (next h.rule) (closed h.rule) gathering) befalls call (own_messages id messages)) same
+          → alone_heard (turn_at side h.rule) side.befalls call (own_messages id messages)
+          ≡ alone_heard (turn_at side h.rule) side.befalls (at h id) (cond b (m ∷ own_messages id messages) (own_messages id messages))
+      by_name true call same = ap (λ call. alone_heard (turn_at side h.rule) side.befalls call (own_messages id messages)) same
+      by_name false call same = ap (λ call. alone_heard (turn_at side h.rule) side.befalls call (own_messages id messages)) same

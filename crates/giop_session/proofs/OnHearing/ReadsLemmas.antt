@@ -13,8 +13,7 @@ use Rattle.giop_session.specs.declared.session_fault.SessionFault.TheVariants as
 use Rattle.giop_session.specs.declared.calls.sending.Sends.{Sends}
 use Rattle.giop_session.specs.declared.calls.table_fault.TableFault.{TableFault}
 use Rattle.giop_session.specs.declared.calls.table_fault.TableFault.TheVariants as table
-use Rattle.giop_session.specs.Calls.CallTable.{Act, Answers, Call, Held, event_reply, rules_of}
-use Rattle.giop_session.specs.Calls.SessionFaults.{of_table}
+use Rattle.giop_session.specs.Calls.CallTable.{Act, Call, Held, event_reply, rules_of}
 use Rattle.giop_session.specs.Hearing.Feeding.{Fed, Stops, Through, standing, with_octets}
 use Rattle.giop_session.specs.Hearing.Heard.{Befalls, Breaks, Heard, IsHeard, IsHeardAs, hears_by, heard_of, told_of}
 use Rattle.giop_session.specs.Pumping.{Feeds, State}

@@ -8,12 +8,10 @@ use Rattle.giop_msg.specs.declared.msg.Msg.{Msg}
 use Rattle.giop_msg.specs.Stream.{Unread}
 use Rattle.giop_mux.specs.Runs.{Happening}
 use Rattle.giop_mux.specs.Runs.{Hears as IsTold, IsTaken as IsTakenOut}
-use Rattle.giop_mux.specs.declared.step.Step.{Step}
 use Rattle.giop_session.specs.declared.laws.inputs.Answered.{Answered}
 use Rattle.giop_session.specs.declared.laws.inputs.Answered.TheVariants as answer
-use Rattle.giop_session.specs.declared.session_fault.SessionFault.{SessionFault}
 use Rattle.giop_session.specs.Runs.Alone.{names}
-use Rattle.giop_session.specs.Calls.CallTable.{Act, Call, Held, Turned, at, turn}
+use Rattle.giop_session.specs.Calls.CallTable.{Act, Call, Held, Turned, at}
 use Rattle.giop_session.specs.Items.Carries.{Bad, Begun, Cancel, Carries, CarriesItem, Did, Got, Item, Rest, Telling, done_by}
 use Rattle.giop_session.specs.Runs.Driven.{Closes, Deed, Feeds, IsAct, PutsOut, TakesAs, TakesOut, answer_to, id_of, is_named, item_answers, own_answers, taken_answer}
 use Rattle.giop_session.specs.Runs.Events.{Comes, Event, Follows, Local, Meets, act_of, is_of, own_events}
@@ -23,6 +21,7 @@ use Rattle.giop_session.specs.Calls.Sending.{entry_of}
 use Rattle.giop_session.proofs.OnRuns.EventLemmas.{each_follows, rule_stays}
 use Rattle.giop_session.proofs.OnRuns.InputLemmas.{takes_events}
 use Rattle.giop_session.proofs.OnItems.ItemLemmas.{ItemLeaves, in_two}
+use Rattle.giop_session.specs.Hearing.Heard.{SideOf, turn_at}
 
 -- one more in front, if it is
 one_in_front : {X : Type 0} (b : Bool) (x : X) (rest : List X) → cond b (x ∷ rest) rest ≡ cond b (x ∷ []) [] ++ rest
@@ -140,13 +139,12 @@ more_events (Does id act) acts unread mid left one rest (others, is, (none, same
   subst (λ u. AreEvents u acts rest left) same behind,
 )
 
-module _ {R E V A F : Type 0} (next : R → Option E → V → Step E A F) (closed : R → E → Bool) (gathering : E → Bool)
-    (of_rule : ℕ → F → SessionFault) (breaks : Msg → Option SessionFault) (befalls : Msg → Call E → Act V) where
+module _ {R E V A F : Type 0} (side : SideOf R E V A F) where
   abbrev MeetsAll : Held R E → List (Event V) → Held R E → Type 0
-  MeetsAll = Meets next closed gathering of_rule breaks befalls
+  MeetsAll = Meets side
 
   abbrev pub answers_by : R → Call E → List (Event V) → List (Answered E)
-  answers_by rule = answers_alone (turn (next rule) (closed rule) gathering) befalls
+  answers_by rule = answers_alone (turn_at side rule) side.befalls
 
   meets_more : (h mid k : Held R E) (one rest : List (Event V)) → MeetsAll h one mid → MeetsAll mid rest k → MeetsAll h (one ++ rest) k
   meets_more h mid k [] rest met behind = subst (λ s. MeetsAll s rest k) met behind
@@ -157,7 +155,7 @@ module _ {R E V A F : Type 0} (next : R → Option E → V → Step E A F) (clos
       → answers_by h.rule (at h id) (own_events id events) ≡ cond (is_named id (act_id act)) (taken_answer h act ∷ []) []
   one_answer unread mid h (Reads octets) events (messages, read, others, taken, waits, is, (none, same)) id =
       ap (λ all. answers_by h.rule (at h id) (own_events id all)) (is ∙ ap (λ more. map Comes messages ++ more) none)
-      ∙ own_silent (turn (next h.rule) (closed h.rule) gathering) befalls id (at h id) messages
+      ∙ own_silent (turn_at side h.rule) side.befalls id (at h id) messages
   one_answer unread mid h (Does named act) events (others, is, (none, same)) id =
       ap (λ all. answers_by h.rule (at h id) (own_events id all)) (is ∙ ap (λ more. Happens named act ∷ more) none) ∙ by_name (id == named) refl
     where
@@ -171,7 +169,7 @@ module _ {R E V A F : Type 0} (next : R → Option E → V → Step E A F) (clos
       (names_it : (h : Held R E) (input : I) → id_of (deed h input) ≡ named input) where
     -- an end that refuses nothing meets events, and each id's answers are those of its own alone
     pub taken_answers : (inputs : List I) (answers : List (Answered E)) (acts : List (Input V)) (unread left : Unread) (h k : Held R E)
-        → TakesAs next closed gathering of_rule breaks befalls deed unread h inputs answers acts left k
+        → TakesAs side deed unread h inputs answers acts left k
         → (events : List (Event V)) × AreEvents unread acts events left × MeetsAll h events k
         × ((id : ℕ) → own_answers named id inputs answers ≡ answers_by h.rule (at h id) (own_events id events))
     taken_answers [] [] acts unread left h k (none, same, alike) =
@@ -179,9 +177,9 @@ module _ {R E V A F : Type 0} (next : R → Option E → V → Step E A F) (clos
     taken_answers [] (answered ∷ answers) acts unread left h k taken = absurd taken
     taken_answers (input ∷ inputs) [] acts unread left h k taken = absurd taken
     taken_answers (input ∷ inputs) (answered ∷ answers) acts unread left h k (act, rest, mid, calls, first, is, told, takes, behind) =
-        let one = takes_events next closed gathering of_rule breaks befalls (act ∷ []) unread mid h calls takes in
+        let one = takes_events side (act ∷ []) unread mid h calls takes in
         let others = taken_answers inputs answers rest mid left calls k behind in
-        let rule = rule_stays next closed gathering of_rule breaks befalls h calls one.0 one.2 in (
+        let rule = rule_stays side h calls one.0 one.2 in (
           one.0 ++ others.0,
           subst (λ a. AreEvents unread a (one.0 ++ others.0) left) (sym first) (more_events act rest unread mid left one.0 others.0 one.1 others.1),
           meets_more h calls k one.0 others.0 one.2 others.2,
@@ -195,7 +193,7 @@ module _ {R E V A F : Type 0} (next : R → Option E → V → Step E A F) (clos
               ∙ ap (λ answers. answers ++ own) (sym (one_answer unread mid h act one.0 one.1 id))
               ∙ ap (λ answers. before ++ answers)
               (subst (λ r. own ≡ answers_by r (at calls id) (own_events id others.0)) rule (others.3 id))
-              ∙ sym (in_parts (turn (next h.rule) (closed h.rule) gathering) befalls (at h id) (at calls id) (own_events id one.0) (own_events id others.0)
-              (each_follows next closed gathering of_rule breaks befalls h calls one.0 id one.2))
+              ∙ sym (in_parts (turn_at side h.rule) side.befalls (at h id) (at calls id) (own_events id one.0) (own_events id others.0)
+              (each_follows side h calls one.0 id one.2))
               ∙ ap (answers_by h.rule (at h id)) (sym (own_events-append id one.0 others.0)),
         )

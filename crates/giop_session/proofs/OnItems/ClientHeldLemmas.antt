@@ -1,5 +1,5 @@
 -- Whatever a client's end takes is held by some items.
-use Rattle.std.proofs.Common.{◌≡◌, ◌⊎◌, ℕ, Bool, true, false, not, cond, if◌then◌else◌, List, [], ◌∷◌, ◌++◌, drop, map, Option, Some, None, Result, Ok, Err, IsOk, refl, sym, ap, subst, ◌∙◌, append-nil, inl, inr}
+use Rattle.std.proofs.Common.{◌≡◌, ◌⊎◌, ℕ, Bool, true, false, not, cond, if◌then◌else◌, List, [], ◌∷◌, ◌++◌, map, Option, Some, None, Result, Ok, Err, IsOk, refl, sym, ap, subst, ◌∙◌, append-nil, inl, inr}
 use Rattle.std.specs.Ordering.{nat_cmp}
 use Rattle.std.specs.FinMap as finite
 use Rattle.giop_cdr.specs.declared.order.Order.{Order}
@@ -11,7 +11,6 @@ use Rattle.giop_msg.specs.declared.kind.Kind.{Kind}
 use Rattle.giop_msg.specs.declared.kind.Kind.TheVariants as message
 use Rattle.giop_msg.specs.declared.messages.locate_reply.LocateReply.{LocateReply}
 use Rattle.giop_msg.specs.declared.messages.reply.Reply.{Reply}
-use Rattle.giop_msg.specs.declared.messages.request.Request.{Request}
 use Rattle.giop_msg.specs.declared.msg.Msg.{Msg}
 use Rattle.giop_msg.specs.declared.version.Version.{Version}
 use Rattle.giop_msg.specs.declared.version.Version.TheVariants.{V12}
@@ -39,7 +38,7 @@ use Rattle.giop_calls.specs.declared.client.late.Late.{Late}
 use Rattle.giop_calls.specs.declared.client.late.Late.TheVariants as late
 use Rattle.giop_calls.specs.declared.client.rule.ClientRule.{ClientRule}
 use Rattle.giop_calls.specs.ClientTable as table
-use Rattle.giop_calls.specs.ClientTable.{client_step, is_closed, is_gathering, settles}
+use Rattle.giop_calls.specs.ClientTable.{client_step, is_gathering, settles}
 use Rattle.giop_session.specs.declared.laws.inputs.Answered.{Answered}
 use Rattle.giop_session.specs.declared.laws.inputs.ClientInput.{ClientInput}
 use Rattle.giop_session.specs.declared.laws.inputs.ClientInput.TheVariants as input
@@ -47,15 +46,14 @@ use Rattle.giop_session.specs.declared.limits.Limits.{Limits}
 use Rattle.giop_session.specs.declared.session_fault.SessionFault.{SessionFault}
 use Rattle.giop_session.specs.declared.calls.plan.Plan.{Plan}
 use Rattle.giop_session.specs.declared.calls.plan.Plan.TheVariants.{Keep}
-use Rattle.giop_session.specs.declared.calls.plan.Planned.{Planned}
 use Rattle.giop_session.specs.declared.calls.slot.Slot.{Slot}
 use Rattle.giop_session.specs.Calls.Begun.{no_calls}
 use Rattle.giop_session.specs.Calls.CallTable.{Act, Call, Held, Hears, IsTaken, Nothing, at, gathers}
 use Rattle.giop_session.specs.Calls.Sending.{entry_of, settled_by, slot_of}
 use Rattle.giop_session.specs.Acts.ClientCalls.{IsCancel, open_version}
-use Rattle.giop_session.specs.Hearing.ClientHears.{awaited, befalls_by, breaks_by, client_befalls, client_breaks, comes, continued, continues, gathered_call}
-use Rattle.giop_session.specs.Hearing.Heard.{in_call, kept}
-use Rattle.giop_session.specs.Items.Carries.{Bad, Begun, CarriesItem, Did, Got, IsSeries, Rest, behind_all}
+use Rattle.giop_session.specs.Hearing.ClientHears.{befalls_by, breaks_by, client_befalls, client_breaks, comes, continued, continues, gathered_call, client_side}
+use Rattle.giop_session.specs.Hearing.Heard.{kept}
+use Rattle.giop_session.specs.Items.Carries.{Bad, Begun, Did, Got, IsSeries, Rest}
 use Rattle.giop_session.specs.Items.ClientCarries.{ClientItem, Known, SpellsReply, answered, begun, client_telling, received, replies, unknown, unspelled}
 use Rattle.giop_session.specs.Runs.ClientRuns.{ClientHolds, ClientTakesAs, client_deed, client_named}
 use Rattle.giop_session.specs.Runs.Driven.{IsAct}
@@ -67,7 +65,7 @@ use Rattle.giop_session.proofs.OnHearing.ClientReplyLemmas.{Nobody, Waits, await
 use Rattle.giop_session.proofs.OnItems.AnswerLemmas.{taken_answers}
 use Rattle.giop_session.proofs.OnItems.ClientHeadline.{names_it}
 use Rattle.giop_session.proofs.OnItems.ClientItemLemmas.{client_item_leaves}
-use Rattle.giop_session.proofs.OnItems.HeldLemmas.{Each, Ends, Goes, GoesOn, IsOwnInput, IsTakenEvent, Said, Steps, acts_owned, all_said, ends_with, events_taken, one_said, own_each}
+use Rattle.giop_session.proofs.OnItems.HeldLemmas.{Each, Ends, Goes, GoesOn, IsOwnInput, IsTakenEvent, Said, acts_owned, all_said, ends_with, events_taken, one_said, own_each}
 use Rattle.giop_session.proofs.OnItems.SeriesLemmas.{continued_version, fragment_version, joined_on, message_is, orders, series_on, twice}
 use Rattle.giop_session.proofs.OnLimits.QuietLemmas.{call_quiet, cancel_quiet, client_send_quiet}
 use Rattle.giop_session.proofs.OnRuns.EventLemmas.{each_follows}
@@ -473,15 +471,15 @@ pub client_held : (interface : Interface) (limits : Limits) (inputs : List Clien
     → (calls : ℕ → List ClientItem) × ClientHolds interface limits inputs answers left k calls
 client_held interface limits inputs answers acts left k taken =
     let begun : Held ClientRule ClientEntry = no_calls (record {}) limits in
-    let run = taken_answers (λ rule. client_step) (λ rule. is_closed) is_gathering in_call client_breaks (client_befalls interface)
+    let run = taken_answers (client_side interface)
     (client_deed interface limits) client_named (names_it interface limits) inputs answers acts (nothing_unread limits.message) left begun k taken in
-    let owned = acts_owned (λ rule. client_step) (λ rule. is_closed) is_gathering in_call client_breaks (client_befalls interface)
+    let owned = acts_owned (client_side interface)
     (client_deed interface limits) is_own (owns interface limits) inputs answers acts (nothing_unread limits.message) left begun k taken in
     let met = events_taken limits.message client_breaks is_own acts (nothing_unread limits.message) left run.0 run.1 refl owned
-    (met_heard (λ rule. client_step) (λ rule. is_closed) is_gathering in_call client_breaks (client_befalls interface) begun k run.0 run.2) in
+    (met_heard (client_side interface) begun k run.0 run.2) in
     let said = λ (id : ℕ). client_said interface limits.message (at begun id) (at k id) (own_events id run.0)
     (ap entry_of (finite.get-empty nat_cmp id)) (own_each (IsTakenEvent limits.message client_breaks is_own) id run.0 met)
-    (each_follows (λ rule. client_step) (λ rule. is_closed) is_gathering in_call client_breaks (client_befalls interface) begun k run.0 id run.2) in (
+    (each_follows (client_side interface) begun k run.0 id run.2) in (
       λ id. (said id).0,
       record {
         acts = acts;

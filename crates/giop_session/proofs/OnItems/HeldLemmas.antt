@@ -1,16 +1,14 @@
 -- Whatever events a call follows are carried by some items, where each of them ends what is open or goes on with it.
-use Rattle.std.proofs.Common.{◌≡◌, ℕ, Bool, true, false, cond, List, [], ◌∷◌, ◌++◌, map, Option, Some, None, IsOk, refl, sym, ap, subst, ◌∙◌, append_assoc, append-nil, All}
+use Rattle.std.proofs.Common.{◌≡◌, ℕ, Bool, true, false, cond, List, [], ◌∷◌, ◌++◌, map, Option, None, IsOk, refl, sym, ap, subst, ◌∙◌, append_assoc, append-nil, All}
 use Rattle.giop_ids.specs.Runs.{left}
 use Rattle.giop_msg.specs.declared.msg.Msg.{Msg}
 use Rattle.giop_msg.specs.Msg.{IsMessage}
 use Rattle.giop_msg.specs.Stream.{Unread}
 use Rattle.giop_msg.proofs.StreamLemmas.{each_head, each_tail}
 use Rattle.giop_mux.specs.Runs.{Hears as IsTold, IsTaken as TakesOut}
-use Rattle.giop_mux.specs.declared.step.Step.{Step}
 use Rattle.giop_session.specs.declared.laws.inputs.Answered.{Answered}
 use Rattle.giop_session.specs.declared.session_fault.SessionFault.{SessionFault}
 use Rattle.giop_session.specs.Calls.CallTable.{Act, Call, Held, Turned}
-use Rattle.giop_session.specs.Hearing.Feeding.{with_octets}
 use Rattle.giop_session.specs.Items.Carries.{Carries, CarriesItem, Item, Telling, behind_all}
 use Rattle.giop_session.specs.Runs.Driven.{Deed, IsAct, TakesAs}
 use Rattle.giop_session.specs.Runs.Events.{Comes, Event, Follows, is_of, own_events, what}
@@ -18,6 +16,7 @@ use Rattle.giop_session.specs.Runs.Events.{Does as DoesTo}
 use Rattle.giop_session.specs.Runs.Inputs.{AreEvents, Does, Input, Reads}
 use Rattle.giop_session.proofs.OnItems.ItemLemmas.{ItemLeaves, items_leave}
 use Rattle.giop_session.proofs.OnRuns.FollowedLemmas.{AreHeard}
+use Rattle.giop_session.specs.Hearing.Heard.{SideOf}
 
 -- each of these is so
 abbrev pub Each : {X : Type 0} → (X → Type 0) → List X → Type 0
@@ -181,13 +180,12 @@ pub own_each : {V : Type 0} (P : Event V → Type 0) (id : ℕ) (events : List (
 own_each P id [] each = tt
 own_each P id (e ∷ events) each = each_if P (is_of id e) e (own_events id events) each.0 (own_each P id events each.1)
 
-module _ {R E V A F I : Type 0} (next : R → Option E → V → Step E A F) (closed : R → E → Bool) (gathering : E → Bool)
-    (of_rule : ℕ → F → SessionFault) (breaks : Msg → Option SessionFault) (befalls : Msg → Call E → Act V)
+module _ {R E V A F I : Type 0} (side : SideOf R E V A F)
     (deed : Held R E → I → Deed V F) (own : V → Bool)
     (owns : (h : Held R E) (input : I) (act : Input V) → IsAct (deed h input) act → IsOwnInput own act) where
   -- inputs that are taken are acts of its own
   pub acts_owned : (inputs : List I) (answers : List (Answered E)) (acts : List (Input V)) (unread left : Unread) (h k : Held R E)
-      → TakesAs next closed gathering of_rule breaks befalls deed unread h inputs answers acts left k → Each (IsOwnInput own) acts
+      → TakesAs side deed unread h inputs answers acts left k → Each (IsOwnInput own) acts
   acts_owned [] [] acts unread left h k (none, same, alike) = subst (Each (IsOwnInput own)) (sym none) tt
   acts_owned [] (answered ∷ answers) acts unread left h k taken = absurd taken
   acts_owned (input ∷ inputs) [] acts unread left h k taken = absurd taken

@@ -1,5 +1,5 @@
 -- Whatever a server's end takes is held by some items.
-use Rattle.std.proofs.Common.{◌≡◌, ◌⊎◌, ℕ, Bool, true, false, not, cond, is_some, List, [], ◌∷◌, ◌++◌, drop, map, Option, Some, None, Result, Ok, Err, IsOk, refl, sym, ap, subst, ◌∙◌, append-nil, inl, inr}
+use Rattle.std.proofs.Common.{◌≡◌, ◌⊎◌, ℕ, Bool, true, false, not, cond, is_some, List, [], ◌∷◌, ◌++◌, map, Option, Some, None, Result, Ok, Err, IsOk, refl, sym, ap, subst, ◌∙◌, append-nil, inl, inr}
 use Rattle.std.specs.Ordering.{nat_cmp}
 use Rattle.std.specs.FinMap as finite
 use Rattle.giop_cdr.specs.declared.order.Order.{Order}
@@ -14,7 +14,7 @@ use Rattle.giop_msg.specs.declared.messages.request_fault.RequestFault.{RequestF
 use Rattle.giop_msg.specs.declared.msg.Msg.{Msg}
 use Rattle.giop_msg.specs.declared.version.Version.{Version}
 use Rattle.giop_msg.specs.declared.version.Version.TheVariants.{V12}
-use Rattle.giop_msg.specs.Cut.{joined, message_of}
+use Rattle.giop_msg.specs.Cut.{joined}
 use Rattle.giop_msg.specs.Joined.{whole_of_joined}
 use Rattle.giop_msg.specs.Locate.{AnyLocateRequest, locate_request}
 use Rattle.giop_msg.specs.Messages.RequestAnswer.{request_of_joined}
@@ -46,21 +46,21 @@ use Rattle.giop_session.specs.declared.calls.plan.Plan.{Plan}
 use Rattle.giop_session.specs.declared.calls.plan.Plan.TheVariants.{Keep}
 use Rattle.giop_session.specs.declared.calls.slot.Slot.{Slot}
 use Rattle.giop_session.specs.Calls.Begun.{no_calls}
-use Rattle.giop_session.specs.Calls.CallTable.{Act, Call, First, Held, Hears, IsTaken, More, Nothing, at, gathers}
+use Rattle.giop_session.specs.Calls.CallTable.{Act, Call, First, Held, Hears, IsTaken, Nothing, at, gathers}
 use Rattle.giop_session.specs.Calls.Sending.{entry_of, settled_by, slot_of, unsent_of}
 use Rattle.giop_session.specs.Acts.ServerAnswers.{IsAnswer, IsLocateAnswer, locate_of, question_of}
 use Rattle.giop_session.specs.Hearing.Decoding.{heard_call}
-use Rattle.giop_session.specs.Hearing.Heard.{in_call, kept}
-use Rattle.giop_session.specs.Hearing.ServerHears.{befalls_by, breaks_by, comes, continued, continues, gathered_kind, server_befalls, server_breaks}
-use Rattle.giop_session.specs.Items.Carries.{Bad, Begun, Cancel, CarriesItem, Did, Got, IsSeries, Rest, behind_all}
-use Rattle.giop_session.specs.Items.ServerCarries.{ServerItem, SpellsCall, asks, server_behind, server_telling}
+use Rattle.giop_session.specs.Hearing.Heard.{kept}
+use Rattle.giop_session.specs.Hearing.ServerHears.{befalls_by, breaks_by, comes, continued, continues, gathered_kind, server_befalls, server_breaks, server_side}
+use Rattle.giop_session.specs.Items.Carries.{Bad, Begun, Cancel, Did, Got, IsSeries, Rest}
+use Rattle.giop_session.specs.Items.ServerCarries.{ServerItem, SpellsCall, asks, server_telling}
 use Rattle.giop_session.specs.Runs.Driven.{IsAct}
 use Rattle.giop_session.specs.Runs.Events.{Comes, Event, Follows, own_events, what}
 use Rattle.giop_session.specs.Runs.Events.{Does as DoesTo}
 use Rattle.giop_session.specs.Runs.Inputs.{Input, nothing_unread}
 use Rattle.giop_session.specs.Runs.ServerRuns.{ServerHolds, ServerTakesAs, server_deed, server_named}
 use Rattle.giop_session.proofs.OnItems.AnswerLemmas.{taken_answers}
-use Rattle.giop_session.proofs.OnItems.HeldLemmas.{Each, Ends, Goes, GoesOn, IsOwnInput, IsTakenEvent, Said, Steps, acts_owned, after, all_said, ends_with, events_taken, one_said, own_each}
+use Rattle.giop_session.proofs.OnItems.HeldLemmas.{Each, Ends, Goes, GoesOn, IsOwnInput, IsTakenEvent, Said, acts_owned, all_said, ends_with, events_taken, one_said, own_each}
 use Rattle.giop_session.proofs.OnItems.ItemLemmas.{call_of, heard}
 use Rattle.giop_session.proofs.OnItems.SeriesLemmas.{continued_version, fragment_version, joined_on, message_is, orders, series_on, twice}
 use Rattle.giop_session.proofs.OnItems.ServerHeadline.{names_it}
@@ -407,15 +407,15 @@ pub server_held : (interface : Interface) (limits : Limits) (inputs : List Serve
     → (calls : ℕ → List ServerItem) × ServerHolds interface limits inputs answers left k calls
 server_held interface limits inputs answers acts left k taken =
     let begun : Held ServerRule ServerEntry = no_calls (record {}) limits in
-    let run = taken_answers (λ rule. server_step) (λ rule. is_closed) is_gathering in_call server_breaks (server_befalls interface)
+    let run = taken_answers (server_side interface)
     (server_deed interface limits) server_named (names_it interface limits) inputs answers acts (nothing_unread limits.message) left begun k taken in
-    let owned = acts_owned (λ rule. server_step) (λ rule. is_closed) is_gathering in_call server_breaks (server_befalls interface)
+    let owned = acts_owned (server_side interface)
     (server_deed interface limits) is_own (owns interface limits) inputs answers acts (nothing_unread limits.message) left begun k taken in
     let met = events_taken limits.message server_breaks is_own acts (nothing_unread limits.message) left run.0 run.1 refl owned
-    (met_heard (λ rule. server_step) (λ rule. is_closed) is_gathering in_call server_breaks (server_befalls interface) begun k run.0 run.2) in
+    (met_heard (server_side interface) begun k run.0 run.2) in
     let said = λ (id : ℕ). server_said interface limits.message (at begun id) (at k id) (own_events id run.0)
     (ap entry_of (finite.get-empty nat_cmp id)) (own_each (IsTakenEvent limits.message server_breaks is_own) id run.0 met)
-    (each_follows (λ rule. server_step) (λ rule. is_closed) is_gathering in_call server_breaks (server_befalls interface) begun k run.0 id run.2) in (
+    (each_follows (server_side interface) begun k run.0 id run.2) in (
       λ id. (said id).0,
       record {
         acts = acts;

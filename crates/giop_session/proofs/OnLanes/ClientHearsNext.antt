@@ -19,9 +19,9 @@ use Rattle.giop_session.specs.declared.session_fault.SessionFault.TheVariants.{N
 use Rattle.giop_session.specs.declared.calls.slot.Slot.{Slot}
 use Rattle.giop_session.specs.Calls.CallTable.{Call, Held, at, brought}
 use Rattle.giop_session.specs.Calls.CallTable as table
-use Rattle.giop_session.specs.Hearing.ClientHears.{client_befalls, client_breaks}
+use Rattle.giop_session.specs.Hearing.ClientHears.{client_side}
 use Rattle.giop_session.specs.Worlds.Coding.{coding}
-use Rattle.giop_session.specs.Hearing.Heard.{in_call}
+use Rattle.giop_session.specs.Hearing.Heard.{hears}
 use Rattle.giop_session.specs.Worlds.LaneAtEnds.{gathered_in, seen}
 use Rattle.giop_session.specs.Calls.Sending.{entry_of, slot_of, unsent_of}
 use Rattle.giop_session.specs.Worlds.Tracks.{ClientShows, IsToClient, IsToServer}
@@ -147,7 +147,7 @@ module _ (interface : Interface) (lane : Lane) (id : ℕ) (m : Msg) (later : Lis
           → ClientHeard interface lane id m h result k
       by_step result memory hears =
           heard_so result
-          (came (λ rule. client_step) (λ rule. is_closed) is_gathering in_call client_breaks (client_befalls interface) id m its.what its.brings h k
+          (came (client_side interface) id m its.what its.brings h k
           its.small (subst (λ (one : ClientStep). IsOk one.outcome) (sym same_step) ok_there) is.unbroken is.names its.befalls result memory hears)
 
 pub client_hears_next : (interface : Interface) (lane : Lane) (id : ℕ) (m : Msg) (later : List Message)

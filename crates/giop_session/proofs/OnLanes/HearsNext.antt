@@ -21,8 +21,8 @@ use Rattle.giop_session.specs.declared.session_fault.SessionFault.TheVariants as
 use Rattle.giop_session.specs.declared.calls.slot.Slot.{Slot}
 use Rattle.giop_session.specs.declared.calls.table_fault.TableFault.{TableFault}
 use Rattle.giop_session.specs.declared.calls.table_fault.TableFault.TheVariants.{TooManyCalls, GatherFull, NoMemory}
-use Rattle.giop_session.specs.Calls.CallTable.{Act, Brings, Call, First, Hears, Held, More, Nothing, Reply, Turned, at, brought, calls_fault, gathers, limit, octets_fault, put_call, room_fault, rules_of, turn, turned}
-use Rattle.giop_session.specs.Hearing.Heard.{Befalls, IsHeard, heard_by, heard_of, hears_by, kept}
+use Rattle.giop_session.specs.Calls.CallTable.{Act, Brings, Call, First, Hears, Held, More, Nothing, Reply, Turned, at, brought, calls_fault, gathers, limit, octets_fault, put_call, room_fault, turn, turned}
+use Rattle.giop_session.specs.Hearing.Heard.{Befalls, IsHeard, heard_by, heard_of, kept, SideOf, turn_at, rules_at, hears}
 use Rattle.giop_session.specs.Worlds.OnTheWay.{Names}
 use Rattle.giop_session.specs.Calls.Sending.{entry_of, sending_step, settled_by, slot_of, unsent_of}
 use Rattle.giop_session.specs.Calls.SessionFaults.{of_table}
@@ -157,8 +157,7 @@ module _ {R E V A F : Type 0} (next : R → Option E → V → Step E A F) (clos
   Came id m event brings h (Ok done) k = k ≡ put_call h id (call_behind h id event brings)
   Came id m event brings h (Err why) k = (k ≡ h) × IsFull m h why
 
-module _ {R E V A F : Type 0} (next : R → Option E → V → Step E A F) (closed : R → E → Bool) (gathering : E → Bool)
-    (of_rule : ℕ → F → SessionFault) (breaks : Msg → Option SessionFault) (befalls : Msg → Call E → Act V) where
+module _ {R E V A F : Type 0} (side : SideOf R E V A F) where
   -- a refusal of what its rule accepts is that of a limit
   refused_for : (over : Option (TableFault F)) (done : Turned E A F) (why : TableFault F) → IsOk done
       → RefusedAs NoMemory why (refusal_of (within over done)) → (over ≡ Some why) ⊎ (why ≡ NoMemory)
@@ -170,31 +169,31 @@ module _ {R E V A F : Type 0} (next : R → Option E → V → Step E A F) (clos
 
   module _ (id : ℕ) (m : Msg) (event : V) (brings : Brings) (h k : Held R E)
       (small : brought_by brings ≤ length m.payload)
-      (ok : IsOk (next h.rule (entry_of (finite.get h.table id)) event).outcome) where
+      (ok : IsOk (side.next h.rule (entry_of (finite.get h.table id)) event).outcome) where
     abbrev rules : Rules (Held R E) (Call E) (Act V) (Reply E A) (TableFault F)
-    rules = rules_of (next h.rule) (closed h.rule) gathering
+    rules = rules_at side h.rule
 
     abbrev act : Act V
     act = Hears (kept event) brings
 
-    turned_ok : IsOk (turn (next h.rule) (closed h.rule) gathering (at h id) act)
-    turned_ok = passes (next h.rule) (closed h.rule) gathering (at h id) (kept event) brings ok
+    turned_ok : IsOk (turn_at side h.rule (at h id) act)
+    turned_ok = passes (side.next h.rule) (side.closed h.rule) side.gathering (at h id) (kept event) brings ok
 
-    befell : left (at h id) (turn (next h.rule) (closed h.rule) gathering (at h id) act) ≡ call_behind next closed gathering h id event brings
-    befell = (heard (next h.rule) (closed h.rule) gathering (at h id) (kept event) brings turned_ok).leaves
+    befell : left (at h id) (turn_at side h.rule (at h id) act) ≡ call_behind side.next side.closed side.gathering h id event brings
+    befell = (heard (side.next h.rule) (side.closed h.rule) side.gathering (at h id) (kept event) brings turned_ok).leaves
 
     by_fault : (result : Result (Unit {0}) SessionFault) (fault : TableFault F) (why : SessionFault) → result ≢ Err session.NoMemory
-        → result ≡ Err (of_table (of_rule id) fault) → result ≡ Err why
-        → (limit (next h.rule) (closed h.rule) gathering h id act ≡ Some fault) ⊎ (fault ≡ NoMemory) → IsFull m h why
+        → result ≡ Err (of_table (side.of_rule id) fault) → result ≡ Err why
+        → (limit (side.next h.rule) (side.closed h.rule) side.gathering h id act ≡ Some fault) ⊎ (fault ≡ NoMemory) → IsFull m h why
     by_fault result fault why memory is told (inl found) =
-        let same : of_table (of_rule id) fault ≡ why = cc in
+        let same : of_table (side.of_rule id) fault ≡ why = cc in
         subst (IsFull m h) same
-        (limit_met (next h.rule) (closed h.rule) gathering (of_rule id) m h id (kept event) brings fault small found)
+        (limit_met (side.next h.rule) (side.closed h.rule) side.gathering (side.of_rule id) m h id (kept event) brings fault small found)
     by_fault result fault why memory is told (inr wanting) =
-        absurd (memory (is ∙ ap (λ one. Err (of_table (of_rule id) one)) wanting))
+        absurd (memory (is ∙ ap (λ one. Err (of_table (side.of_rule id) one)) wanting))
 
     by_told : (result : Result (Unit {0}) SessionFault) → result ≢ Err session.NoMemory
-        → IsHeard rules of_rule (Befalls id act) h result k → Came next closed gathering id m event brings h result k
+        → IsHeard rules side.of_rule (Befalls id act) h result k → Came side.next side.closed side.gathering id m event brings h result k
     by_told (Ok done) memory (inl both) = absurd cc
     by_told (Ok done) memory (inr (Ok sends, does, is)) = does.leaves ∙ ap (put_call h id) befell
     by_told (Ok done) memory (inr (Err fault, does, is)) = absurd cc
@@ -203,19 +202,19 @@ module _ {R E V A F : Type 0} (next : R → Option E → V → Step E A F) (clos
     by_told (Err why) memory (inr (Err fault, does, is)) = (
       does.leaves,
       by_fault (Err why) fault why memory is refl
-          (refused_for (limit (next h.rule) (closed h.rule) gathering h id act) (turn (next h.rule) (closed h.rule) gathering (at h id) act) fault
+          (refused_for (limit (side.next h.rule) (side.closed h.rule) side.gathering h id act) (turn_at side h.rule (at h id) act) fault
           turned_ok does.refusal),
     )
 
     -- so is an end that hears the message
-    pub came : breaks m ≡ None → Names id m → befalls m (at h id) ≡ act → (result : Result (Unit {0}) SessionFault)
-        → result ≢ Err session.NoMemory → hears_by next closed gathering of_rule breaks befalls m h result k
-        → Came next closed gathering id m event brings h result k
+    pub came : side.breaks m ≡ None → Names id m → side.befalls m (at h id) ≡ act → (result : Result (Unit {0}) SessionFault)
+        → result ≢ Err session.NoMemory → hears side m h result k
+        → Came side.next side.closed side.gathering id m event brings h result k
     came unbroken names is result memory hears =
-        by_told result memory (subst (λ one. IsHeard rules of_rule one h result k) does hears)
+        by_told result memory (subst (λ one. IsHeard rules side.of_rule one h result k) does hears)
       where
-        does : heard_of breaks befalls h m ≡ Befalls id act
-        does = (λ i. heard_by (unbroken i) (names i) (λ id. befalls m (at h id))) ∙ ap (λ one. Befalls id one) is
+        does : heard_of side.breaks side.befalls h m ≡ Befalls id act
+        does = (λ i. heard_by (unbroken i) (names i) (λ id. side.befalls m (at h id))) ∙ ap (λ one. Befalls id one) is
 
 -- ---- what is stored for an id
 

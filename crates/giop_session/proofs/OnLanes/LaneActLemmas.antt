@@ -2,9 +2,7 @@
 use Rattle.std.proofs.Common.{◌≡◌, ◌≢◌, ◌⊎◌, ℕ, ◌∷◌, List, Some, Result, Ok, Err, refl, inl, inr}
 use Rattle.giop_types.specs.declared.json.interface.Interface.{Interface}
 use Rattle.giop_msg.specs.declared.msg.Msg.{Msg}
-use Rattle.giop_calls.specs.ClientTable as client_table
 use Rattle.giop_calls.specs.Lane.{IsSound, Lane, Message, ToClient, ToServer, step}
-use Rattle.giop_calls.specs.ServerTable as server_table
 use Rattle.giop_calls.specs.declared.client.entry.ClientEntry.{ClientEntry}
 use Rattle.giop_calls.specs.declared.client.rule.ClientRule.{ClientRule}
 use Rattle.giop_calls.specs.declared.server.entry.ServerEntry.{ServerEntry}
@@ -12,11 +10,11 @@ use Rattle.giop_calls.specs.declared.server.rule.ServerRule.{ServerRule}
 use Rattle.giop_session.specs.declared.session_fault.SessionFault.{SessionFault}
 use Rattle.giop_session.specs.declared.session_fault.SessionFault.TheVariants as session
 use Rattle.giop_session.specs.Calls.CallTable.{Held, at}
-use Rattle.giop_session.specs.Hearing.ClientHears.{client_befalls, client_breaks}
+use Rattle.giop_session.specs.Hearing.ClientHears.{client_side}
 use Rattle.giop_session.specs.Worlds.Coding.{coding}
-use Rattle.giop_session.specs.Hearing.Heard.{in_call}
+use Rattle.giop_session.specs.Hearing.Heard.{hears}
 use Rattle.giop_session.specs.Worlds.LaneAtEnds.{IsOfLimit, seen}
-use Rattle.giop_session.specs.Hearing.ServerHears.{server_befalls, server_breaks}
+use Rattle.giop_session.specs.Hearing.ServerHears.{server_side}
 use Rattle.giop_session.specs.Worlds.Tracks.{ClientShows, IsToClient, IsToServer, ServerShows}
 use Rattle.giop_session.proofs.OnLanes.ClientHearsNext.{client_hears_next}
 use Rattle.giop_session.proofs.OnHearing.HeardLemmas.{keeps}
@@ -67,8 +65,7 @@ module _ (interface : Interface) (lane : Lane) (id : ℕ) (m : Msg) (later : Lis
     where
       by_want : (why ≡ session.NoMemory) ⊎ (◌≢◌ {A = Told} (Err why) (Err session.NoMemory)) → (k ≡ h) × IsOfLimit m h why
       by_want (inl want) = (
-        keeps (λ rule. server_table.server_step) (λ rule. server_table.is_closed) server_table.is_gathering in_call server_breaks
-            (server_befalls interface) m h k why hears,
+        keeps (server_side interface) m h k why hears,
         inr (inr want),
       )
       by_want (inr memory) =
@@ -90,8 +87,7 @@ module _ (interface : Interface) (lane : Lane) (id : ℕ) (m : Msg) (later : Lis
     where
       by_want : (why ≡ session.NoMemory) ⊎ (◌≢◌ {A = Told} (Err why) (Err session.NoMemory)) → (k ≡ h) × IsOfLimit m h why
       by_want (inl want) = (
-        keeps (λ rule. client_table.client_step) (λ rule. client_table.is_closed) client_table.is_gathering in_call client_breaks
-            (client_befalls interface) m h k why hears,
+        keeps (client_side interface) m h k why hears,
         inr (inr want),
       )
       by_want (inr memory) =

@@ -5,8 +5,6 @@ use Rattle.giop_frag.specs.Gathered.{total_of}
 use Rattle.giop_types.specs.declared.json.interface.Interface.{Interface}
 use Rattle.giop_msg.specs.declared.msg.Msg.{Msg}
 use Rattle.giop_calls.specs.Lane.{Lane, ToClient, ToServer, step}
-use Rattle.giop_calls.specs.ClientTable as client_table
-use Rattle.giop_calls.specs.ServerTable as server_table
 use Rattle.giop_calls.specs.declared.client.entry.ClientEntry.{ClientEntry}
 use Rattle.giop_calls.specs.declared.client.rule.ClientRule.{ClientRule}
 use Rattle.giop_calls.specs.declared.server.entry.ServerEntry.{ServerEntry}
@@ -14,20 +12,20 @@ use Rattle.giop_calls.specs.declared.server.rule.ServerRule.{ServerRule}
 use Rattle.giop_session.specs.declared.session_fault.SessionFault.{SessionFault}
 use Rattle.giop_session.specs.declared.session_fault.SessionFault.TheVariants.{GatherFull, TooManyCalls}
 use Rattle.giop_session.specs.Calls.CallTable.{Held, at}
-use Rattle.giop_session.specs.Hearing.ClientHears.{client_befalls, client_breaks}
+use Rattle.giop_session.specs.Hearing.ClientHears.{client_side}
 use Rattle.giop_session.specs.Worlds.Coding.{coding}
-use Rattle.giop_session.specs.Hearing.Heard.{hears_by, in_call}
-use Rattle.giop_session.specs.Hearing.ServerHears.{server_befalls, server_breaks}
+use Rattle.giop_session.specs.Hearing.Heard.{hears}
+use Rattle.giop_session.specs.Hearing.ServerHears.{server_side}
 use Rattle.giop_session.specs.Worlds.Tracks.{ClientShows, ServerShows}
 
 -- how each end hears a message
 abbrev pub ServerHearsIt : Interface → Msg → Held ServerRule ServerEntry → Result (Unit {0}) SessionFault → Held ServerRule ServerEntry → Type 0
 ServerHearsIt interface =
-    hears_by (λ rule. server_table.server_step) (λ rule. server_table.is_closed) server_table.is_gathering in_call server_breaks (server_befalls interface)
+    hears (server_side interface)
 
 abbrev pub ClientHearsIt : Interface → Msg → Held ClientRule ClientEntry → Result (Unit {0}) SessionFault → Held ClientRule ClientEntry → Type 0
 ClientHearsIt interface =
-    hears_by (λ rule. client_table.client_step) (λ rule. client_table.is_closed) client_table.is_gathering in_call client_breaks (client_befalls interface)
+    hears (client_side interface)
 
 -- a limit of these calls is met by a message that comes: there are as many entries as there may be, or its octets would be too many
 abbrev pub IsFull : {R E : Type 0} → Msg → Held R E → SessionFault → Type 0

@@ -19,11 +19,11 @@ use Rattle.giop_session.specs.declared.calls.slot.Slot.{Slot}
 use Rattle.giop_session.specs.Calls.CallTable.{Held, at, brought}
 use Rattle.giop_session.specs.Calls.CallTable as table
 use Rattle.giop_session.specs.Worlds.Coding.{coding}
-use Rattle.giop_session.specs.Hearing.Heard.{in_call}
+use Rattle.giop_session.specs.Hearing.Heard.{hears}
 use Rattle.giop_session.specs.Worlds.LaneAtEnds.{gathered_in, seen}
 use Rattle.giop_session.specs.Calls.Sending.{entry_of, slot_of, unsent_of}
 use Rattle.giop_session.specs.Items.ServerCarries.{asks}
-use Rattle.giop_session.specs.Hearing.ServerHears.{server_befalls, server_breaks}
+use Rattle.giop_session.specs.Hearing.ServerHears.{server_side}
 use Rattle.giop_session.specs.Worlds.Tracks.{IsToClient, IsToServer, ServerShows}
 use Rattle.giop_session.proofs.OnLanes.HearsNext.{Came, accepted, call_behind, came, held_on, mapped, put_beside, put_there, unsent_kept}
 use Rattle.giop_session.proofs.OnItems.ItemLemmas.{entry_is}
@@ -126,7 +126,7 @@ module _ (interface : Interface) (lane : Lane) (id : ℕ) (m : Msg) (later : Lis
       subst (λ (step : ServerStep). IsOk step.outcome) (sym its.same)
       (subst (λ entry. IsOk (server_step entry lane_event).outcome) (sym shows.entry) one.0) in
       heard_so its after so one.1 result
-      (came (λ rule. server_step) (λ rule. is_closed) is_gathering in_call server_breaks (server_befalls interface) id m its.what its.brings h k its.small ok
+      (came (server_side interface) id m its.what its.brings h k its.small ok
       is.unbroken is.names its.befalls result memory hears)
 
 pub server_hears_next : (interface : Interface) (lane : Lane) (id : ℕ) (m : Msg) (later : List Message)

@@ -6,7 +6,6 @@ use Rattle.giop_types.specs.declared.json.interface.Interface.{Interface}
 use Rattle.giop_cdr.specs.declared.order.Order.{Order}
 use Rattle.giop_msg.specs.declared.msg.Msg.{Msg}
 use Rattle.giop_msg.specs.declared.version.Version.{Version}
-use Rattle.giop_calls.specs.ClientTable.{is_closed, is_gathering, client_step}
 use Rattle.giop_calls.specs.declared.client.entry.ClientEntry.{ClientEntry}
 use Rattle.giop_calls.specs.declared.client.event.ClientEvent.{ClientEvent}
 use Rattle.giop_calls.specs.declared.client.rule.ClientRule.{ClientRule}
@@ -17,10 +16,9 @@ use Rattle.giop_session.specs.declared.limits.Limits.{Limits}
 use Rattle.giop_session.specs.declared.calls.plan.Planned.{Planned}
 use Rattle.giop_session.specs.Calls.CallTable.{Held}
 use Rattle.giop_session.specs.Acts.ClientCalls.{IsCancel, open_version}
-use Rattle.giop_session.specs.Hearing.ClientHears.{client_befalls, client_breaks}
+use Rattle.giop_session.specs.Hearing.ClientHears.{client_side}
 use Rattle.giop_session.specs.Runs.ClientRuns.{ClientRuns, client_deed, client_entry}
 use Rattle.giop_session.specs.Runs.Driven.{EndState}
-use Rattle.giop_session.specs.Hearing.Heard.{in_call}
 use Rattle.giop_session.specs.Runs.Limits.{begins_at_client}
 use Rattle.giop_session.specs.Runs.RunLimits.{ClientIsGivenWithin, NoneForALimit, calls_under, fed_to_client}
 use Rattle.giop_session.proofs.OnLimits.ClientLimitLemmas.{begins_only, broken, own, small}
@@ -54,7 +52,7 @@ pub client_run_free : (interface : Interface) (limits : Limits) (inputs : List C
     (t : EndState (Held ClientRule ClientEntry)) → ClientIsGivenWithin limits inputs → ClientRuns interface limits inputs answers t
     → NoneForALimit answers
 client_run_free interface limits inputs answers t given run =
-    new_run_free (λ rule. client_step) (λ rule. is_closed) is_gathering in_call client_breaks (client_befalls interface) (λ kind. false) begins_at_client
+    new_run_free (client_side interface) (λ kind. false) begins_at_client
     (λ rule v. begins_only v) (small interface) own broken fed_to_client calls_under (client_deed interface limits) (suits interface limits)
     (record {}) limits t inputs answers given.calls.ids given.messages given.rest given.stand given.calls.few
     (λ id is. let wrong = nothing_asked given.messages is in absurd cc) given.calls.listed given.octets run

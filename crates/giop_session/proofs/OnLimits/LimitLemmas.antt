@@ -32,7 +32,7 @@ use Rattle.giop_session.specs.Runs.Alone.{names_by}
 use Rattle.giop_session.specs.Calls.Begun.{no_calls}
 use Rattle.giop_session.specs.Calls.CallTable.{Act, Brings, Call, First, Hears, Held, IsTaken, More, Nothing, Reply, Turned, at, brought, calls_fault, gathers, limit, octets_fault, room_fault, rules_of, taken, turn, turned}
 use Rattle.giop_session.specs.Runs.Events.{Accepts, Comes, Does, Event, Meets}
-use Rattle.giop_session.specs.Hearing.Heard.{IsHeard, heard_by}
+use Rattle.giop_session.specs.Hearing.Heard.{IsHeard, heard_by, SideOf, rules_at}
 use Rattle.giop_session.specs.Runs.Limits.{AreWithin, IsNext, Refuses, octets_of, octets_with, opens}
 use Rattle.giop_session.specs.Calls.Sending.{sending_step, settled_by}
 use Rattle.giop_session.specs.Calls.SessionFaults.{of_table}
@@ -270,20 +270,19 @@ IsSmall begins asked n IsTaken = Unit {0}
 abbrev pub IsUnlimited : SessionFault → Type 0
 IsUnlimited why = (why ≢ session.TooManyCalls) × (why ≢ session.GatherFull)
 
-module _ {R E V A F : Type 0} (next : R → Option E → V → Step E A F) (closed : R → E → Bool) (gathering : E → Bool)
-    (of_rule : ℕ → F → SessionFault) (breaks : Msg → Option SessionFault) (befalls : Msg → Call E → Act V) (asks : Kind → Bool) (begins : V → Bool)
-    (begins_only : (rule : R) (v : V) → is_some (next rule None v).entry ≡ true → begins v ≡ true)
-    (small : (m : Msg) (call : Call E) → IsSmall begins (asks m.kind) (octets_with m) (befalls m call))
-    (own : (id : ℕ) (fault : F) → IsUnlimited (of_rule id fault))
-    (broken : (m : Msg) (why : SessionFault) → breaks m ≡ Some why → IsUnlimited why) where
+module _ {R E V A F : Type 0} (side : SideOf R E V A F) (asks : Kind → Bool) (begins : V → Bool)
+    (begins_only : (rule : R) (v : V) → is_some (side.next rule None v).entry ≡ true → begins v ≡ true)
+    (small : (m : Msg) (call : Call E) → IsSmall begins (asks m.kind) (octets_with m) (side.befalls m call))
+    (own : (id : ℕ) (fault : F) → IsUnlimited (side.of_rule id fault))
+    (broken : (m : Msg) (why : SessionFault) → side.breaks m ≡ Some why → IsUnlimited why) where
   -- what a message asks of the call that it names
   asked : (ids : List ℕ) (id n : ℕ) (asking : Bool) (act : Act V) (rule : R) → IsSmall begins asking n act
-      → (asking ≡ true → is_listed ids id ≡ true) → Asks (next rule) (closed rule) gathering begins (begins_only rule) ids n id act
+      → (asking ≡ true → is_listed ids id ≡ true) → Asks (side.next rule) (side.closed rule) side.gathering begins (begins_only rule) ids n id act
   asked ids id n asking (Hears planned brings) rule (when, little) listed = (λ begins_so. listed (when begins_so), little)
   asked ids id n asking IsTaken rule all listed = tt
 
   -- what a table refuses for no limit, its end does
-  pub table_free : (id : ℕ) (why : TableFault F) → IsFree why → IsUnlimited (of_table (of_rule id) why)
+  pub table_free : (id : ℕ) (why : TableFault F) → IsFree why → IsUnlimited (of_table (side.of_rule id) why)
   table_free id (Rule fault) free = own id fault
   table_free id TooManyCalls free = absurd (free.0 refl)
   table_free id GatherFull free = absurd (free.1 refl)
@@ -292,7 +291,7 @@ module _ {R E V A F : Type 0} (next : R → Option E → V → Step E A F) (clos
 
   abbrev HeardSo : Msg → Held R E → Option SessionFault → Option (Result ℕ CdrFault) → Result (Unit {0}) SessionFault → Held R E → Type 0
   HeardSo m h breaking name result k =
-      IsHeard (rules_of (next h.rule) (closed h.rule) gathering) of_rule (heard_by breaking name (λ id. befalls m (at h id))) h result k
+      IsHeard (rules_at side h.rule) side.of_rule (heard_by breaking name (λ id. side.befalls m (at h id))) h result k
 
   abbrev ListedBy : List ℕ → Msg → Option (Result ℕ CdrFault) → Type 0
   ListedBy ids m name = (id : ℕ) → (asks m.kind && names_by name id) ≡ true → is_listed ids id ≡ true
@@ -302,9 +301,9 @@ module _ {R E V A F : Type 0} (next : R → Option E → V → Step E A F) (clos
   named_so false id is = is
 
   asked_named : (ids : List ℕ) (m : Msg) (h : Held R E) (id : ℕ) → ListedBy ids m (Some (Ok id))
-      → Asks (next h.rule) (closed h.rule) gathering begins (begins_only h.rule) ids (octets_with m) id (befalls m (at h id))
+      → Asks (side.next h.rule) (side.closed h.rule) side.gathering begins (begins_only h.rule) ids (octets_with m) id (side.befalls m (at h id))
   asked_named ids m h id listed =
-      asked ids id (octets_with m) (asks m.kind) (befalls m (at h id)) h.rule (small m (at h id)) (λ is. listed id (named_so (asks m.kind) id is))
+      asked ids id (octets_with m) (asks m.kind) (side.befalls m (at h id)) h.rule (small m (at h id)) (λ is. listed id (named_so (asks m.kind) id is))
 
   -- a message that is heard leaves room for what else was to come
   pub heard_fits : (m : Msg) (h k : Held R E) (ids : List ℕ) (rest : ℕ) (breaking : Option SessionFault) (name : Option (Result ℕ CdrFault))
@@ -315,7 +314,7 @@ module _ {R E V A F : Type 0} (next : R → Option E → V → Step E A F) (clos
   heard_fits m h k ids rest None (Some (Err fault)) fits listed (inr both) = absurd cc
   heard_fits m h k ids rest None (Some (Ok id)) fits listed (inr (Err why, does, is)) = absurd cc
   heard_fits m h k ids rest None (Some (Ok id)) fits listed (inr (Ok sends, does, is)) =
-      fits_then (next h.rule) (closed h.rule) gathering begins (begins_only h.rule) h k ids (octets_with m) rest id (befalls m (at h id)) _
+      fits_then (side.next h.rule) (side.closed h.rule) side.gathering begins (begins_only h.rule) h k ids (octets_with m) rest id (side.befalls m (at h id)) _
       fits (asked_named ids m h id listed) does
 
   -- one that is refused is so for no limit
@@ -330,9 +329,9 @@ module _ {R E V A F : Type 0} (next : R → Option E → V → Step E A F) (clos
   heard_free m h k ids rest None (Some (Ok id)) why breaks_so fits listed (inr (Ok sends, does, is)) = absurd cc
   heard_free m h k ids rest None (Some (Ok id)) why breaks_so fits listed (inr (Err fault, does, is)) =
       let free = table_free id fault
-      (refused_free (next h.rule) (closed h.rule) gathering begins (begins_only h.rule) h k ids (octets_with m) rest id (befalls m (at h id)) fault
+      (refused_free (side.next h.rule) (side.closed h.rule) side.gathering begins (begins_only h.rule) h k ids (octets_with m) rest id (side.befalls m (at h id)) fault
       fits (asked_named ids m h id listed) does) in
-      let same : of_table (of_rule id) fault ≡ why = cc in
+      let same : of_table (side.of_rule id) fault ≡ why = cc in
       subst IsUnlimited same free
 
   -- each id under which one of these events may open a call is listed
@@ -352,41 +351,41 @@ module _ {R E V A F : Type 0} (next : R → Option E → V → Step E A F) (clos
 
   -- what the end does itself
   asked_own : (ids : List ℕ) (id : ℕ) (planned : Planned V) (rule : R) → ((q : ℕ) → (begins planned.event && (q == id)) ≡ true → is_listed ids q ≡ true)
-      → Asks (next rule) (closed rule) gathering begins (begins_only rule) ids 0 id (Hears planned Nothing)
+      → Asks (side.next rule) (side.closed rule) side.gathering begins (begins_only rule) ids 0 id (Hears planned Nothing)
   asked_own ids id planned rule listed = (λ begins_so. listed id (named_so (begins planned.event) id begins_so), omega arith)
 
   -- an event that is accepted leaves room for the others
   pub first_fits : (h k : Held R E) (ids : List ℕ) (e : Event V) (events : List (Event V)) → Fits h ids (sum_by octets_of (e ∷ events))
-      → Listed ids (e ∷ events) → Accepts next closed gathering of_rule breaks befalls e h k → Fits k ids (sum_by octets_of events)
+      → Listed ids (e ∷ events) → Accepts side e h k → Fits k ids (sum_by octets_of events)
   first_fits h k ids (Comes m) events fits listed accepts =
-      heard_fits m h k ids (sum_by octets_of events) (breaks m) (request_id_of m)
+      heard_fits m h k ids (sum_by octets_of events) (side.breaks m) (request_id_of m)
       (subst (Fits h ids) (sum_by-cons octets_of (Comes m) events) fits) (listed_first ids (Comes m) events listed) accepts
   first_fits h k ids (Does id (IsTold planned)) events fits listed (reply, does) =
-      fits_then (next h.rule) (closed h.rule) gathering begins (begins_only h.rule) h k ids 0 (sum_by octets_of events) id (Hears planned Nothing) (Ok reply)
+      fits_then (side.next h.rule) (side.closed h.rule) side.gathering begins (begins_only h.rule) h k ids 0 (sum_by octets_of events) id (Hears planned Nothing) (Ok reply)
       (subst (Fits h ids) (sum_by-cons octets_of (Does id (IsTold planned)) events) fits)
       (asked_own ids id planned h.rule (listed_first ids (Does id (IsTold planned)) events listed)) does
   first_fits h k ids (Does id TakesOut) events fits listed (reply, does) =
-      fits_then (next h.rule) (closed h.rule) gathering begins (begins_only h.rule) h k ids 0 (sum_by octets_of events) id IsTaken (Ok reply)
+      fits_then (side.next h.rule) (side.closed h.rule) side.gathering begins (begins_only h.rule) h k ids 0 (sum_by octets_of events) id IsTaken (Ok reply)
       (subst (Fits h ids) (sum_by-cons octets_of (Does id TakesOut) events) fits) tt does
 
   -- one that is refused is so for no limit
   first_free : (h : Held R E) (ids : List ℕ) (e : Event V) (events : List (Event V)) (why : SessionFault) → Fits h ids (sum_by octets_of (e ∷ events))
-      → Listed ids (e ∷ events) → Refuses next closed gathering of_rule breaks befalls e h why → IsUnlimited why
+      → Listed ids (e ∷ events) → Refuses side e h why → IsUnlimited why
   first_free h ids (Comes m) events why fits listed (k, heard) =
-      heard_free m h k ids (sum_by octets_of events) (breaks m) (request_id_of m) why (broken m)
+      heard_free m h k ids (sum_by octets_of events) (side.breaks m) (request_id_of m) why (broken m)
       (subst (Fits h ids) (sum_by-cons octets_of (Comes m) events) fits) (listed_first ids (Comes m) events listed) heard
   first_free h ids (Does id (IsTold planned)) events why fits listed (k, fault, does, is) = subst IsUnlimited (sym is) (table_free id fault
-      (refused_free (next h.rule) (closed h.rule) gathering begins (begins_only h.rule) h k ids 0 (sum_by octets_of events) id (Hears planned Nothing) fault
+      (refused_free (side.next h.rule) (side.closed h.rule) side.gathering begins (begins_only h.rule) h k ids 0 (sum_by octets_of events) id (Hears planned Nothing) fault
       (subst (Fits h ids) (sum_by-cons octets_of (Does id (IsTold planned)) events) fits)
       (asked_own ids id planned h.rule (listed_first ids (Does id (IsTold planned)) events listed)) does))
   first_free h ids (Does id TakesOut) events why fits listed (k, fault, does, is) = subst IsUnlimited (sym is) (table_free id fault
-      (refused_free (next h.rule) (closed h.rule) gathering begins (begins_only h.rule) h k ids 0 (sum_by octets_of events) id IsTaken fault
+      (refused_free (side.next h.rule) (side.closed h.rule) side.gathering begins (begins_only h.rule) h k ids 0 (sum_by octets_of events) id IsTaken fault
       (subst (Fits h ids) (sum_by-cons octets_of (Does id TakesOut) events) fits) tt does))
 
   -- whatever came of events that fit
   next_free : (h k : Held R E) (ids : List ℕ) (came rest : List (Event V)) (e : Event V) (why : SessionFault)
       → Fits h ids (sum_by octets_of (came ++ e ∷ rest)) → Listed ids (came ++ e ∷ rest)
-      → Meets next closed gathering of_rule breaks befalls h came k → Refuses next closed gathering of_rule breaks befalls e k why → IsUnlimited why
+      → Meets side h came k → Refuses side e k why → IsUnlimited why
   next_free h k ids [] rest e why fits listed met refuses =
       first_free k ids e rest why (subst (λ s. Fits s ids (sum_by octets_of (e ∷ rest))) (sym met) fits) listed refuses
   next_free h k ids (one ∷ came) rest e why fits listed (mid, first, others) refuses =
@@ -404,7 +403,7 @@ module _ {R E V A F : Type 0} (next : R → Option E → V → Step E A F) (clos
 
   pub in_any_order : (rule : R) (limits : Limits) (all came : List (Event V)) (e : Event V) (h : Held R E) (why : SessionFault)
       → AreWithin asks begins limits all → IsNext all came e
-      → Meets next closed gathering of_rule breaks befalls (no_calls rule limits) came h → Refuses next closed gathering of_rule breaks befalls e h why
+      → Meets side (no_calls rule limits) came h → Refuses side e h why
       → IsUnlimited why
   in_any_order rule limits all came e h why within_limits (rest, ordered) met refuses =
       let same = sum_by-IsPermutation octets_of all (came ++ e ∷ rest) ordered in

@@ -10,7 +10,6 @@ use Rattle.giop_msg.specs.Msg.{IsMessage, message_octets}
 use Rattle.giop_msg.specs.RequestId.{request_id_of}
 use Rattle.giop_msg.specs.Stream.{BeginsWithMessage, Msgs, Unread}
 use Rattle.giop_msg.proofs.StreamLemmas.{each_head, each_one, each_tail, same_message}
-use Rattle.giop_mux.specs.declared.step.Step.{Step}
 use Rattle.giop_session.specs.declared.laws.inputs.Answered.{Answered}
 use Rattle.giop_session.specs.declared.laws.inputs.Answered.TheVariants as answer
 use Rattle.giop_session.specs.declared.limits.Limits.{Limits}
@@ -20,10 +19,10 @@ use Rattle.giop_session.specs.declared.session_fault.SessionFault.{SessionFault}
 use Rattle.giop_session.specs.declared.session_fault.SessionFault.TheVariants as session
 use Rattle.giop_session.specs.declared.calls.table_fault.TableFault.{TableFault}
 use Rattle.giop_session.specs.Runs.Alone.{names}
-use Rattle.giop_session.specs.Calls.CallTable.{Act, Call, Held, Hears, IsTaken, Nothing, event_reply, rules_of}
+use Rattle.giop_session.specs.Calls.CallTable.{Call, Held, Hears, IsTaken, Nothing, event_reply}
 use Rattle.giop_session.specs.Runs.Driven.{Closes, Deed, EndRuns, EndState, Feeds, IsDoneBy, IsGiven, IsGivenBy, PutsOut, TakesOut, new_end}
 use Rattle.giop_session.specs.Hearing.Feeding.{Fed, Stops, Through, standing, with_octets}
-use Rattle.giop_session.specs.Hearing.Heard.{hears_by, told_of}
+use Rattle.giop_session.specs.Hearing.Heard.{told_of, SideOf, rules_at, hears}
 use Rattle.giop_session.specs.Runs.Limits.{octets_with}
 use Rattle.giop_session.specs.Acts.Putting.{Puts}
 use Rattle.giop_session.specs.Runs.RunLimits.{IsForNoLimit, NoneForALimit}
@@ -89,16 +88,15 @@ pub record Waiting {R E I : Type 0} (asks : Kind → Bool) (fed : I → List ℕ
   pub listed : (id : ℕ) → list_any (λ m. asks m.kind && names m id) messages ≡ true → is_listed ids id ≡ true
   pub called : (id : ℕ) → list_any (λ i. asked_in i id) inputs ≡ true → is_listed ids id ≡ true
 
-module _ {R E V A F I : Type 0} (next : R → Option E → V → Step E A F) (closed : R → E → Bool) (gathering : E → Bool)
-    (of_rule : ℕ → F → SessionFault) (breaks : Msg → Option SessionFault) (befalls : Msg → Call E → Act V) (asks : Kind → Bool) (begins : V → Bool)
-    (begins_only : (rule : R) (v : V) → is_some (next rule None v).entry ≡ true → begins v ≡ true)
-    (small : (m : Msg) (call : Call E) → IsSmall begins (asks m.kind) (octets_with m) (befalls m call))
-    (own : (id : ℕ) (fault : F) → IsUnlimited (of_rule id fault))
-    (broken : (m : Msg) (why : SessionFault) → breaks m ≡ Some why → IsUnlimited why)
+module _ {R E V A F I : Type 0} (side : SideOf R E V A F) (asks : Kind → Bool) (begins : V → Bool)
+    (begins_only : (rule : R) (v : V) → is_some (side.next rule None v).entry ≡ true → begins v ≡ true)
+    (small : (m : Msg) (call : Call E) → IsSmall begins (asks m.kind) (octets_with m) (side.befalls m call))
+    (own : (id : ℕ) (fault : F) → IsUnlimited (side.of_rule id fault))
+    (broken : (m : Msg) (why : SessionFault) → side.breaks m ≡ Some why → IsUnlimited why)
     (fed : I → List ℕ) (asked_in : I → ℕ → Bool) (deed : Held R E → I → Deed V F)
     (suits : (h : Held R E) (i : I) → Suits fed asked_in begins i (deed h i)) where
   abbrev HearsSo : Msg → Held R E → Result (Unit {0}) SessionFault → Held R E → Type 0
-  HearsSo = hears_by next closed gathering of_rule breaks befalls
+  HearsSo = hears side
 
   abbrev ListedIn : List ℕ → List Msg → Type 0
   ListedIn ids messages = (id : ℕ) → list_any (λ m. asks m.kind && names m id) messages ≡ true → is_listed ids id ≡ true
@@ -117,8 +115,8 @@ module _ {R E V A F I : Type 0} (next : R → Option E → V → Step E A F) (cl
   through_fits h k ids [] others fits listed through = (subst (λ s. Fits s ids (sum_by octets_with others)) (sym through) fits, listed)
   through_fits h k ids (m ∷ one) others fits listed (mid, heard, rest) =
       through_fits mid k ids one others
-      (heard_fits next closed gathering of_rule breaks befalls asks begins begins_only small own broken m h mid ids (sum_by octets_with (one ++ others))
-      (breaks m) (request_id_of m) (subst (Fits h ids) (sum_by-cons octets_with m (one ++ others)) fits)
+      (heard_fits side asks begins begins_only small own broken m h mid ids (sum_by octets_with (one ++ others))
+      (side.breaks m) (request_id_of m) (subst (Fits h ids) (sum_by-cons octets_with m (one ++ others)) fits)
       (λ id is. listed id (ap (λ b. b || list_any (λ n. asks n.kind && names n id) (one ++ others)) is)) heard)
       (λ id is. listed id (behind_first (asks m.kind && names m id) is)) rest
 
@@ -171,43 +169,43 @@ module _ {R E V A F I : Type 0} (next : R → Option E → V → Step E A F) (cl
           (ap (λ o. o ++ flat_map fed inputs) takes.octets ∙ append_assoc (message_octets m) left.octets (flat_map fed inputs)
           ∙ ap (λ o. o ++ (left.octets ++ flat_map fed inputs)) (sym (append-nil (message_octets m)))) parts.2 in
           let listed = subst (ListedIn ahead.ids) second.1 gone.1 in
-          heard_free next closed gathering of_rule breaks befalls asks begins begins_only small own broken m k k ahead.ids (sum_by octets_with second.0)
-          (breaks m) (request_id_of m) why (broken m)
+          heard_free side asks begins begins_only small own broken m k k ahead.ids (sum_by octets_with second.0)
+          (side.breaks m) (request_id_of m) why (broken m)
           (subst (Fits k ahead.ids) (ap (sum_by octets_with) second.1 ∙ sum_by-cons octets_with m second.0) gone.0)
           (λ id there. listed id (ap (λ b. b || list_any (λ n. asks n.kind && names n id) second.0) there)) refused
 
   -- an act of the end's own program
   befell_fits : (h k : Held R E) (ids : List ℕ) (n id : ℕ) (planned : Planned V) (answered : Result (Sends A) (TableFault F))
       (result : Result (Unit {0}) SessionFault) → Fits h ids n → (begins planned.event ≡ true → is_listed ids id ≡ true)
-      → DoesAct (rules_of (next h.rule) (closed h.rule) gathering) h (record { id = id; what = Hears planned Nothing }) (event_reply answered) k
-      → result ≡ told_of (of_rule id) answered
+      → DoesAct (rules_at side h.rule) h (record { id = id; what = Hears planned Nothing }) (event_reply answered) k
+      → result ≡ told_of (side.of_rule id) answered
       → Fits k ids n × ((why : SessionFault) → result ≡ Err why → IsUnlimited why)
   befell_fits h k ids n id planned (Ok sends) result fits listed does told = (
-    fits_then (next h.rule) (closed h.rule) gathering begins (begins_only h.rule) h k ids 0 n id (Hears planned Nothing) _ (none_more h ids n fits)
+    fits_then (side.next h.rule) (side.closed h.rule) side.gathering begins (begins_only h.rule) h k ids 0 n id (Hears planned Nothing) _ (none_more h ids n fits)
         (listed, omega arith) does,
     λ why is. absurd cc,
   )
   befell_fits h k ids n id planned (Err fault) result fits listed does told = (
-    fits_then (next h.rule) (closed h.rule) gathering begins (begins_only h.rule) h k ids 0 n id (Hears planned Nothing) _ (none_more h ids n fits)
+    fits_then (side.next h.rule) (side.closed h.rule) side.gathering begins (begins_only h.rule) h k ids 0 n id (Hears planned Nothing) _ (none_more h ids n fits)
         (listed, omega arith) does,
     λ why is.
-        let free = table_free next closed gathering of_rule breaks befalls asks begins begins_only small own broken id fault
-        (refused_free (next h.rule) (closed h.rule) gathering begins (begins_only h.rule) h k ids 0 n id (Hears planned Nothing) fault (none_more h ids n fits)
+        let free = table_free side asks begins begins_only small own broken id fault
+        (refused_free (side.next h.rule) (side.closed h.rule) side.gathering begins (begins_only h.rule) h k ids 0 n id (Hears planned Nothing) fault (none_more h ids n fits)
         (listed, omega arith) does) in
-        let same : of_table (of_rule id) fault ≡ why = cc in
+        let same : of_table (side.of_rule id) fault ≡ why = cc in
         subst IsUnlimited same free,
   )
 
   puts_fits : (h k : Held R E) (ids : List ℕ) (n id : ℕ) (refusal : Option F) (Plans : Planned V → Type 0) (out out' : List ℕ)
       (result : Result (Unit {0}) SessionFault) → Fits h ids n
       → ((planned : Planned V) → Plans planned → begins planned.event ≡ true → is_listed ids id ≡ true)
-      → Puts (rules_of (next h.rule) (closed h.rule) gathering) of_rule id refusal Plans h out result k out'
+      → Puts (rules_at side h.rule) side.of_rule id refusal Plans h out result k out'
       → Fits k ids n × ((why : SessionFault) → result ≡ Err why → IsUnlimited why)
   puts_fits h k ids n id refusal Plans out out' result fits listed (inl (want, same, outgoing)) =
       (subst (λ s. Fits s ids n) (sym same) fits, λ why is. (λ limit. cc, λ limit. cc))
   puts_fits h k ids n id (Some fault) Plans out out' result fits listed (inr (told, same, outgoing)) = (
     subst (λ s. Fits s ids n) (sym same) fits,
-    λ why is. let other : of_rule id fault ≡ why = cc in subst IsUnlimited other (own id fault),
+    λ why is. let other : side.of_rule id fault ≡ why = cc in subst IsUnlimited other (own id fault),
   )
   puts_fits h k ids n id None Plans out out' result fits listed (inr (planned, plans, befell)) =
       befell_fits h k ids n id planned befell.answered result fits (listed planned plans) befell.does befell.told
@@ -228,7 +226,7 @@ module _ {R E V A F I : Type 0} (next : R → Option E → V → Step E A F) (cl
   taken_goes entry = (λ same. cc, λ same. cc)
 
   done_stands : (s t : EndState (Held R E)) (i : I) (inputs : List I) (answered : Answered E) (d : Deed V F) → Suits fed asked_in begins i d
-      → Awaits s.unread s.calls (i ∷ inputs) → s.fault ≡ None → IsDoneBy next closed gathering of_rule breaks befalls d s answered t
+      → Awaits s.unread s.calls (i ∷ inputs) → s.fault ≡ None → IsDoneBy side d s answered t
       → Goes answered t inputs
   done_stands s t i inputs answer.Done (Feeds octets) suit ahead sound (feeding, is) = (
     done_goes,
@@ -254,7 +252,7 @@ module _ {R E V A F I : Type 0} (next : R → Option E → V → Step E A F) (cl
   done_stands s t i inputs (answer.Taken entry) (TakesOut id) none ahead sound (gives, does, is) = (
     taken_goes entry,
     stays s t inputs sound (ap (λ e. e.fault) is) (ap (λ e. e.unread) is) (without s.unread s.calls t.calls i inputs ahead none
-        (fits_then (next s.calls.rule) (closed s.calls.rule) gathering begins (begins_only s.calls.rule) s.calls t.calls ahead.ids 0
+        (fits_then (side.next s.calls.rule) (side.closed s.calls.rule) side.gathering begins (begins_only s.calls.rule) s.calls t.calls ahead.ids 0
         (sum_by octets_with ahead.messages) id IsTaken _
         (none_more s.calls ahead.ids (sum_by octets_with ahead.messages) ahead.fits) tt does)),
   )
@@ -271,11 +269,11 @@ module _ {R E V A F I : Type 0} (next : R → Option E → V → Step E A F) (cl
   done_stands s t i inputs (answer.Refused why) Closes none ahead sound done = absurd done
 
   given_stands : (s t : EndState (Held R E)) (i : I) (inputs : List I) (answered : Answered E) → Stands s.fault s.unread s.calls (i ∷ inputs)
-      → IsGiven next closed gathering of_rule breaks befalls (deed s.calls i) s answered t → Goes answered t inputs
+      → IsGiven side (deed s.calls i) s answered t → Goes answered t inputs
   given_stands s t i inputs answered stands given = by_fault s.fault refl stands given.1
     where
       by_fault : (fault : Option SessionFault) → s.fault ≡ fault → Stands fault s.unread s.calls (i ∷ inputs)
-          → IsGivenBy next closed gathering of_rule breaks befalls fault (deed s.calls i) s answered t → Goes answered t inputs
+          → IsGivenBy side fault (deed s.calls i) s answered t → Goes answered t inputs
       by_fault None sound ahead done = done_stands s t i inputs answered (deed s.calls i) (suits s.calls i) ahead sound done
       by_fault (Some why) stood free (told, same) = (
         subst IsForNoLimit (sym told) (refused_free_answer why free),
@@ -283,7 +281,7 @@ module _ {R E V A F I : Type 0} (next : R → Option E → V → Step E A F) (cl
       )
 
   run_free : (s t : EndState (Held R E)) (inputs : List I) (answers : List (Answered E)) → Stands s.fault s.unread s.calls inputs
-      → EndRuns next closed gathering of_rule breaks befalls deed s inputs answers t → NoneForALimit answers
+      → EndRuns side deed s inputs answers t → NoneForALimit answers
   run_free s t [] [] stands run = tt
   run_free s t [] (answered ∷ answers) stands run = absurd run
   run_free s t (i ∷ inputs) [] stands run = absurd run
@@ -297,14 +295,14 @@ module _ {R E V A F I : Type 0} (next : R → Option E → V → Step E A F) (cl
       → ((id : ℕ) → list_any (λ m. asks m.kind && names m id) messages ≡ true → is_listed ids id ≡ true)
       → ((id : ℕ) → list_any (λ i. asked_in i id) inputs ≡ true → is_listed ids id ≡ true)
       → sum_by octets_with messages ≤ limits.gathered
-      → EndRuns next closed gathering of_rule breaks befalls deed (new_end rule limits) inputs answers t → NoneForALimit answers
+      → EndRuns side deed (new_end rule limits) inputs answers t → NoneForALimit answers
   new_run_free rule limits t inputs answers ids messages rest stand few listed called room run =
       run_free (new_end rule limits) t inputs answers (record {
         ids = ids;
         messages = messages;
         rest = rest;
         stand = stand;
-        fits = new_fits next closed gathering of_rule breaks befalls asks begins begins_only small own broken rule limits ids
+        fits = new_fits side asks begins begins_only small own broken rule limits ids
             (sum_by octets_with messages) few room;
         listed = listed;
         called = called;

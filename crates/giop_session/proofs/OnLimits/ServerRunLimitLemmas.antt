@@ -6,7 +6,6 @@ use Rattle.giop_cdr.specs.declared.order.Order.{Order}
 use Rattle.giop_msg.specs.declared.messages.reply.Reply.{Reply}
 use Rattle.giop_msg.specs.declared.messages.request.Request.{Request}
 use Rattle.giop_msg.specs.declared.version.Version.{Version}
-use Rattle.giop_calls.specs.ServerTable.{is_closed, is_gathering, server_step}
 use Rattle.giop_calls.specs.declared.server.entry.ServerEntry.{ServerEntry}
 use Rattle.giop_calls.specs.declared.server.event.ServerEvent.{ServerEvent}
 use Rattle.giop_calls.specs.declared.server.rule.ServerRule.{ServerRule}
@@ -18,11 +17,10 @@ use Rattle.giop_session.specs.declared.limits.Limits.{Limits}
 use Rattle.giop_session.specs.declared.calls.plan.Planned.{Planned}
 use Rattle.giop_session.specs.Calls.CallTable.{Held}
 use Rattle.giop_session.specs.Runs.Driven.{EndState}
-use Rattle.giop_session.specs.Hearing.Heard.{in_call}
 use Rattle.giop_session.specs.Runs.Limits.{begins_at_server, is_asking}
 use Rattle.giop_session.specs.Runs.RunLimits.{NoneForALimit, ServerIsGivenWithin, fed_to_server}
 use Rattle.giop_session.specs.Acts.ServerAnswers.{IsAnswer, IsLocateAnswer, locate_of, question_of}
-use Rattle.giop_session.specs.Hearing.ServerHears.{server_befalls, server_breaks}
+use Rattle.giop_session.specs.Hearing.ServerHears.{server_side}
 use Rattle.giop_session.specs.Runs.ServerRuns.{ServerRuns, server_deed, server_entry}
 use Rattle.giop_session.proofs.OnLimits.RunLimitLemmas.{Suits, new_run_free}
 use Rattle.giop_session.proofs.OnLimits.ServerLimitLemmas.{begins_only, broken, own, small}
@@ -60,7 +58,7 @@ pub server_run_free : (interface : Interface) (limits : Limits) (inputs : List S
     (t : EndState (Held ServerRule ServerEntry)) → ServerIsGivenWithin limits inputs → ServerRuns interface limits inputs answers t
     → NoneForALimit answers
 server_run_free interface limits inputs answers t given run =
-    new_run_free (λ rule. server_step) (λ rule. is_closed) is_gathering in_call server_breaks (server_befalls interface) is_asking begins_at_server
+    new_run_free (server_side interface) is_asking begins_at_server
     (λ rule v. begins_only v) (small interface) own broken fed_to_server (λ i id. false) (server_deed interface limits) (suits interface limits)
     (record {}) limits t inputs answers given.calls.ids given.messages given.rest given.stand given.calls.few given.calls.listed
     (λ id is. let wrong = nothing_asked inputs is in absurd cc) given.octets run

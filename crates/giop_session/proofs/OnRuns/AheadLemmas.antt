@@ -1,5 +1,5 @@
 -- An end that is given many calls holds of each what an end holds that is given that call alone: message by message, and act by act.
-use Rattle.std.proofs.Common.{◌≡◌, ◌≢◌, ℕ, ◌==◌, Bool, false, cond, List, [], ◌∷◌, ◌++◌, append-nil, map, Option, Some, None, Result, Ok, Err, IsOk, refl, sym, ap, subst, ◌∙◌, arith, inl, inr}
+use Rattle.std.proofs.Common.{◌≡◌, ◌≢◌, ℕ, ◌==◌, false, cond, List, [], ◌∷◌, ◌++◌, append-nil, map, Option, Some, None, Result, Ok, Err, IsOk, refl, sym, ap, subst, ◌∙◌, arith, inl, inr}
 use Rattle.giop_cdr.specs.declared.fault.CdrFault.{CdrFault}
 use Rattle.giop_ids.specs.Runs.{Does as DoesAct, RefusedAs, left, refusal_of, within}
 use Rattle.giop_ids.proofs.Puts.{eq_itself}
@@ -9,7 +9,6 @@ use Rattle.giop_msg.specs.RequestId.{request_id_of}
 use Rattle.giop_msg.specs.Stream.{TakesMessages}
 use Rattle.giop_msg.proofs.FramerLemmas.{waits_for_header}
 use Rattle.giop_msg.proofs.StreamLemmas.{each_one}
-use Rattle.giop_mux.specs.declared.step.Step.{Step}
 use Rattle.giop_session.specs.declared.laws.inputs.Answered.{Answered}
 use Rattle.giop_session.specs.declared.laws.inputs.Answered.TheVariants as answer
 use Rattle.giop_session.specs.declared.calls.plan.Planned.{Planned}
@@ -19,11 +18,11 @@ use Rattle.giop_session.specs.declared.session_fault.SessionFault.TheVariants as
 use Rattle.giop_session.specs.declared.calls.table_fault.TableFault.{TableFault}
 use Rattle.giop_session.specs.declared.calls.table_fault.TableFault.TheVariants.{Rule, TooManyCalls, GatherFull, StillOpen, NoMemory}
 use Rattle.giop_session.specs.Acts.Putting.{Puts}
-use Rattle.giop_session.specs.Calls.CallTable.{Act, Call, Held, Hears, IsTaken, Nothing, Turned, at, event_reply, is_of_call, limit, rules_of, taken, turn}
+use Rattle.giop_session.specs.Calls.CallTable.{Act, Call, Held, Hears, IsTaken, Nothing, Turned, at, event_reply, is_of_call, limit, taken}
 use Rattle.giop_session.specs.Calls.Sending.{entry_of}
 use Rattle.giop_session.specs.Calls.SessionFaults.{of_table}
 use Rattle.giop_session.specs.Hearing.Feeding.{Fed, Through, with_octets}
-use Rattle.giop_session.specs.Hearing.Heard.{IsHeard, heard_by, hears_by, told_of}
+use Rattle.giop_session.specs.Hearing.Heard.{IsHeard, heard_by, told_of, SideOf, turn_at, rules_at, hears}
 use Rattle.giop_session.specs.Runs.Driven.{Closes, Deed, EndRuns, EndState, Feeds, IsDoneBy, IsGivenBy, NoneRefused, PutsOut, TakesOut, id_of, is_named, own_answers}
 use Rattle.giop_session.specs.Runs.Inputs.{nothing_unread}
 use Rattle.giop_session.specs.Runs.Met.{Comes, Does, Met, Sorting, given_as}
@@ -64,26 +63,25 @@ others_accepted answer.Done answers none = none
 others_accepted (answer.Taken entry) answers none = none
 others_accepted (answer.Refused why) answers none = absurd none
 
-module _ {R E V A F : Type 0} (next : R → Option E → V → Step E A F) (closed : R → E → Bool) (gathering : E → Bool)
-    (of_rule : ℕ → F → SessionFault) (breaks : Msg → Option SessionFault) (befalls : Msg → Call E → Act V) where
+module _ {R E V A F : Type 0} (side : SideOf R E V A F) where
   abbrev turn_by : R → Call E → Act V → Turned E A F
-  turn_by rule = turn (next rule) (closed rule) gathering
+  turn_by rule = turn_at side rule
 
   abbrev after : R → Call E → (Call E → Act V) → Call E
   after rule call act = left call (turn_by rule call (act call))
 
   abbrev HearsSo : Msg → Held R E → Result (Unit {0}) SessionFault → Held R E → Type 0
-  HearsSo = hears_by next closed gathering of_rule breaks befalls
+  HearsSo = hears side
 
   abbrev ChangesSo : Held R E → ℕ → (Call E → Act V) → Held R E → Type 0
-  ChangesSo = Changes next closed gathering of_rule breaks befalls
+  ChangesSo = Changes side
 
   abbrev DoneSo : Deed V F → EndState (Held R E) → Answered E → EndState (Held R E) → Type 0
-  DoneSo = IsDoneBy next closed gathering of_rule breaks befalls
+  DoneSo = IsDoneBy side
 
   abbrev DoesSo : Held R E → ℕ → Planned V → Result (Sends A) (TableFault F) → Held R E → Type 0
   DoesSo h id planned answered k =
-      DoesAct (rules_of (next h.rule) (closed h.rule) gathering) h (record { id = id; what = Hears planned Nothing }) (event_reply answered) k
+      DoesAct (rules_at side h.rule) h (record { id = id; what = Hears planned Nothing }) (event_reply answered) k
 
   -- ---- refusals
 
@@ -98,12 +96,12 @@ module _ {R E V A F : Type 0} (next : R → Option E → V → Step E A F) (clos
   whole_refuses over (Err why) fault ok limits refused = absurd cc
 
   table_refuses : (h k : Held R E) (id : ℕ) (act : Act V) (fault : TableFault F) → IsOk (turn_by h.rule (at h id) act)
-      → DoesAct (rules_of (next h.rule) (closed h.rule) gathering) h (record { id = id; what = act }) (Err fault) k → is_of_call fault ≡ false
+      → DoesAct (rules_at side h.rule) h (record { id = id; what = act }) (Err fault) k → is_of_call fault ≡ false
   table_refuses h k id act fault ok does =
-      whole_refuses (limit (next h.rule) (closed h.rule) gathering h id act) (turn_by h.rule (at h id) act) fault ok
-      (λ why is. (told_apart (next h.rule) (closed h.rule) gathering).limits h (record { id = id; what = act }) why is) does.refusal
+      whole_refuses (limit (side.next h.rule) (side.closed h.rule) side.gathering h id act) (turn_by h.rule (at h id) act) fault ok
+      (λ why is. (told_apart (side.next h.rule) (side.closed h.rule) side.gathering).limits h (record { id = id; what = act }) why is) does.refusal
 
-  not_own : (id : ℕ) (fault : TableFault F) → is_of_call fault ≡ false → IsOwn (of_table (of_rule id) fault) → ⊥
+  not_own : (id : ℕ) (fault : TableFault F) → is_of_call fault ≡ false → IsOwn (of_table (side.of_rule id) fault) → ⊥
   not_own id (Rule fault) is own = absurd cc
   not_own id StillOpen is own = absurd cc
   not_own id TooManyCalls is own = own.0 refl
@@ -112,17 +110,17 @@ module _ {R E V A F : Type 0} (next : R → Option E → V → Step E A F) (clos
 
   -- a message that its call takes is not refused for the call's own sake
   pub never_refused : (m : Msg) (h k : Held R E) (id : ℕ) (why : SessionFault)
-      → IsHeard (rules_of (next h.rule) (closed h.rule) gathering) of_rule (heard_by None (Some (Ok id)) (λ q. befalls m (at h q))) h (Err why) k
-      → IsOk (turn_by h.rule (at h id) (befalls m (at h id))) → IsOwn why → ⊥
+      → IsHeard (rules_at side h.rule) side.of_rule (heard_by None (Some (Ok id)) (λ q. side.befalls m (at h q))) h (Err why) k
+      → IsOk (turn_by h.rule (at h id) (side.befalls m (at h id))) → IsOwn why → ⊥
   never_refused m h k id why (inl both) ok own = let want = both.0 in let is : why ≡ session.NoMemory = cc in own.2 is
   never_refused m h k id why (inr (Ok sends, does, is)) ok own = absurd cc
   never_refused m h k id why (inr (Err fault, does, is)) ok own =
-      let told : why ≡ of_table (of_rule id) fault = cc in
-      not_own id fault (table_refuses h k id (befalls m (at h id)) fault ok does) (subst IsOwn told own)
+      let told : why ≡ of_table (side.of_rule id) fault = cc in
+      not_own id fault (table_refuses h k id (side.befalls m (at h id)) fault ok does) (subst IsOwn told own)
 
   -- a message that is heard ends no session
   unbroken : (broken : Option SessionFault) (m : Msg) (name : Option (Result ℕ CdrFault)) (h k : Held R E)
-      → IsHeard (rules_of (next h.rule) (closed h.rule) gathering) of_rule (heard_by broken name (λ q. befalls m (at h q))) h (Ok tt) k → broken ≡ None
+      → IsHeard (rules_at side h.rule) side.of_rule (heard_by broken name (λ q. side.befalls m (at h q))) h (Ok tt) k → broken ≡ None
   unbroken broken m name h k (inl both) = absurd cc
   unbroken None m name h k (inr is) = refl
   unbroken (Some why) m name h k (inr both) = absurd cc
@@ -150,23 +148,23 @@ module _ {R E V A F : Type 0} (next : R → Option E → V → Step E A F) (clos
 
   -- it puts out what is planned, where it isn't refused
   put_done : (h k : Held R E) (id : ℕ) (refusal : Option F) (Plans : Planned V → Type 0) (out out' : List ℕ)
-      → Puts (rules_of (next h.rule) (closed h.rule) gathering) of_rule id refusal Plans h out (Ok tt) k out'
+      → Puts (rules_at side h.rule) side.of_rule id refusal Plans h out (Ok tt) k out'
       → (refusal ≡ None) × ((planned : Planned V) × Plans planned × ChangesSo h id (λ call. Hears planned Nothing) k)
   put_done h k id refusal Plans out out' (inl wanting) = let wrong = wanting.0 in absurd cc
   put_done h k id (Some why) Plans out out' (inr refused) = let wrong = refused.0 in absurd cc
   put_done h k id None Plans out out' (inr (planned, plans, befell)) =
       (refl, (planned, plans, by_answer befell.answered befell.does befell.told))
     where
-      by_answer : (answered : Result (Sends A) (TableFault F)) → DoesSo h id planned answered k → Ok tt ≡ told_of (of_rule id) answered
+      by_answer : (answered : Result (Sends A) (TableFault F)) → DoesSo h id planned answered k → Ok tt ≡ told_of (side.of_rule id) answered
           → ChangesSo h id (λ call. Hears planned Nothing) k
-      by_answer (Ok sends) does told = changes next closed gathering of_rule breaks befalls h k id (λ call. Hears planned Nothing) _ does
+      by_answer (Ok sends) does told = changes side h k id (λ call. Hears planned Nothing) _ does
       by_answer (Err why) does told = absurd cc
 
   -- it is refused for no sake of its own, where its call takes what is planned
   put_refused : (h k : Held R E) (id : ℕ) (refusal : Option F) (Plans : Planned V → Type 0) (out out' : List ℕ) (why : SessionFault) (planned : Planned V)
       → refusal ≡ None → ((one other : Planned V) → Plans one → Plans other → one ≡ other) → Plans planned
       → IsOk (turn_by h.rule (at h id) (Hears planned Nothing)) → IsOwn why
-      → Puts (rules_of (next h.rule) (closed h.rule) gathering) of_rule id refusal Plans h out (Err why) k out' → ⊥
+      → Puts (rules_at side h.rule) side.of_rule id refusal Plans h out (Err why) k out' → ⊥
   put_refused h k id refusal Plans out out' why planned none once plans ok own (inl wanting) =
       let want = wanting.0 in let is : why ≡ session.NoMemory = cc in own.2 is
   put_refused h k id (Some fault) Plans out out' why planned none once plans ok own (inr refused) = absurd cc
@@ -176,10 +174,10 @@ module _ {R E V A F : Type 0} (next : R → Option E → V → Step E A F) (clos
       ok_there : IsOk (turn_by h.rule (at h id) (Hears other Nothing))
       ok_there = subst (λ p. IsOk (turn_by h.rule (at h id) (Hears p Nothing))) (once planned other plans planned_so) ok
 
-      by_answer : (answered : Result (Sends A) (TableFault F)) → DoesSo h id other answered k → Err why ≡ told_of (of_rule id) answered → ⊥
+      by_answer : (answered : Result (Sends A) (TableFault F)) → DoesSo h id other answered k → Err why ≡ told_of (side.of_rule id) answered → ⊥
       by_answer (Ok sends) does told = absurd cc
       by_answer (Err fault) does told =
-          let is : why ≡ of_table (of_rule id) fault = cc in
+          let is : why ≡ of_table (side.of_rule id) fault = cc in
           not_own id fault (table_refuses h k id (Hears other Nothing) fault ok_there does) (subst IsOwn is own)
 
   -- what both do then: they answer the same, and change the same
@@ -233,11 +231,11 @@ module _ {R E V A F : Type 0} (next : R → Option E → V → Step E A F) (clos
     fault' = ap (λ e. e.fault) is';
     unread' = ap (λ e. e.unread) is';
     act = IsTaken;
-    changed = changes next closed gathering of_rule breaks befalls s.calls t.calls id (λ call. IsTaken) _ does;
-    changed' = changes next closed gathering of_rule breaks befalls s'.calls t'.calls id (λ call. IsTaken) _ does';
+    changed = changes side s.calls t.calls id (λ call. IsTaken) _ does;
+    changed' = changes side s'.calls t'.calls id (λ call. IsTaken) _ does';
   }
   take_alike id s t s' t' (answer.Refused why) (answer.Taken entry') rule same (gives', does', is') none (wanting, still, is) =
-      let taken_there = changes next closed gathering of_rule breaks befalls s'.calls t'.calls id (λ call. IsTaken) _ does' in
+      let taken_there = changes side s'.calls t'.calls id (λ call. IsTaken) _ does' in
       let ok = accepted_alike s'.calls.rule s.calls.rule (at s'.calls id) (at s.calls id) (λ call. IsTaken) rule same taken_there.accepted in
       let wrong = subst (λ over. IsOk (taken {A = A} {F = F} over (at s.calls id))) still ok in
       absurd cc
@@ -280,10 +278,10 @@ module _ {R E V A F : Type 0} (next : R → Option E → V → Step E A F) (clos
       (about : (h : Held R E) (i : I) → id_of (deed h i) ≡ sorting.named i)
       (once : (h : Held R E) (i : I) → IsPlannedOnce (deed h i)) where
     abbrev RunsSo : EndState (Held R E) → List I → List (Answered E) → EndState (Held R E) → Type 0
-    RunsSo = EndRuns next closed gathering of_rule breaks befalls deed
+    RunsSo = EndRuns side deed
 
     abbrev GivenSo : Option SessionFault → Deed V F → EndState (Held R E) → Answered E → EndState (Held R E) → Type 0
-    GivenSo = IsGivenBy next closed gathering of_rule breaks befalls
+    GivenSo = IsGivenBy side
 
     -- an end that is given one call alone holds of it the same, and takes what is still to come of it with these answers
     pub record Ahead (h : Held R E) (id : ℕ) (own : List (Met I)) (told : List (Answered E)) (end : EndState (Held R E)) : Type 0 where
@@ -325,12 +323,12 @@ module _ {R E V A F : Type 0} (next : R → Option E → V → Step E A F) (clos
     -- a message is to come: its call takes it, and what that leaves is the same
     pub comes_ahead : (h : Held R E) (id : ℕ) (m : Msg) (own : List (Met I)) (told : List (Answered E)) (end : EndState (Held R E))
         → IsMessage message m → request_id_of m ≡ Some (Ok id) → Ahead h id (Comes m ∷ own) told end
-        → (breaks m ≡ None) × IsOk (turn_by h.rule (at h id) (befalls m (at h id))) × ((k : Held R E) → ChangesSo h id (befalls m) k → Ahead k id own told end)
+        → (side.breaks m ≡ None) × IsOk (turn_by h.rule (at h id) (side.befalls m (at h id))) × ((k : Held R E) → ChangesSo h id (side.befalls m) k → Ahead k id own told end)
     comes_ahead h id m own told end is name ahead = by_answers ahead.answers ahead.runs ahead.none ahead.told_is
       where
         Goal : Type 0
-        Goal = (breaks m ≡ None) × IsOk (turn_by h.rule (at h id) (befalls m (at h id)))
-            × ((k : Held R E) → ChangesSo h id (befalls m) k → Ahead k id own told end)
+        Goal = (side.breaks m ≡ None) × IsOk (turn_by h.rule (at h id) (side.befalls m (at h id)))
+            × ((k : Held R E) → ChangesSo h id (side.befalls m) k → Ahead k id own told end)
 
         by_given : (answered : Answered E) (answers : List (Answered E)) (mid : EndState (Held R E))
             → DoneSo (Feeds (message_octets m)) ahead.start answered mid → RunsSo mid (map (given_as sorting) own) answers end
@@ -340,18 +338,18 @@ module _ {R E V A F : Type 0} (next : R → Option E → V → Step E A F) (clos
         by_given (answer.Taken entry) answers mid done runs none is_told = absurd done
         by_given answer.Done answers mid (feeding, is_mid) runs none is_told =
             let one = fed_one message m ahead.start mid is ahead.empty feeding in
-            let step = heard next closed gathering of_rule breaks befalls m ahead.start.calls mid.calls (breaks m) (request_id_of m) one.0 in
+            let step = heard side m ahead.start.calls mid.calls (side.breaks m) (request_id_of m) one.0 in
             let names_it = sym step.1 ∙ name in
             let same_id : step.0 ≡ id = cc in
-            let there = subst (λ q. ChangesSo ahead.start.calls q (befalls m) mid.calls) same_id step.2 in (
-              unbroken (breaks m) m (request_id_of m) ahead.start.calls mid.calls one.0,
-              accepted_alike ahead.start.calls.rule h.rule (at ahead.start.calls id) (at h id) (befalls m) ahead.rule ahead.same there.accepted,
+            let there = subst (λ q. ChangesSo ahead.start.calls q (side.befalls m) mid.calls) same_id step.2 in (
+              unbroken (side.breaks m) m (request_id_of m) ahead.start.calls mid.calls one.0,
+              accepted_alike ahead.start.calls.rule h.rule (at ahead.start.calls id) (at h id) (side.befalls m) ahead.rule ahead.same there.accepted,
               λ k here. record {
                 start = mid;
                 sound = ap (λ e. e.fault) is_mid;
                 empty = one.1;
                 rule = there.rule_stays ∙ ahead.rule ∙ sym here.rule_stays;
-                same = changed_alike ahead.start.calls mid.calls h k id (befalls m) there here ahead.rule ahead.same;
+                same = changed_alike ahead.start.calls mid.calls h k id (side.befalls m) there here ahead.rule ahead.same;
                 answers = answers;
                 runs = runs;
                 none = none;

@@ -8,15 +8,14 @@ use Rattle.giop_msg.specs.Msg.{IsMessage, message_octets}
 use Rattle.giop_msg.specs.RequestId.{request_id_of}
 use Rattle.giop_msg.specs.Stream.{BeginsWithFault, Msgs, TakesMessages, Unread, Waits}
 use Rattle.giop_msg.proofs.StreamLemmas.{each_head, each_one, each_tail, message_or_fault}
-use Rattle.giop_mux.specs.declared.step.Step.{Step}
 use Rattle.giop_session.specs.declared.laws.inputs.Answered.{Answered}
 use Rattle.giop_session.specs.declared.laws.inputs.Answered.TheVariants as answer
 use Rattle.giop_session.specs.declared.limits.Limits.{Limits}
 use Rattle.giop_session.specs.declared.session_fault.SessionFault.{SessionFault}
 use Rattle.giop_session.specs.declared.session_fault.SessionFault.TheVariants as session
-use Rattle.giop_session.specs.Calls.CallTable.{Act, Call, Held, at, rules_of}
+use Rattle.giop_session.specs.Calls.CallTable.{Act, Call, Held, at}
 use Rattle.giop_session.specs.Hearing.Feeding.{Fed, Stops, Through, with_octets}
-use Rattle.giop_session.specs.Hearing.Heard.{IsHeard, heard_by, hears_by}
+use Rattle.giop_session.specs.Hearing.Heard.{IsHeard, heard_by, SideOf, rules_at, hears}
 use Rattle.giop_session.specs.Runs.Alone.{names_by}
 use Rattle.giop_session.specs.Runs.Driven.{Closes, Deed, EndRuns, EndState, Feeds, IsDoneBy, IsGivenBy, NoneRefused, PutsOut, TakesOut, id_of, is_named, new_end, own_answers}
 use Rattle.giop_session.specs.Runs.Fits.{only}
@@ -59,8 +58,7 @@ own_only answered free memory why is = (
 pub only_own : {X : Type 0} (id : ℕ) (said : List X) → only id said id ≡ said
 only_own id said = ap (λ b. cond b said []) (eq_itself id)
 
-module _ {R E V A F I : Type 0} (next : R → Option E → V → Step E A F) (closed : R → E → Bool) (gathering : E → Bool)
-    (of_rule : ℕ → F → SessionFault) (breaks : Msg → Option SessionFault) (befalls : Msg → Call E → Act V)
+module _ {R E V A F I : Type 0} (side : SideOf R E V A F)
     (message : ℕ) (deed : Held R E → I → Deed V F) (sorting : Sorting I)
     (deed_feeds : (h : Held R E) (octets : List ℕ) → deed h (sorting.feeds octets) ≡ Feeds octets)
     (same_deed : (h k : Held R E) (i : I) (id : ℕ) → sorting.named i ≡ Some id → at h id ≡ at k id → deed h i ≡ deed k i)
@@ -71,16 +69,16 @@ module _ {R E V A F I : Type 0} (next : R → Option E → V → Step E A F) (cl
   about h i = deed_named (sorting.fed i) (sorting.named i) (deed h i) (is_deed h i)
 
   abbrev IsAhead : Held R E → ℕ → List (Met I) → List (Answered E) → EndState (Held R E) → Type 0
-  IsAhead = Ahead next closed gathering of_rule breaks befalls message deed sorting feeds_none deed_feeds same_deed about once
+  IsAhead = Ahead side message deed sorting feeds_none deed_feeds same_deed about once
 
   abbrev HearsSo : Msg → Held R E → Result (Unit {0}) SessionFault → Held R E → Type 0
-  HearsSo = hears_by next closed gathering of_rule breaks befalls
+  HearsSo = hears side
 
   abbrev ChangesSo : Held R E → ℕ → (Call E → Act V) → Held R E → Type 0
-  ChangesSo = Changes next closed gathering of_rule breaks befalls
+  ChangesSo = Changes side
 
   abbrev DoneSo : Deed V F → EndState (Held R E) → Answered E → EndState (Held R E) → Type 0
-  DoneSo = IsDoneBy next closed gathering of_rule breaks befalls
+  DoneSo = IsDoneBy side
 
   abbrev OfCall : Met I → Type 0
   OfCall = IsOfCall sorting
@@ -100,8 +98,8 @@ module _ {R E V A F I : Type 0} (next : R → Option E → V → Step E A F) (cl
         → HearsSo m h (Ok tt) k → EachAhead k met tolds
     one_comes h k m met tolds is each hears q = by_name (q == step.0) refl
       where
-        step : (id : ℕ) × (request_id_of m ≡ Some (Ok id)) × ChangesSo h id (befalls m) k
-        step = heard next closed gathering of_rule breaks befalls m h k (breaks m) (request_id_of m) hears
+        step : (id : ℕ) × (request_id_of m ≡ Some (Ok id)) × ChangesSo h id (side.befalls m) k
+        step = heard side m h k (side.breaks m) (request_id_of m) hears
 
         by_name : (own : Bool) → (q == step.0) ≡ own → IsAhead k q (own_met sorting q met) (tolds q) (ends q)
         by_name own is_own =
@@ -114,12 +112,12 @@ module _ {R E V A F I : Type 0} (next : R → Option E → V → Step E A F) (cl
                 → IsAhead k q (own_met sorting q met) (tolds q) (ends q)
             by_own true it ahead =
                 let to : step.0 ≡ q = grind (arith, nat_tests) in
-                (comes_ahead next closed gathering of_rule breaks befalls message deed sorting feeds_none deed_feeds same_deed about once
+                (comes_ahead side message deed sorting feeds_none deed_feeds same_deed about once
                 h q m (own_met sorting q met) (tolds q) (ends q) is (step.1 ∙ ap (λ n. Some (Ok n)) to) ahead).2 k
-                (subst (λ n. ChangesSo h n (befalls m) k) to step.2)
+                (subst (λ n. ChangesSo h n (side.befalls m) k) to step.2)
             by_own false it ahead =
-                other_ahead next closed gathering of_rule breaks befalls message deed sorting feeds_none deed_feeds same_deed about once
-                h k step.0 q (befalls m) (own_met sorting q met) (tolds q) (ends q) step.2 it ahead
+                other_ahead side message deed sorting feeds_none deed_feeds same_deed about once
+                h k step.0 q (side.befalls m) (own_met sorting q met) (tolds q) (ends q) step.2 it ahead
 
     each_comes : (messages : List Msg) (met : List (Met I)) (h k : Held R E) (tolds : ℕ → List (Answered E)) → All (IsMessage message) messages
         → EachAhead h (map Comes messages ++ met) tolds → Through HearsSo h messages k → EachAhead k met tolds
@@ -134,11 +132,11 @@ module _ {R E V A F I : Type 0} (next : R → Option E → V → Step E A F) (cl
     comes_never h k m met tolds why is (id, name) each own hears =
         let mine = named_so m id id name ∙ eq_itself id in
         let ahead = subst (λ b. IsAhead h id (cond b (Comes m ∷ own_met sorting id met) (own_met sorting id met)) (tolds id) (ends id)) mine (each id) in
-        let ok = comes_ahead next closed gathering of_rule breaks befalls message deed sorting feeds_none deed_feeds same_deed about once
+        let ok = comes_ahead side message deed sorting feeds_none deed_feeds same_deed about once
         h id m (own_met sorting id met) (tolds id) (ends id) is name ahead in
-        never_refused next closed gathering of_rule breaks befalls m h k id why
-        (subst (λ n. IsHeard (rules_of (next h.rule) (closed h.rule) gathering) of_rule (heard_by None n (λ q. befalls m (at h q))) h (Err why) k) name
-        (subst (λ b. IsHeard (rules_of (next h.rule) (closed h.rule) gathering) of_rule (heard_by b (request_id_of m) (λ q. befalls m (at h q))) h (Err why) k)
+        never_refused side m h k id why
+        (subst (λ n. IsHeard (rules_at side h.rule) side.of_rule (heard_by None n (λ q. side.befalls m (at h q))) h (Err why) k) name
+        (subst (λ b. IsHeard (rules_at side h.rule) side.of_rule (heard_by b (request_id_of m) (λ q. side.befalls m (at h q))) h (Err why) k)
         ok.0 hears)) ok.1 own
 
     all_of : (one other : List Msg) (met : List (Met I)) → AllByRecursion OfCall (map Comes (one ++ other) ++ met)
@@ -269,7 +267,7 @@ module _ {R E V A F I : Type 0} (next : R → Option E → V → Step E A F) (cl
         does : (q : ℕ) → sorting.named i ≡ Some q → IsAhead s.calls q (Does i ∷ own_met sorting q met) (tolds q) (ends q)
             → (others : List (Answered E)) × (tolds q ≡ answered ∷ others) × NoneRefused (answered ∷ []) × (t.fault ≡ s.fault) × (t.unread ≡ s.unread)
             × (act : Act V) × ChangesSo s.calls q (λ call. act) t.calls × IsAhead t.calls q (own_met sorting q met) others (ends q)
-        does q is ahead = does_ahead next closed gathering of_rule breaks befalls message deed sorting feeds_none deed_feeds same_deed about once
+        does q is ahead = does_ahead side message deed sorting feeds_none deed_feeds same_deed about once
             s t q i (own_met sorting q met) (tolds q) (ends q) answered is ahead done own
 
         of_own : (q : ℕ) → is_named q (sorting.named i) ≡ true
@@ -288,7 +286,7 @@ module _ {R E V A F I : Type 0} (next : R → Option E → V → Step E A F) (cl
         of_other q is other (others, told, accepted, fault, unread, act, changed, behind) = (
           tolds q,
           sym (ap (λ b. cond b (answered ∷ tolds q) (tolds q)) is),
-          other_ahead next closed gathering of_rule breaks befalls message deed sorting feeds_none deed_feeds same_deed about once
+          other_ahead side message deed sorting feeds_none deed_feeds same_deed about once
               s.calls t.calls id q (λ call. act) (own_met sorting q met) (tolds q) (ends q) changed other
               (subst (λ b. IsAhead s.calls q (cond b (Does i ∷ own_met sorting q met) (own_met sorting q met)) (tolds q) (ends q)) is (each q)),
         )
@@ -328,14 +326,14 @@ module _ {R E V A F I : Type 0} (next : R → Option E → V → Step E A F) (cl
     run_alone : (s t : EndState (Held R E)) (inputs : List I) (answers : List (Answered E)) (met : List (Met I)) (rest : Unread)
         (tolds : ℕ → List (Answered E)) → s.fault ≡ None → s.unread.limit ≡ message → AreMet sorting s.unread inputs met rest
         → AllByRecursion OfCall met → EachAhead s.calls met tolds → NoneForALimit answers
-        → EndRuns next closed gathering of_rule breaks befalls deed s inputs answers t
+        → EndRuns side deed s inputs answers t
         → NoneRefused answers × (t.fault ≡ None)
         × ((q : ℕ) → (at t.calls q ≡ at (ends q).calls q) × (own_answers sorting.named q inputs answers ≡ tolds q))
     run_alone s t [] [] met rest tolds sound limit are of_calls each free run = (
       tt,
       ap (λ e. e.fault) run ∙ sound,
       λ q.
-          let behind = all_behind next closed gathering of_rule breaks befalls message deed sorting feeds_none deed_feeds same_deed about once
+          let behind = all_behind side message deed sorting feeds_none deed_feeds same_deed about once
           s.calls q (tolds q) (ends q) (subst (λ l. IsAhead s.calls q (own_met sorting q l) (tolds q) (ends q)) are.0 (each q)) in
           (ap (λ e. at e.calls q) run ∙ behind.0, sym behind.1),
     )
@@ -343,7 +341,7 @@ module _ {R E V A F I : Type 0} (next : R → Option E → V → Step E A F) (cl
     run_alone s t (i ∷ inputs) [] met rest tolds sound limit are of_calls each free run = absurd run
     run_alone s t (i ∷ inputs) (answered ∷ answers) met rest tolds sound limit (one, others, unread, is_met, is_one, are) of_calls each free
         (mid, first, run) =
-        let given = subst (λ fault. IsGivenBy next closed gathering of_rule breaks befalls fault (deed s.calls i) s answered mid) sound first.1 in
+        let given = subst (λ fault. IsGivenBy side fault (deed s.calls i) s answered mid) sound first.1 in
         let goes = input_goes s mid i answered one unread others tolds (sorting.fed i) (deed s.calls i) (is_deed s.calls i) refl sound limit is_one
         (subst (AllByRecursion OfCall) is_met of_calls) (subst (λ l. EachAhead s.calls l tolds) is_met each)
         (own_only answered free.0 first.0) given in
@@ -367,9 +365,9 @@ module _ {R E V A F I : Type 0} (next : R → Option E → V → Step E A F) (cl
   pub new_run_alone : (rule : R) (limits : Limits) (t : EndState (Held R E)) (inputs : List I) (answers : List (Answered E)) (met : List (Met I))
       (rest : Unread) (alone : ℕ → List (Answered E)) (ends : ℕ → EndState (Held R E)) → limits.message ≡ message
       → AreMet sorting (nothing_unread limits.message) inputs met rest → AllByRecursion OfCall met → NoneForALimit answers
-      → ((q : ℕ) → EndRuns next closed gathering of_rule breaks befalls deed (new_end rule limits) (given_alone sorting q met) (alone q) (ends q)
+      → ((q : ℕ) → EndRuns side deed (new_end rule limits) (given_alone sorting q met) (alone q) (ends q)
       × NoneRefused (alone q))
-      → EndRuns next closed gathering of_rule breaks befalls deed (new_end rule limits) inputs answers t
+      → EndRuns side deed (new_end rule limits) inputs answers t
       → NoneRefused answers × (t.fault ≡ None)
       × ((q : ℕ) → (at t.calls q ≡ at (ends q).calls q)
       × (own_answers sorting.named q inputs answers ≡ own_answers sorting.named q (given_alone sorting q met) (alone q)))

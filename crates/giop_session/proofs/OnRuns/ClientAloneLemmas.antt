@@ -4,7 +4,6 @@ use Rattle.giop_types.specs.declared.json.interface.Interface.{Interface}
 use Rattle.giop_cdr.specs.declared.order.Order.{Order}
 use Rattle.giop_msg.specs.declared.kind.Kind.TheVariants as message
 use Rattle.giop_msg.specs.declared.version.Version.{Version}
-use Rattle.giop_calls.specs.ClientTable.{is_closed, is_gathering, client_step}
 use Rattle.giop_calls.specs.declared.client.call.Call.TheVariants as asked
 use Rattle.giop_calls.specs.declared.client.entry.ClientEntry.{ClientEntry}
 use Rattle.giop_calls.specs.declared.client.event.ClientEvent.{ClientEvent}
@@ -19,8 +18,7 @@ use Rattle.giop_session.specs.Acts.ClientCalls.{IsCall, IsCancel, IsLocate, call
 use Rattle.giop_session.specs.Calls.Begun.{no_calls}
 use Rattle.giop_session.specs.Calls.CallTable.{Held, at}
 use Rattle.giop_session.specs.Calls.Sending.{entry_of}
-use Rattle.giop_session.specs.Hearing.ClientHears.{client_befalls, client_breaks}
-use Rattle.giop_session.specs.Hearing.Heard.{in_call}
+use Rattle.giop_session.specs.Hearing.ClientHears.{client_side}
 use Rattle.giop_session.specs.Items.Carries.{behind_all}
 use Rattle.giop_session.specs.Items.ClientCarries.{ClientItem, client_telling, unknown}
 use Rattle.giop_session.specs.Runs.ClientRuns.{ClientRuns, client_deed, client_entry, client_named}
@@ -89,7 +87,7 @@ pub client_fits : (interface : Interface) (limits : Limits) (inputs : List Clien
     (t : EndState (Held ClientRule ClientEntry)) (fits : ClientFits interface limits inputs) → ClientRuns interface limits inputs answers t
     → NoneRefused answers × (t.fault ≡ None) × ((id : ℕ) → ClientIsAsAlone fits answers t.calls id)
 client_fits interface limits inputs answers t fits run =
-    let found = new_run_alone (λ rule. client_step) (λ rule. is_closed) is_gathering in_call client_breaks (client_befalls interface) limits.message
+    let found = new_run_alone (client_side interface) limits.message
     (client_deed interface limits) at_client (λ h octets. refl) (same_deed interface limits) (is_deed interface limits) (λ octets. refl)
     (once interface limits) (record {}) limits t inputs answers fits.met fits.rest (λ q. (fits.alone q).answers) (λ q. (fits.alone q).end) refl fits.are
     fits.of_calls (client_run_free interface limits inputs answers t fits.within run) (λ q. ((fits.alone q).runs, (fits.alone q).none_refused)) run in
@@ -105,7 +103,7 @@ client_said interface limits inputs answers t fits calls says run id =
     let given = given_alone at_client id fits.met in
     let as_alone = (client_fits interface limits inputs answers t fits run).2 id in
     let held = says id in
-    let takes = taken_takes (λ rule. client_step) (λ rule. is_closed) is_gathering in_call client_breaks (client_befalls interface)
+    let takes = taken_takes (client_side interface)
     (client_deed interface limits) (nothing_unread limits.message) alone.end.unread (no_calls (record {}) limits) alone.end.calls given alone.answers
     held.acts held.taken in
     record {

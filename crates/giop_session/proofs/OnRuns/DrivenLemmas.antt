@@ -1,10 +1,8 @@
 -- Runs of inputs: one more; the same of a part of what is run; and those that refuse nothing as runs of acts.
-use Rattle.std.proofs.Common.{◌≡◌, ◌≢◌, ℕ, Bool, List, [], ◌∷◌, ◌++◌, Option, Some, None, Result, Ok, Err, refl, sym, ap, subst, inl, inr}
+use Rattle.std.proofs.Common.{◌≡◌, ◌≢◌, ℕ, List, [], ◌∷◌, ◌++◌, Option, Some, None, Result, Ok, Err, refl, sym, ap, subst, inl, inr}
 use Rattle.giop_ids.specs.Runs.{Does as DoesAct}
-use Rattle.giop_msg.specs.declared.msg.Msg.{Msg}
 use Rattle.giop_msg.specs.Stream.{Unread}
 use Rattle.giop_mux.specs.Runs.{Hears as IsTold, IsTaken as IsTakenOut}
-use Rattle.giop_mux.specs.declared.step.Step.{Step}
 use Rattle.giop_session.specs.declared.laws.inputs.Answered.{Answered}
 use Rattle.giop_session.specs.declared.laws.inputs.Answered.TheVariants as answer
 use Rattle.giop_session.specs.declared.calls.plan.Planned.{Planned}
@@ -12,11 +10,11 @@ use Rattle.giop_session.specs.declared.calls.sending.Sends.{Sends}
 use Rattle.giop_session.specs.declared.session_fault.SessionFault.{SessionFault}
 use Rattle.giop_session.specs.declared.session_fault.SessionFault.TheVariants.{NoMemory}
 use Rattle.giop_session.specs.declared.calls.table_fault.TableFault.{TableFault}
-use Rattle.giop_session.specs.Calls.CallTable.{Act, Answers, Call, Held, Hears, Nothing, event_reply, rules_of}
+use Rattle.giop_session.specs.Calls.CallTable.{Answers, Held, Hears, Nothing, event_reply}
 use Rattle.giop_session.specs.Runs.Driven.{Closes, Deed, EndRuns, EndState, Feeds, InTurn, IsAct, IsDoneBy, IsGiven, IsGivenBy, NoneRefused, PutsOut, TakesAs, TakesOut, answer_of, taken_answer}
 use Rattle.giop_session.specs.Runs.Events.{Accepts}
 use Rattle.giop_session.specs.Runs.Events.{Does as Happens}
-use Rattle.giop_session.specs.Hearing.Heard.{told_of}
+use Rattle.giop_session.specs.Hearing.Heard.{told_of, SideOf, rules_at}
 use Rattle.giop_session.specs.Runs.Inputs.{Does, Input, Reads, Takes}
 use Rattle.giop_session.specs.Acts.Putting.{Puts}
 
@@ -55,23 +53,22 @@ rest_accepted answer.Done answers none = none
 rest_accepted (answer.Taken entry) answers none = none
 rest_accepted (answer.Refused why) answers none = absurd none
 
-module _ {R E V A F : Type 0} (next : R → Option E → V → Step E A F) (closed : R → E → Bool) (gathering : E → Bool)
-    (of_rule : ℕ → F → SessionFault) (breaks : Msg → Option SessionFault) (befalls : Msg → Call E → Act V) where
+module _ {R E V A F : Type 0} (side : SideOf R E V A F) where
   abbrev AcceptsOne : Held R E → ℕ → Planned V → Held R E → Type 0
-  AcceptsOne h id planned k = Accepts next closed gathering of_rule breaks befalls (Happens id (IsTold planned)) h k
+  AcceptsOne h id planned k = Accepts side (Happens id (IsTold planned)) h k
 
   abbrev TakesAll : Unread → Held R E → List (Input V) → Unread → Held R E → Type 0
-  TakesAll = Takes next closed gathering of_rule breaks befalls
+  TakesAll = Takes side
 
   -- what befell a call is accepted, where the end tells so
   told_accepted : (h k : Held R E) (id : ℕ) (planned : Planned V) (answered : Result (Sends A) (TableFault F))
-      → DoesAct (rules_of (next h.rule) (closed h.rule) gathering) h (record { id = id; what = Hears planned Nothing }) (event_reply answered) k
-      → Ok tt ≡ told_of (of_rule id) answered → AcceptsOne h id planned k
+      → DoesAct (rules_at side h.rule) h (record { id = id; what = Hears planned Nothing }) (event_reply answered) k
+      → Ok tt ≡ told_of (side.of_rule id) answered → AcceptsOne h id planned k
   told_accepted h k id planned (Ok sends) does told = (Answers sends, does)
   told_accepted h k id planned (Err why) does told = absurd cc
 
   puts_accepted : (h k : Held R E) (id : ℕ) (refusal : Option F) (Plans : Planned V → Type 0) (out out' : List ℕ)
-      → Puts (rules_of (next h.rule) (closed h.rule) gathering) of_rule id refusal Plans h out (Ok tt) k out'
+      → Puts (rules_at side h.rule) side.of_rule id refusal Plans h out (Ok tt) k out'
       → (planned : Planned V) × Plans planned × AcceptsOne h id planned k
   puts_accepted h k id refusal Plans out out' (inl wanting) = let wrong = wanting.0 in absurd cc
   puts_accepted h k id (Some why) Plans out out' (inr refused) = let wrong = refused.0 in absurd cc
@@ -80,7 +77,7 @@ module _ {R E V A F : Type 0} (next : R → Option E → V → Step E A F) (clos
 
   -- an input that is done is taken as an act
   done_taken : (deed : Deed V F) (s t : EndState (Held R E)) (answered : Answered E)
-      → IsDoneBy next closed gathering of_rule breaks befalls deed s answered t → NoneRefused (answered ∷ []) → t.fault ≡ None
+      → IsDoneBy side deed s answered t → NoneRefused (answered ∷ []) → t.fault ≡ None
       → (act : Input V) × IsAct deed act × (answered ≡ taken_answer s.calls act) × TakesAll s.unread s.calls (act ∷ []) t.unread t.calls
   done_taken deed s t (answer.Refused why) done none sound = absurd none
   done_taken (Feeds octets) s t answer.Done (fed, is) none sound = (Reads octets, refl, refl, (t.unread, t.calls, fed, (refl, refl)))
@@ -97,7 +94,7 @@ module _ {R E V A F : Type 0} (next : R → Option E → V → Step E A F) (clos
 
   -- where it isn't refused no fault stands before it
   was_sound : (fault : Option SessionFault) (deed : Deed V F) (s t : EndState (Held R E)) (answered : Answered E)
-      → IsGivenBy next closed gathering of_rule breaks befalls fault deed s answered t → NoneRefused (answered ∷ []) → fault ≡ None
+      → IsGivenBy side fault deed s answered t → NoneRefused (answered ∷ []) → fault ≡ None
   was_sound None deed s t answered given none = refl
   was_sound (Some why) deed s t (answer.Refused told) given none = absurd none
   was_sound (Some why) deed s t answer.Done given none = let wrong = given.0 in absurd cc
@@ -106,30 +103,30 @@ module _ {R E V A F : Type 0} (next : R → Option E → V → Step E A F) (clos
   -- a call of the end's own program that puts its message out is what its input says
   pub puts_given : (s t : EndState (Held R E)) (id : ℕ) (refusal : Option F) (Plans : Planned V → Type 0) (told : Result (Unit {0}) SessionFault)
       (answered : Answered E) → ((why : SessionFault) → s.fault ≡ Some why → (told ≡ Err why) × (t ≡ s))
-      → (s.fault ≡ None → Puts (rules_of (next s.calls.rule) (closed s.calls.rule) gathering) of_rule id refusal Plans
+      → (s.fault ≡ None → Puts (rules_at side s.calls.rule) side.of_rule id refusal Plans
       s.calls s.outgoing told t.calls t.outgoing)
       → t ≡ record s { calls = t.calls; outgoing = t.outgoing }
       → (answered ≡ answer_of told) × (answered ≢ answer.Refused NoMemory)
-      → IsGiven next closed gathering of_rule breaks befalls (PutsOut id refusal Plans) s answered t
+      → IsGiven side (PutsOut id refusal Plans) s answered t
   puts_given s t id refusal Plans told answered failed puts others (is, memory) = (
     memory,
-    subst (λ a. IsGivenBy next closed gathering of_rule breaks befalls s.fault (PutsOut id refusal Plans) s a t) (sym is) (by_fault s.fault refl),
+    subst (λ a. IsGivenBy side s.fault (PutsOut id refusal Plans) s a t) (sym is) (by_fault s.fault refl),
   )
     where
       by_told : (result : Result (Unit {0}) SessionFault)
-          → Puts (rules_of (next s.calls.rule) (closed s.calls.rule) gathering) of_rule id refusal Plans s.calls s.outgoing result t.calls t.outgoing
-          → IsDoneBy next closed gathering of_rule breaks befalls (PutsOut id refusal Plans) s (answer_of result) t
+          → Puts (rules_at side s.calls.rule) side.of_rule id refusal Plans s.calls s.outgoing result t.calls t.outgoing
+          → IsDoneBy side (PutsOut id refusal Plans) s (answer_of result) t
       by_told (Ok done) put = (put, others)
       by_told (Err why) put = (put, others)
 
       by_fault : (fault : Option SessionFault) → s.fault ≡ fault
-          → IsGivenBy next closed gathering of_rule breaks befalls fault (PutsOut id refusal Plans) s (answer_of told) t
+          → IsGivenBy side fault (PutsOut id refusal Plans) s (answer_of told) t
       by_fault (Some why) stands = let failed_so = failed why stands in (ap answer_of failed_so.0, failed_so.1)
       by_fault None stands = by_told told (puts stands)
 
   module _ {I : Type 0} (deed : Held R E → I → Deed V F) where
     abbrev RunsSo : EndState (Held R E) → List I → List (Answered E) → EndState (Held R E) → Type 0
-    RunsSo = EndRuns next closed gathering of_rule breaks befalls deed
+    RunsSo = EndRuns side deed
 
     stays_sound : (s t : EndState (Held R E)) (inputs : List I) (answers : List (Answered E)) → RunsSo s inputs answers t → NoneRefused answers
         → t.fault ≡ None → s.fault ≡ None
@@ -140,7 +137,7 @@ module _ {R E V A F : Type 0} (next : R → Option E → V → Step E A F) (clos
         was_sound s.fault (deed s.calls input) s mid answered first.1 (first_accepted answered answers none)
 
     abbrev TakesSo : Unread → Held R E → List I → List (Answered E) → List (Input V) → Unread → Held R E → Type 0
-    TakesSo = TakesAs next closed gathering of_rule breaks befalls deed
+    TakesSo = TakesAs side deed
 
     -- a run that refuses nothing, and closes nothing, takes its inputs as acts
     pub run_taken : (s t : EndState (Held R E)) (inputs : List I) (answers : List (Answered E)) → RunsSo s inputs answers t → NoneRefused answers
@@ -152,7 +149,7 @@ module _ {R E V A F : Type 0} (next : R → Option E → V → Step E A F) (clos
         let one = first_accepted answered answers none in
         let others = rest_accepted answered answers none in
         let whole = was_sound s.fault (deed s.calls input) s mid answered first.1 one in
-        let done = subst (λ fault. IsGivenBy next closed gathering of_rule breaks befalls fault (deed s.calls input) s answered mid) whole first.1 in
+        let done = subst (λ fault. IsGivenBy side fault (deed s.calls input) s answered mid) whole first.1 in
         let first_act = done_taken (deed s.calls input) s mid answered done one (stays_sound mid t inputs answers rest others sound) in
         let behind = run_taken mid t inputs answers rest others sound in (
           first_act.0 ∷ behind.0,

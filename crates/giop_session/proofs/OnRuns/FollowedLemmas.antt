@@ -12,9 +12,9 @@ use Rattle.giop_session.specs.declared.calls.plan.Plan.{Plan}
 use Rattle.giop_session.specs.declared.calls.plan.Planned.{Planned}
 use Rattle.giop_session.specs.declared.calls.sending.Sends.{Sends}
 use Rattle.giop_session.specs.declared.calls.slot.Slot.{Slot}
-use Rattle.giop_session.specs.Calls.CallTable.{Act, Brings, Call, Held, Hears, at, rules_of, IsTaken, Nothing, brought, taken, turn, turned}
+use Rattle.giop_session.specs.Calls.CallTable.{Act, Brings, Call, Held, Hears, at, IsTaken, Nothing, brought, taken, turn, turned}
 use Rattle.giop_session.specs.Runs.Events.{Comes, Does, Event, Follows, Meets, is_of, own_events}
-use Rattle.giop_session.specs.Hearing.Heard.{IsHeard, heard_by}
+use Rattle.giop_session.specs.Hearing.Heard.{IsHeard, heard_by, SideOf, rules_at}
 use Rattle.giop_session.specs.Runs.LeftToSend.{ArePlanned, IsLeft}
 use Rattle.giop_session.specs.Calls.Sending.{sending_step}
 
@@ -24,22 +24,20 @@ AreHeard breaks [] = Unit {0}
 AreHeard breaks (Comes m ∷ events) = (breaks m ≡ None) × AreHeard breaks events
 AreHeard breaks (Does id act ∷ events) = AreHeard breaks events
 
-module _ {R E V A F : Type 0} (next : R → Option E → V → Step E A F) (closed : R → E → Bool)
-    (gathering : E → Bool) (of_rule : ℕ → F → SessionFault) (breaks : Msg → Option SessionFault)
-    (befalls : Msg → Call E → Act V) where
+module _ {R E V A F : Type 0} (side : SideOf R E V A F) where
   -- none that an end took does
   unbroken : (h k : Held R E) (m : Msg) (broken : Option SessionFault)
-      → IsHeard (rules_of (next h.rule) (closed h.rule) gathering) of_rule
-      (heard_by broken (request_id_of m) (λ id. befalls m (at h id))) h (Ok tt) k → broken ≡ None
+      → IsHeard (rules_at side h.rule) side.of_rule
+      (heard_by broken (request_id_of m) (λ id. side.befalls m (at h id))) h (Ok tt) k → broken ≡ None
   unbroken h k m None is = refl
   unbroken h k m (Some why) (inl both) = absurd cc
   unbroken h k m (Some why) (inr both) = absurd cc
 
   pub met_heard : (h k : Held R E) (events : List (Event V))
-      → Meets next closed gathering of_rule breaks befalls h events k → AreHeard breaks events
+      → Meets side h events k → AreHeard side.breaks events
   met_heard h k [] met = tt
   met_heard h k (Comes m ∷ events) (mid, first, rest) =
-      (unbroken h mid m (breaks m) first, met_heard mid k events rest)
+      (unbroken h mid m (side.breaks m) first, met_heard mid k events rest)
   met_heard h k (Does id act ∷ events) (mid, first, rest) = met_heard mid k events rest
 
 heard_if : {V : Type 0} (breaks : Msg → Option SessionFault) (b : Bool) (e : Event V)

@@ -1,15 +1,13 @@
 -- Inputs are the events of one run, and of no other.
-use Rattle.std.proofs.Common.{◌≡◌, ℕ, Bool, List, [], ◌∷◌, ◌++◌, map, Option, refl, sym, ap, subst, ◌∙◌}
+use Rattle.std.proofs.Common.{◌≡◌, List, [], ◌∷◌, ◌++◌, map, refl, sym, ap, subst, ◌∙◌}
 use Rattle.giop_msg.specs.declared.msg.Msg.{Msg}
 use Rattle.giop_msg.specs.Stream.{BeginsWithMessage, Msgs, TakesMessages, Unread, Waits}
 use Rattle.giop_msg.proofs.StreamLemmas.{same_splits}
-use Rattle.giop_mux.specs.declared.step.Step.{Step}
-use Rattle.giop_session.specs.declared.session_fault.SessionFault.{SessionFault}
-use Rattle.giop_session.specs.Calls.CallTable.{Act, Call, Held}
+use Rattle.giop_session.specs.Calls.CallTable.{Held}
 use Rattle.giop_session.specs.Runs.Events.{Event, Comes, Meets}
 use Rattle.giop_session.specs.Runs.Events.{Does as DoesTo}
 use Rattle.giop_session.specs.Hearing.Feeding.{Through, with_octets}
-use Rattle.giop_session.specs.Hearing.Heard.{hears_by}
+use Rattle.giop_session.specs.Hearing.Heard.{SideOf, hears}
 use Rattle.giop_session.specs.Runs.Inputs.{AreEvents, Input, Reads, Does, Takes}
 
 -- what is taken until the end waits is the split of the stream
@@ -45,21 +43,20 @@ module _ {V : Type 0} where
   same_events (Does id act ∷ inputs) unread left left' events events' (rest, is, are) (rest', is', are') =
       is ∙ ap (λ more. DoesTo id act ∷ more) (same_events inputs unread left left' rest rest' are are') ∙ sym is'
 
-module _ {R E V A F : Type 0} (next : R → Option E → V → Step E A F) (closed : R → E → Bool) (gathering : E → Bool)
-    (of_rule : ℕ → F → SessionFault) (breaks : Msg → Option SessionFault) (befalls : Msg → Call E → Act V) where
+module _ {R E V A F : Type 0} (side : SideOf R E V A F) where
   abbrev MeetsAll : Held R E → List (Event V) → Held R E → Type 0
-  MeetsAll = Meets next closed gathering of_rule breaks befalls
+  MeetsAll = Meets side
 
   -- messages that are heard one after another are met so
   met : (messages : List Msg) (h mid k : Held R E) (events : List (Event V))
-      → Through (hears_by next closed gathering of_rule breaks befalls) h messages mid → MeetsAll mid events k
+      → Through (hears side) h messages mid → MeetsAll mid events k
       → MeetsAll h (map Comes messages ++ events) k
   met [] h mid k events through rest = subst (λ s. MeetsAll s events k) through rest
   met (m ∷ messages) h mid k events through rest = (through.0, through.1, met messages through.0 mid k events through.2 rest)
 
   -- an end that takes inputs meets their events
   pub takes_events : (inputs : List (Input V)) (unread left : Unread) (h k : Held R E)
-      → Takes next closed gathering of_rule breaks befalls unread h inputs left k
+      → Takes side unread h inputs left k
       → (events : List (Event V)) × AreEvents unread inputs events left × MeetsAll h events k
   takes_events [] unread left h k takes = ([], (refl, takes.0), takes.1)
   takes_events (Reads octets ∷ inputs) unread left h k (mid, calls, fed, takes) =

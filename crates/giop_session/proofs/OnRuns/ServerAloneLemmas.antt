@@ -6,7 +6,6 @@ use Rattle.giop_msg.specs.declared.kind.Kind.TheVariants as message
 use Rattle.giop_msg.specs.declared.messages.reply.Reply.{Reply}
 use Rattle.giop_msg.specs.declared.messages.request.Request.{Request}
 use Rattle.giop_msg.specs.declared.version.Version.{Version}
-use Rattle.giop_calls.specs.ServerTable.{is_closed, is_gathering, server_step}
 use Rattle.giop_calls.specs.declared.server.entry.ServerEntry.{ServerEntry}
 use Rattle.giop_calls.specs.declared.server.event.ServerEvent.{ServerEvent}
 use Rattle.giop_calls.specs.declared.server.event.ServerEvent.TheVariants as event
@@ -21,8 +20,7 @@ use Rattle.giop_session.specs.Acts.ServerAnswers.{IsAnswer, IsLocateAnswer, answ
 use Rattle.giop_session.specs.Calls.Begun.{no_calls}
 use Rattle.giop_session.specs.Calls.CallTable.{Held, at}
 use Rattle.giop_session.specs.Calls.Sending.{entry_of}
-use Rattle.giop_session.specs.Hearing.Heard.{in_call}
-use Rattle.giop_session.specs.Hearing.ServerHears.{server_befalls, server_breaks}
+use Rattle.giop_session.specs.Hearing.ServerHears.{server_side}
 use Rattle.giop_session.specs.Items.Carries.{behind_all}
 use Rattle.giop_session.specs.Items.ServerCarries.{ServerItem, server_telling}
 use Rattle.giop_session.specs.Runs.Driven.{EndState, NoneRefused, PutsOut, item_answers}
@@ -90,7 +88,7 @@ pub server_fits : (interface : Interface) (limits : Limits) (inputs : List Serve
     (t : EndState (Held ServerRule ServerEntry)) (fits : ServerFits interface limits inputs) → ServerRuns interface limits inputs answers t
     → NoneRefused answers × (t.fault ≡ None) × ((id : ℕ) → ServerIsAsAlone fits answers t.calls id)
 server_fits interface limits inputs answers t fits run =
-    let found = new_run_alone (λ rule. server_step) (λ rule. is_closed) is_gathering in_call server_breaks (server_befalls interface) limits.message
+    let found = new_run_alone (server_side interface) limits.message
     (server_deed interface limits) at_server (λ h octets. refl) (same_deed interface limits) (is_deed interface limits) (λ octets. refl)
     (once interface limits) (record {}) limits t inputs answers fits.met fits.rest (λ q. (fits.alone q).answers) (λ q. (fits.alone q).end) refl fits.are
     fits.of_calls (server_run_free interface limits inputs answers t fits.within run) (λ q. ((fits.alone q).runs, (fits.alone q).none_refused)) run in
@@ -106,7 +104,7 @@ server_said interface limits inputs answers t fits calls says run id =
     let given = given_alone at_server id fits.met in
     let as_alone = (server_fits interface limits inputs answers t fits run).2 id in
     let held = says id in
-    let takes = taken_takes (λ rule. server_step) (λ rule. is_closed) is_gathering in_call server_breaks (server_befalls interface)
+    let takes = taken_takes (server_side interface)
     (server_deed interface limits) (nothing_unread limits.message) alone.end.unread (no_calls (record {}) limits) alone.end.calls given alone.answers
     held.acts held.taken in
     record {

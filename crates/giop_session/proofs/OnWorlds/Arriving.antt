@@ -4,10 +4,8 @@ use Rattle.std.proofs.lemmas.List.{take-append-drop}
 use Rattle.std.specs.Option.{option_map}
 use Rattle.giop_types.specs.declared.json.interface.Interface.{Interface}
 use Rattle.giop_msg.specs.declared.msg.Msg.{Msg}
-use Rattle.giop_calls.specs.ClientTable as client_table
 use Rattle.giop_calls.specs.Lane.{Codec, Lane, Message, Standing, ToClient, ToServer, later, step}
 use Rattle.giop_calls.specs.Lane as lanes
-use Rattle.giop_calls.specs.ServerTable as server_table
 use Rattle.giop_calls.specs.declared.client.entry.ClientEntry.{ClientEntry}
 use Rattle.giop_calls.specs.declared.client.rule.ClientRule.{ClientRule}
 use Rattle.giop_calls.specs.declared.server.entry.ServerEntry.{ServerEntry}
@@ -19,14 +17,14 @@ use Rattle.giop_session.specs.declared.session_fault.SessionFault.{SessionFault}
 use Rattle.giop_session.specs.declared.session_fault.SessionFault.TheVariants.{NoMemory}
 use Rattle.giop_session.specs.Runs.Alone.{own_messages}
 use Rattle.giop_session.specs.Calls.CallTable.{Held, at}
-use Rattle.giop_session.specs.Hearing.ClientHears.{client_befalls, client_breaks}
+use Rattle.giop_session.specs.Hearing.ClientHears.{client_side}
 use Rattle.giop_session.specs.Worlds.Coding.{coding}
 use Rattle.giop_session.specs.Runs.Driven.{Feeds, IsDoneBy, IsGivenBy}
 use Rattle.giop_session.specs.Hearing.Feeding.{Fed, standing, with_octets}
-use Rattle.giop_session.specs.Hearing.Heard.{in_call}
+use Rattle.giop_session.specs.Hearing.Heard.{hears}
 use Rattle.giop_session.specs.Worlds.LaneAtEnds.{seen}
 use Rattle.giop_session.specs.Worlds.OnTheWay.{IsFramed}
-use Rattle.giop_session.specs.Hearing.ServerHears.{server_befalls, server_breaks}
+use Rattle.giop_session.specs.Hearing.ServerHears.{server_side}
 use Rattle.giop_session.specs.Worlds.Tracks.{ClientShows, ServerShows, Shows}
 use Rattle.giop_session.specs.Worlds.World.{ArriveAtClient, ArriveAtServer, Told, WorldState}
 use Rattle.giop_session.proofs.OnWorlds.Acted.{client_shows_as, server_shows_as}
@@ -243,16 +241,14 @@ module _ (interface : Interface) (are_sound : AreSound interface) where
             subst Tracked (λ i. record { client = sym gone i; server = sym rest i }) now
 
         by_answer : w.server.fault ≡ None → (one : Answered ServerEntry) → (one ≢ answer.Refused NoMemory)
-            → IsDoneBy (λ rule. server_table.server_step) (λ rule. server_table.is_closed) server_table.is_gathering in_call server_breaks
-            (server_befalls interface) (Feeds octets) w.server one v.server → Tracked v
+            → IsDoneBy (server_side interface) (Feeds octets) w.server one v.server → Tracked v
         by_answer sound answer.Done memory (is_fed, rest) = by_fed sound (Ok tt) (λ wrong. absurd cc) is_fed rest
         by_answer sound (answer.Refused why) memory (is_fed, rest) =
             by_fed sound (Err why) (not_wanting {E = ServerEntry} why memory) is_fed rest
         by_answer sound (answer.Taken entry) memory done = absurd done
 
         by_fault : (fault : Option SessionFault) → w.server.fault ≡ fault
-            → IsGivenBy (λ rule. server_table.server_step) (λ rule. server_table.is_closed) server_table.is_gathering in_call server_breaks
-            (server_befalls interface) fault (Feeds octets) w.server answered v.server → Tracked v
+            → IsGivenBy (server_side interface) fault (Feeds octets) w.server answered v.server → Tracked v
         by_fault (Some why) failed (refused, stays) =
             let lost : Tracked (record w { client = record w.client { outgoing = behind } }) = record {
               asked = tracks.asked;
@@ -307,16 +303,14 @@ module _ (interface : Interface) (are_sound : AreSound interface) where
             subst Tracked (λ i. record { client = sym rest i; server = sym gone i }) now
 
         by_answer : w.client.fault ≡ None → (one : Answered ClientEntry) → (one ≢ answer.Refused NoMemory)
-            → IsDoneBy (λ rule. client_table.client_step) (λ rule. client_table.is_closed) client_table.is_gathering in_call client_breaks
-            (client_befalls interface) (Feeds octets) w.client one v.client → Tracked v
+            → IsDoneBy (client_side interface) (Feeds octets) w.client one v.client → Tracked v
         by_answer sound answer.Done memory (is_fed, rest) = by_fed sound (Ok tt) (λ wrong. absurd cc) is_fed rest
         by_answer sound (answer.Refused why) memory (is_fed, rest) =
             by_fed sound (Err why) (not_wanting {E = ClientEntry} why memory) is_fed rest
         by_answer sound (answer.Taken entry) memory done = absurd done
 
         by_fault : (fault : Option SessionFault) → w.client.fault ≡ fault
-            → IsGivenBy (λ rule. client_table.client_step) (λ rule. client_table.is_closed) client_table.is_gathering in_call client_breaks
-            (client_befalls interface) fault (Feeds octets) w.client answered v.client → Tracked v
+            → IsGivenBy (client_side interface) fault (Feeds octets) w.client answered v.client → Tracked v
         by_fault (Some why) failed (refused, stays) =
             let lost : Tracked (record w { server = record w.server { outgoing = behind } }) = record {
               asked = tracks.asked;

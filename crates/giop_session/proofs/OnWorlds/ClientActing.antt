@@ -35,7 +35,7 @@ use Rattle.giop_session.specs.declared.session_fault.SessionFault.{SessionFault}
 use Rattle.giop_session.specs.Acts.Acting.{IsAccepted}
 use Rattle.giop_session.specs.Calls.CallTable.{Held, at, rules_of}
 use Rattle.giop_session.specs.Acts.ClientCalls.{IsCall, IsCancel, IsLocate, call_fault, cancel_fault, locate_fault, open_version}
-use Rattle.giop_session.specs.Hearing.ClientHears.{client_befalls, client_breaks}
+use Rattle.giop_session.specs.Hearing.ClientHears.{client_side}
 use Rattle.giop_session.specs.Runs.ClientRuns.{client_entry}
 use Rattle.giop_session.specs.Runs.Driven.{IsDoneBy, IsGiven, IsGivenBy, PutsOut}
 use Rattle.giop_session.specs.Hearing.Heard.{in_call}
@@ -260,7 +260,7 @@ module _ (interface : Interface) (client_limits server_limits : Limits) where
   -- an act of the client's own that the lane of its id takes leaves a world tracked
   puts_on : (w v : WorldState) (id : ℕ) (refusal : Option CallFault) (Plans : Planned ClientEvent → Type 0) (answered : Answered ClientEntry)
       (tracks : Tracked w)
-      → IsGiven (λ rule. client_step) (λ rule. is_closed) is_gathering in_call client_breaks (client_befalls interface)
+      → IsGiven (client_side interface)
       (PutsOut id refusal Plans) w.client answered v.client
       → v.server ≡ w.server
       → ((acted : Acted client_step is_closed is_gathering in_call id refusal Plans w.client.calls w.client.outgoing v.client.calls v.client.outgoing)
@@ -293,14 +293,14 @@ module _ (interface : Interface) (client_limits server_limits : Limits) where
           result puts)
 
       by_answer : (one : Answered ClientEntry) → w.client.fault ≡ None
-          → IsDoneBy (λ rule. client_step) (λ rule. is_closed) is_gathering in_call client_breaks (client_befalls interface)
+          → IsDoneBy (client_side interface)
           (PutsOut id refusal Plans) w.client one v.client → Tracked v
       by_answer answer.Done sound (puts, rest) = by_result (Ok tt) sound puts rest
       by_answer (answer.Refused why) sound (puts, rest) = by_result (Err why) sound puts rest
       by_answer (answer.Taken entry) sound done = absurd done
 
       by_fault : (fault : Option SessionFault) → w.client.fault ≡ fault
-          → IsGivenBy (λ rule. client_step) (λ rule. is_closed) is_gathering in_call client_breaks (client_befalls interface)
+          → IsGivenBy (client_side interface)
           fault (PutsOut id refusal Plans) w.client answered v.client → Tracked v
       by_fault (Some why) failed (refused, stays) = subst Tracked (λ i. record { client = sym stays i; server = sym same i }) tracks
       by_fault None sound done = by_answer answered sound done

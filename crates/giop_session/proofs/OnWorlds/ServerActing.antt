@@ -44,7 +44,7 @@ use Rattle.giop_session.specs.Acts.Putting.{Puts}
 use Rattle.giop_session.specs.Calls.Sending.{entry_of, message_of, slot_of, unsent_after, unsent_of}
 use Rattle.giop_session.specs.Acts.Sent.{sends_one}
 use Rattle.giop_session.specs.Acts.ServerAnswers.{IsAnswer, IsLocateAnswer, answer_fault, locate_of, located, question_of}
-use Rattle.giop_session.specs.Hearing.ServerHears.{server_befalls, server_breaks}
+use Rattle.giop_session.specs.Hearing.ServerHears.{server_side}
 use Rattle.giop_session.specs.Runs.ServerRuns.{server_entry}
 use Rattle.giop_session.specs.Worlds.Tracks.{IsToClient, ServerShows}
 use Rattle.giop_session.specs.Worlds.World.{AtServer, Told, WorldState}
@@ -307,7 +307,7 @@ module _ (interface : Interface) (client_limits server_limits : Limits) (are_sou
   -- an act of the server's own that the lane of its id takes leaves a world tracked
   puts_on : (w v : WorldState) (id : ℕ) (refusal : Option CallFault) (Plans : Planned ServerEvent → Type 0) (answered : Answered ServerEntry)
       (tracks : Tracked w)
-      → IsGiven (λ rule. server_step) (λ rule. is_closed) is_gathering in_call server_breaks (server_befalls interface)
+      → IsGiven (server_side interface)
       (PutsOut id refusal Plans) w.server answered v.server
       → v.client ≡ w.client
       → ((acted : Acted server_step is_closed is_gathering in_call id refusal Plans w.server.calls w.server.outgoing v.server.calls v.server.outgoing)
@@ -340,14 +340,14 @@ module _ (interface : Interface) (client_limits server_limits : Limits) (are_sou
           result puts)
 
       by_answer : (one : Answered ServerEntry) → w.server.fault ≡ None
-          → IsDoneBy (λ rule. server_step) (λ rule. is_closed) is_gathering in_call server_breaks (server_befalls interface)
+          → IsDoneBy (server_side interface)
           (PutsOut id refusal Plans) w.server one v.server → Tracked v
       by_answer answer.Done sound (puts, rest) = by_result (Ok tt) sound puts rest
       by_answer (answer.Refused why) sound (puts, rest) = by_result (Err why) sound puts rest
       by_answer (answer.Taken entry) sound done = absurd done
 
       by_fault : (fault : Option SessionFault) → w.server.fault ≡ fault
-          → IsGivenBy (λ rule. server_step) (λ rule. is_closed) is_gathering in_call server_breaks (server_befalls interface)
+          → IsGivenBy (server_side interface)
           fault (PutsOut id refusal Plans) w.server answered v.server → Tracked v
       by_fault (Some why) failed (refused, stays) = subst Tracked (λ i. record { client = sym same i; server = sym stays i }) tracks
       by_fault None sound done = by_answer answered sound done

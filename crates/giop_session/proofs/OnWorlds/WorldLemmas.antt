@@ -1,15 +1,11 @@
 -- Each end of a world as a run by itself. What is outgoing may have any octets before it: an end only puts out behind them.
-use Rattle.std.proofs.Common.{◌≡◌, ℕ, Bool, List, [], ◌∷◌, ◌++◌, take, drop, Option, Some, None, Result, refl, sym, ap, subst, ◌∙◌}
+use Rattle.std.proofs.Common.{◌≡◌, ℕ, List, [], ◌∷◌, ◌++◌, take, drop, Option, Some, None, Result, refl, sym, ap, subst, ◌∙◌}
 use Rattle.std.proofs.Common.{inl, inr, append_assoc, append-nil}
 use Rattle.std.proofs.lemmas.List.{take-append-drop}
 use Rattle.giop_cdr.specs.declared.order.Order.TheVariants.{Big}
 use Rattle.giop_ids.specs.Runs.{Rules}
 use Rattle.giop_types.specs.declared.json.interface.Interface.{Interface}
-use Rattle.giop_msg.specs.declared.msg.Msg.{Msg}
 use Rattle.giop_msg.specs.Msg.{message_octets}
-use Rattle.giop_mux.specs.declared.step.Step.{Step}
-use Rattle.giop_calls.specs.ClientTable as client_table
-use Rattle.giop_calls.specs.ServerTable as server_table
 use Rattle.giop_calls.specs.declared.client.entry.ClientEntry.{ClientEntry}
 use Rattle.giop_calls.specs.declared.client.rule.ClientRule.{ClientRule}
 use Rattle.giop_calls.specs.declared.server.entry.ServerEntry.{ServerEntry}
@@ -28,13 +24,13 @@ use Rattle.giop_session.specs.declared.session_fault.SessionFault.{SessionFault}
 use Rattle.giop_session.specs.declared.session_fault.SessionFault.TheVariants.{Closed}
 use Rattle.giop_session.specs.declared.calls.table_fault.TableFault.{TableFault}
 use Rattle.giop_session.specs.Calls.CallTable.{Act, Call, Held, Reply}
-use Rattle.giop_session.specs.Hearing.ClientHears.{client_befalls, client_breaks}
+use Rattle.giop_session.specs.Hearing.ClientHears.{client_side}
 use Rattle.giop_session.specs.Runs.ClientRuns.{ClientIsGiven, ClientRunsFrom, client_deed}
 use Rattle.giop_session.specs.Runs.Driven.{Closes, Deed, EndState, Feeds, InTurn, IsDoneBy, IsGiven, IsGivenBy, PutsOut, TakesOut}
-use Rattle.giop_session.specs.Hearing.Heard.{in_call}
+use Rattle.giop_session.specs.Hearing.Heard.{SideOf}
 use Rattle.giop_session.specs.Acts.Putting.{Puts, put_out}
 use Rattle.giop_session.specs.Acts.Sent.{close_connection}
-use Rattle.giop_session.specs.Hearing.ServerHears.{server_befalls, server_breaks}
+use Rattle.giop_session.specs.Hearing.ServerHears.{server_side}
 use Rattle.giop_session.specs.Runs.ServerRuns.{ServerIsGiven, ServerRunsFrom, server_deed}
 use Rattle.giop_session.specs.Worlds.World.{AreJoined, ArriveAtClient, ArriveAtServer, AtClient, AtServer, Happens, Told, WorldRuns, WorldState}
 use Rattle.giop_session.specs.Worlds.World.{fed_to_client, fed_to_server, new_world}
@@ -44,11 +40,10 @@ use Rattle.giop_session.proofs.OnActs.SidesPutOut.{client_puts_out, server_puts_
 abbrev behind : {H : Type 0} → List ℕ → EndState H → EndState H
 behind d s = record s { outgoing = d ++ s.outgoing }
 
-module _ {R E V A F : Type 0} (next : R → Option E → V → Step E A F) (closed : R → E → Bool) (gathering : E → Bool)
-    (of_rule : ℕ → F → SessionFault) (breaks : Msg → Option SessionFault) (befalls : Msg → Call E → Act V) where
+module _ {R E V A F : Type 0} (side : SideOf R E V A F) where
   puts_behind : (rules : Rules (Held R E) (Call E) (Act V) (Reply E A) (TableFault F)) (id : ℕ) (refusal : Option F)
       (Plans : Planned V → Type 0) (h k : Held R E) (d out out' : List ℕ) (result : Result (Unit {0}) SessionFault)
-      → Puts rules of_rule id refusal Plans h out result k out' → Puts rules of_rule id refusal Plans h (d ++ out) result k (d ++ out')
+      → Puts rules side.of_rule id refusal Plans h out result k out' → Puts rules side.of_rule id refusal Plans h (d ++ out) result k (d ++ out')
   puts_behind rules id refusal Plans h k d out out' result (inl (wanting, calls, is)) = inl (wanting, calls, ap (λ l. d ++ l) is)
   puts_behind rules id (Some why) Plans h k d out out' result (inr (refused, calls, is)) = inr (refused, calls, ap (λ l. d ++ l) is)
   puts_behind rules id None Plans h k d out out' result (inr (planned, plans, befell)) = inr (
@@ -63,8 +58,8 @@ module _ {R E V A F : Type 0} (next : R → Option E → V → Step E A F) (clos
   )
 
   done_behind : (deed : Deed V F) (d : List ℕ) (s t : EndState (Held R E)) (answered : Answered E)
-      → IsDoneBy next closed gathering of_rule breaks befalls deed s answered t
-      → IsDoneBy next closed gathering of_rule breaks befalls deed (behind d s) answered (behind d t)
+      → IsDoneBy side deed s answered t
+      → IsDoneBy side deed (behind d s) answered (behind d t)
   done_behind (Feeds octets) d s t answer.Done (fed, is) = (fed, ap (behind d) is)
   done_behind (Feeds octets) d s t (answer.Taken entry) done = absurd done
   done_behind (Feeds octets) d s t (answer.Refused why) (fed, is) = (fed, ap (behind d) is)
@@ -83,29 +78,27 @@ module _ {R E V A F : Type 0} (next : R → Option E → V → Step E A F) (clos
   done_behind Closes d s t (answer.Refused why) done = absurd done
 
   by_fault : (fault : Option SessionFault) (deed : Deed V F) (d : List ℕ) (s t : EndState (Held R E)) (answered : Answered E)
-      → IsGivenBy next closed gathering of_rule breaks befalls fault deed s answered t
-      → IsGivenBy next closed gathering of_rule breaks befalls fault deed (behind d s) answered (behind d t)
+      → IsGivenBy side fault deed s answered t
+      → IsGivenBy side fault deed (behind d s) answered (behind d t)
   by_fault (Some why) deed d s t answered (refused, is) = (refused, ap (behind d) is)
   by_fault None deed d s t answered done = done_behind deed d s t answered done
 
   given_behind : (deed : Deed V F) (d : List ℕ) (s t : EndState (Held R E)) (answered : Answered E)
-      → IsGiven next closed gathering of_rule breaks befalls deed s answered t
-      → IsGiven next closed gathering of_rule breaks befalls deed (behind d s) answered (behind d t)
+      → IsGiven side deed s answered t
+      → IsGiven side deed (behind d s) answered (behind d t)
   given_behind deed d s t answered (memory, given) = (memory, by_fault s.fault deed d s t answered given)
 
 client_behind : (interface : Interface) (limits : Limits) (d : List ℕ) (s t : EndState (Held ClientRule ClientEntry)) (given : ClientInput)
     (answered : Answered ClientEntry) → ClientIsGiven interface limits s given answered t
     → ClientIsGiven interface limits (behind d s) given answered (behind d t)
 client_behind interface limits d s t given answered is =
-    given_behind (λ rule. client_table.client_step) (λ rule. client_table.is_closed) client_table.is_gathering in_call client_breaks
-    (client_befalls interface) (client_deed interface limits s.calls given) d s t answered is
+    given_behind (client_side interface) (client_deed interface limits s.calls given) d s t answered is
 
 server_behind : (interface : Interface) (limits : Limits) (d : List ℕ) (s t : EndState (Held ServerRule ServerEntry)) (given : ServerInput)
     (answered : Answered ServerEntry) → ServerIsGiven interface limits s given answered t
     → ServerIsGiven interface limits (behind d s) given answered (behind d t)
 server_behind interface limits d s t given answered is =
-    given_behind (λ rule. server_table.server_step) (λ rule. server_table.is_closed) server_table.is_gathering in_call server_breaks
-    (server_befalls interface) (server_deed interface limits s.calls given) d s t answered is
+    given_behind (server_side interface) (server_deed interface limits s.calls given) d s t answered is
 
 module _ (interface : Interface) (client_limits server_limits : Limits) where
   -- from one world on to another, each end goes as a run by itself, whatever it had put out before

@@ -18,9 +18,11 @@ use Rattle.giop_calls.specs.declared.client.call.Call.TheVariants as asked
 use Rattle.giop_calls.specs.declared.client.entry.ClientEntry.{ClientEntry}
 use Rattle.giop_calls.specs.declared.client.entry.ClientEntry.TheVariants.{Waiting, Gathering}
 use Rattle.giop_calls.specs.declared.client.event.ClientEvent.{ClientEvent}
+use Rattle.giop_calls.specs.declared.client.rule.ClientRule.{ClientRule}
 use Rattle.giop_calls.specs.declared.client.event.ClientEvent.TheVariants as event
 use Rattle.giop_calls.specs.declared.client.heard.HeardReply.{HeardReply}
 use Rattle.giop_calls.specs.declared.client.heard.HeardReply.TheVariants as heard
+use Rattle.giop_calls.specs.declared.fault.CallFault.{CallFault}
 use Rattle.giop_calls.specs.declared.kind.CallKind.{CallKind}
 use Rattle.giop_calls.specs.declared.kind.CallKind.TheVariants as kind
 use Rattle.giop_calls.specs.ClientTable.{answers, client_step, is_closed, is_gathering}
@@ -28,7 +30,7 @@ use Rattle.giop_session.specs.declared.session_fault.SessionFault.{SessionFault}
 use Rattle.giop_session.specs.declared.session_fault.SessionFault.TheVariants.{WrongDirection, PeerError, Closed}
 use Rattle.giop_session.specs.declared.calls.slot.Slot.{Slot}
 use Rattle.giop_session.specs.Calls.CallTable.{Act, Call, Hears, First, More, Nothing, Held, rules_of}
-use Rattle.giop_session.specs.Hearing.Heard.{Heard, IsHeard, behind_id, in_call, kept}
+use Rattle.giop_session.specs.Hearing.Heard.{Heard, IsHeard, SideOf, behind_id, in_call, kept}
 
 -- a Reply, by what reading it gives
 abbrev pub heard_reply_by : Result Reply CdrFault → HeardReply
@@ -129,3 +131,14 @@ client_befalls interface m call = befalls_by interface m call m.kind
 abbrev pub AtClient : {R : Type 0} → Heard ClientEvent → Held R ClientEntry
     → Result (Unit {0}) SessionFault → Held R ClientEntry → Type 0
 AtClient = IsHeard (rules_of client_step is_closed is_gathering) in_call
+
+-- a client's side of a connection
+abbrev pub client_side : Interface → SideOf ClientRule ClientEntry ClientEvent (Unit {0}) CallFault
+client_side interface = record {
+  next = λ rule. client_step;
+  closed = λ rule. is_closed;
+  gathering = is_gathering;
+  of_rule = in_call;
+  breaks = client_breaks;
+  befalls = client_befalls interface;
+}

@@ -12,7 +12,7 @@ use Rattle.giop_session.specs.declared.calls.sending.Sends.{Sends}
 use Rattle.giop_session.specs.declared.session_fault.SessionFault.{SessionFault}
 use Rattle.giop_session.specs.declared.session_fault.SessionFault.TheVariants.{NoId, NoMemory, WrongDirection, Call as InCall}
 use Rattle.giop_session.specs.declared.calls.table_fault.TableFault.{TableFault}
-use Rattle.giop_session.specs.Calls.CallTable.{Act, Call, Held, Reply, at, event_reply, rules_of}
+use Rattle.giop_session.specs.Calls.CallTable.{Act, Call, Held, Reply, Turned, at, event_reply, rules_of, turn}
 use Rattle.giop_session.specs.Calls.SessionFaults.{of_table}
 
 -- what a message does
@@ -92,3 +92,39 @@ abbrev pub hears_by : {R E V A F : Type 0} → (R → Option E → V → Step E 
 hears_by next closed gathering of_rule breaks befalls m h =
     IsHeard (rules_of (next h.rule) (closed h.rule) gathering) of_rule
     (heard_of breaks befalls h m) h
+
+-- a side of a connection: the rule of its calls, of which some gather pieces; what an end returns
+-- where that refuses; and what a message of the other side is to it
+pub record SideOf (R E V A F : Type 0) : Type 0 where
+  pub next : R → Option E → V → Step E A F
+  pub closed : R → E → Bool
+  pub gathering : E → Bool
+  pub of_rule : ℕ → F → SessionFault
+  pub breaks : Msg → Option SessionFault
+  pub befalls : Msg → Call E → Act V
+
+-- from its parts
+abbrev pub side_by : {R E V A F : Type 0} → (R → Option E → V → Step E A F) → (R → E → Bool)
+    → (E → Bool) → (ℕ → F → SessionFault) → (Msg → Option SessionFault) → (Msg → Call E → Act V)
+    → SideOf R E V A F
+side_by next closed gathering of_rule breaks befalls = record {
+  next = next;
+  closed = closed;
+  gathering = gathering;
+  of_rule = of_rule;
+  breaks = breaks;
+  befalls = befalls;
+}
+
+module _ {R E V A F : Type 0} (side : SideOf R E V A F) where
+  -- what befalls one of its calls
+  abbrev pub turn_at : R → Call E → Act V → Turned E A F
+  turn_at rule = turn (side.next rule) (side.closed rule) side.gathering
+
+  -- how its calls are kept by id
+  abbrev pub rules_at : R → Rules (Held R E) (Call E) (Act V) (Reply E A) (TableFault F)
+  rules_at rule = rules_of (side.next rule) (side.closed rule) side.gathering
+
+  -- its end hears a message
+  abbrev pub hears : Msg → Held R E → Result (Unit {0}) SessionFault → Held R E → Type 0
+  hears = hears_by side.next side.closed side.gathering side.of_rule side.breaks side.befalls

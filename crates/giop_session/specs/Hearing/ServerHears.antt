@@ -6,11 +6,13 @@ use Rattle.giop_msg.specs.declared.kind.Kind.{Kind}
 use Rattle.giop_msg.specs.declared.kind.Kind.TheVariants as message
 use Rattle.giop_msg.specs.declared.msg.Msg.{Msg}
 use Rattle.giop_frag.specs.Gathered.{Pieces, same_order}
+use Rattle.giop_calls.specs.declared.fault.CallFault.{CallFault}
 use Rattle.giop_calls.specs.declared.kind.CallKind.{CallKind}
 use Rattle.giop_calls.specs.declared.kind.CallKind.TheVariants as kind
 use Rattle.giop_calls.specs.declared.server.entry.ServerEntry.{ServerEntry}
 use Rattle.giop_calls.specs.declared.server.entry.ServerEntry.TheVariants.{Gathering}
 use Rattle.giop_calls.specs.declared.server.event.ServerEvent.{ServerEvent}
+use Rattle.giop_calls.specs.declared.server.rule.ServerRule.{ServerRule}
 use Rattle.giop_calls.specs.declared.server.event.ServerEvent.TheVariants as event
 use Rattle.giop_session.specs.declared.session_fault.SessionFault.{SessionFault}
 use Rattle.giop_session.specs.declared.session_fault.SessionFault.TheVariants.{WrongDirection, PeerError, Closed}
@@ -18,7 +20,7 @@ use Rattle.giop_session.specs.declared.calls.slot.Slot.{Slot}
 use Rattle.giop_calls.specs.ServerTable.{server_step, is_closed, is_gathering}
 use Rattle.giop_session.specs.Calls.CallTable.{Act, Call, Hears, First, More, Nothing, Held, rules_of}
 use Rattle.giop_session.specs.Hearing.Decoding.{heard_call}
-use Rattle.giop_session.specs.Hearing.Heard.{Heard, IsHeard, behind_id, in_call, kept}
+use Rattle.giop_session.specs.Hearing.Heard.{Heard, IsHeard, SideOf, behind_id, in_call, kept}
 
 -- a Request or a LocateRequest comes: its first piece, whose octets are gathered, or all of it
 abbrev pub comes : Interface → CallKind → Msg → Act ServerEvent
@@ -85,3 +87,14 @@ server_befalls interface m call = befalls_by interface m call m.kind
 abbrev pub AtServer : {R : Type 0} → Heard ServerEvent → Held R ServerEntry
     → Result (Unit {0}) SessionFault → Held R ServerEntry → Type 0
 AtServer = IsHeard (rules_of server_step is_closed is_gathering) in_call
+
+-- a server's side of a connection
+abbrev pub server_side : Interface → SideOf ServerRule ServerEntry ServerEvent (Unit {0}) CallFault
+server_side interface = record {
+  next = λ rule. server_step;
+  closed = λ rule. is_closed;
+  gathering = is_gathering;
+  of_rule = in_call;
+  breaks = server_breaks;
+  befalls = server_befalls interface;
+}

@@ -8,7 +8,6 @@ use Rattle.giop_calls.specs.declared.client.entry.ClientEntry.{ClientEntry}
 use Rattle.giop_calls.specs.declared.client.event.ClientEvent.{ClientEvent}
 use Rattle.giop_calls.specs.declared.client.event.ClientEvent.TheVariants as event
 use Rattle.giop_calls.specs.declared.client.rule.ClientRule.{ClientRule}
-use Rattle.giop_calls.specs.ClientTable as client
 use Rattle.giop_session.specs.declared.laws.inputs.Answered.{Answered}
 use Rattle.giop_session.specs.declared.laws.inputs.ClientInput.{ClientInput}
 use Rattle.giop_session.specs.declared.laws.inputs.ClientInput.TheVariants as input
@@ -18,9 +17,8 @@ use Rattle.giop_session.specs.Calls.Begun.{no_calls}
 use Rattle.giop_session.specs.Calls.CallTable.{Held}
 use Rattle.giop_session.specs.Acts.ClientCalls.{IsCall, IsCancel, IsLocate, call_fault, cancel_fault, locate_fault, open_version}
 use Rattle.giop_session.specs.Items.ClientCarries.{ClientItem, client_telling, unknown}
-use Rattle.giop_session.specs.Hearing.ClientHears.{client_befalls, client_breaks}
+use Rattle.giop_session.specs.Hearing.ClientHears.{client_side}
 use Rattle.giop_session.specs.Runs.Driven.{Closes, Deed, EndRuns, EndState, Feeds, IsGiven, PutsOut, TakesAs, TakesOut, new_end}
-use Rattle.giop_session.specs.Hearing.Heard.{in_call}
 use Rattle.giop_session.specs.Runs.Inputs.{Holds, Input, nothing_unread}
 use Rattle.giop_session.specs.Calls.Sending.{entry_of}
 
@@ -60,8 +58,7 @@ client_deed interface limits h input.Close = Closes
 abbrev pub ClientIsGiven : Interface → Limits → EndState (Held ClientRule ClientEntry) → ClientInput
     → Answered ClientEntry → EndState (Held ClientRule ClientEntry) → Type 0
 ClientIsGiven interface limits s given answered t =
-    IsGiven (λ rule. client.client_step) (λ rule. client.is_closed) client.is_gathering in_call
-    client_breaks (client_befalls interface) (client_deed interface limits s.calls given)
+    IsGiven (client_side interface) (client_deed interface limits s.calls given)
     s answered t
 
 -- it is given these in turn
@@ -69,8 +66,7 @@ abbrev pub ClientRunsFrom : Interface → Limits → EndState (Held ClientRule C
     → List ClientInput → List (Answered ClientEntry) → EndState (Held ClientRule ClientEntry)
     → Type 0
 ClientRunsFrom interface limits s inputs answers t =
-    EndRuns (λ rule. client.client_step) (λ rule. client.is_closed) client.is_gathering in_call
-    client_breaks (client_befalls interface) (client_deed interface limits) s inputs answers t
+    EndRuns (client_side interface) (client_deed interface limits) s inputs answers t
 
 -- a new one is
 abbrev pub ClientRuns : Interface → Limits → List ClientInput → List (Answered ClientEntry)
@@ -82,8 +78,7 @@ ClientRuns interface limits inputs answers t =
 abbrev pub ClientTakesAs : Interface → Limits → List ClientInput → List (Answered ClientEntry)
     → List (Input ClientEvent) → Unread → Held ClientRule ClientEntry → Type 0
 ClientTakesAs interface limits inputs answers acts left k =
-    TakesAs (λ rule. client.client_step) (λ rule. client.is_closed) client.is_gathering in_call
-    client_breaks (client_befalls interface) (client_deed interface limits)
+    TakesAs (client_side interface) (client_deed interface limits)
     (nothing_unread limits.message) (no_calls (record {}) limits) inputs answers acts left k
 
 -- it takes them, and they hold these items for each id

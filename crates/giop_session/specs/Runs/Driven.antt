@@ -5,12 +5,10 @@ use Rattle.std.specs.Option.{option_map}
 use Rattle.std.specs.FinMap as finite
 use Rattle.giop_cdr.specs.declared.order.Order.TheVariants.{Big}
 use Rattle.giop_ids.specs.Runs.{Does}
-use Rattle.giop_msg.specs.declared.msg.Msg.{Msg}
 use Rattle.giop_msg.specs.Msg.{message_octets}
 use Rattle.giop_msg.specs.Stream.{Unread}
 use Rattle.giop_mux.specs.Runs.{Happening}
 use Rattle.giop_mux.specs.Runs.{Hears as IsTold, IsTaken as IsTakenOut}
-use Rattle.giop_mux.specs.declared.step.Step.{Step}
 use Rattle.giop_session.specs.declared.laws.inputs.Answered.{Answered}
 use Rattle.giop_session.specs.declared.laws.inputs.Answered.TheVariants as answer
 use Rattle.giop_session.specs.declared.limits.Limits.{Limits}
@@ -18,10 +16,10 @@ use Rattle.giop_session.specs.declared.calls.plan.Planned.{Planned}
 use Rattle.giop_session.specs.declared.session_fault.SessionFault.{SessionFault}
 use Rattle.giop_session.specs.declared.session_fault.SessionFault.TheVariants.{Closed, NoMemory, StillOpen}
 use Rattle.giop_session.specs.Calls.Begun.{no_calls}
-use Rattle.giop_session.specs.Calls.CallTable.{Act, Call, Gives, Held, IsTaken, rules_of}
+use Rattle.giop_session.specs.Calls.CallTable.{Gives, Held, IsTaken}
 use Rattle.giop_session.specs.Items.Carries.{Bad, Begun, Cancel, Did, Got, Item, Rest, Telling}
 use Rattle.giop_session.specs.Hearing.Feeding.{Fed, standing, with_octets}
-use Rattle.giop_session.specs.Hearing.Heard.{hears_by}
+use Rattle.giop_session.specs.Hearing.Heard.{SideOf, rules_at, hears}
 use Rattle.giop_session.specs.Runs.Inputs.{Input, Takes, nothing_unread}
 use Rattle.giop_session.specs.Runs.Inputs.{Reads, Does as DoesTo}
 use Rattle.giop_session.specs.Acts.Putting.{Puts}
@@ -151,29 +149,27 @@ module _ {T Message V E : Type 0} (telling : Telling T Message V) (entry_in : T 
   item_answers t (Rest ends ∷ items) = item_answers (telling.behind t (Rest ends)) items
   item_answers t (Cancel ∷ items) = item_answers (telling.behind t Cancel) items
 
-module _ {R E V A F : Type 0} (next : R → Option E → V → Step E A F) (closed : R → E → Bool)
-    (gathering : E → Bool) (of_rule : ℕ → F → SessionFault) (breaks : Msg → Option SessionFault)
-    (befalls : Msg → Call E → Act V) where
+module _ {R E V A F : Type 0} (side : SideOf R E V A F) where
   -- what is stored for an id is taken out and returned, unless its call is open
   abbrev pub IsTakenFrom : ℕ → EndState (Held R E) → Answered E → EndState (Held R E) → Type 0
   IsTakenFrom id s (answer.Taken entry) t =
       (entry ≡ entry_of (finite.get s.calls.table id))
-      × Does (rules_of (next s.calls.rule) (closed s.calls.rule) gathering) s.calls
+      × Does (rules_at side s.calls.rule) s.calls
       (record { id = id; what = IsTaken }) (Ok (Gives (finite.get s.calls.table id))) t.calls
       × (t ≡ record s { calls = t.calls })
   IsTakenFrom id s (answer.Refused why) t = (why ≡ StillOpen)
-      × (option_map (λ slot. closed s.calls.rule slot.entry) (finite.get s.calls.table id)
+      × (option_map (λ slot. side.closed s.calls.rule slot.entry) (finite.get s.calls.table id)
       ≡ Some false) × (t ≡ s)
   IsTakenFrom id s answer.Done t = ⊥
 
   -- what an input does to an end that continues, and what is answered
   abbrev pub IsDoneBy : Deed V F → EndState (Held R E) → Answered E → EndState (Held R E) → Type 0
   IsDoneBy (Feeds octets) s answered t = Says answered (λ result.
-      Fed (hears_by next closed gathering of_rule breaks befalls) (with_octets s.unread octets)
+      Fed (hears side) (with_octets s.unread octets)
       s.calls result t.unread t.calls
       × (t ≡ record s { unread = t.unread; calls = t.calls; fault = standing result }))
   IsDoneBy (PutsOut id refusal Plans) s answered t = Says answered (λ result.
-      Puts (rules_of (next s.calls.rule) (closed s.calls.rule) gathering) of_rule id refusal Plans
+      Puts (rules_at side s.calls.rule) side.of_rule id refusal Plans
       s.calls s.outgoing result t.calls t.outgoing
       × (t ≡ record s { calls = t.calls; outgoing = t.outgoing }))
   IsDoneBy (TakesOut id) s answered t = IsTakenFrom id s answered t
@@ -206,5 +202,5 @@ module _ {R E V A F : Type 0} (next : R → Option E → V → Step E A F) (clos
     TakesAs unread h (input ∷ inputs) (answered ∷ answers) acts left k =
         (act : Input V) × (rest : List (Input V)) × (mid : Unread) × (calls : Held R E)
         × (acts ≡ act ∷ rest) × IsAct (deed h input) act × (answered ≡ taken_answer h act)
-        × Takes next closed gathering of_rule breaks befalls unread h (act ∷ []) mid calls
+        × Takes side unread h (act ∷ []) mid calls
         × TakesAs mid calls inputs answers rest left k

@@ -1,17 +1,15 @@
 -- What an end meets: the messages of its peer, and its own acts on its calls; and what a run of
 -- these leaves of each call.
-use Rattle.std.specs.Prelude.{◌≡◌, ℕ, ◌==◌, Bool, if◌then◌else◌, List, [], ◌∷◌, Option, Ok, IsOk}
+use Rattle.std.specs.Prelude.{◌≡◌, ℕ, ◌==◌, Bool, if◌then◌else◌, List, [], ◌∷◌, None, Ok, IsOk}
 use Rattle.giop_ids.specs.Runs.{left}
 use Rattle.giop_ids.specs.Runs.{Does as DoesAct}
 use Rattle.giop_msg.specs.declared.msg.Msg.{Msg}
 use Rattle.giop_mux.specs.Runs.{Happening}
 use Rattle.giop_mux.specs.Runs.{Hears as IsTold, IsTaken as TakesOut}
-use Rattle.giop_mux.specs.declared.step.Step.{Step}
 use Rattle.giop_session.specs.declared.calls.plan.Planned.{Planned}
-use Rattle.giop_session.specs.declared.session_fault.SessionFault.{SessionFault}
 use Rattle.giop_session.specs.Runs.Alone.{names}
-use Rattle.giop_session.specs.Calls.CallTable.{Act, Call, Held, Hears, IsTaken, Nothing, Reply, Turned, rules_of}
-use Rattle.giop_session.specs.Hearing.Heard.{hears_by}
+use Rattle.giop_session.specs.Calls.CallTable.{Act, Call, Held, Hears, IsTaken, Nothing, Reply, Turned}
+use Rattle.giop_session.specs.Hearing.Heard.{SideOf, rules_at, hears}
 
 -- an act of an end on one of its calls: an event of its own, with the messages that are sent for
 -- it, or that it takes the entry out
@@ -28,6 +26,15 @@ abbrev pub act_of : {V : Type 0} → Local V → Act V
 act_of (IsTold planned) = Hears planned Nothing
 act_of TakesOut = IsTaken
 
+-- what an act is to the rule of its call, its messages and octets aside
+abbrev pub happening : {V : Type 0} → Act V → Happening V
+happening (Hears planned brings) = IsTold planned.event
+happening IsTaken = TakesOut
+
+-- an id under which nothing is stored
+abbrev pub no_call : {E : Type 0} → Call E
+no_call = record { slot = None; pieces = None }
+
 -- whether an event is one of the call of an id
 abbrev pub is_of : {V : Type 0} → ℕ → Event V → Bool
 is_of id (Comes m) = names m id
@@ -39,15 +46,12 @@ own_events id [] = []
 own_events id (e ∷ events) =
     if is_of id e then e ∷ own_events id events else own_events id events
 
-module _ {R E V A F : Type 0} (next : R → Option E → V → Step E A F) (closed : R → E → Bool)
-    (gathering : E → Bool) (of_rule : ℕ → F → SessionFault) (breaks : Msg → Option SessionFault)
-    (befalls : Msg → Call E → Act V) where
+module _ {R E V A F : Type 0} (side : SideOf R E V A F) where
   -- an end meets an event, and doesn't refuse it
   abbrev pub Accepts : Event V → Held R E → Held R E → Type 0
-  Accepts (Comes m) h k = hears_by next closed gathering of_rule breaks befalls m h (Ok tt) k
+  Accepts (Comes m) h k = hears side m h (Ok tt) k
   Accepts (Does id act) h k = (reply : Reply E A)
-      × DoesAct (rules_of (next h.rule) (closed h.rule) gathering) h
-      (record { id = id; what = act_of act }) (Ok reply) k
+      × DoesAct (rules_at side h.rule) h (record { id = id; what = act_of act }) (Ok reply) k
 
   -- it meets these, one after another, and refuses none
   abbrev pub Meets : Held R E → List (Event V) → Held R E → Type 0
@@ -66,3 +70,9 @@ module _ {E V A F : Type 0} (turn : Call E → Act V → Turned E A F)
   Follows call [] after = after ≡ call
   Follows call (e ∷ events) after = IsOk (turn call (what e call))
       × Follows (left call (turn call (what e call))) events after
+
+  -- what these events are to its rule, one after another: a message as it is read where it comes
+  abbrev pub history : Call E → List (Event V) → List (Happening V)
+  history call [] = []
+  history call (e ∷ events) =
+      happening (what e call) ∷ history (left call (turn call (what e call))) events

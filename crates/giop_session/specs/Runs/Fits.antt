@@ -2,24 +2,37 @@
 -- this is said of the inputs, before any of them is taken.
 use Rattle.std.specs.Prelude.{◌≡◌, ℕ, ◌==◌, if◌then◌else◌, List, [], Option, Some, None}
 use Rattle.std.specs.List.{AllByRecursion}
+use Rattle.giop_ids.specs.Runs.{alone as all_steps}
 use Rattle.giop_msg.specs.Stream.{Unread}
 use Rattle.giop_types.specs.declared.json.interface.Interface.{Interface}
+use Rattle.giop_mux.specs.Runs.{Happening}
 use Rattle.giop_calls.specs.declared.client.entry.ClientEntry.{ClientEntry}
+use Rattle.giop_calls.specs.declared.client.event.ClientEvent.{ClientEvent}
 use Rattle.giop_calls.specs.declared.client.rule.ClientRule.{ClientRule}
 use Rattle.giop_calls.specs.declared.server.entry.ServerEntry.{ServerEntry}
+use Rattle.giop_calls.specs.declared.server.event.ServerEvent.{ServerEvent}
 use Rattle.giop_calls.specs.declared.server.rule.ServerRule.{ServerRule}
+use Rattle.giop_calls.specs.ClientItems.{client_turn}
+use Rattle.giop_calls.specs.ClientStanding.{standing as stands_at_client}
+use Rattle.giop_calls.specs.ClientTable as client_table
+use Rattle.giop_calls.specs.ServerItems.{server_turn}
+use Rattle.giop_calls.specs.ServerStanding.{standing as stands_at_server}
+use Rattle.giop_calls.specs.ServerTable as server_table
 use Rattle.giop_session.specs.declared.laws.inputs.Answered.{Answered}
 use Rattle.giop_session.specs.declared.laws.inputs.ClientInput.{ClientInput}
 use Rattle.giop_session.specs.declared.laws.inputs.ClientInput.TheVariants as client
 use Rattle.giop_session.specs.declared.laws.inputs.ServerInput.{ServerInput}
 use Rattle.giop_session.specs.declared.laws.inputs.ServerInput.TheVariants as server
 use Rattle.giop_session.specs.declared.limits.Limits.{Limits}
-use Rattle.giop_session.specs.Calls.CallTable.{Held, at}
+use Rattle.giop_session.specs.Calls.CallTable.{Held, at, turn}
+use Rattle.giop_session.specs.Hearing.ClientHears.{client_befalls}
+use Rattle.giop_session.specs.Hearing.ServerHears.{server_befalls}
 use Rattle.giop_session.specs.Items.Carries.{behind_all}
 use Rattle.giop_session.specs.Items.ClientCarries.{ClientItem, client_telling, unknown}
 use Rattle.giop_session.specs.Items.ServerCarries.{ServerItem, server_telling}
 use Rattle.giop_session.specs.Runs.ClientRuns.{ClientHolds, ClientRuns, client_entry, client_named}
 use Rattle.giop_session.specs.Runs.Driven.{EndState, NoneRefused, item_answers, own_answers}
+use Rattle.giop_session.specs.Runs.Events.{Event, history, no_call, own_events}
 use Rattle.giop_session.specs.Runs.Inputs.{nothing_unread}
 use Rattle.giop_session.specs.Runs.Met.{AreMet, IsOfCall, Met, Sorting, given_alone}
 use Rattle.giop_session.specs.Runs.RunLimits.{ClientIsGivenWithin, ServerIsGivenWithin}
@@ -91,6 +104,21 @@ pub record ServerIsAsSaid (interface : Interface) (calls : ℕ → List ServerIt
   pub told : own_answers server_named id inputs answers
       ≡ item_answers (server_telling interface) (λ entry. entry) None (calls id)
 
+-- what a server's table is told of the calls of an id: their own messages, each as it is read where
+-- it comes, and acts
+abbrev pub server_history : Interface → ℕ → List (Event ServerEvent) → List (Happening ServerEvent)
+server_history interface id events =
+    history (turn server_table.server_step server_table.is_closed server_table.is_gathering)
+    (server_befalls interface) no_call (own_events id events)
+
+-- what is stored for an id is what was said of its calls; it is what the table's steps come to by
+-- their own messages and acts; and it is what stands by those of the latest call, without steps
+pub record ServerStands (interface : Interface) (id : ℕ) (said : List ServerItem)
+    (events : List (Event ServerEvent)) (entry : Option ServerEntry) : Type 0 where
+  pub as_said : entry ≡ behind_all (server_telling interface) None said
+  pub by_steps : entry ≡ all_steps server_turn None (server_history interface id events)
+  pub by_latest : entry ≡ stands_at_server (server_history interface id events)
+
 -- a client's end alone, likewise
 pub record ClientAlone (interface : Interface) (limits : Limits) (id : ℕ)
     (met : List (Met ClientInput)) : Type 0 where
@@ -132,3 +160,16 @@ pub record ClientIsAsSaid (interface : Interface) (calls : ℕ → List ClientIt
       ≡ (behind_all (client_telling interface) unknown (calls id)).entry
   pub told : own_answers client_named id inputs answers
       ≡ item_answers (client_telling interface) (λ known. known.entry) unknown (calls id)
+
+-- what a client's table is told of the calls of an id
+abbrev pub client_history : Interface → ℕ → List (Event ClientEvent) → List (Happening ClientEvent)
+client_history interface id events =
+    history (turn client_table.client_step client_table.is_closed client_table.is_gathering)
+    (client_befalls interface) no_call (own_events id events)
+
+-- and what is stored for an id: what was said, what the steps come to, what stands without steps
+pub record ClientStands (interface : Interface) (id : ℕ) (said : List ClientItem)
+    (events : List (Event ClientEvent)) (entry : Option ClientEntry) : Type 0 where
+  pub as_said : entry ≡ (behind_all (client_telling interface) unknown said).entry
+  pub by_steps : entry ≡ all_steps client_turn None (client_history interface id events)
+  pub by_latest : entry ≡ stands_at_client (client_history interface id events)

@@ -1,16 +1,14 @@
 -- What is given to an end, octets in reads of any size and its own acts; and the events that these
 -- are: a message is one at the read that brings its last octet.
-use Rattle.std.specs.Prelude.{◌≡◌, ℕ, Bool, List, [], ◌∷◌, ◌++◌, map, Option, Ok}
+use Rattle.std.specs.Prelude.{◌≡◌, ℕ, List, [], ◌∷◌, ◌++◌, map, Ok}
 use Rattle.giop_msg.specs.declared.msg.Msg.{Msg}
 use Rattle.giop_msg.specs.Stream.{TakesMessages, Unread, Waits}
-use Rattle.giop_mux.specs.declared.step.Step.{Step}
-use Rattle.giop_session.specs.declared.session_fault.SessionFault.{SessionFault}
-use Rattle.giop_session.specs.Calls.CallTable.{Act, Call, Held}
+use Rattle.giop_session.specs.Calls.CallTable.{Held}
 use Rattle.giop_session.specs.Items.Carries.{Carries, Item, Telling}
 use Rattle.giop_session.specs.Runs.Events.{Accepts, Event, Comes, Local, own_events}
 use Rattle.giop_session.specs.Runs.Events.{Does as DoesTo}
 use Rattle.giop_session.specs.Hearing.Feeding.{Fed, with_octets}
-use Rattle.giop_session.specs.Hearing.Heard.{hears_by}
+use Rattle.giop_session.specs.Hearing.Heard.{SideOf, hears}
 
 -- octets are read, or the end itself does something to the call of an id
 pub data Input (V : Type 0) : Type 0 where
@@ -40,17 +38,14 @@ Holds {V = V} telling unknown limit inputs calls =
     × AreEvents (nothing_unread limit) inputs events left
     × ((id : ℕ) → Carries telling unknown (calls id) (own_events id events))
 
-module _ {R E V A F : Type 0} (next : R → Option E → V → Step E A F) (closed : R → E → Bool)
-    (gathering : E → Bool) (of_rule : ℕ → F → SessionFault) (breaks : Msg → Option SessionFault)
-    (befalls : Msg → Call E → Act V) where
+module _ {R E V A F : Type 0} (side : SideOf R E V A F) where
   -- an end with these unread octets and these calls takes inputs, and refuses none; this is unread
   -- then, and these are its calls
   abbrev pub Takes : Unread → Held R E → List (Input V) → Unread → Held R E → Type 0
   Takes unread h [] left k = (left ≡ unread) × (k ≡ h)
   Takes unread h (Reads octets ∷ inputs) left k = (mid : Unread) × (calls : Held R E)
-      × Fed (hears_by next closed gathering of_rule breaks befalls) (with_octets unread octets) h
-      (Ok tt) mid calls
+      × Fed (hears side) (with_octets unread octets) h (Ok tt) mid calls
       × Takes mid calls inputs left k
   Takes unread h (Does id act ∷ inputs) left k = (calls : Held R E)
-      × Accepts next closed gathering of_rule breaks befalls (DoesTo id act) h calls
+      × Accepts side (DoesTo id act) h calls
       × Takes unread calls inputs left k

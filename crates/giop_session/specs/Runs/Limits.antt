@@ -1,12 +1,11 @@
 -- What is asked of the limits of an end, in whatever order it comes: ids to open calls under, and
 -- octets to be gathered (CORBA 3.3 Part 2, 9.4.9).
-use Rattle.std.specs.Prelude.{◌≡◌, ◌≤◌, ℕ, ◌==◌, ◌&&◌, ◌++◌, Bool, true, false, if◌then◌else◌, List, ◌∷◌, length, sum_by, Option, Err}
+use Rattle.std.specs.Prelude.{◌≡◌, ◌≢◌, ◌≤◌, ℕ, ◌==◌, ◌&&◌, ◌++◌, Bool, true, false, if◌then◌else◌, List, ◌∷◌, length, sum_by, Err}
 use Rattle.std.specs.List.{list_any}
 use Rattle.std.specs.List.Sorted.{IsPermutation}
 use Rattle.giop_ids.specs.ById.{is_listed}
 use Rattle.giop_ids.specs.Runs.{Does as DoesAct}
 use Rattle.giop_mux.specs.Runs.{Hears as IsTold, IsTaken as TakesOut}
-use Rattle.giop_mux.specs.declared.step.Step.{Step}
 use Rattle.giop_msg.specs.declared.kind.Kind.{Kind}
 use Rattle.giop_msg.specs.declared.kind.Kind.TheVariants as message
 use Rattle.giop_msg.specs.declared.msg.Msg.{Msg}
@@ -16,11 +15,13 @@ use Rattle.giop_calls.specs.declared.server.event.ServerEvent.{ServerEvent}
 use Rattle.giop_calls.specs.declared.server.event.ServerEvent.TheVariants as server
 use Rattle.giop_session.specs.declared.limits.Limits.{Limits}
 use Rattle.giop_session.specs.declared.session_fault.SessionFault.{SessionFault}
+use Rattle.giop_session.specs.declared.session_fault.SessionFault.TheVariants.{GatherFull, TooManyCalls}
 use Rattle.giop_session.specs.declared.calls.table_fault.TableFault.{TableFault}
+use Rattle.giop_session.specs.Calls.Begun.{no_calls}
 use Rattle.giop_session.specs.Runs.Alone.{names}
-use Rattle.giop_session.specs.Calls.CallTable.{Act, Call, Held, rules_of}
-use Rattle.giop_session.specs.Runs.Events.{Event, Comes, Does, act_of}
-use Rattle.giop_session.specs.Hearing.Heard.{behind_id, hears_by}
+use Rattle.giop_session.specs.Calls.CallTable.{Held}
+use Rattle.giop_session.specs.Runs.Events.{Event, Comes, Does, Meets, act_of}
+use Rattle.giop_session.specs.Hearing.Heard.{behind_id, SideOf, rules_at, hears}
 use Rattle.giop_session.specs.Calls.SessionFaults.{of_table}
 
 -- how many octets a message of this kind brings to be gathered: a Fragment those behind its request
@@ -90,14 +91,19 @@ AreWithinAtClient = AreWithin (λ kind. false) begins_at_client
 abbrev pub IsNext : {V : Type 0} → (all came : List (Event V)) → Event V → Type 0
 IsNext {V} all came e = (rest : List (Event V)) × IsPermutation all (came ++ e ∷ rest)
 
-module _ {R E V A F : Type 0} (next : R → Option E → V → Step E A F) (closed : R → E → Bool)
-    (gathering : E → Bool) (of_rule : ℕ → F → SessionFault) (breaks : Msg → Option SessionFault)
-    (befalls : Msg → Call E → Act V) where
+module _ {R E V A F : Type 0} (side : SideOf R E V A F) where
   -- an end refuses an event for this
   abbrev pub Refuses : Event V → Held R E → SessionFault → Type 0
   Refuses (Comes m) h why = (k : Held R E)
-      × hears_by next closed gathering of_rule breaks befalls m h (Err why) k
+      × hears side m h (Err why) k
   Refuses (Does id act) h why = (k : Held R E) × (fault : TableFault F)
-      × DoesAct (rules_of (next h.rule) (closed h.rule) gathering) h
+      × DoesAct (rules_at side h.rule) h
       (record { id = id; what = act_of act }) (Err fault) k
-      × (why ≡ of_table (of_rule id) fault)
+      × (why ≡ of_table (side.of_rule id) fault)
+
+  -- whichever of all these events a new end met, it refuses the next one for no limit
+  abbrev pub MeetNoLimit : R → Limits → List (Event V) → Type 0
+  MeetNoLimit rule limits all =
+      (came : List (Event V)) (e : Event V) (h : Held R E) (why : SessionFault)
+      → IsNext all came e → Meets side (no_calls rule limits) came h → Refuses e h why
+      → (why ≢ TooManyCalls) × (why ≢ GatherFull)

@@ -8,7 +8,6 @@ use Rattle.giop_calls.specs.declared.server.entry.ServerEntry.{ServerEntry}
 use Rattle.giop_calls.specs.declared.server.event.ServerEvent.{ServerEvent}
 use Rattle.giop_calls.specs.declared.server.event.ServerEvent.TheVariants as event
 use Rattle.giop_calls.specs.declared.server.rule.ServerRule.{ServerRule}
-use Rattle.giop_calls.specs.ServerTable as server
 use Rattle.giop_session.specs.declared.laws.inputs.Answered.{Answered}
 use Rattle.giop_session.specs.declared.laws.inputs.ServerInput.{ServerInput}
 use Rattle.giop_session.specs.declared.laws.inputs.ServerInput.TheVariants as input
@@ -16,13 +15,12 @@ use Rattle.giop_session.specs.declared.limits.Limits.{Limits}
 use Rattle.giop_session.specs.declared.calls.plan.Plan.TheVariants.{Next}
 use Rattle.giop_session.specs.Calls.CallTable.{Held}
 use Rattle.giop_session.specs.Runs.Driven.{Closes, Deed, EndRuns, EndState, Feeds, IsGiven, PutsOut, TakesAs, TakesOut, new_end}
-use Rattle.giop_session.specs.Hearing.Heard.{in_call}
 use Rattle.giop_session.specs.Runs.Inputs.{Holds, Input, nothing_unread}
 use Rattle.giop_session.specs.Calls.Begun.{no_calls}
 use Rattle.giop_session.specs.Calls.Sending.{entry_of}
 use Rattle.giop_session.specs.Acts.ServerAnswers.{IsAnswer, IsLocateAnswer, answer_fault, locate_of, question_of}
 use Rattle.giop_session.specs.Items.ServerCarries.{ServerItem, server_telling}
-use Rattle.giop_session.specs.Hearing.ServerHears.{server_befalls, server_breaks}
+use Rattle.giop_session.specs.Hearing.ServerHears.{server_side}
 
 -- what is stored for an id
 abbrev pub server_entry : Held ServerRule ServerEntry → ℕ → Option ServerEntry
@@ -55,8 +53,7 @@ server_deed interface limits h input.Close = Closes
 abbrev pub ServerIsGiven : Interface → Limits → EndState (Held ServerRule ServerEntry) → ServerInput
     → Answered ServerEntry → EndState (Held ServerRule ServerEntry) → Type 0
 ServerIsGiven interface limits s given answered t =
-    IsGiven (λ rule. server.server_step) (λ rule. server.is_closed) server.is_gathering in_call
-    server_breaks (server_befalls interface) (server_deed interface limits s.calls given)
+    IsGiven (server_side interface) (server_deed interface limits s.calls given)
     s answered t
 
 -- it is given these in turn
@@ -64,8 +61,7 @@ abbrev pub ServerRunsFrom : Interface → Limits → EndState (Held ServerRule S
     → List ServerInput → List (Answered ServerEntry) → EndState (Held ServerRule ServerEntry)
     → Type 0
 ServerRunsFrom interface limits s inputs answers t =
-    EndRuns (λ rule. server.server_step) (λ rule. server.is_closed) server.is_gathering in_call
-    server_breaks (server_befalls interface) (server_deed interface limits) s inputs answers t
+    EndRuns (server_side interface) (server_deed interface limits) s inputs answers t
 
 -- a new one is
 abbrev pub ServerRuns : Interface → Limits → List ServerInput → List (Answered ServerEntry)
@@ -77,8 +73,7 @@ ServerRuns interface limits inputs answers t =
 abbrev pub ServerTakesAs : Interface → Limits → List ServerInput → List (Answered ServerEntry)
     → List (Input ServerEvent) → Unread → Held ServerRule ServerEntry → Type 0
 ServerTakesAs interface limits inputs answers acts left k =
-    TakesAs (λ rule. server.server_step) (λ rule. server.is_closed) server.is_gathering in_call
-    server_breaks (server_befalls interface) (server_deed interface limits)
+    TakesAs (server_side interface) (server_deed interface limits)
     (nothing_unread limits.message) (no_calls (record {}) limits) inputs answers acts left k
 
 -- it takes them, and they hold these items for each id

@@ -26,6 +26,7 @@ ghost use Rattle.giop_session.specs.Runs.Events.{Comes, Event, Follows, Meets, o
 ghost use Rattle.giop_session.specs.Runs.Inputs.{Holds};
 ghost use Rattle.giop_session.specs.Calls.Sending.{entry_of};
 ghost use Rattle.giop_session.specs.Items.ServerCarries.{ServerItem, server_telling};
+ghost use Rattle.giop_session.specs.Hearing.Heard.{side_by};
 
 use crate::Hearing;
 
@@ -34,7 +35,8 @@ use crate::Hearing;
 /// makes no difference.
 pub fn each_call_of_a_run<R: Hearing>(rule: &R)
     ensures { (interface : Interface) (h k : Held R R.Entry) (events : List (Event R.Event))
-        → Meets R.next R.closed R.gathering R.in_call R.breaks (R.befalls interface) h events k
+        → Meets (side_by R.next R.closed R.gathering R.in_call R.breaks (R.befalls interface))
+        h events k
         → (id : ℕ) → Follows (turn (R.next h.rule) (R.closed h.rule) R.gathering)
         (R.befalls interface) (at h id) (own_events id events) (at k id) }
 {}

@@ -3,19 +3,17 @@
 ghost use Rattle.std.specs.Prelude.{◌≡◌, ◌≢◌, ◌∷◌, ℕ, Err, List, Ok, Some};
 ghost use Rattle.giop_types.specs.declared.json.interface.Interface.{Interface};
 ghost use Rattle.giop_msg.specs.declared.msg.Msg.{Msg};
-ghost use Rattle.giop_calls.specs.ClientTable as client;
 ghost use Rattle.giop_calls.specs.Lane.{Act, Lane, Message, new, Runs, step, ToClient, ToServer};
-ghost use Rattle.giop_calls.specs.ServerTable as server;
 ghost use Rattle.giop_calls.specs.declared.client.entry.ClientEntry.{ClientEntry};
 ghost use Rattle.giop_calls.specs.declared.client.rule.ClientRule.{ClientRule};
 ghost use Rattle.giop_calls.specs.declared.server.entry.ServerEntry.{ServerEntry};
 ghost use Rattle.giop_calls.specs.declared.server.rule.ServerRule.{ServerRule};
 ghost use Rattle.giop_session.specs.Calls.CallTable.{at, Held};
-ghost use Rattle.giop_session.specs.Hearing.ClientHears.{client_befalls, client_breaks};
+ghost use Rattle.giop_session.specs.Hearing.ClientHears.{client_side};
 ghost use Rattle.giop_session.specs.Worlds.Coding.{coding};
-ghost use Rattle.giop_session.specs.Hearing.Heard.{hears_by, in_call};
+ghost use Rattle.giop_session.specs.Hearing.Heard.{hears};
 ghost use Rattle.giop_session.specs.Worlds.LaneAtEnds.{IsOfLimit, seen};
-ghost use Rattle.giop_session.specs.Hearing.ServerHears.{server_befalls, server_breaks};
+ghost use Rattle.giop_session.specs.Hearing.ServerHears.{server_side};
 ghost use Rattle.giop_session.specs.Worlds.Tracks.{ClientShows, IsToClient, IsToServer, ServerShows};
 
 use giop_calls::laws::ends_of_one_lane_agree;
@@ -32,8 +30,7 @@ pub fn servers_do_the_lanes_act()
         (later : List Message) (h k : Held ServerRule ServerEntry)
         → Runs (coding interface) new acts lane → lane.to_server ≡ seen m ∷ later
         → ServerShows id (at h id) lane → IsToServer id m
-        → hears_by (λ rule. server.server_step) (λ rule. server.is_closed) server.is_gathering
-        in_call server_breaks (server_befalls interface) m h (Ok tt) k
+        → hears (server_side interface) m h (Ok tt) k
         → (after : Lane) × (step (coding interface) lane ToServer ≡ Some after)
         × ServerShows id (at k id) after
         × ((other : ℕ) → other ≢ id → at k other ≡ at h other) }
@@ -41,8 +38,7 @@ pub fn servers_do_the_lanes_act()
         (later : List Message) (h k : Held ServerRule ServerEntry) (why : _)
         → Runs (coding interface) new acts lane → lane.to_server ≡ seen m ∷ later
         → ServerShows id (at h id) lane → IsToServer id m
-        → hears_by (λ rule. server.server_step) (λ rule. server.is_closed) server.is_gathering
-        in_call server_breaks (server_befalls interface) m h (Err why) k
+        → hears (server_side interface) m h (Err why) k
         → (k ≡ h) × IsOfLimit m h why }
 {
     ends_of_one_lane_agree();
@@ -55,8 +51,7 @@ pub fn clients_do_the_lanes_act()
         (later : List Message) (h k : Held ClientRule ClientEntry)
         → Runs (coding interface) new acts lane → lane.to_client ≡ seen m ∷ later
         → ClientShows id (at h id) lane → IsToClient id m
-        → hears_by (λ rule. client.client_step) (λ rule. client.is_closed) client.is_gathering
-        in_call client_breaks (client_befalls interface) m h (Ok tt) k
+        → hears (client_side interface) m h (Ok tt) k
         → (after : Lane) × (step (coding interface) lane ToClient ≡ Some after)
         × ClientShows id (at k id) after
         × ((other : ℕ) → other ≢ id → at k other ≡ at h other) }
@@ -64,8 +59,7 @@ pub fn clients_do_the_lanes_act()
         (later : List Message) (h k : Held ClientRule ClientEntry) (why : _)
         → Runs (coding interface) new acts lane → lane.to_client ≡ seen m ∷ later
         → ClientShows id (at h id) lane → IsToClient id m
-        → hears_by (λ rule. client.client_step) (λ rule. client.is_closed) client.is_gathering
-        in_call client_breaks (client_befalls interface) m h (Err why) k
+        → hears (client_side interface) m h (Err why) k
         → (k ≡ h) × IsOfLimit m h why }
 {
     ends_of_one_lane_agree();

@@ -15,12 +15,11 @@ ghost use Rattle.giop_session.specs.declared.limits.Limits.{Limits};
 ghost use Rattle.giop_session.specs.Calls.Begun.{no_calls};
 ghost use Rattle.giop_session.specs.Calls.CallTable.{Held};
 ghost use Rattle.giop_session.specs.Acts.ClientCalls.{IsCall, IsCancel, IsLocate};
-ghost use Rattle.giop_session.specs.Hearing.ClientHears.{client_befalls, client_breaks};
+ghost use Rattle.giop_session.specs.Hearing.ClientHears.{client_side};
 ghost use Rattle.giop_session.specs.Runs.Events.{Event, Meets};
-ghost use Rattle.giop_session.specs.Hearing.Heard.{in_call};
 ghost use Rattle.giop_session.specs.Runs.LeftToSend.{ArePlanned, ClientPlans, IsLeft, ServerPlans};
 ghost use Rattle.giop_session.specs.Acts.ServerAnswers.{IsAnswer, IsLocateAnswer};
-ghost use Rattle.giop_session.specs.Hearing.ServerHears.{server_befalls, server_breaks};
+ghost use Rattle.giop_session.specs.Hearing.ServerHears.{server_side};
 
 /// A server's end hears messages and acts itself, and none of this is refused. It plans a Reply in
 /// as many messages as its event says, a LocateReply in one, and a further piece as the next one:
@@ -35,8 +34,7 @@ pub fn what_is_left_is_unsent_at_server()
         → ServerPlans planned.event planned.plan }
     ensures left { (interface : Interface) (limits : Limits) (events : List (Event ServerEvent))
         (k : Held ServerRule ServerEntry)
-        → Meets (λ rule. server.server_step) (λ rule. server.is_closed) server.is_gathering in_call
-        server_breaks (server_befalls interface) (no_calls (record {}) limits) events k
+        → Meets (server_side interface) (no_calls (record {}) limits) events k
         → ArePlanned ServerPlans events → (id : ℕ)
         → IsLeft server.left_of (finite.get k.table id) }
 {}
@@ -55,8 +53,7 @@ pub fn what_is_left_is_unsent_at_client()
         → IsCancel id order (Some version) planned → ClientPlans planned.event planned.plan }
     ensures left { (interface : Interface) (limits : Limits) (events : List (Event ClientEvent))
         (k : Held ClientRule ClientEntry)
-        → Meets (λ rule. client.client_step) (λ rule. client.is_closed) client.is_gathering in_call
-        client_breaks (client_befalls interface) (no_calls (record {}) limits) events k
+        → Meets (client_side interface) (no_calls (record {}) limits) events k
         → ArePlanned ClientPlans events → (id : ℕ)
         → IsLeft client.left_of (finite.get k.table id) }
 {}

@@ -2,7 +2,6 @@
 //! the headline (docs/HEADLINE.md) of functions that run. What an input does to an end is
 //! specs/Runs/ServerRuns.antt and specs/Runs/ClientRuns.antt.
 ghost use Rattle.std.specs.Prelude.{◌≡◌, ◌≢◌, ◌≤◌, ◌^◌, ◌↔◌, ℕ, None, Err, IfOk, IsErr};
-ghost use Rattle.std.specs.FinMap as finite;
 ghost use Rattle.giop_session.specs.declared.laws.inputs.Answered.TheVariants.{Refused};
 ghost use Rattle.giop_session.specs.declared.session_fault.SessionFault.TheVariants.{NoMemory};
 ghost use Rattle.giop_session.specs.Items.Carries.{behind_all};
@@ -14,6 +13,7 @@ ghost use Rattle.giop_session.specs.Acts.PutOut.{ArePutOut, is_of_client, is_of_
 ghost use Rattle.giop_session.specs.Runs.RunLimits.{ClientIsGivenWithin, NoneForALimit, ServerIsGivenWithin};
 ghost use Rattle.giop_session.specs.Items.ServerCarries.{server_telling};
 ghost use Rattle.giop_session.specs.Runs.ServerRuns.{server_entry, server_named, ServerHolds, ServerRuns, ServerTakesAs};
+ghost use Rattle.giop_session.specs.Hearing.Heard.{side_by};
 
 use super::inputs::{Answered, ClientInput, ServerInput};
 use crate::end::{ClientEnd, End, ServerEnd};
@@ -245,8 +245,8 @@ pub(super) fn feed_to<R: Hearing>(
     end: &mut End<'_, R>,
     octets: &[u8],
 ) -> Result<Answered<R::Entry>, AllocError>
-    ensures given { IfOk result (λ answered. IsGiven R.next R.closed R.gathering R.in_call R.breaks
-        (R.befalls end.old.interface.now) (Feeds octets.now)
+    ensures given { IfOk result (λ answered. IsGiven (side_by R.next R.closed R.gathering R.in_call R.breaks
+        (R.befalls end.old.interface.now)) (Feeds octets.now)
         (end_state end.old.framer end.old.calls end.old.outgoing end.old.fault) answered
         (end_state end.new.framer end.new.calls end.new.outgoing end.new.fault)) }
     ensures others { end.new ≡ record end.old {
@@ -261,8 +261,8 @@ pub(super) fn feed_to<R: Hearing>(
 
 // An entry is taken out of an end, where its call is over, and is the answer.
 fn take_from<R: Hearing>(end: &mut End<'_, R>, id: u32) -> Result<Answered<R::Entry>, AllocError>
-    ensures given { IfOk result (λ answered. IsGiven R.next R.closed R.gathering R.in_call R.breaks
-        (R.befalls end.old.interface.now) (TakesOut id)
+    ensures given { IfOk result (λ answered. IsGiven (side_by R.next R.closed R.gathering R.in_call R.breaks
+        (R.befalls end.old.interface.now)) (TakesOut id)
         (end_state end.old.framer end.old.calls end.old.outgoing end.old.fault) answered
         (end_state end.new.framer end.new.calls end.new.outgoing end.new.fault)) }
     ensures others { end.new ≡ record end.old {
@@ -281,8 +281,8 @@ fn take_from<R: Hearing>(end: &mut End<'_, R>, id: u32) -> Result<Answered<R::En
 
 // An end is closed, and answers this.
 fn close_end<R: Hearing>(end: &mut End<'_, R>) -> Result<Answered<R::Entry>, AllocError>
-    ensures given { IfOk result (λ answered. IsGiven R.next R.closed R.gathering R.in_call R.breaks
-        (R.befalls end.old.interface.now) Closes
+    ensures given { IfOk result (λ answered. IsGiven (side_by R.next R.closed R.gathering R.in_call R.breaks
+        (R.befalls end.old.interface.now)) Closes
         (end_state end.old.framer end.old.calls end.old.outgoing end.old.fault) answered
         (end_state end.new.framer end.new.calls end.new.outgoing end.new.fault)) }
     ensures others { end.new ≡ record end.old {

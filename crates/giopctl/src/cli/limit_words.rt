@@ -31,14 +31,21 @@ pub fn limited<'a>(alloc: Global, command: Command<'a>) -> Result<Command<'a>, A
     )
     .default_value("1024")
     .value_parser(ValueParser::Unsigned(0, 4_294_967_295));
-    let gathered = limit(
+    command
+        .arg(message_limit(alloc))?
+        .arg(calls)?
+        .arg(gathered_limit(alloc))
+}
+
+/// The option of the most octets that are gathered.
+pub fn gathered_limit<'a>(alloc: Global) -> Arg<'a> {
+    limit(
         alloc,
         "gathered-limit",
         "The most octets of all messages of which a piece is still to come",
     )
     .default_value("8388608")
-    .value_parser(ValueParser::Unsigned(0, MOST_GATHERED));
-    command.arg(message_limit(alloc))?.arg(calls)?.arg(gathered)
+    .value_parser(ValueParser::Unsigned(0, MOST_GATHERED))
 }
 
 fn limit<'a>(alloc: Global, name: &'a str, help: &'a str) -> Arg<'a> {
@@ -72,7 +79,8 @@ pub fn limits_of(matches: &ArgMatches) -> Result<Limits, &'static str>
     })
 }
 
-fn gathered_limit_of(matches: &ArgMatches) -> Result<u64, &'static str>
+/// The most octets that are gathered, or what is wrong with the word.
+pub fn gathered_limit_of(matches: &ArgMatches) -> Result<u64, &'static str>
     ensures { IfOk result (λ gathered. gathered ≤ 2 ^ 62) }
 {
     match number(matches, "gathered-limit") {

@@ -2,7 +2,7 @@ use Rattle.std.proofs.Common.{Err, IfSome, subst}
 use Rattle.giop_msg.specs.Stream.{TakesMessage}
 use Rattle.giop_msg.proofs.FramerLemmas.{takes_fewer}
 use Rattle.giop_session.specs.Hearing.Feeding.{Fed, with_octets}
-use Rattle.giop_session.specs.Hearing.Heard.{hears_by}
+use Rattle.giop_session.specs.Hearing.Heard.{hears_by, side_by}
 use Rattle.giop_session.proofs.OnHearing.FeedingLemmas.{so_far_none, so_far_more, wanting, of_want, passed_on, refused_fed}
 use Rattle.giop_session.proofs.OnHearing.HeardLemmas.{keeps, keeps_there}
 use Rattle.giop_session.proofs.end.hear_all.Goals as goal
@@ -33,10 +33,10 @@ returns-in_err-hear g c =
     let why = c.in_err-hear.field-0.0 in
     let refused : heard c.in-Some.message c.loop-message.calls (Err why) c.hear.new.calls =
     subst (λ result. heard c.in-Some.message c.loop-message.calls result c.hear.new.calls) c.in_err-hear.was c.hear.ensures.hears in
-    let same = keeps g.R.CallRule.next g.R.CallRule.closed g.R.Side.gathering g.R.Hearing.in_call g.R.Hearing.breaks
-    (g.R.Hearing.befalls c.args.interface.now) c.in-Some.message c.loop-message.calls c.hear.new.calls why refused in
-    let there = keeps_there g.R.CallRule.next g.R.CallRule.closed g.R.Side.gathering g.R.Hearing.in_call g.R.Hearing.breaks
-    (g.R.Hearing.befalls c.args.interface.now) c.in-Some.message c.loop-message.calls c.hear.new.calls why refused in
+    let same = keeps (side_by g.R.CallRule.next g.R.CallRule.closed g.R.Side.gathering g.R.Hearing.in_call g.R.Hearing.breaks
+    (g.R.Hearing.befalls c.args.interface.now)) c.in-Some.message c.loop-message.calls c.hear.new.calls why refused in
+    let there = keeps_there (side_by g.R.CallRule.next g.R.CallRule.closed g.R.Side.gathering g.R.Hearing.in_call g.R.Hearing.breaks
+    (g.R.Hearing.befalls c.args.interface.now)) c.in-Some.message c.loop-message.calls c.hear.new.calls why refused in
     rw c.hear.ensures.framer (subst (λ unread. Fed heard unread c.args.calls.now c.from_residual-in_err-hear.result c.next.new.self c.hear.new.calls) c.in_ok-feed.ensures.ok
     (refused_fed heard _ _ c.next.new.self _ _ c.hear.new.calls c.in-Some.message why c.from_residual-in_err-hear.result c.loop-message.invariant takes
     same there (passed_on c.from_residual-in_err-hear.result why c.from_residual-in_err-hear.ensures.1)))

@@ -42,13 +42,13 @@ returns-clause-refused c = λ interface. (_, inr (refl, refl))
 
 pub returns-clause-none : goal.returns-clause-none
 returns-clause-none c = λ interface h why came refused.
-    c.limits_in_any_order_at_server.ensures.order interface limits all (Comes door_begins ∷ []) (Comes key_little) h why
-    (returns-clause-within c) (returns-clause-next c) came refused
+    c.limits_in_any_order_at_server.ensures.order interface limits all (returns-clause-within c)
+    (Comes door_begins ∷ []) (Comes key_little) h why (returns-clause-next c) came refused
 
 pub returns-clause-met : goal.returns-clause-met
 returns-clause-met c = λ interface h came refused within.
-    (c.limits_in_any_order_at_server.ensures.order interface one_call two_calls (Comes key_little ∷ []) (Comes door_whole) h TooManyCalls
-    within ([], IsPermutation-refl _) came refused).0 refl
+    (c.limits_in_any_order_at_server.ensures.order interface one_call two_calls within (Comes key_little ∷ []) (Comes door_whole) h TooManyCalls
+    ([], IsPermutation-refl _) came refused).0 refl
 
 pub returns-clause-few : goal.returns-clause-few
 returns-clause-few c = c.limits_in_any_order_at_server.ensures.few limits (Comes key_little ∷ []) (omega arith) (omega arith)

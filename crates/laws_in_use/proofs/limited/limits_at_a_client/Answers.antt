@@ -14,5 +14,5 @@ returns-clause-next c = (Comes here_little ∷ [], IsPermutation-refl asked)
 
 pub returns-clause-none : goal.returns-clause-none
 returns-clause-none c = λ interface h why came refused.
-    c.limits_in_any_order_at_client.ensures.order interface limits asked (Does 7 asking ∷ []) (Does 7 sending) h why
-    (returns-clause-within c) (returns-clause-next c) came refused
+    c.limits_in_any_order_at_client.ensures.order interface limits asked (returns-clause-within c)
+    (Does 7 asking ∷ []) (Does 7 sending) h why (returns-clause-next c) came refused

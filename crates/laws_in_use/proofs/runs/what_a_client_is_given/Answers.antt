@@ -1,11 +1,15 @@
+use Rattle.std.proofs.Common.{◌∙◌, None, ap, sym}
+use Rattle.giop_ids.specs.Runs.{alone}
+use Rattle.giop_calls.specs.ClientItems.{client_turn}
+use Rattle.giop_calls.specs.ClientStanding.{standing}
 use Rattle.giop_msg.specs.declared.version.Version.TheVariants.{V10, V12}
 use Rattle.laws_in_use.specs.Asking.{own_acts}
 use Rattle.laws_in_use.specs.Locating.{limits}
-use Rattle.laws_in_use.specs.Runs.{client_answers, client_given}
+use Rattle.laws_in_use.specs.Runs.{client_answers, client_given, client_told}
 use Rattle.laws_in_use.proofs.AskingHolds.{own_told}
 use Rattle.laws_in_use.proofs.ClientRunActs.{run_acts}
 use Rattle.laws_in_use.proofs.ClientRunFits.{run_fits}
-use Rattle.laws_in_use.proofs.ClientRunHolds.{run_holds}
+use Rattle.laws_in_use.proofs.ClientRunHolds.{asking_told, run_holds}
 use Rattle.laws_in_use.proofs.ClientRunTaken.{run_taken}
 use Rattle.laws_in_use.proofs.ClientRunWithin as within
 use Rattle.laws_in_use.proofs.runs.what_a_client_is_given.Goals as goal
@@ -24,6 +28,21 @@ returns-clause-holds c = λ interface forms. (
         run_holds interface (c.locate_replies_are_spelled.ensures V10) (c.locate_replies_are_spelled.ensures V12) own_acts own_told;
   },
 )
+
+pub returns-clause-stands : goal.returns-clause-stands
+unfolding returns-clause-holds
+returns-clause-stands c = λ interface forms.
+    let held = returns-clause-holds c interface forms in
+    let stands = c.entries_stand_at_client.ensures interface limits (client_given forms) client_answers held.0 held.1 client_told held.2 7 in
+    let told = asking_told interface (c.locate_replies_are_spelled.ensures V10) (c.locate_replies_are_spelled.ensures V12) in (
+      held.0,
+      held.1,
+      held.2,
+      told,
+      stands.as_said,
+      ap (alone client_turn None) (sym told) ∙ sym stands.by_steps ∙ stands.as_said,
+      ap standing (sym told) ∙ sym stands.by_latest ∙ stands.as_said,
+    )
 
 pub returns-clause-taken : goal.returns-clause-taken
 returns-clause-taken c = λ interface forms. (run_acts own_acts, _, _, run_taken interface forms)

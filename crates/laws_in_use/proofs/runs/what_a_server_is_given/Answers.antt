@@ -1,12 +1,15 @@
-use Rattle.std.proofs.Common.{[], ◌∷◌, None, refl}
+use Rattle.std.proofs.Common.{◌∙◌, [], ◌∷◌, None, ap, refl, sym}
 use Rattle.giop_cdr.specs.declared.order.Order.TheVariants.{Big}
 use Rattle.giop_msg.specs.declared.version.Version.TheVariants.{V10, V12}
+use Rattle.giop_ids.specs.Runs.{alone}
+use Rattle.giop_calls.specs.ServerItems.{server_turn}
+use Rattle.giop_calls.specs.ServerStanding.{standing}
 use Rattle.laws_in_use.specs.Locating.{answering, door, door_begins, door_ends, here_big, limits}
-use Rattle.laws_in_use.specs.Runs.{server_answers, server_given}
+use Rattle.laws_in_use.specs.Runs.{server_answers, server_given, server_said}
 use Rattle.laws_in_use.proofs.LocatingSpelled.{door_cut}
 use Rattle.laws_in_use.proofs.ServerRunActs.{run_acts}
 use Rattle.laws_in_use.proofs.ServerRunFits.{otherwise_fits, run_fits}
-use Rattle.laws_in_use.proofs.ServerRunHolds.{run_holds}
+use Rattle.laws_in_use.proofs.ServerRunHolds.{door_told, run_holds}
 use Rattle.laws_in_use.proofs.ServerRunTaken.{run_taken}
 use Rattle.laws_in_use.proofs.ServerRunWithin.{run_within}
 use Rattle.laws_in_use.proofs.runs.what_a_server_is_given.Goals as goal
@@ -23,6 +26,22 @@ returns-clause-holds c = λ interface. (
         (c.what_is_cut_is_carried.ensures.locate interface V12 Big door 24 (door_begins ∷ door_ends ∷ []) None door_cut) (answering here_big) refl;
   },
 )
+
+pub returns-clause-stands : goal.returns-clause-stands
+unfolding returns-clause-holds
+returns-clause-stands c = λ interface.
+    let held = returns-clause-holds c interface in
+    let stands = c.entries_stand_at_server.ensures interface limits server_given server_answers held.0 held.1 server_said held.2 7 in
+    let told = door_told interface (c.locate_requests_are_spelled.ensures V10) (c.locate_requests_are_spelled.ensures V12)
+    (c.what_is_cut_is_carried.ensures.locate interface V12 Big door 24 (door_begins ∷ door_ends ∷ []) None door_cut) in (
+      held.0,
+      held.1,
+      held.2,
+      told,
+      stands.as_said,
+      ap (alone server_turn None) (sym told) ∙ sym stands.by_steps ∙ stands.as_said,
+      ap standing (sym told) ∙ sym stands.by_latest ∙ stands.as_said,
+    )
 
 pub returns-clause-taken : goal.returns-clause-taken
 returns-clause-taken c = λ interface. (run_acts (answering here_big), _, _, run_taken interface)

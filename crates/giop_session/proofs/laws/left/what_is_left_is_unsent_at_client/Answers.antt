@@ -5,9 +5,8 @@ use Rattle.giop_calls.specs.ClientTable.{is_closed, is_gathering, left_of, clien
 use Rattle.giop_session.specs.Calls.Begun.{no_calls}
 use Rattle.giop_session.specs.Calls.CallTable.{at}
 use Rattle.giop_session.specs.Runs.Events.{own_events}
-use Rattle.giop_session.specs.Hearing.Heard.{in_call}
 use Rattle.giop_session.specs.Runs.LeftToSend.{IsLeft, ClientPlans}
-use Rattle.giop_session.specs.Hearing.ClientHears.{client_befalls, client_breaks}
+use Rattle.giop_session.specs.Hearing.ClientHears.{client_befalls, client_breaks, client_side}
 use Rattle.giop_session.proofs.OnRuns.EventLemmas.{each_follows}
 use Rattle.giop_session.proofs.OnRuns.FollowedLemmas.{followed, met_heard, own_heard, own_planned}
 use Rattle.giop_session.proofs.OnRuns.ClientLeftLemmas.{heard_of, own_of}
@@ -27,9 +26,7 @@ returns-clause-left c = λ interface limits events k met planned id.
     followed client_step is_closed is_gathering left_of client_breaks (client_befalls interface)
     ClientPlans (heard_of interface) own_of _ (at k id) (own_events id events)
     (own_heard client_breaks id events
-    (met_heard (λ rule. client_step) (λ rule. is_closed) is_gathering in_call client_breaks
-    (client_befalls interface) _ k events met))
+    (met_heard (client_side interface) _ k events met))
     (own_planned ClientPlans id events planned)
     (subst (IsLeft left_of) (sym (finite.get-empty nat_cmp id)) refl)
-    (each_follows (λ rule. client_step) (λ rule. is_closed) is_gathering in_call client_breaks
-    (client_befalls interface) (no_calls (record {}) limits) k events id met)
+    (each_follows (client_side interface) (no_calls (record {}) limits) k events id met)

@@ -5,9 +5,8 @@ use Rattle.giop_calls.specs.ServerTable.{is_closed, is_gathering, left_of, serve
 use Rattle.giop_session.specs.Calls.Begun.{no_calls}
 use Rattle.giop_session.specs.Calls.CallTable.{at}
 use Rattle.giop_session.specs.Runs.Events.{own_events}
-use Rattle.giop_session.specs.Hearing.Heard.{in_call}
 use Rattle.giop_session.specs.Runs.LeftToSend.{IsLeft, ServerPlans}
-use Rattle.giop_session.specs.Hearing.ServerHears.{server_befalls, server_breaks}
+use Rattle.giop_session.specs.Hearing.ServerHears.{server_befalls, server_breaks, server_side}
 use Rattle.giop_session.proofs.OnRuns.EventLemmas.{each_follows}
 use Rattle.giop_session.proofs.OnRuns.FollowedLemmas.{followed, met_heard, own_heard, own_planned}
 use Rattle.giop_session.proofs.OnRuns.LeftLemmas.{heard_of, own_of}
@@ -24,9 +23,7 @@ returns-clause-left c = λ interface limits events k met planned id.
     followed server_step is_closed is_gathering left_of server_breaks (server_befalls interface)
     ServerPlans (heard_of interface) own_of _ (at k id) (own_events id events)
     (own_heard server_breaks id events
-    (met_heard (λ rule. server_step) (λ rule. is_closed) is_gathering in_call server_breaks
-    (server_befalls interface) _ k events met))
+    (met_heard (server_side interface) _ k events met))
     (own_planned ServerPlans id events planned)
     (subst (IsLeft left_of) (sym (finite.get-empty nat_cmp id)) refl)
-    (each_follows (λ rule. server_step) (λ rule. is_closed) is_gathering in_call server_breaks
-    (server_befalls interface) (no_calls (record {}) limits) k events id met)
+    (each_follows (server_side interface) (no_calls (record {}) limits) k events id met)

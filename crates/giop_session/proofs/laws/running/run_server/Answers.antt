@@ -1,10 +1,8 @@
 use Rattle.std.proofs.Common.{◌≡◌, ◌∙◌, ap, subst}
-use Rattle.giop_calls.specs.ServerTable.{is_closed, is_gathering, server_step}
 use Rattle.giop_session.specs.Calls.Begun.{no_calls}
 use Rattle.giop_session.specs.Runs.Driven.{end_state, new_end}
-use Rattle.giop_session.specs.Hearing.Heard.{in_call}
 use Rattle.giop_session.specs.Runs.Inputs.{nothing_unread}
-use Rattle.giop_session.specs.Hearing.ServerHears.{server_befalls, server_breaks}
+use Rattle.giop_session.specs.Hearing.ServerHears.{server_side}
 use Rattle.giop_session.specs.Runs.ServerRuns.{ServerIsGiven, ServerRuns, ServerRunsFrom, server_deed}
 use Rattle.giop_session.proofs.OnRuns.ServerAloneLemmas.{server_fits, server_said}
 use Rattle.giop_session.proofs.OnRuns.DrivenLemmas.{in_turn_seen, run_taken, taken_takes}
@@ -52,7 +50,7 @@ returns-clause-same c = (seen c).0
 
 pub returns-clause-taken : goal.returns-clause-taken
 returns-clause-taken c = λ none sound.
-    run_taken (λ rule. server_step) (λ rule. is_closed) is_gathering in_call server_breaks (server_befalls c.args.interface.now)
+    run_taken (server_side c.args.interface.now)
     (server_deed c.args.interface.now c.args.limits) (new_end (record {}) c.args.limits)
     (end_state c.take_all.new.driven.framer c.take_all.new.driven.calls c.take_all.new.driven.outgoing c.take_all.new.driven.fault)
     c.args.inputs.items c.in_ok-answers.answers.items (seen c).1 none sound
@@ -60,7 +58,7 @@ returns-clause-taken c = λ none sound.
 pub returns-clause-table : goal.returns-clause-table
 returns-clause-table c = λ items holds id.
     server_entries c.args.interface.now c.args.limits holds.acts c.take_all.new.driven.framer c.take_all.new.driven.calls items
-    (taken_takes (λ rule. server_step) (λ rule. is_closed) is_gathering in_call server_breaks (server_befalls c.args.interface.now)
+    (taken_takes (server_side c.args.interface.now)
     (server_deed c.args.interface.now c.args.limits) (nothing_unread c.args.limits.message) c.take_all.new.driven.framer
     (no_calls (record {}) c.args.limits) c.take_all.new.driven.calls c.args.inputs.items c.in_ok-answers.answers.items holds.acts holds.taken)
     holds.holds id

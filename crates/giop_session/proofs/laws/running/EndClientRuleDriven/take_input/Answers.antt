@@ -1,10 +1,8 @@
 use Rattle.std.proofs.Common.{◌≡◌, IfOk, ap, subst, sym}
 use Rattle.std.proofs.lemmas.Result.{IfOk-weaker}
-use Rattle.giop_calls.specs.ClientTable.{is_closed, is_gathering, client_step}
 use Rattle.giop_session.specs.Runs.Driven.{end_state}
-use Rattle.giop_session.specs.Hearing.Heard.{in_call}
 use Rattle.giop_session.specs.Acts.ClientCalls.{IsCall, call_fault}
-use Rattle.giop_session.specs.Hearing.ClientHears.{client_befalls, client_breaks}
+use Rattle.giop_session.specs.Hearing.ClientHears.{client_side}
 use Rattle.giop_session.specs.Runs.ClientRuns.{ClientIsGiven, client_entry}
 use Rattle.giop_session.proofs.OnRuns.DrivenLemmas.{puts_given}
 use Rattle.giop_session.proofs.laws.running.EndClientRuleDriven.take_input.Goals as goal
@@ -21,7 +19,7 @@ returns-in-Call c =
     subst (λ given. IfOk c.answered.result (λ answered. ClientIsGiven before.interface.now before.limits s given answered t
     × (after ≡ record before { framer = after.framer; calls = after.calls; outgoing = after.outgoing; fault = after.fault }))) (sym c.in-Call.is)
     (IfOk-weaker c.answered.result _ _ (λ answered is. (
-      puts_given (λ rule. client_step) (λ rule. is_closed) is_gathering in_call client_breaks (client_befalls before.interface.now) s t
+      puts_given (client_side before.interface.now) s t
           request.head.id
           (call_fault before.interface.now before.limits (client_entry before.calls request.head.id) request form)
           (IsCall before.interface.now request form)

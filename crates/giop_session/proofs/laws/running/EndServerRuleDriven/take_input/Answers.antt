@@ -1,10 +1,8 @@
 use Rattle.std.proofs.Common.{◌≡◌, IfOk, ap, subst, sym}
 use Rattle.std.proofs.lemmas.Result.{IfOk-weaker}
-use Rattle.giop_calls.specs.ServerTable.{is_closed, is_gathering, server_step}
 use Rattle.giop_session.specs.Runs.Driven.{end_state}
-use Rattle.giop_session.specs.Hearing.Heard.{in_call}
 use Rattle.giop_session.specs.Acts.ServerAnswers.{IsAnswer, answer_fault, question_of}
-use Rattle.giop_session.specs.Hearing.ServerHears.{server_befalls, server_breaks}
+use Rattle.giop_session.specs.Hearing.ServerHears.{server_side}
 use Rattle.giop_session.specs.Runs.ServerRuns.{ServerIsGiven, server_entry}
 use Rattle.giop_session.proofs.OnRuns.DrivenLemmas.{puts_given}
 use Rattle.giop_session.proofs.laws.running.EndServerRuleDriven.take_input.Goals as goal
@@ -21,7 +19,7 @@ returns-in-Answer c =
     subst (λ given. IfOk c.answered.result (λ answered. ServerIsGiven before.interface.now before.limits s given answered t
     × (after ≡ record before { framer = after.framer; calls = after.calls; outgoing = after.outgoing; fault = after.fault }))) (sym c.in-Answer.is)
     (IfOk-weaker c.answered.result _ _ (λ answered is. (
-      puts_given (λ rule. server_step) (λ rule. is_closed) is_gathering in_call server_breaks (server_befalls before.interface.now) s t
+      puts_given (server_side before.interface.now) s t
           reply.id
           (answer_fault before.interface.now before.limits (question_of (server_entry before.calls reply.id)) reply form)
           (IsAnswer before.interface.now (question_of (server_entry before.calls reply.id)) reply form)

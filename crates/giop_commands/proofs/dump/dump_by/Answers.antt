@@ -1,24 +1,40 @@
-use Rattle.std.proofs.Common.{◌≡◌, ◌+◌, ◌++◌, ap, sym, ◌∙◌, length}
+use Rattle.std.proofs.Common.{◌≡◌, ◌+◌, ◌++◌, ap, refl, sym, ◌∙◌, length, option_copied}
 use Rattle.std.proofs.lemmas.Bool.{eqb-true}
 use Rattle.std.proofs.lemmas.List.{append-nil}
 use Rattle.giop_msg.specs.Stream.{Unread, TakesMessage}
+use Rattle.giop_commands.specs.DumpBodies.{telling_by}
 use Rattle.giop_commands.proofs.DumpLemmas.{nothing_left, of_none, of_message, of_piece, of_rest, of_fault, of_kept}
-use Rattle.giop_commands.proofs.dump.dump_stream.Goals as goal
+use Rattle.giop_commands.proofs.dump.dump_by.Goals as goal
 
 pub messages-init : goal.messages-init
-messages-init g c = record {
-  shown = rw c.new-framer.ensures (of_none c.args.limit (g.R.Read.remaining c.args.reader.now) (g.W.Write.contents c.args.writer.now));
-  limit = ap (λ (u : Unread). u.limit) c.new-framer.ensures;
-}
+messages-init g c =
+    let teller = c.args.teller.now in
+    record {
+      shown =
+          rw (c.new-framer.ensures, c.requires)
+          (of_none (telling_by (option_copied teller.interface) teller.gather.limit) c.args.limit (g.R.Read.remaining c.args.reader.now)
+          (g.W.Write.contents c.args.writer.now));
+      limit = ap (λ (u : Unread). u.limit) c.new-framer.ensures;
+      interface = refl;
+      gathered = refl;
+    }
 
 pub messages-preserved-in-Ok-Some : goal.messages-preserved-in-Ok-Some
 messages-preserved-in-Ok-Some g c =
     let before = c.messages.invariant in
     let takes : TakesMessage c.messages.framer c.in-Ok-Some.message c.next.new.self = rw c.in-Ok-Some.field-0-is at c.in-Ok-Some.ensures.found in
-    let shown = of_message _ _ _ _ before.shown before.limit takes c.in_ok-write_message-in-Ok-Some.ensures in
+    let told = c.in_ok-tell-in-Ok-Some.ensures in
+    let text = rw (before.interface, before.gathered) at told.text in
+    let lists = rw (before.interface, before.gathered) at told.lists in
+    let shown = of_message _ _ _ _ _ before.shown before.limit takes text lists in
     let next : c.in-Some.next ≡ c.messages.at + (12 + length c.in-Ok-Some.message.payload) =
     c.in-Some.ensures.1 ∙ ap (λ n. c.messages.at + (12 + n)) c.len.ensures in
-    record { shown = rw next shown; limit = takes.limit ∙ before.limit }
+    record {
+      shown = rw next shown;
+      limit = takes.limit ∙ before.limit;
+      interface = told.interface ∙ before.interface;
+      gathered = told.limit ∙ before.gathered;
+    }
 
 pub messages-preserved : goal.messages-preserved
 messages-preserved g c =
@@ -32,6 +48,8 @@ messages-preserved g c =
     record {
       shown = rw octets (of_piece _ piece (of_kept _ before.shown c.flush.ensures.bytes) c.in_ok-piece-in-Ok-None.ensures.ok);
       limit = ap (λ (u : Unread). u.limit) fed ∙ ap (λ (u : Unread). u.limit) waits.1 ∙ before.limit;
+      interface = before.interface;
+      gathered = before.gathered;
     }
 
 pub returns-then-is_empty-clause-text : goal.returns-then-is_empty-clause-text

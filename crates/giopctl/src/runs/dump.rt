@@ -1,0 +1,54 @@
+//! `dump` over files and the standard output. What it prints is giop_commands' dump.rt, over any
+//! reader and writer.
+
+use crate::cli::DumpWords;
+use crate::files::OUTPUT_BUFFER;
+use crate::{files, report};
+use giop_commands::failure::Failure;
+use giop_commands::status::Status;
+use giop_commands::{BehindFault, dump_stream, dump_text};
+use std::io;
+use std::io::{BufWriter, Read, Write};
+
+/// Reads the file of the interface, if there is one, then shows the messages of the other one piece
+/// by piece.
+pub fn dump(rt: &HostRuntime, words: DumpWords) -> Status {
+    let Some(interface) = words.interface else {
+        return report::answer(rt, words.file, dumped(rt, None, words));
+    };
+    let text = match files::read(rt, interface) {
+        Ok(text) => text,
+        Err(failure) => return report::answer(rt, interface, Err(failure)),
+    };
+    let answered = dumped(rt, Some(text.as_slice()), words);
+    if let Ok(Status::Refused) = &answered {
+        report::interface(rt, rt.alloc(), interface, text.as_slice());
+    }
+    report::answer(rt, words.file, answered)
+}
+
+fn dumped(rt: &HostRuntime, interface: Option<&[u8]>, words: DumpWords) -> Result<Status, Failure> {
+    if words.file == "-" {
+        let behind = BehindFault::Leave;
+        return dump_from(rt, interface, words, &mut rt.reader(), behind);
+    }
+    let (mut file, behind) = files::opened(rt, words.file)?;
+    dump_from(rt, interface, words, &mut file, behind)
+}
+
+fn dump_from<R: Read>(
+    rt: &HostRuntime,
+    interface: Option<&[u8]>,
+    words: DumpWords,
+    reader: &mut R,
+    behind: BehindFault,
+) -> Result<Status, Failure> {
+    let mut writer = BufWriter::with_capacity(rt.alloc(), OUTPUT_BUFFER, io::writer(rt))?;
+    let (alloc, limit, gathered) = (rt.alloc(), words.limit, words.gathered);
+    let status = match interface {
+        Some(text) => dump_text(alloc, text, limit, gathered, reader, &mut writer, behind)?,
+        None => dump_stream(alloc, limit, reader, &mut writer, behind)?,
+    };
+    writer.flush()?;
+    Ok(status)
+}
