@@ -29,7 +29,7 @@ _giopctl() {
                 'giopctl convert corbaloc:-'*) words='-h --help' ;;
                 'giopctl convert encode:-'*) words='--desc --little -h --help' ;;
                 'giopctl convert decode:-'*) words='--desc --little -h --help' ;;
-                'giopctl call:-'*) words='--target --interface --piece --little --message-limit --calls-limit --gathered-limit -h --help' ;;
+                'giopctl call:-'*) words='--target --interface --stream --piece --little --message-limit --calls-limit --gathered-limit -h --help' ;;
                 'giopctl serve:'*) words='--port --interface --answers --key --key-text --connections --stream --piece --little --message-limit --calls-limit --gathered-limit -h --help' ;;
                 'giopctl:'*) words='dump check trace convert call serve help' ;;
                 'giopctl convert:'*) words='ior corbaloc encode decode help' ;;

@@ -22,6 +22,8 @@ pub struct CallWords<'a> {
     pub interface: &'a str,
     /// The name of the file of the calls, or `-` for the standard input.
     pub file: &'a str,
+    /// When the calls are told.
+    pub telling: Telling,
     /// How Requests are sent.
     pub form: Form,
     /// What the end holds at most.
@@ -71,6 +73,10 @@ Each call has a line, in ascending order of the id:
   Undecoded reply FAULT the reply can't be decoded, and where, from the message's first octet on
   Sending, Waiting, Gathering   all of it isn't sent; no reply came; a part of it came
 The last line is the fault that ended the session, where there is one.
+With --stream a call is made as soon as there is room for it, each call is shown as soon as it is
+over, and then it is forgotten, so that a connection may have any number of calls. At the end the
+calls that are still open have their lines, and those that weren't made:
+  Unsent                nothing of it was sent
 
 Exit statuses:
   0  each call got its result, or was sent and has none
@@ -127,7 +133,8 @@ pub fn call<'a>(alloc: Global) -> Result<Command<'a>, AllocError> {
         .about("Calls operations of an object, and shows the replies")
         .after_help(CALL_HELP)
         .arg(target)?
-        .arg(interface(alloc))?;
+        .arg(interface(alloc))?
+        .arg(stream(alloc))?;
     sent(alloc, command)?.arg(file)
 }
 
@@ -232,6 +239,7 @@ pub fn call_words<'a>(matches: &ArgMatches<'a>) -> Result<CallWords<'a>, &'stati
         target,
         interface,
         file,
+        telling: telling_of(matches),
         form,
         limits,
     })

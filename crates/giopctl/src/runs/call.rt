@@ -7,7 +7,9 @@ use crate::places::sessions::of_calls;
 use crate::report;
 use crate::runs::session::{interface_of, linked, read, refused, refused_form};
 use giop_commands::call::calls::{CallLine, calls_from_json};
+use giop_commands::call::streaming::call_stream;
 use giop_commands::failure::Failure;
+use giop_commands::serve::given::Telling;
 use giop_commands::status::Status;
 use giop_commands::{Calling, Endpoint, Targeted, call_over, target_of};
 use giop_lines::EscapedText;
@@ -48,7 +50,7 @@ fn called(rt: &HostRuntime, words: CallWords) -> Result<Status, Status> {
         form: words.form,
         limits: words.limits,
     };
-    let answered = call_at(rt, calls, &endpoint, calling);
+    let answered = call_at(rt, calls, &endpoint, words.telling, calling);
     Ok(report::answer(rt, peer.as_str(), answered))
 }
 
@@ -70,13 +72,17 @@ fn call_at(
     rt: &HostRuntime,
     calls: Vec<CallLine>,
     endpoint: &Endpoint,
+    telling: Telling,
     calling: Calling<'_>,
 ) -> Result<Status, Failure> {
     let link = linked(rt, connected(rt, endpoint)?)?;
     let mut out = BufWriter::with_capacity(rt.alloc(), OUTPUT_BUFFER, io::writer(rt))?;
     let (mut reader, mut writer) = (&link, &link);
     let (reader, writer) = (&mut reader, &mut writer);
-    let status = call_over(rt.alloc(), calling, calls, reader, writer, &mut out)?;
+    let status = match telling {
+        Telling::AtTheEnd => call_over(rt.alloc(), calling, calls, reader, writer, &mut out)?,
+        Telling::WhenOver => call_stream(rt.alloc(), calling, calls, reader, writer, &mut out)?,
+    };
     out.flush()?;
     Ok(status)
 }
