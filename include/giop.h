@@ -7,8 +7,9 @@
  * Handles. A handle is a struct that you declare and pass by its address. Begin with {0}, as
  * GIOP_FRAMER_CLOSED is, or with all octets zero: such a handle holds nothing, and each call answers
  * GIOP_CLOSED. The library owns what a handle points to. Don't copy a handle, don't write to it, and don't
- * pass NULL for one; two calls at one handle must not overlap, and a handle stays on the thread that opened
- * it.
+ * pass NULL for one; two calls at one handle must not overlap. A handle stays on the thread that opened it; a
+ * framer's may go to another, where a lock, the start or the end of a thread, or a sequentially consistent
+ * atomic stands between its calls.
  *
  * Statuses. Each function says below which of these it answers, and it answers no other.
  */
@@ -198,11 +199,13 @@ typedef struct giop_form {
 
 /* Why an end fails, or refuses a call of its program. */
 typedef struct giop_end_fault {
-    size_t at;       /* with WIRE, NO_ID and VALUES the place of what is wrong; else 0. It counts from the
-                      * first octet of the message's header, or of the values */
+    size_t at;       /* with WIRE, NO_ID, VALUES and REFERENCE the place of what is wrong; else 0. It counts
+                      * from the first octet of the message's header, of the values, or of those that the text
+                      * of a reference says, which is their byte order */
     uint32_t number; /* one of GIOP_END_ */
-    uint32_t part;   /* with WIRE what is wrong with the header, with NO_ID and VALUES one of GIOP_CDR_, with
-                      * CALL one of GIOP_CALL_; else 0 */
+    uint32_t part;   /* with WIRE what is wrong with the header, with NO_ID, VALUES and REFERENCE one of
+                      * GIOP_CDR_, with CALL one of GIOP_CALL_, with TEXT 1 where it doesn't begin with IOR:, 2
+                      * where no even number of hexadecimal digits follows; else 0 */
     uint32_t id;     /* with CALL the request id; else 0 */
 } giop_end_fault;
 
@@ -218,6 +221,8 @@ typedef struct giop_end_fault {
 #define GIOP_END_NO_ID 10u          /* a message before 1.2 has no request id: a field of it has a fault */
 #define GIOP_END_VALUES 11u         /* the octets are no values of the answer */
 #define GIOP_END_FORM 12u           /* messages can't be cut into pieces of this size */
+#define GIOP_END_TEXT 13u           /* the text of a reference isn't IOR: and hexadecimal digits */
+#define GIOP_END_REFERENCE 14u      /* the octets that it says are no reference */
 
 #define GIOP_CALL_ID_IN_USE 1u          /* a call begins with an id whose former call isn't over */
 #define GIOP_CALL_STRAY 2u              /* a Fragment comes with an id for which nothing is gathered */
@@ -248,12 +253,22 @@ typedef struct giop_end_fault {
 #define GIOP_LOCATED 4        /* it was a LocateRequest, and was answered */
 #define GIOP_NOT_DECODED 5    /* it can't be decoded, and expects no reply */
 
+/* In which part of a call a fault is that can't be decoded: the part of a giop_server_entry. */
+#define GIOP_IN_HEAD 1      /* a field of the head is refused */
+#define GIOP_IN_OPERATION 2 /* the interface has no such operation */
+#define GIOP_IN_BODY 3      /* a value of the body is refused, or octets are left behind it */
+
 typedef struct giop_server_entry {
     size_t operation; /* the number of octets of the operation's name, without its null; 0 where no Request
                        * is known */
     size_t key;       /* the number of octets of the object's key; 0 where the target is no key */
+    size_t contexts;  /* how many service contexts the Request has; 0 where none is known */
+    size_t at;        /* of a call that can't be decoded the place of what is wrong in its head or its body, from
+                       * the first octet of the message's header; else 0 */
+    uint32_t number;  /* what is wrong there, one of GIOP_CDR_; else 0 */
     uint32_t left;    /* how many pieces of the reply aren't sent yet: giop_server_send puts out one */
     uint32_t status;  /* the reply status of an answered Request (9.4.3), or the locate status; else 0 */
+    uint8_t part;     /* of a call that can't be decoded one of GIOP_IN_; else 0 */
     uint8_t kind;     /* GIOP_NOTHING to GIOP_CANCELLED */
     uint8_t awaits;   /* what the call waits for: 1 a Reply, 2 a LocateReply, 0 nothing */
     uint8_t over;     /* 1 where the call is over, and may be taken out */
@@ -300,9 +315,15 @@ uint32_t giop_server_entry_of(giop_server *server, uint32_t id, giop_server_entr
  * GIOP_WAITS: no Request is known under the id, and *size is as it was; or GIOP_CLOSED. */
 uint32_t giop_server_operation(giop_server *server, uint32_t id, uint8_t *buffer, size_t room, size_t *size);
 
-/* Copies the key of the object of the Request under an id, and writes its size, which is 0 where the target
- * is no key. Answers as giop_server_operation. */
+/* Copies the key of the object of the Request or the LocateRequest under an id, and writes its size, which is
+ * 0 where the target is no key. Answers as giop_server_operation; GIOP_WAITS: neither is known under the id. */
 uint32_t giop_server_key(giop_server *server, uint32_t id, uint8_t *buffer, size_t room, size_t *size);
+
+/* Writes the id of a service context (7.7) of the Request under an id to *service, the first at index 0, and
+ * copies its octets. Answers GIOP_OK; GIOP_SMALL: the buffer has fewer octets than *size, and none was copied;
+ * GIOP_WAITS: there is no such context, and nothing is written; or GIOP_CLOSED. */
+uint32_t giop_server_context(giop_server *server, uint32_t id, size_t index, uint32_t *service,
+                             uint8_t *buffer, size_t room, size_t *size);
 
 /* Copies the ins of the Request under an id, as octets of this byte order, and writes their number. Answers
  * as giop_server_operation; or GIOP_NO_MEMORY, or GIOP_FAULT: what is stored are no values of the
@@ -339,6 +360,14 @@ uint32_t giop_server_answer_system(giop_server *server, uint32_t id,
                                    const uint8_t *exception, size_t exception_size,
                                    uint32_t minor, uint32_t completion,
                                    const giop_form *form, giop_end_fault *fault);
+
+/* Answers the Request under an id by where its object is (9.4.3.1): a reference, as a text (7.6.9) of IOR: and
+ * hexadecimal digits, without a null. It is for this request alone where permanent is 0; any other number, in
+ * 1.2 alone, is from now on. Answers as giop_server_answer; *fault may be TEXT or REFERENCE in place of
+ * VALUES. */
+uint32_t giop_server_answer_forward(giop_server *server, uint32_t id,
+                                    const uint8_t *reference, size_t size, uint32_t permanent,
+                                    const giop_form *form, giop_end_fault *fault);
 
 /* Answers the LocateRequest under an id (9.4.6): that the object is here, or, where here is 0, that it isn't
  * known. Answers GIOP_OK; GIOP_FAULT or GIOP_NO_MEMORY, and nothing has changed; or GIOP_CLOSED. */
@@ -425,6 +454,7 @@ typedef struct giop_call {
 typedef struct giop_client_entry {
     size_t exception;    /* the number of octets of the repository id of its exception, without a null; 0 where
                           * its Reply has none */
+    size_t contexts;     /* how many service contexts its Reply has; 0 where none came */
     size_t at;           /* of GIOP_UNDECODED where its reply has a fault, from the first octet of the message's
                           * header; else 0 */
     uint32_t number;     /* of GIOP_UNDECODED what is wrong there, one of GIOP_CDR_; else 0 */
@@ -522,6 +552,12 @@ uint32_t giop_client_exception(giop_client *client, uint32_t id, uint8_t *buffer
  * byte order, and writes their number. Answers as giop_client_outs; GIOP_WAITS: no Reply of
  * GIOP_USER_EXCEPTION is there. */
 uint32_t giop_client_members(giop_client *client, uint32_t id, uint32_t little_endian,
+                             uint8_t *buffer, size_t room, size_t *size);
+
+/* Writes the id of a service context (7.7) of the Reply under an id to *service, the first at index 0, and
+ * copies its octets. Answers GIOP_OK; GIOP_SMALL: the buffer has fewer octets than *size, and none was copied;
+ * GIOP_WAITS: there is no such context, and nothing is written; or GIOP_CLOSED. */
+uint32_t giop_client_context(giop_client *client, uint32_t id, size_t index, uint32_t *service,
                              uint8_t *buffer, size_t room, size_t *size);
 
 /* Copies the reference to which the Reply under an id forwards, as a text (7.6.9): IOR: and hexadecimal

@@ -48,6 +48,10 @@ static const uint8_t FORWARD[36] = {
     'G', 'I', 'O', 'P', 1, 2, 0, 1, 0, 0, 0, 24, 0, 0, 0, 1, 0, 0, 0, 3, 0, 0, 0, 0, 0, 0, 0, 1,
     0, 0, 0, 0, 0, 0, 0, 0};
 static const char NOWHERE[] = "IOR:00000000000000010000000000000000";
+/* The Reply to id 1 with the context 6 of two octets (7.7): the out 7 begins at 40. */
+static const uint8_t TOLD[44] = {
+    'G', 'I', 'O', 'P', 1, 2, 0, 1, 0, 0, 0, 32, 0, 0, 0, 1, 0, 0, 0, 0, 0, 0, 0, 1, 0, 0, 0, 6, 0, 0, 0, 2,
+    4, 5, 0, 0, 0, 0, 0, 0, 0, 0, 0, 7};
 /* The same: the target is to be addressed by a reference, disposition 2; then with the status 9, which there
  * isn't. */
 static const uint8_t ADDRESS[26] = {
@@ -198,6 +202,27 @@ static void other_replies_are_told_apart(void) {
     CHECK(blocks == 0);
 }
 
+static void contexts_are_copied(void) {
+    giop_client client = {0};
+    giop_end_fault fault = UNWRITTEN;
+    uint32_t service = 99;
+    uint8_t buffer[3] = {1, 1, 1};
+    size_t size = 99;
+    CHECK(opens(&client) == GIOP_OK && adds(&client, &FORM, &fault) == GIOP_OK);
+    CHECK(entry_of(&client, 1).contexts == 0);
+    CHECK(giop_client_context(&client, 1, 0, &service, buffer, 3, &size) == GIOP_WAITS);
+    CHECK(giop_client_feed(&client, TOLD, sizeof TOLD, &fault) == GIOP_OK);
+    CHECK(entry_of(&client, 1).kind == GIOP_DONE && entry_of(&client, 1).contexts == 1);
+    CHECK(giop_client_context(&client, 1, 1, &service, buffer, 3, &size) == GIOP_WAITS);
+    CHECK(service == 99 && size == 99);
+    CHECK(giop_client_context(&client, 1, 0, &service, buffer, 1, &size) == GIOP_SMALL);
+    CHECK(service == 6 && size == 2 && buffer[0] == 1);
+    CHECK(giop_client_context(&client, 1, 0, &service, buffer, 3, &size) == GIOP_OK);
+    CHECK(size == 2 && buffer[0] == 4 && buffer[1] == 5 && buffer[2] == 1);
+    giop_client_free(&client);
+    CHECK(blocks == 0);
+}
+
 static void other_calls_are_told_apart(void) {
     static const uint8_t tell[4] = {'t', 'e', 'l', 'l'}, hi[7] = {0, 0, 0, 3, 'h', 'i', 0}, profile[2] = {8, 9};
     giop_client client = {0};
@@ -331,6 +356,7 @@ static void a_closed_handle_answers_closed(void) {
     CHECK(giop_client_exception(&client, 1, buffer, 4, &size) == GIOP_CLOSED);
     CHECK(giop_client_members(&client, 1, 0, buffer, 4, &size) == GIOP_CLOSED);
     CHECK(giop_client_forward(&client, 1, buffer, 4, &size) == GIOP_CLOSED);
+    CHECK(giop_client_context(&client, 1, 0, &id, buffer, 4, &size) == GIOP_CLOSED);
     CHECK(giop_client_take(&client, 1, &fault) == GIOP_CLOSED);
     CHECK(giop_client_close(&client, &fault) == GIOP_CLOSED);
     CHECK(giop_client_error_message(&client, buffer, 4, &size) == GIOP_CLOSED);
@@ -379,6 +405,7 @@ int main(void) {
     a_call_is_answered();
     a_call_is_answered_by_an_exception();
     other_replies_are_told_apart();
+    contexts_are_copied();
     other_calls_are_told_apart();
     a_call_goes_out_and_a_reply_comes_in_pieces();
     a_refused_call_is_told_why();

@@ -91,8 +91,9 @@ static int is_guarded(uint32_t status, size_t size) {
     return memcmp(buffer + (status == GIOP_OK ? size : 0), kept, GUARD) == 0;
 }
 
-/* An operation, a key, or the ins in either byte order, copied into room that may be too small. */
+/* An operation, a key, a context, or the ins in either byte order, copied into room that may be too small. */
 static uint64_t copied(giop_server *server, uint32_t id, int what, uint64_t sum) {
+    uint32_t service = 0;
     size_t size = 99, room = at_random(3) == 0 ? at_random(12) : sizeof buffer - GUARD;
     uint32_t status;
     memset(buffer, 0xEE, sizeof buffer);
@@ -100,7 +101,8 @@ static uint64_t copied(giop_server *server, uint32_t id, int what, uint64_t sum)
         uint8_t *at = room == 0 ? NULL : buffer;
         status = what == 0   ? giop_server_operation(server, id, at, room, &size)
                  : what == 1 ? giop_server_key(server, id, at, room, &size)
-                             : giop_server_ins(server, id, (uint32_t)what - 2, at, room, &size);
+                 : what < 4 ? giop_server_ins(server, id, (uint32_t)what - 2, at, room, &size)
+                            : giop_server_context(server, id, (size_t)what - 4, &service, at, room, &size);
         CHECK(is_guarded(status, size));
         if (status != GIOP_SMALL) {
             break;
@@ -108,7 +110,7 @@ static uint64_t copied(giop_server *server, uint32_t id, int what, uint64_t sum)
         CHECK(size > room && again == 0);
     }
     CHECK(status == GIOP_OK || status == GIOP_WAITS || (status == GIOP_NO_MEMORY && left == 0));
-    return status == GIOP_OK ? with(mixed(sum, buffer, size), size) : with(sum, status);
+    return with(status == GIOP_OK ? with(mixed(sum, buffer, size), size) : with(sum, status), service);
 }
 
 static giop_server_entry entry_of(giop_server *server, uint32_t id) {
@@ -117,6 +119,8 @@ static giop_server_entry entry_of(giop_server *server, uint32_t id) {
     CHECK(giop_server_entry_of(server, id, &entry) == GIOP_OK);
     CHECK(entry.kind <= 8 && entry.awaits <= 2 && entry.over <= 1 && entry.outcome <= 5);
     CHECK(entry.flags == 0 || entry.flags == 1 || entry.flags == 3);
+    CHECK(entry.part <= 3 && entry.number <= 8 && (entry.number > 0) == (entry.part == 1 || entry.part == 3));
+    CHECK((entry.part == 0) <= (entry.at == 0) && (entry.kind == GIOP_UNDECODED) <= (entry.part > 0));
     return entry;
 }
 
@@ -125,7 +129,8 @@ static uint64_t seen(giop_server *server, uint32_t id, uint64_t sum) {
     CHECK(entry.kind != GIOP_NOTHING);
     sum = with(with(with(with(sum, id), entry.kind), entry.awaits), entry.over);
     sum = with(with(with(with(sum, entry.outcome), entry.flags), entry.left), entry.status);
-    for (int what = 0; what < 4; what++) {
+    sum = with(with(with(sum, entry.part), entry.number), entry.at);
+    for (int what = 0; what < 6; what++) {
         sum = copied(server, id, what, sum);
     }
     return sum;

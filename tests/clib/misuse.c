@@ -41,6 +41,7 @@ static void each_call_of_a_framer_is_closed(giop_framer *framer) {
 static void each_call_of_a_server_is_closed(giop_server *server) {
     giop_server_entry entry;
     giop_end_fault fault = {77, 77, 77, 77};
+    uint32_t service = 99;
     size_t size = 99;
     entry.kind = 99;
     CHECK(giop_server_feed(server, NULL, 0, &fault) == GIOP_CLOSED);
@@ -54,19 +55,22 @@ static void each_call_of_a_server_is_closed(giop_server *server) {
     CHECK(giop_server_answer(server, 1, 0, NULL, 0, &FORM, &fault) == GIOP_CLOSED);
     CHECK(giop_server_answer_user(server, 1, NULL, 0, 0, NULL, 0, &FORM, &fault) == GIOP_CLOSED);
     CHECK(giop_server_answer_system(server, 1, NULL, 0, 0, 0, &FORM, &fault) == GIOP_CLOSED);
+    CHECK(giop_server_answer_forward(server, 1, NULL, 0, 0, &FORM, &fault) == GIOP_CLOSED);
+    CHECK(giop_server_context(server, 1, 0, &service, NULL, 0, &size) == GIOP_CLOSED);
     CHECK(giop_server_answer_locate(server, 1, 0, 0, &fault) == GIOP_CLOSED);
     CHECK(giop_server_send(server, 1, &fault) == GIOP_CLOSED);
     CHECK(giop_server_take(server, 1, &fault) == GIOP_CLOSED);
     CHECK(giop_server_close(server, &fault) == GIOP_CLOSED);
     CHECK(giop_server_error_message(server, NULL, 0, &size) == GIOP_CLOSED);
     CHECK(giop_server_rest(server, &size) == GIOP_CLOSED);
-    CHECK(is(&fault, 77, 77) && size == 99);
+    CHECK(is(&fault, 77, 77) && size == 99 && service == 99);
     giop_server_free(server);
 }
 
 static void each_call_of_a_client_is_closed(giop_client *client) {
     giop_client_entry entry;
     giop_end_fault fault = {77, 77, 77, 77};
+    uint32_t service = 99;
     size_t size = 99;
     entry.kind = 99;
     CHECK(giop_client_feed(client, NULL, 0, &fault) == GIOP_CLOSED);
@@ -82,12 +86,13 @@ static void each_call_of_a_client_is_closed(giop_client *client) {
     CHECK(giop_client_exception(client, 1, NULL, 0, &size) == GIOP_CLOSED);
     CHECK(giop_client_members(client, 1, 0, NULL, 0, &size) == GIOP_CLOSED);
     CHECK(giop_client_forward(client, 1, NULL, 0, &size) == GIOP_CLOSED);
+    CHECK(giop_client_context(client, 1, 0, &service, NULL, 0, &size) == GIOP_CLOSED);
     CHECK(giop_client_take(client, 1, &fault) == GIOP_CLOSED);
     CHECK(giop_client_close(client, &fault) == GIOP_CLOSED);
     CHECK(giop_client_error_message(client, NULL, 0, &size) == GIOP_CLOSED);
     CHECK(giop_client_rest(client, &size) == GIOP_CLOSED);
     CHECK(giop_client_blocks(client, &size) == GIOP_CLOSED);
-    CHECK(is(&fault, 77, 77) && size == 99);
+    CHECK(is(&fault, 77, 77) && size == 99 && service == 99);
     giop_client_free(client);
 }
 

@@ -40,6 +40,17 @@ static const uint8_t UNKNOWN[68] = {
     'G', 'I', 'O', 'P', 1, 2, 0, 1, 0, 0, 0, 56, 0, 0, 0, 1, 0, 0, 0, 2, 0, 0, 0, 0, 0, 0, 0, 30,
     'I', 'D', 'L', ':', 'o', 'm', 'g', '.', 'o', 'r', 'g', '/', 'C', 'O', 'R', 'B', 'A', '/',
     'U', 'N', 'K', 'N', 'O', 'W', 'N', ':', '1', '.', '0', 0, 0, 0, 0, 0, 0, 3, 0, 0, 0, 1};
+/* The same by a forward: status 3, and a reference without a type id, its null at 28, and without profiles,
+ * their count at 32 (9.4.3.1). Its text is an encapsulation: the byte order, and both at 4 and at 12. */
+static const uint8_t FORWARD[36] = {
+    'G', 'I', 'O', 'P', 1, 2, 0, 1, 0, 0, 0, 24, 0, 0, 0, 1, 0, 0, 0, 3, 0, 0, 0, 0, 0, 0, 0, 1};
+static const char NOWHERE[] = "IOR:00000000000000010000000000000000";
+/* A Request of 1.2 as ASK, with the contexts 1 of three octets and 9 of none: they stand from 40 on (7.7), and
+ * the ins begin at 64. */
+static const uint8_t TOLD[72] = {
+    'G', 'I', 'O', 'P', 1, 2, 0, 0, 0, 0, 0, 60, 0, 0, 0, 1, 3, 0, 0, 0, 0, 0, 0, 0, 0, 0, 0, 1, 'k', 0, 0, 0,
+    0, 0, 0, 4, 'a', 'd', 'd', 0, 0, 0, 0, 2, 0, 0, 0, 1, 0, 0, 0, 3, 7, 8, 9, 0, 0, 0, 0, 9, 0, 0, 0, 0,
+    0, 0, 0, 2, 0, 0, 0, 5};
 /* The LocateReply to id 3: OBJECT_HERE (9.4.6). */
 static const uint8_t HERE[20] = {
     'G', 'I', 'O', 'P', 1, 2, 0, 4, 0, 0, 0, 8, 0, 0, 0, 3, 0, 0, 0, 1};
@@ -167,6 +178,101 @@ static void a_request_is_answered_by_an_exception(void) {
     CHECK(blocks == 0);
 }
 
+static void a_request_is_answered_by_a_forward(void) {
+    static const char none[] = "IOR:0", wrong[] = "ior:0000000000000003";
+    giop_server server = {0};
+    giop_end_fault fault = UNWRITTEN;
+    giop_form bad = {20, 0};
+    uint8_t forever[36];
+    memcpy(forever, FORWARD, sizeof forever);
+    forever[19] = 4; /* LOCATION_FORWARD_PERM */
+    CHECK(opens(&server) == GIOP_OK);
+    CHECK(giop_server_feed(&server, ASK, sizeof ASK, &fault) == GIOP_OK);
+    CHECK(giop_server_answer_forward(&server, 1, (const uint8_t *)NOWHERE, 36, 0, &bad, &fault) == GIOP_FAULT);
+    CHECK(is(fault, GIOP_END_FORM, 0, 0, 0));
+    CHECK(giop_server_answer_forward(&server, 1, (const uint8_t *)none, 3, 0, &FORM, &fault) == GIOP_FAULT);
+    CHECK(is(fault, GIOP_END_TEXT, 1, 0, 0));
+    CHECK(giop_server_answer_forward(&server, 1, (const uint8_t *)none, 5, 0, &FORM, &fault) == GIOP_FAULT);
+    CHECK(is(fault, GIOP_END_TEXT, 2, 0, 0));
+    /* the type id says at 4 that it has three octets, and there are none */
+    CHECK(giop_server_answer_forward(&server, 1, (const uint8_t *)wrong, 20, 0, &FORM, &fault) == GIOP_FAULT);
+    CHECK(is(fault, GIOP_END_REFERENCE, GIOP_CDR_BAD_COUNT, 0, 4));
+    CHECK(entry_of(&server, 1).kind == GIOP_ASKED);
+    CHECK(giop_server_answer_forward(&server, 1, (const uint8_t *)NOWHERE, 36, 0, &FORM, &fault) == GIOP_OK);
+    CHECK(entry_of(&server, 1).status == 3 && sends(&server, FORWARD, sizeof FORWARD));
+    CHECK(giop_server_feed(&server, ASK, sizeof ASK, &fault) == GIOP_OK);
+    CHECK(giop_server_answer_forward(&server, 1, (const uint8_t *)NOWHERE, 36, 1, &FORM, &fault) == GIOP_OK);
+    CHECK(entry_of(&server, 1).status == 4 && sends(&server, forever, sizeof forever));
+    giop_server_free(&server);
+    CHECK(blocks == 0);
+}
+
+/* To a Request of 1.0 (9.4.2.1): contexts, id 2, a boolean for the reply, key, operation, principal, and the ins
+ * right behind it. LOCATION_FORWARD_PERM has no place in its Reply. */
+static void a_forward_for_good_is_of_1_2(void) {
+    static const uint8_t asked[52] = {
+        'G', 'I', 'O', 'P', 1, 0, 0, 0, 0, 0, 0, 40, 0, 0, 0, 0, 0, 0, 0, 2, 1, 0, 0, 0, 0, 0, 0, 1, 'k', 0, 0, 0,
+        0, 0, 0, 4, 'a', 'd', 'd', 0, 0, 0, 0, 0, 0, 0, 0, 2, 0, 0, 0, 5};
+    giop_server server = {0};
+    giop_end_fault fault = UNWRITTEN;
+    CHECK(opens(&server) == GIOP_OK);
+    CHECK(giop_server_feed(&server, asked, sizeof asked, &fault) == GIOP_OK && entry_of(&server, 2).kind == GIOP_ASKED);
+    CHECK(giop_server_answer_forward(&server, 2, (const uint8_t *)NOWHERE, 36, 1, &FORM, &fault) == GIOP_FAULT);
+    CHECK(is(fault, GIOP_END_CALL, GIOP_CALL_UNFIT, 2, 0));
+    CHECK(giop_server_answer_forward(&server, 2, (const uint8_t *)NOWHERE, 36, 0, &FORM, &fault) == GIOP_OK);
+    giop_server_free(&server);
+    CHECK(blocks == 0);
+}
+
+static void contexts_are_copied(void) {
+    static const uint8_t three[3] = {7, 8, 9};
+    giop_server server = {0};
+    giop_end_fault fault = UNWRITTEN;
+    uint32_t service = 99;
+    uint8_t buffer[4] = {1, 1, 1, 1};
+    size_t size = 99;
+    CHECK(opens(&server) == GIOP_OK);
+    CHECK(giop_server_feed(&server, TOLD, sizeof TOLD, &fault) == GIOP_OK);
+    CHECK(entry_of(&server, 1).contexts == 2 && entry_of(&server, 1).kind == GIOP_ASKED);
+    CHECK(giop_server_context(&server, 1, 2, &service, buffer, 4, &size) == GIOP_WAITS);
+    CHECK(giop_server_context(&server, 7, 0, &service, buffer, 4, &size) == GIOP_WAITS);
+    CHECK(service == 99 && size == 99);
+    CHECK(giop_server_context(&server, 1, 0, &service, buffer, 2, &size) == GIOP_SMALL);
+    CHECK(service == 1 && size == 3 && buffer[0] == 1);
+    CHECK(giop_server_context(&server, 1, 0, &service, buffer, 4, &size) == GIOP_OK);
+    CHECK(size == 3 && memcmp(buffer, three, 3) == 0 && buffer[3] == 1);
+    CHECK(giop_server_context(&server, 1, 1, &service, NULL, 0, &size) == GIOP_OK && service == 9 && size == 0);
+    giop_server_free(&server);
+    CHECK(blocks == 0);
+}
+
+static void what_cant_be_decoded_is_told(void) {
+    uint8_t cut[52], other[56], wrong[56];
+    giop_server server = {0};
+    giop_end_fault fault = UNWRITTEN;
+    giop_server_entry entry;
+    memcpy(cut, ASK, 52);
+    cut[11] = 40;
+    memcpy(other, ASK, 56);
+    other[15] = 2, other[36] = 'b'; /* bdd, of id 2 */
+    memcpy(wrong, ASK, 56);
+    wrong[15] = 3, wrong[16] = 2; /* response flags of 2, of id 3 */
+    CHECK(opens(&server) == GIOP_OK);
+    CHECK(giop_server_feed(&server, cut, 52, &fault) == GIOP_OK);
+    CHECK(giop_server_feed(&server, other, 56, &fault) == GIOP_OK);
+    CHECK(giop_server_feed(&server, wrong, 56, &fault) == GIOP_OK);
+    entry = entry_of(&server, 1);
+    CHECK(entry.kind == GIOP_UNDECODED && entry.awaits == 1 && entry.part == GIOP_IN_BODY);
+    CHECK(entry.number == GIOP_CDR_SHORT && entry.at == 52);
+    entry = entry_of(&server, 2);
+    CHECK(entry.kind == GIOP_UNDECODED && entry.part == GIOP_IN_OPERATION && entry.number == 0 && entry.at == 0);
+    entry = entry_of(&server, 3);
+    CHECK(entry.kind == GIOP_UNDECODED && entry.part == GIOP_IN_HEAD);
+    CHECK(entry.number == GIOP_CDR_BAD_LABEL && entry.at == 16);
+    giop_server_free(&server);
+    CHECK(blocks == 0);
+}
+
 static void other_calls_are_told_apart(void) {
     giop_server server = {0};
     giop_end_fault fault = UNWRITTEN;
@@ -186,7 +292,9 @@ static void other_calls_are_told_apart(void) {
     CHECK(giop_server_ins(&server, 2, 0, buffer, 16, &size) == GIOP_OK && size == 7);
     CHECK(memcmp(buffer, "\0\0\0\3hi", 7) == 0);
     entry = entry_of(&server, 3);
-    CHECK(entry.kind == GIOP_LOCATE_ASKED && entry.awaits == 2 && entry.over == 0 && entry.key == 0);
+    CHECK(entry.kind == GIOP_LOCATE_ASKED && entry.awaits == 2 && entry.over == 0 && entry.key == 1);
+    CHECK(entry.operation == 0 && entry.contexts == 0 && entry.part == 0);
+    CHECK(giop_server_key(&server, 3, buffer, 16, &size) == GIOP_OK && size == 1 && buffer[0] == 'k');
     CHECK(giop_server_answer(&server, 3, 0, NULL, 0, &FORM, &fault) == GIOP_FAULT);
     CHECK(is(fault, GIOP_END_CALL, GIOP_CALL_WRONG_KIND, 3, 0));
     CHECK(giop_server_answer_locate(&server, 3, 1, 0, &fault) == GIOP_OK);
@@ -263,6 +371,8 @@ static void a_closed_handle_answers_closed(void) {
     CHECK(giop_server_answer(&server, 1, 0, buffer, 4, &FORM, &fault) == GIOP_CLOSED);
     CHECK(giop_server_answer_user(&server, 1, buffer, 0, 0, buffer, 0, &FORM, &fault) == GIOP_CLOSED);
     CHECK(giop_server_answer_system(&server, 1, buffer, 0, 0, 0, &FORM, &fault) == GIOP_CLOSED);
+    CHECK(giop_server_answer_forward(&server, 1, buffer, 0, 0, &FORM, &fault) == GIOP_CLOSED);
+    CHECK(giop_server_context(&server, 1, 0, &id, buffer, 4, &size) == GIOP_CLOSED);
     CHECK(giop_server_answer_locate(&server, 1, 1, 0, &fault) == GIOP_CLOSED);
     CHECK(giop_server_send(&server, 1, &fault) == GIOP_CLOSED);
     CHECK(giop_server_take(&server, 1, &fault) == GIOP_CLOSED);
@@ -310,6 +420,10 @@ static void each_allocation_may_be_refused(void) {
 int main(void) {
     a_request_is_answered();
     a_request_is_answered_by_an_exception();
+    a_request_is_answered_by_a_forward();
+    a_forward_for_good_is_of_1_2();
+    contexts_are_copied();
+    what_cant_be_decoded_is_told();
     other_calls_are_told_apart();
     a_reply_goes_out_in_pieces();
     a_fault_fails_the_end();

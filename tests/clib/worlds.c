@@ -135,12 +135,13 @@ static void client_looks(uint32_t id) {
 
 static void server_acts(uint32_t id) {
     static const char broker[] = "IDL:omg.org/CORBA/UNKNOWN:1.0", own[] = "IDL:E:1.0";
+    static const char nowhere[] = "IOR:00000000000000010000000000000000";
     const giop_form form = {24 + 8 * at_random(6), at_random(2)};
     giop_end_fault fault = {77, 77, 77, 77};
     giop_server_entry entry;
     uint32_t status;
     CHECK(giop_server_entry_of(&server, id, &entry) == GIOP_OK);
-    switch (at_random(8)) {
+    switch (at_random(9)) {
     case 0:
         status = giop_server_answer_user(&server, id, (const uint8_t *)own, 9, 0, NUMBERS, 4, &form, &fault);
         break;
@@ -156,6 +157,9 @@ static void server_acts(uint32_t id) {
     case 4:
         status = giop_server_send(&server, id, &fault);
         CHECK((status == GIOP_OK) <= (entry.left > 0));
+        break;
+    case 5:
+        status = giop_server_answer_forward(&server, id, (const uint8_t *)nowhere, 36, at_random(2), &form, &fault);
         break;
     default: /* as of `add`, of `echo`, or of the others */
         status = entry.operation == 3

@@ -1,2 +1,3 @@
 pub mod AtLemmas
+pub mod Crossing
 pub mod HandleRows

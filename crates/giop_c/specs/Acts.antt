@@ -6,8 +6,12 @@ use Rattle.giop_cdr.specs.declared.fault.CdrKind.TheVariants as cdr
 use Rattle.giop_cdr.specs.declared.order.Order.{Order}
 use Rattle.giop_cdr.specs.Ending.{ended}
 use Rattle.giop_cdr.specs.Faults.{cdr_kind_number}
+use Rattle.giop_types.specs.declared.ior_text_fault.IorTextFault.{IorTextFault}
+use Rattle.giop_types.specs.declared.ior_text_fault.IorTextFault.TheVariants as text
 use Rattle.giop_types.specs.declared.json.parameters.Parameter.{Parameter}
+use Rattle.giop_types.specs.IorText.{ior_text_of}
 use Rattle.giop_types.specs.Values.Tree.{Tree}
+use Rattle.giop_ior.specs.Ior.{Reference, ior_layout}
 use Rattle.giop_msg.specs.Messages.Body.{values}
 use Rattle.giop_session.specs.declared.acts.form.Form.{Form}
 use Rattle.giop_session.specs.declared.limits.Limits.{Limits}
@@ -42,23 +46,38 @@ abbrev pub Tells : (Result (Unit {0}) SessionFault → Type 0) → EndFault → 
 Tells Does f f' status =
     (answer : Result (Unit {0}) SessionFault) × Does answer × IsTold answer f f' status
 
+-- the fault of a reference's text, as C sees it: 13, where the text isn't `IOR:` and digits; 14, where
+-- the octets that it says are no reference
+abbrev pub c_reference_fault : IorTextFault → EndFault
+c_reference_fault text.NoMemory = c_end_fault session.NoMemory
+c_reference_fault (text.Cdr e) =
+    record { at = e.at; number = 14; part = cdr_kind_number e.kind; id = 0 }
+c_reference_fault text.BadPrefix = record { at = 0; number = 13; part = 1; id = 0 }
+c_reference_fault text.BadHex = record { at = 0; number = 13; part = 2; id = 0 }
+
 -- the fault of an act, as C sees it: that of the end; 11, where octets are no values; 12, where
--- messages can't be cut so
+-- messages can't be cut so; that of a reference's text
 abbrev pub c_act_fault : ActFault → EndFault
 c_act_fault (refused.End why) = c_end_fault why
 c_act_fault (refused.Values e) =
     record { at = e.at; number = 11; part = cdr_kind_number e.kind; id = 0 }
 c_act_fault refused.Form = record { at = 0; number = 12; part = 0; id = 0 }
+c_act_fault (refused.Reference e) = c_reference_fault e
 
 -- its status
 abbrev pub values_status : CdrKind → ℕ
 values_status cdr.NoMemory = no_memory
 values_status _ = fault
 
+abbrev pub reference_status : IorTextFault → ℕ
+reference_status text.NoMemory = no_memory
+reference_status _ = fault
+
 abbrev pub act_status : ActFault → ℕ
 act_status (refused.End why) = end_status why
 act_status (refused.Values e) = values_status e.kind
 act_status refused.Form = fault
+act_status (refused.Reference e) = reference_status e
 
 -- C is told so
 abbrev pub IsToldAct : Result (Unit {0}) ActFault → EndFault → EndFault → ℕ → Type 0
@@ -97,3 +116,11 @@ ReadsValues parameters order octets Done old answer new =
     ⊎ ((trees : List Tree)
     × ((ended (values parameters)).read (begun order octets) ≡ Ok trees)
     × Done trees)
+
+-- the text is no reference (7.6.9); or memory ran out; or it is this reference, and it is done with it
+abbrev pub ReadsReference : {H : Type 0} → List ℕ → (Reference → Type 0) → H
+    → Result (Unit {0}) ActFault → H → Type 0
+ReadsReference octets Done old answer new =
+    ((e : IorTextFault) × (answer ≡ Err (refused.Reference e)) × (new ≡ old)
+    × ((ior_text_of ior_layout.read octets ≡ Err e) ⊎ (e ≡ text.NoMemory)))
+    ⊎ ((ior : Reference) × (ior_text_of ior_layout.read octets ≡ Ok ior) × Done ior)

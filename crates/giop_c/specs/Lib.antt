@@ -1,6 +1,7 @@
 pub mod Acts
 pub mod Calls
 pub mod Client
+pub mod Contexts
 pub mod Copying
 pub mod EndRecords
 pub mod Heads

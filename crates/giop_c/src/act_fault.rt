@@ -1,11 +1,12 @@
 //! Why an act of an end's own program isn't done, and what C is told of it.
 ghost use Rattle.std.specs.Prelude.{◌≡◌};
-ghost use Rattle.giop_c.specs.Acts.{IsToldAct, act_status, c_act_fault, of_end};
+ghost use Rattle.giop_c.specs.Acts.{IsToldAct, act_status, c_act_fault, c_reference_fault, of_end};
 
 use crate::end_records::EndFault;
 use crate::status::{FAULT, NO_MEMORY, OK};
 use giop_cdr::{CdrFault, CdrKind};
 use giop_session::SessionFault;
+use giop_types::IorTextFault;
 
 /// Why an answer or a call isn't sent.
 #[derive(Clone, Copy, Debug, PartialEq, Eq)]
@@ -16,6 +17,8 @@ pub enum ActFault {
     Values(CdrFault),
     /// Messages can't be cut into pieces of this size.
     Form,
+    /// The text is no reference.
+    Reference(IorTextFault),
 }
 
 impl ActFault {
@@ -37,6 +40,7 @@ impl ActFault {
                 part: 0,
                 id: 0,
             },
+            ActFault::Reference(why) => reference_fault(why),
         }
     }
 
@@ -47,8 +51,30 @@ impl ActFault {
         match self {
             ActFault::End(SessionFault::NoMemory) => NO_MEMORY,
             ActFault::Values(fault) if fault.kind == CdrKind::NoMemory => NO_MEMORY,
+            ActFault::Reference(IorTextFault::NoMemory) => NO_MEMORY,
             _ => FAULT,
         }
+    }
+}
+
+// The fault of a reference's text as C sees it.
+fn reference_fault(why: IorTextFault) -> EndFault
+    ensures { result ≡ c_reference_fault why }
+{
+    match why {
+        IorTextFault::NoMemory => EndFault::of(SessionFault::NoMemory),
+        IorTextFault::Cdr(fault) => EndFault {
+            at: fault.at,
+            number: 14,
+            part: u32::from(fault.number()),
+            id: 0,
+        },
+        _ => EndFault {
+            at: 0,
+            number: 13,
+            part: u32::from(why.number()),
+            id: 0,
+        },
     }
 }
 

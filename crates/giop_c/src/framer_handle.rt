@@ -93,6 +93,9 @@ impl FramerHandle {
     }
 }
 
+// What it holds may go to another thread: see proofs/Crossing.antt.
+unsafe impl Send for FramerHandle {}
+
 impl Drop for FramerHandle {
     fn drop(self) {
         let _held = self.into_box();

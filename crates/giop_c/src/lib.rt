@@ -4,6 +4,7 @@
 
 mod act_fault;
 mod client;
+mod contexts;
 mod copying;
 mod end_records;
 mod framer_calls;

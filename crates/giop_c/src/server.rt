@@ -5,6 +5,7 @@ mod answers;
 pub mod calls;
 mod entries;
 pub mod entry_calls;
+mod requests;
 mod served;
 mod server_handle;
 

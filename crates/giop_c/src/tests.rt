@@ -2,7 +2,10 @@
 //! same calls from C, and what is wrong with a header.
 
 mod client;
+mod contexts;
 mod server;
+mod server_entries;
+mod threads;
 
 use crate::framer_calls::{
     giop_framer_feed, giop_framer_free, giop_framer_new, giop_framer_next, giop_framer_payload,

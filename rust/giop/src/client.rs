@@ -1,7 +1,6 @@
 //! The end of a connection that calls.
 use crate::end::{copied, error_of, told, CForm, EndError, EndFault, Form, Limits};
 use crate::{Handle, HeadFault, Interface, OK};
-use std::marker::PhantomData;
 use std::ptr;
 
 #[repr(C)]
@@ -51,6 +50,7 @@ impl<'a> Call<'a> {
 #[derive(Clone, Copy, Default)]
 struct CEntry {
     exception: usize,
+    contexts: usize,
     at: usize,
     number: u32,
     left: u32,
@@ -104,6 +104,8 @@ pub struct ClientEntry {
     pub completed: Option<bool>,
     /// The addressing disposition that a Reply of status 5 asks for; else 0.
     pub addressing: i16,
+    /// How many service contexts the Reply has; 0 where none came.
+    pub contexts: usize,
     /// What is wrong with a reply that can't be decoded, and where.
     pub fault: Option<HeadFault>,
 }
@@ -126,9 +128,9 @@ impl ClientEntry {
             (ClientKind::Done, 2, 1) => Some(false),
             _ => None,
         };
-        let &CEntry { over, left, status, minor, addressing, at, number, .. } = entry;
+        let &CEntry { over, left, status, minor, addressing, contexts, at, number, .. } = entry;
         let fault = (kind == ClientKind::Undecoded).then_some(HeadFault { at, number });
-        ClientEntry { kind, is_over: over == 1, left, status, minor, completed, addressing, fault }
+        ClientEntry { kind, is_over: over == 1, left, status, minor, completed, addressing, contexts, fault }
     }
 }
 
@@ -182,6 +184,15 @@ extern "C" {
         size: *mut usize,
     ) -> u32;
     fn giop_client_forward(client: *mut Handle, id: u32, buffer: *mut u8, room: usize, size: *mut usize) -> u32;
+    fn giop_client_context(
+        client: *mut Handle,
+        id: u32,
+        index: usize,
+        service: *mut u32,
+        buffer: *mut u8,
+        room: usize,
+        size: *mut usize,
+    ) -> u32;
     fn giop_client_take(client: *mut Handle, id: u32, fault: *mut EndFault) -> u32;
     fn giop_client_close(client: *mut Handle, fault: *mut EndFault) -> u32;
     fn giop_client_error_message(client: *mut Handle, buffer: *mut u8, room: usize, size: *mut usize) -> u32;
@@ -217,7 +228,6 @@ extern "C" {
 pub struct Client {
     handle: Handle,
     octets: Vec<u8>,
-    stays: PhantomData<*mut ()>,
 }
 
 impl Client {
@@ -226,7 +236,7 @@ impl Client {
     /// # Errors
     /// `NoMemory`; or a `Fault` of number 0, where the limit `gathered` is above 2^62.
     pub fn new(interface: &mut Interface, limits: Limits) -> Result<Client, EndError> {
-        let mut client = Client { handle: Handle { at: ptr::null_mut() }, octets: Vec::new(), stays: PhantomData };
+        let mut client = Client { handle: Handle { at: ptr::null_mut() }, octets: Vec::new() };
         // SAFETY: the handle is zeroed, which is one that holds nothing, and the interface's was opened.
         let status = unsafe { giop_client_new(&mut client.handle, &mut interface.handle, &limits) };
         told(status, EndFault::default()).map(|()| client)
@@ -400,6 +410,18 @@ impl Client {
         let call = |at, room, size| unsafe { giop_client_forward(&mut self.handle, id, at, room, size) };
         let text = copied(call).map_err(|status| error_of(status, EndFault::default()))?;
         Ok(text.map(|octets| String::from_utf8_lossy(&octets).into_owned()))
+    }
+
+    /// A service context (7.7) of the Reply under an id, the first at index 0: the id of its service, and its
+    /// octets. `None` where there is no such context.
+    pub fn context(&mut self, id: u32, index: usize) -> Option<(u32, Vec<u8>)> {
+        let mut service = 0;
+        // SAFETY: the handle was opened, and the buffer has so much room.
+        let call = |at, room, size| unsafe {
+            giop_client_context(&mut self.handle, id, index, &mut service, at, room, size)
+        };
+        let octets = copied(call).ok().flatten()?;
+        Some((service, octets))
     }
 
     /// Takes what is stored for an id out of the table, where its call is over.

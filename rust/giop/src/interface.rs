@@ -2,7 +2,6 @@
 use crate::{Handle, FAULT, OK};
 use std::error;
 use std::fmt;
-use std::marker::PhantomData;
 use std::ptr;
 
 #[repr(C)]
@@ -46,7 +45,6 @@ impl error::Error for InterfaceError {}
 /// It stays on its thread: it is neither `Send` nor `Sync`, since neither is proved of it.
 pub struct Interface {
     pub(crate) handle: Handle,
-    stays: PhantomData<*mut ()>,
 }
 
 impl Interface {
@@ -55,7 +53,7 @@ impl Interface {
     /// # Errors
     /// Why the text is refused.
     pub fn from_json(json: &[u8]) -> Result<Interface, InterfaceError> {
-        let mut interface = Interface { handle: Handle { at: ptr::null_mut() }, stays: PhantomData };
+        let mut interface = Interface { handle: Handle { at: ptr::null_mut() } };
         let mut fault = CTextFault { number: 0, description: 0 };
         // SAFETY: the handle is zeroed, which is one that holds nothing, and the slice is that long.
         match unsafe { giop_interface_new(&mut interface.handle, json.as_ptr(), json.len(), &mut fault) } {

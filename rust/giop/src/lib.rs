@@ -24,12 +24,11 @@ mod server;
 pub use client::{Call, Client, ClientEntry, ClientKind, Target};
 pub use end::{EndError, EndFault, Form, Limits};
 pub use interface::{Interface, InterfaceError};
-pub use server::{Awaits, CallKind, Entry, Server};
+pub use server::{Awaits, CallKind, Entry, RequestFault, Server};
 
 use std::error;
 use std::ffi::c_void;
 use std::fmt;
-use std::marker::PhantomData;
 use std::ptr;
 
 #[repr(C)]
@@ -316,11 +315,10 @@ impl fmt::Debug for Message<'_> {
 
 /// Takes the octets of a stream in pieces of any size, and gives its messages.
 ///
-/// It stays on its thread: it is neither `Send` nor `Sync`, since neither is proved of it.
+/// It may go to another thread: that it is `Send` is proved of the handle. It isn't `Sync`.
 pub struct Framer {
     handle: Handle,
     payload: Vec<u8>,
-    stays: PhantomData<*mut ()>,
 }
 
 impl Framer {
@@ -332,7 +330,6 @@ impl Framer {
         let mut framer = Framer {
             handle: Handle { at: ptr::null_mut() },
             payload: Vec::new(),
-            stays: PhantomData,
         };
         // SAFETY: the handle is zeroed, which is a handle that holds nothing.
         match unsafe { giop_framer_new(&mut framer.handle, limit) } {
@@ -387,6 +384,10 @@ impl Framer {
         rest
     }
 }
+
+// SAFETY: crates/giop_c proves that the handle may go to another thread, and each call takes it by `&mut`, so that no
+// two overlap.
+unsafe impl Send for Framer {}
 
 impl Drop for Framer {
     fn drop(&mut self) {

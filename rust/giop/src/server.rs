@@ -1,7 +1,6 @@
 //! The end of a connection that answers calls.
 use crate::end::{copied, error_of, told, CForm, EndError, EndFault, Form, Limits};
-use crate::{Handle, Interface, OK};
-use std::marker::PhantomData;
+use crate::{Handle, HeadFault, Interface, OK};
 use std::ptr;
 
 #[repr(C)]
@@ -9,8 +8,12 @@ use std::ptr;
 struct CEntry {
     operation: usize,
     key: usize,
+    contexts: usize,
+    at: usize,
+    number: u32,
     left: u32,
     status: u32,
+    part: u8,
     kind: u8,
     awaits: u8,
     over: u8,
@@ -53,6 +56,17 @@ pub enum Awaits {
     LocateReply,
 }
 
+/// Why a call can't be decoded: in its head, its operation or its body.
+#[derive(Clone, Copy, Debug, PartialEq, Eq)]
+pub enum RequestFault {
+    /// A field of the head is refused.
+    Head(HeadFault),
+    /// The interface has no such operation.
+    Operation,
+    /// A value of the body is refused, or octets are left behind it.
+    Body(HeadFault),
+}
+
 /// What is stored for an id, but its octets.
 #[derive(Clone, Copy, Debug, PartialEq, Eq)]
 pub struct Entry {
@@ -68,6 +82,10 @@ pub struct Entry {
     pub status: u32,
     /// The response flags of the Request; 0 where none is known.
     pub flags: u8,
+    /// How many service contexts the Request has; 0 where none is known.
+    pub contexts: usize,
+    /// What is wrong with a call that can't be decoded, and where.
+    pub fault: Option<RequestFault>,
 }
 
 extern "C" {
@@ -117,6 +135,24 @@ extern "C" {
         form: *const CForm,
         fault: *mut EndFault,
     ) -> u32;
+    fn giop_server_answer_forward(
+        server: *mut Handle,
+        id: u32,
+        reference: *const u8,
+        size: usize,
+        permanent: u32,
+        form: *const CForm,
+        fault: *mut EndFault,
+    ) -> u32;
+    fn giop_server_context(
+        server: *mut Handle,
+        id: u32,
+        index: usize,
+        service: *mut u32,
+        buffer: *mut u8,
+        room: usize,
+        size: *mut usize,
+    ) -> u32;
     fn giop_server_answer_locate(
         server: *mut Handle,
         id: u32,
@@ -160,7 +196,6 @@ extern "C" {
 pub struct Server {
     handle: Handle,
     octets: Vec<u8>,
-    stays: PhantomData<*mut ()>,
 }
 
 impl Server {
@@ -169,7 +204,7 @@ impl Server {
     /// # Errors
     /// `NoMemory`; or a `Fault` of number 0, where the limit `gathered` is above 2^62.
     pub fn new(interface: &mut Interface, limits: Limits) -> Result<Server, EndError> {
-        let mut server = Server { handle: Handle { at: ptr::null_mut() }, octets: Vec::new(), stays: PhantomData };
+        let mut server = Server { handle: Handle { at: ptr::null_mut() }, octets: Vec::new() };
         // SAFETY: the handle is zeroed, which is one that holds nothing, and the interface's was opened.
         let status = unsafe { giop_server_new(&mut server.handle, &mut interface.handle, &limits) };
         told(status, EndFault::default()).map(|()| server)
@@ -244,8 +279,14 @@ impl Server {
             2 => Awaits::LocateReply,
             _ => Awaits::Nothing,
         };
-        let CEntry { over, left, status, flags, .. } = entry;
-        Entry { kind, awaits, is_over: over == 1, left, status, flags }
+        let CEntry { over, left, status, flags, contexts, at, number, .. } = entry;
+        let fault = match entry.part {
+            1 => Some(RequestFault::Head(HeadFault { at, number })),
+            2 => Some(RequestFault::Operation),
+            3 => Some(RequestFault::Body(HeadFault { at, number })),
+            _ => None,
+        };
+        Entry { kind, awaits, is_over: over == 1, left, status, flags, contexts, fault }
     }
 
     /// The operation of the Request under an id, without its null; `None` where no Request is known.
@@ -255,12 +296,24 @@ impl Server {
         copied(call).ok().flatten()
     }
 
-    /// The key of the object of the Request under an id, empty where the target is no key; `None` where no
-    /// Request is known.
+    /// The key of the object of the Request or the LocateRequest under an id, empty where the target is no key;
+    /// `None` where neither is known.
     pub fn key(&mut self, id: u32) -> Option<Vec<u8>> {
         // SAFETY: the handle was opened, and the buffer has so much room.
         let call = |at, room, size| unsafe { giop_server_key(&mut self.handle, id, at, room, size) };
         copied(call).ok().flatten()
+    }
+
+    /// A service context (7.7) of the Request under an id, the first at index 0: the id of its service, and its
+    /// octets. `None` where there is no such context.
+    pub fn context(&mut self, id: u32, index: usize) -> Option<(u32, Vec<u8>)> {
+        let mut service = 0;
+        // SAFETY: the handle was opened, and the buffer has so much room.
+        let call = |at, room, size| unsafe {
+            giop_server_context(&mut self.handle, id, index, &mut service, at, room, size)
+        };
+        let octets = copied(call).ok().flatten()?;
+        Some((service, octets))
     }
 
     /// The ins of the Request under an id; `None` where no Request is known.
@@ -338,6 +391,21 @@ impl Server {
         // SAFETY: the handle was opened, and the slice is that long.
         let status = unsafe {
             giop_server_answer_system(&mut self.handle, id, at, size, minor, completion, &form, &mut fault)
+        };
+        told(status, fault)
+    }
+
+    /// Answers a Request by where its object is: a reference, as its text, `IOR:` and digits. It is from now on
+    /// where it is permanent, in 1.2 alone; else for this request.
+    ///
+    /// # Errors
+    /// Why it isn't sent; nothing has changed then.
+    pub fn answer_forward(&mut self, id: u32, reference: &str, permanent: bool, form: Form) -> Result<(), EndError> {
+        let (mut fault, form) = (EndFault::default(), form.written());
+        let (at, size) = (reference.as_ptr(), reference.len());
+        // SAFETY: the handle was opened, and the text is that long.
+        let status = unsafe {
+            giop_server_answer_forward(&mut self.handle, id, at, size, permanent.into(), &form, &mut fault)
         };
         told(status, fault)
     }

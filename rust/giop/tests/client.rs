@@ -44,6 +44,11 @@ fn each_kind_of_reply_is_told() -> Result<(), EndError> {
     client.feed(b"GIOP\x01\x02\0\x01\0\0\0\x20\0\0\0\x01\0\0\0\x01\0\0\0\0\0\0\0\x0aIDL:E:1.0\0\0\0\0\0\x01\x02")?;
     assert_eq!(client.exception(1).as_deref(), Some(&b"IDL:E:1.0"[..]));
     assert_eq!(client.members(1, true)?.as_deref(), Some(&[2, 1, 0, 0][..]));
+    // the out 7 behind the context 6 of two octets
+    add(&mut client)?;
+    client.feed(b"GIOP\x01\x02\0\x01\0\0\0\x20\0\0\0\x01\0\0\0\0\0\0\0\x01\0\0\0\x06\0\0\0\x02\x04\x05\0\0\0\0\0\0\0\0\0\x07")?;
+    assert_eq!((client.entry(1).contexts, client.context(1, 0), client.context(1, 1)), (1, Some((6, vec![4, 5])), None));
+    assert_eq!(client.outs(1, false)?.as_deref(), Some(&[0, 0, 0, 7][..]));
     // of the broker: minor 3, not completed
     add(&mut client)?;
     client.feed(b"GIOP\x01\x02\0\x01\0\0\0\x24\0\0\0\x01\0\0\0\x02\0\0\0\0\0\0\0\x0aIDL:X:1.0\0\0\0\0\0\0\x03\0\0\0\x01")?;

@@ -5,6 +5,7 @@ use Rattle.giop_cdr.specs.Faults.{cdr_kind_number}
 use Rattle.giop_types.specs.declared.json.interface.Interface.{Interface}
 use Rattle.giop_types.specs.declared.json.parameters.Parameter.{Parameter}
 use Rattle.giop_types.specs.IorText.{text_written}
+use Rattle.giop_ior.specs.declared.references.service_context.ServiceContext.{ServiceContext}
 use Rattle.giop_ior.specs.Ior.{Reference, ior_layout}
 use Rattle.giop_msg.specs.declared.messages.reply.Reply.{Reply}
 use Rattle.giop_msg.specs.declared.messages.reply_body.ReplyBody.{ReplyBody}
@@ -15,6 +16,7 @@ use Rattle.giop_calls.specs.declared.client.entry.ClientEntry.TheVariants.{Sendi
 use Rattle.giop_calls.specs.ClientTable.{is_closed, left_of, outcome}
 use Rattle.giop_c.specs.declared.client.entries.ClientRow.{ClientRow}
 use Rattle.giop_c.specs.Calls.{no_memory, fault}
+use Rattle.giop_c.specs.Contexts.{count_in}
 use Rattle.giop_c.specs.Copying.{CopiesOctets}
 use Rattle.giop_c.specs.EndRecords.{outcome_number}
 use Rattle.giop_c.specs.Values.{CopiesValues}
@@ -27,6 +29,15 @@ body_in _ = None
 abbrev pub body_of : Option ClientEntry → Option ReplyBody
 body_of None = None
 body_of (Some entry) = body_in entry
+
+-- the service contexts of the Reply to a Request
+abbrev pub contexts_in : ClientEntry → Option (List ServiceContext)
+contexts_in (Done request reply) = Some reply.contexts
+contexts_in _ = None
+
+abbrev pub contexts_of : Option ClientEntry → Option (List ServiceContext)
+contexts_of None = None
+contexts_of (Some entry) = contexts_in entry
 
 -- the repository id of an exception, the interface's or the broker's
 abbrev pub exception_of_body : ReplyBody → Option (List ℕ)
@@ -111,6 +122,7 @@ came_to (Some entry) = outcome_number (outcome entry)
 abbrev pub c_client_row : Option ClientEntry → ClientRow
 c_client_row entry = record {
   exception = size_in (exception_in (body_of entry));
+  contexts = count_in (contexts_of entry);
   at = place_told entry;
   number = number_told entry;
   left = left entry;

@@ -1,11 +1,12 @@
 -- What the program of a server answers to a Request by C.
-use Rattle.std.specs.Prelude.{ℕ, List, [], Result}
+use Rattle.std.specs.Prelude.{ℕ, Bool, if◌then◌else◌, List, [], Result}
 use Rattle.std_alloc.specs.Arc.{arc_value}
 use Rattle.giop_cdr.specs.declared.order.Order.{Order}
+use Rattle.giop_ior.specs.Ior.{Reference}
 use Rattle.giop_msg.specs.declared.messages.completion.Completion.{Completion}
 use Rattle.giop_msg.specs.declared.messages.reply.Reply.{Reply}
 use Rattle.giop_msg.specs.declared.messages.reply_body.ReplyBody.{ReplyBody}
-use Rattle.giop_msg.specs.declared.messages.reply_body.ReplyBody.TheVariants.{NoException, SystemException, UserException}
+use Rattle.giop_msg.specs.declared.messages.reply_body.ReplyBody.TheVariants.{Forward, ForwardPerm, NoException, SystemException, UserException}
 use Rattle.giop_msg.specs.Messages.Reply.{exception_of, listed, outs_for}
 use Rattle.giop_session.specs.declared.acts.form.Form.{Form}
 use Rattle.giop_session.specs.declared.session_fault.SessionFault.{SessionFault}
@@ -13,7 +14,7 @@ use Rattle.giop_session.specs.Acts.ServerAnswers.{IsAnswer, answer_fault, questi
 use Rattle.giop_session.specs.Runs.ServerRuns.{server_entry}
 use Rattle.giop_c.specs.declared.act_fault.ActFault.{ActFault}
 use Rattle.giop_c.specs.declared.server.served.Served.{Served}
-use Rattle.giop_c.specs.Acts.{InForm, OrNot, ReadsValues}
+use Rattle.giop_c.specs.Acts.{InForm, OrNot, ReadsReference, ReadsValues}
 use Rattle.giop_c.specs.Server.Entries.{request_of, version_asked}
 use Rattle.giop_c.specs.Server.Ends.{PutsAtServer}
 
@@ -66,3 +67,15 @@ abbrev pub AnswersSystem : ℕ → List ℕ → ℕ → Completion → Form → 
 AnswersSystem id exception minor completion form old answer new =
     InForm form old answer new
     (RepliesOrNot id (SystemException exception minor completion) form old answer new)
+
+-- where the object is (9.4.3.1): for this request, or from now on
+abbrev pub forward_to : Bool → Reference → ReplyBody
+forward_to permanent ior = if permanent then ForwardPerm ior else Forward ior
+
+-- by a forward to the reference that a text is
+abbrev pub AnswersForward : ℕ → List ℕ → Bool → Form → Served → Result (Unit {0}) ActFault → Served
+    → Type 0
+AnswersForward id text permanent form old answer new =
+    InForm form old answer new
+    (ReadsReference text
+    (λ ior. RepliesOrNot id (forward_to permanent ior) form old answer new) old answer new)

@@ -1,10 +1,14 @@
 -- What is stored for the id of a call at a server, as C sees it.
 use Rattle.std.specs.Prelude.{ℕ, if◌then◌else◌, Option, Some, None, List, length}
+use Rattle.giop_cdr.specs.Faults.{cdr_kind_number}
+use Rattle.giop_ior.specs.declared.references.service_context.ServiceContext.{ServiceContext}
 use Rattle.giop_msg.specs.declared.messages.request.Request.{Request}
+use Rattle.giop_msg.specs.declared.messages.request_fault.RequestFault.{RequestFault}
+use Rattle.giop_msg.specs.declared.messages.request_fault.RequestFault.TheVariants as wrong
 use Rattle.giop_msg.specs.declared.version.Version.{Version}
 use Rattle.giop_msg.specs.declared.version.Version.TheVariants.{V12}
 use Rattle.giop_msg.specs.Messages.Reply.{status_of}
-use Rattle.giop_msg.specs.Target.{key_of}
+use Rattle.giop_msg.specs.Target.{AnyTarget, key_of}
 use Rattle.giop_calls.specs.declared.kind.CallKind.{CallKind}
 use Rattle.giop_calls.specs.declared.kind.CallKind.TheVariants as kind
 use Rattle.giop_calls.specs.declared.server.entry.ServerEntry.{ServerEntry}
@@ -13,6 +17,7 @@ use Rattle.giop_calls.specs.declared.server.question.Question.{Question}
 use Rattle.giop_calls.specs.declared.server.question.Question.TheVariants as question
 use Rattle.giop_calls.specs.ServerTable.{is_closed, left_of, outcome}
 use Rattle.giop_c.specs.declared.server.entries.ServerRow.{ServerRow}
+use Rattle.giop_c.specs.Contexts.{count_in}
 use Rattle.giop_c.specs.EndRecords.{outcome_number}
 
 -- the Request that an answered call was, where it could be decoded
@@ -32,16 +37,40 @@ abbrev pub request_of : Option ServerEntry → Option Request
 request_of None = None
 request_of (Some entry) = request_in entry
 
--- its operation and the key of its object, which is empty where the target is no key
+-- its operation and its service contexts
 abbrev pub operation_in : Option Request → Option (List ℕ)
 operation_in None = None
 operation_in (Some q) = Some q.head.operation
 
-abbrev pub key_in : Option Request → Option (List ℕ)
-key_in None = None
-key_in (Some q) = Some (key_of q.head.target)
+abbrev pub contexts_in : Option Request → Option (List ServiceContext)
+contexts_in None = None
+contexts_in (Some q) = Some q.head.contexts
 
--- its response flags, and how long both are; 0 where there is no Request
+-- the target of an answered call, where it could be decoded
+abbrev pub target_asked : Question → Option AnyTarget
+target_asked (question.Request q) = Some q.head.target
+target_asked (question.Undecoded e) = None
+
+-- the target of the Request or the LocateRequest of an entry, where it could be decoded
+abbrev pub target_in : ServerEntry → Option AnyTarget
+target_in (Asked q) = Some q.head.target
+target_in (Delivered q) = Some q.head.target
+target_in (Answered asked reply left) = target_asked asked
+target_in (LocateAsked q) = Some q.target
+target_in (LocateAnswered target here) = target
+target_in _ = None
+
+-- the target under an id
+abbrev pub target_of : Option ServerEntry → Option AnyTarget
+target_of None = None
+target_of (Some entry) = target_in entry
+
+-- the key of its object, which is empty where the target is no key
+abbrev pub key_in : Option AnyTarget → Option (List ℕ)
+key_in None = None
+key_in (Some target) = Some (key_of target)
+
+-- the response flags of a Request, and how long its operation and the key are; 0 where there is none
 abbrev pub flags_in : Option Request → ℕ
 flags_in None = 0
 flags_in (Some q) = q.head.flags
@@ -50,9 +79,43 @@ abbrev pub operation_size : Option Request → ℕ
 operation_size None = 0
 operation_size (Some q) = length q.head.operation
 
-abbrev pub key_size : Option Request → ℕ
+abbrev pub key_size : Option AnyTarget → ℕ
 key_size None = 0
-key_size (Some q) = length (key_of q.head.target)
+key_size (Some target) = length (key_of target)
+
+-- why an answered call couldn't be decoded, where it couldn't
+abbrev pub fault_asked : Question → Option RequestFault
+fault_asked (question.Request q) = None
+fault_asked (question.Undecoded e) = Some e
+
+-- why the call of an entry couldn't be decoded, where it couldn't
+abbrev pub fault_in : ServerEntry → Option RequestFault
+fault_in (Undecoded call) = Some call.fault
+fault_in (Answered asked reply left) = fault_asked asked
+fault_in _ = None
+
+-- why the call under an id couldn't be decoded
+abbrev pub fault_of : Option ServerEntry → Option RequestFault
+fault_of None = None
+fault_of (Some entry) = fault_in entry
+
+-- in which part the fault is: 1 the head, 2 the operation, which the interface hasn't, 3 the body
+abbrev pub part_told : Option RequestFault → ℕ
+part_told None = 0
+part_told (Some (wrong.Header e)) = 1
+part_told (Some wrong.Operation) = 2
+part_told (Some (wrong.Body e)) = 3
+
+-- what is wrong in the head or in the body, and where; else 0
+abbrev pub number_told : Option RequestFault → ℕ
+number_told (Some (wrong.Header e)) = cdr_kind_number e.kind
+number_told (Some (wrong.Body e)) = cdr_kind_number e.kind
+number_told _ = 0
+
+abbrev pub place_told : Option RequestFault → ℕ
+place_told (Some (wrong.Header e)) = e.at
+place_told (Some (wrong.Body e)) = e.at
+place_told _ = 0
 
 -- what is stored: 0 for nothing
 abbrev pub kind_of : Option ServerEntry → ℕ
@@ -104,9 +167,13 @@ reply_status _ = 0
 abbrev pub c_server_row : Option ServerEntry → ServerRow
 c_server_row entry = record {
   operation = operation_size (request_of entry);
-  key = key_size (request_of entry);
+  key = key_size (target_of entry);
+  contexts = count_in (contexts_in (request_of entry));
+  at = place_told (fault_of entry);
+  number = number_told (fault_of entry);
   left = left entry;
   status = reply_status entry;
+  part = part_told (fault_of entry);
   kind = kind_of entry;
   awaits = awaits entry;
   over = over entry;

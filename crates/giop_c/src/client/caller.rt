@@ -6,12 +6,14 @@ ghost use Rattle.std_alloc.specs.Arc.{arc_value};
 ghost use Rattle.giop_session.specs.Calls.SessionFaults.{error_message_of};
 ghost use Rattle.giop_session.specs.Runs.Driven.{end_state, new_end};
 ghost use Rattle.giop_session.specs.Runs.ClientRuns.{client_entry};
-ghost use Rattle.giop_c.specs.Client.Entries.{CopiesMembers, CopiesOuts, CopiesReference, body_of, c_client_row, exception_in, forward_in};
+ghost use Rattle.giop_c.specs.Client.Entries.{CopiesMembers, CopiesOuts, CopiesReference, body_of, c_client_row, contexts_of, exception_in, forward_in};
+ghost use Rattle.giop_c.specs.Contexts.{CopiesContext, context_at};
 ghost use Rattle.giop_c.specs.Copying.{CopiesFront, CopiesOctets};
 ghost use Rattle.giop_c.specs.Client.Ends.{CancelsAtClient, ClosesClient, FeedsClient, SendsAtClient, TakesAtClient, WritesAtClient};
 
-use crate::client::entries::{ClientRow, body_of, exception_in, forward_in};
+use crate::client::entries::{ClientRow, body_of, contexts_of, exception_in, forward_in};
 use crate::client::replies::{copy_members, copy_outs, copy_reference};
+use crate::contexts::{context_at, copy_context};
 use crate::copying::{copy_front, copy_ids, copy_octets};
 use crate::status::{OK, SMALL};
 use giop_calls::ClientRule;
@@ -254,6 +256,30 @@ impl Caller {
         let end = self.lift(alloc).attach(&self.interface);
         let body = body_of(end.entry(id));
         let status = copy_members(alloc, &self.interface, body, order, buffer, size);
+        self.end = end.detach();
+        status
+    }
+
+    /// Writes the id of a service context of the Reply under an id, the first at index 0, and copies
+    /// its octets. It answers OK; SMALL, where the buffer has no room for them; or WAITS, where there
+    /// is no such context. It takes no memory.
+    pub fn context(
+        &mut self,
+        alloc: Global,
+        id: u32,
+        index: usize,
+        service: &mut u32,
+        buffer: &mut [u8],
+        size: &mut usize,
+    ) -> u32
+        ensures copies { CopiesContext (context_at index
+            (contexts_of (client_entry self.old.end.calls id)))
+            service.old service.new buffer.old buffer.new size.old size.new result }
+        ensures kept { self.new ≡ self.old }
+    {
+        let end = self.lift(alloc).attach(&self.interface);
+        let context = context_at(contexts_of(end.entry(id)), index);
+        let status = copy_context(context, service, buffer, size);
         self.end = end.detach();
         status
     }

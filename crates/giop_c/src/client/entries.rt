@@ -2,12 +2,13 @@
 ghost use Rattle.std.specs.Prelude.{◌≡◌, option_copied};
 ghost use Rattle.std.specs.Option.{option_map};
 ghost use Rattle.giop_msg.specs.Messages.Reply.{completion_in, completion_number, disposition_in, minor_in};
-ghost use Rattle.giop_c.specs.Client.Entries.{addressing_told, body_in, body_of, c_client_row, came_to, completion_told, exception_in, exception_of_body, forward_in, forward_of_body, kind_of, left, minor_told, number_told, over, place_told, reply_status, size_in};
+ghost use Rattle.giop_c.specs.Client.Entries.{addressing_told, body_in, body_of, c_client_row, came_to, completion_told, contexts_in, contexts_of, exception_in, exception_of_body, forward_in, forward_of_body, kind_of, left, minor_told, number_told, over, place_told, reply_status, size_in};
 
+use crate::contexts::count_in;
 use crate::end_records::outcome_number;
 use giop_calls::ClientEntry;
 use giop_ior::Ior;
-use giop_msg::{Completion, ReplyBody};
+use giop_msg::{Completion, ReplyBody, ServiceContexts};
 
 /// What is stored for the id of a call at a client, as C sees it: `giop_client_entry`.
 #[repr(C)]
@@ -15,6 +16,8 @@ use giop_msg::{Completion, ReplyBody};
 pub struct ClientRow {
     /// The number of octets of the repository id of the Reply's exception; 0 where it has none.
     pub exception: usize,
+    /// How many service contexts the Reply has; 0 where none came.
+    pub contexts: usize,
     /// The place of the fault of a reply that can't be decoded; else 0.
     pub at: usize,
     /// The number of that fault; else 0.
@@ -45,6 +48,7 @@ impl ClientRow {
         let body = body_of(entry);
         ClientRow {
             exception: size_in(exception_in(body)),
+            contexts: count_in(contexts_of(entry)),
             at: place_told(entry),
             number: number_told(entry),
             left: left(entry),
@@ -71,6 +75,22 @@ fn body_in(entry: &ClientEntry) -> Option<&ReplyBody>
 {
     match entry {
         ClientEntry::Done { reply, .. } => Some(&reply.body),
+        _ => None,
+    }
+}
+
+/// The service contexts of the Reply under an id, where it came and could be decoded.
+pub fn contexts_of(entry: Option<&ClientEntry>) -> Option<&ServiceContexts>
+    ensures { option_copied result ≡ contexts_of (option_copied entry.entry) }
+{
+    contexts_in(entry?)
+}
+
+fn contexts_in(entry: &ClientEntry) -> Option<&ServiceContexts>
+    ensures { option_copied result ≡ contexts_in entry.now }
+{
+    match entry {
+        ClientEntry::Done { reply, .. } => Some(&reply.contexts),
         _ => None,
     }
 }

@@ -4,7 +4,8 @@ ghost use Rattle.std.specs.Prelude.{◌≡◌};
 ghost use Rattle.std_alloc.specs.Arc.{arc_value};
 ghost use Rattle.giop_session.specs.Runs.ClientRuns.{client_entry};
 ghost use Rattle.giop_c.specs.Calls.{At, ok};
-ghost use Rattle.giop_c.specs.Client.Entries.{CopiesMembers, CopiesOuts, CopiesReference, body_of, c_client_row, exception_in, forward_in};
+ghost use Rattle.giop_c.specs.Client.Entries.{CopiesMembers, CopiesOuts, CopiesReference, body_of, c_client_row, contexts_of, exception_in, forward_in};
+ghost use Rattle.giop_c.specs.Contexts.{CopiesContext, context_at};
 ghost use Rattle.giop_c.specs.Copying.{CopiesOctets};
 ghost use Rattle.giop_c.specs.EndRecords.{c_order_of};
 
@@ -107,6 +108,33 @@ pub extern "C" fn giop_client_members(
         return CLOSED;
     };
     let status = caller.members(alloc, id, order_of(little_endian), buffer, size);
+    *client = ClientHandle::of(caller);
+    status
+}
+
+/// Writes the id of a service context of the Reply under an id, the first at index 0, copies its
+/// octets, and writes their number. It answers OK; SMALL, where the buffer has no room for them;
+/// WAITS, where there is no such context; or CLOSED.
+#[unsafe(no_mangle)]
+pub extern "C" fn giop_client_context(
+    alloc: Global,
+    client: &mut ClientHandle,
+    id: u32,
+    index: usize,
+    service: &mut u32,
+    buffer: &mut [u8],
+    size: &mut usize,
+) -> u32
+    ensures { At client.old.value client.new.value result
+        ((service.new ≡ service.old) × (buffer.new ≡ buffer.old) × (size.new ≡ size.old))
+        (λ old new. (new ≡ old)
+        × CopiesContext (context_at index (contexts_of (client_entry old.end.calls id)))
+        service.old service.new buffer.old buffer.new size.old size.new result) }
+{
+    let Some(mut caller) = client.take(alloc) else {
+        return CLOSED;
+    };
+    let status = caller.context(alloc, id, index, service, buffer, size);
     *client = ClientHandle::of(caller);
     status
 }

@@ -4,7 +4,7 @@ ghost use Rattle.giop_msg.specs.Messages.Reply.{completion_of};
 ghost use Rattle.giop_c.specs.Acts.{Tells, TellsAct, form_of};
 ghost use Rattle.giop_c.specs.Calls.{At};
 ghost use Rattle.giop_c.specs.EndRecords.{c_order_of};
-ghost use Rattle.giop_c.specs.Server.Answers.{AnswersOuts, AnswersSystem, AnswersUser};
+ghost use Rattle.giop_c.specs.Server.Answers.{AnswersForward, AnswersOuts, AnswersSystem, AnswersUser};
 ghost use Rattle.giop_c.specs.Server.Ends.{LocatesAtServer};
 
 use crate::act_fault::told_act;
@@ -93,6 +93,30 @@ pub extern "C" fn giop_server_answer_system(
     };
     let completion = completion_of(completion);
     let answer = served.answer_system(alloc, id, exception, minor, completion, form_of(form));
+    *server = ServerHandle::of(served);
+    told_act(answer, fault)
+}
+
+/// Answers a Request by where its object is: a reference, as its text, for this request alone, or,
+/// for any `permanent` but 0, from now on. It answers as `giop_server_answer`.
+#[unsafe(no_mangle)]
+pub extern "C" fn giop_server_answer_forward(
+    alloc: Global,
+    server: &mut ServerHandle,
+    id: u32,
+    reference: &[u8],
+    permanent: u32,
+    form: &SendForm,
+    fault: &mut EndFault,
+) -> u32
+    ensures { At server.old.value server.new.value result (fault.new ≡ fault.old)
+        (λ old new. TellsAct (λ answer. AnswersForward id reference.now (not (permanent == 0))
+        (form_of form.now) old answer new) fault.old fault.new result) }
+{
+    let Some(mut served) = server.take(alloc) else {
+        return CLOSED;
+    };
+    let answer = served.answer_forward(alloc, id, reference, permanent != 0, form_of(form));
     *server = ServerHandle::of(served);
     told_act(answer, fault)
 }

@@ -1,5 +1,5 @@
 //! What the program of a server answers to a Request: its outs or the members of an exception, as
-//! CDR octets that stand by themselves, or an exception of the broker.
+//! CDR octets that stand by themselves, an exception of the broker, or where its object is.
 ghost use Rattle.std.specs.Prelude.{◌≡◌, ◌≤◌, ◌^◌, length};
 ghost use Rattle.std_alloc.specs.Arc.{arc_value};
 ghost use Rattle.giop_cdr.specs.Ending.{ended};
@@ -9,7 +9,7 @@ ghost use Rattle.giop_msg.specs.Messages.Outcome.{FollowsToEnd};
 ghost use Rattle.giop_msg.specs.Messages.Reply.{exception_of, listed, outs_for};
 ghost use Rattle.giop_session.specs.Acts.Form.{IsForm};
 ghost use Rattle.giop_session.specs.Runs.ServerRuns.{server_entry};
-ghost use Rattle.giop_c.specs.Server.Answers.{AnswersOuts, AnswersSystem, AnswersUser, Replies, RepliesOrNot};
+ghost use Rattle.giop_c.specs.Server.Answers.{AnswersForward, AnswersOuts, AnswersSystem, AnswersUser, Replies, RepliesOrNot, forward_to};
 ghost use Rattle.giop_c.specs.Server.Entries.{request_of};
 ghost use Rattle.giop_c.specs.Values.{begun};
 
@@ -19,6 +19,7 @@ use crate::server::entries::{request_of, version_asked};
 use crate::server::served::Served;
 use crate::values::read_last_values;
 use giop_cdr::{CdrFault, OctetList, Order};
+use giop_ior::{Ior, ior_from_text};
 use giop_msg::{Completion, Reply, ReplyBody, ServiceContexts};
 use giop_session::{Form, SessionFault};
 use giop_types::ValueList;
@@ -97,6 +98,27 @@ impl Served {
         of_end(self.reply(alloc, id, body, form))
     }
 
+    /// Answers a Request by where its object is, for this request or from now on: a reference, as
+    /// its text.
+    pub fn answer_forward(
+        &mut self,
+        alloc: Global,
+        id: u32,
+        text: &[u8],
+        permanent: bool,
+        form: Form,
+    ) -> Result<(), ActFault>
+        ensures { AnswersForward id text.now permanent form self.old result self.new }
+    {
+        if !form.is_valid() {
+            return Err(ActFault::Form);
+        }
+        match ior_from_text(alloc, text) {
+            Ok(ior) => of_end(self.reply(alloc, id, forward_to(permanent, ior), form)),
+            Err(why) => Err(ActFault::Reference(why)),
+        }
+    }
+
     // The outs of the Request under an id that octets are; none, where no Request is known.
     fn outs(
         &mut self,
@@ -161,5 +183,16 @@ impl Served {
         let answer = end.answer(reply, form);
         self.end = end.detach();
         answer
+    }
+}
+
+// What a Reply brings that forwards, for this request or from now on.
+fn forward_to(permanent: bool, ior: Ior) -> ReplyBody
+    ensures { result ≡ forward_to permanent ior }
+{
+    if permanent {
+        ReplyBody::ForwardPerm(ior)
+    } else {
+        ReplyBody::Forward(ior)
     }
 }

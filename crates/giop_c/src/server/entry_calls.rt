@@ -3,8 +3,9 @@ ghost use Rattle.std.specs.Prelude.{◌≡◌};
 ghost use Rattle.std_alloc.specs.Arc.{arc_value};
 ghost use Rattle.giop_session.specs.Runs.ServerRuns.{server_entry};
 ghost use Rattle.giop_c.specs.Calls.{At, ok};
+ghost use Rattle.giop_c.specs.Contexts.{CopiesContext, context_at};
 ghost use Rattle.giop_c.specs.EndRecords.{c_order_of};
-ghost use Rattle.giop_c.specs.Server.Entries.{c_server_row, key_in, operation_in, request_of};
+ghost use Rattle.giop_c.specs.Server.Entries.{c_server_row, contexts_in, key_in, operation_in, request_of, target_of};
 ghost use Rattle.giop_c.specs.Copying.{CopiesOctets};
 ghost use Rattle.giop_c.specs.Values.{CopiesIns};
 
@@ -59,8 +60,9 @@ pub extern "C" fn giop_server_operation(
     status
 }
 
-/// Copies the key of the object of the Request under an id, and writes its size; none where the
-/// target is no key. It answers as `giop_server_operation`.
+/// Copies the key of the object of the Request or the LocateRequest under an id, and writes its
+/// size; none where the target is no key. It answers as `giop_server_operation`; WAITS, where
+/// neither is known.
 #[unsafe(no_mangle)]
 pub extern "C" fn giop_server_key(
     alloc: Global,
@@ -72,13 +74,41 @@ pub extern "C" fn giop_server_key(
     ensures { At server.old.value server.new.value result
         ((buffer.new ≡ buffer.old) × (size.new ≡ size.old))
         (λ old new. (new ≡ old)
-        × CopiesOctets (key_in (request_of (server_entry old.end.calls id)))
+        × CopiesOctets (key_in (target_of (server_entry old.end.calls id)))
         buffer.old buffer.new size.old size.new result) }
 {
     let Some(mut served) = server.take(alloc) else {
         return CLOSED;
     };
     let status = served.key(alloc, id, buffer, size);
+    *server = ServerHandle::of(served);
+    status
+}
+
+/// Writes the id of a service context of the Request under an id, the first at index 0, copies its
+/// octets, and writes their number. It answers OK; SMALL, where the buffer has no room for them;
+/// WAITS, where there is no such context; or CLOSED.
+#[unsafe(no_mangle)]
+pub extern "C" fn giop_server_context(
+    alloc: Global,
+    server: &mut ServerHandle,
+    id: u32,
+    index: usize,
+    service: &mut u32,
+    buffer: &mut [u8],
+    size: &mut usize,
+) -> u32
+    ensures { At server.old.value server.new.value result
+        ((service.new ≡ service.old) × (buffer.new ≡ buffer.old) × (size.new ≡ size.old))
+        (λ old new. (new ≡ old)
+        × CopiesContext (context_at index
+        (contexts_in (request_of (server_entry old.end.calls id))))
+        service.old service.new buffer.old buffer.new size.old size.new result) }
+{
+    let Some(mut served) = server.take(alloc) else {
+        return CLOSED;
+    };
+    let status = served.context(alloc, id, index, service, buffer, size);
     *server = ServerHandle::of(served);
     status
 }

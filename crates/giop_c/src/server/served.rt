@@ -1,23 +1,20 @@
 //! What a handle of a server's end holds, and its calls. Each attaches the end to its interface,
 //! makes one call of giop_session, and detaches it again.
-ghost use Rattle.std.specs.Prelude.{◌≡◌, ◌≤◌, ◌^◌, Some, None, length, OnOk, OnErr, option_copied};
+ghost use Rattle.std.specs.Prelude.{◌≡◌, ◌≤◌, ◌^◌, length, OnOk, OnErr};
 ghost use Rattle.std.specs.FinMap as finite;
 ghost use Rattle.std_alloc.specs.Arc.{arc_value};
 ghost use Rattle.giop_session.specs.Calls.SessionFaults.{error_message_of};
 ghost use Rattle.giop_session.specs.Runs.Driven.{end_state, new_end};
 ghost use Rattle.giop_session.specs.Runs.ServerRuns.{server_entry};
-ghost use Rattle.giop_c.specs.Server.Entries.{c_server_row, key_in, operation_in, request_of};
-ghost use Rattle.giop_c.specs.Values.{CopiesIns};
-ghost use Rattle.giop_c.specs.Copying.{CopiesFront, CopiesOctets};
+ghost use Rattle.giop_c.specs.Server.Entries.{c_server_row};
+ghost use Rattle.giop_c.specs.Copying.{CopiesFront};
 ghost use Rattle.giop_c.specs.Server.Ends.{ClosesServer, FeedsServer, LocatesAtServer, SendsAtServer, TakesAtServer, WritesAtServer};
 
-use crate::copying::{copy_front, copy_ids, copy_octets};
-use crate::server::entries::{ServerRow, key_in, operation_in, request_of};
-use crate::status::{OK, SMALL, WAITS};
-use crate::values::copy_values;
+use crate::copying::{copy_front, copy_ids};
+use crate::server::entries::ServerRow;
+use crate::status::{OK, SMALL};
 use giop_calls::ServerRule;
 use giop_cdr::Order;
-use giop_msg::Request;
 use giop_session::{Detached, Limits, SessionFault};
 use giop_types::Interface;
 use std::alloc::{AllocError, Global};
@@ -197,96 +194,4 @@ impl Served {
         self.end = end.detach();
         row
     }
-
-    /// Copies the operation of the Request under an id. It answers OK; SMALL, where the buffer has
-    /// no room for it; or WAITS, where no Request is known. It takes no memory.
-    pub fn operation(&mut self, alloc: Global, id: u32, buffer: &mut [u8], size: &mut usize) -> u32
-        ensures copies { CopiesOctets
-            (operation_in (request_of (server_entry self.old.end.calls id)))
-            buffer.old buffer.new size.old size.new result }
-        ensures kept { self.new ≡ self.old }
-    {
-        let end = self.lift(alloc).attach(&self.interface);
-        let status = copy_octets(operation_in(request_of(end.entry(id))), buffer, size);
-        self.end = end.detach();
-        status
-    }
-
-    /// Copies the key of the object of the Request under an id, as `operation`.
-    pub fn key(&mut self, alloc: Global, id: u32, buffer: &mut [u8], size: &mut usize) -> u32
-        ensures copies { CopiesOctets (key_in (request_of (server_entry self.old.end.calls id)))
-            buffer.old buffer.new size.old size.new result }
-        ensures kept { self.new ≡ self.old }
-    {
-        let end = self.lift(alloc).attach(&self.interface);
-        let status = copy_octets(key_in(request_of(end.entry(id))), buffer, size);
-        self.end = end.detach();
-        status
-    }
-
-    /// Copies the ins of the Request under an id as octets of a byte order, the first of them at
-    /// offset 0. It answers as `operation`; or NO_MEMORY; or FAULT, where the values aren't of
-    /// their descriptions.
-    pub fn ins(
-        &mut self,
-        alloc: Global,
-        id: u32,
-        order: Order,
-        buffer: &mut [u8],
-        size: &mut usize,
-    ) -> u32
-        ensures copies { CopiesIns (arc_value self.old.interface)
-            (request_of (server_entry self.old.end.calls id)) order
-            buffer.old buffer.new size.old size.new result }
-        ensures kept { self.new ≡ self.old }
-    {
-        let end = self.lift(alloc).attach(&self.interface);
-        let request = request_of(end.entry(id));
-        let status = copy_ins(alloc, &self.interface, request, order, buffer, size);
-        self.end = end.detach();
-        status
-    }
-}
-
-// Copies the ins of a Request as octets of a byte order, where there is one.
-fn copy_ins(
-    alloc: Global,
-    interface: &Interface,
-    request: Option<&Request>,
-    order: Order,
-    buffer: &mut [u8],
-    size: &mut usize,
-) -> u32
-    ensures { CopiesIns interface.now (option_copied request.entry) order
-        buffer.old buffer.new size.old size.new result }
-{
-    match request {
-        Some(request) => copy_ins_of(alloc, interface, request, order, buffer, size),
-        None => WAITS,
-    }
-}
-
-// Copies the ins of a Request as octets of a byte order.
-fn copy_ins_of(
-    alloc: Global,
-    interface: &Interface,
-    request: &Request,
-    order: Order,
-    buffer: &mut [u8],
-    size: &mut usize,
-) -> u32
-    ensures { CopiesIns interface.now (Some request.now) order
-        buffer.old buffer.new size.old size.new result }
-{
-    let Some(operation) = interface.operation(request.head.operation.as_slice()) else {
-        return WAITS;
-    };
-    copy_values(
-        alloc,
-        operation.ins.as_slice(),
-        request.body.as_slice(),
-        order,
-        buffer,
-        size,
-    )
 }

@@ -58,7 +58,7 @@ const CALL: CallHead = CallHead {
     target: 0,
 };
 
-const UNWRITTEN: EndFault = EndFault {
+pub const UNWRITTEN: EndFault = EndFault {
     at: 77,
     number: 77,
     part: 77,
@@ -71,7 +71,7 @@ const FORM: SendForm = SendForm {
 };
 
 // A client's end by the interface, of which the handle is freed.
-fn opened(alloc: Global) -> ClientHandle {
+pub fn opened(alloc: Global) -> ClientHandle {
     let mut client = ClientHandle::closed(alloc);
     let mut interface = InterfaceHandle::closed(alloc);
     let mut fault = TextFault {
@@ -89,7 +89,7 @@ fn opened(alloc: Global) -> ClientHandle {
 }
 
 // It calls add of 2 and 5 under the id 1.
-fn add(alloc: Global, client: &mut ClientHandle, fault: &mut EndFault) -> u32 {
+pub fn add(alloc: Global, client: &mut ClientHandle, fault: &mut EndFault) -> u32 {
     giop_client_call(
         alloc,
         client,
@@ -124,9 +124,10 @@ fn forward_in_36(alloc: Global, client: &mut ClientHandle) -> (u32, [u8; 36], us
     (status, buffer, size)
 }
 
-fn blank() -> ClientRow {
+pub fn blank() -> ClientRow {
     ClientRow {
         exception: 99,
+        contexts: 99,
         at: 99,
         number: 99,
         left: 99,
@@ -181,6 +182,7 @@ fn a_call_is_made_answered_and_taken_out(rt: HostRuntime) {
     assert_eq!(rt; giop_client_entry_of(alloc, &mut client, 1, &mut row), OK);
     let done = ClientRow {
         exception: 0,
+        contexts: 0,
         at: 0,
         number: 0,
         left: 0,

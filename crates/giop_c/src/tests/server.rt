@@ -22,7 +22,7 @@ const ADD: &[u8] =
 
 // A Request of 1.2, big endian, id 1, to the key "k", of add (9.4.2): its head ends at 44, and its
 // ins 2 and 5 begin at 48, a multiple of 8.
-const ASK: [u8; 56] = [
+pub const ASK: [u8; 56] = [
     b'G', b'I', b'O', b'P', 1, 2, 0, 0, 0, 0, 0, 44, 0, 0, 0, 1, 3, 0, 0, 0, 0, 0, 0, 0, 0, 0, 0,
     1, b'k', 0, 0, 0, 0, 0, 0, 4, b'a', b'd', b'd', 0, 0, 0, 0, 0, 0, 0, 0, 0, 0, 0, 0, 2, 0, 0, 0,
     5,
@@ -36,20 +36,20 @@ const SEVEN: [u8; 28] = [
     b'G', b'I', b'O', b'P', 1, 2, 0, 1, 0, 0, 0, 16, 0, 0, 0, 1, 0, 0, 0, 0, 0, 0, 0, 0, 0, 0, 0, 7,
 ];
 
-const UNWRITTEN: EndFault = EndFault {
+pub const UNWRITTEN: EndFault = EndFault {
     at: 77,
     number: 77,
     part: 77,
     id: 77,
 };
 
-const FORM: SendForm = SendForm {
+pub const FORM: SendForm = SendForm {
     piece: 4096,
     little_endian: 0,
 };
 
 // A server's end by the interface, of which the handle is freed.
-fn opened(alloc: Global) -> ServerHandle {
+pub fn opened(alloc: Global) -> ServerHandle {
     let mut server = ServerHandle::closed(alloc);
     let mut interface = InterfaceHandle::closed(alloc);
     let mut fault = TextFault {
@@ -66,12 +66,16 @@ fn opened(alloc: Global) -> ServerHandle {
     server
 }
 
-fn blank() -> ServerRow {
+pub fn blank() -> ServerRow {
     ServerRow {
         operation: 99,
         key: 99,
+        contexts: 99,
+        at: 99,
+        number: 99,
         left: 99,
         status: 99,
+        part: 99,
         kind: 99,
         awaits: 99,
         over: 99,
@@ -107,8 +111,12 @@ fn a_request_is_heard_answered_and_taken_out(rt: HostRuntime) {
     let asked = ServerRow {
         operation: 3,
         key: 1,
+        contexts: 0,
+        at: 0,
+        number: 0,
         left: 0,
         status: 0,
+        part: 0,
         kind: 2,
         awaits: 1,
         over: 0,

@@ -1,0 +1,137 @@
+//! What the Request or the LocateRequest under an id says, copied into the caller's buffers.
+ghost use Rattle.std.specs.Prelude.{◌≡◌, Some, option_copied};
+ghost use Rattle.std_alloc.specs.Arc.{arc_value};
+ghost use Rattle.giop_session.specs.Runs.ServerRuns.{server_entry};
+ghost use Rattle.giop_c.specs.Contexts.{CopiesContext, context_at};
+ghost use Rattle.giop_c.specs.Copying.{CopiesOctets};
+ghost use Rattle.giop_c.specs.Server.Entries.{contexts_in, key_in, operation_in, request_of, target_of};
+ghost use Rattle.giop_c.specs.Values.{CopiesIns};
+
+use crate::contexts::{context_at, copy_context};
+use crate::copying::copy_octets;
+use crate::server::entries::{contexts_in, key_in, operation_in, request_of, target_of};
+use crate::server::served::Served;
+use crate::status::WAITS;
+use crate::values::copy_values;
+use giop_cdr::Order;
+use giop_msg::Request;
+use giop_types::Interface;
+use std::alloc::Global;
+
+impl Served {
+    /// Copies the operation of the Request under an id. It answers OK; SMALL, where the buffer has
+    /// no room for it; or WAITS, where no Request is known. It takes no memory.
+    pub fn operation(&mut self, alloc: Global, id: u32, buffer: &mut [u8], size: &mut usize) -> u32
+        ensures copies { CopiesOctets
+            (operation_in (request_of (server_entry self.old.end.calls id)))
+            buffer.old buffer.new size.old size.new result }
+        ensures kept { self.new ≡ self.old }
+    {
+        let end = self.lift(alloc).attach(&self.interface);
+        let status = copy_octets(operation_in(request_of(end.entry(id))), buffer, size);
+        self.end = end.detach();
+        status
+    }
+
+    /// Copies the key of the object of the Request or the LocateRequest under an id, as `operation`.
+    pub fn key(&mut self, alloc: Global, id: u32, buffer: &mut [u8], size: &mut usize) -> u32
+        ensures copies { CopiesOctets (key_in (target_of (server_entry self.old.end.calls id)))
+            buffer.old buffer.new size.old size.new result }
+        ensures kept { self.new ≡ self.old }
+    {
+        let end = self.lift(alloc).attach(&self.interface);
+        let status = copy_octets(key_in(target_of(end.entry(id))), buffer, size);
+        self.end = end.detach();
+        status
+    }
+
+    /// Writes the id of a service context of the Request under an id, the first at index 0, and
+    /// copies its octets. It answers as `operation`; WAITS also where there are no more. It takes no
+    /// memory.
+    pub fn context(
+        &mut self,
+        alloc: Global,
+        id: u32,
+        index: usize,
+        service: &mut u32,
+        buffer: &mut [u8],
+        size: &mut usize,
+    ) -> u32
+        ensures copies { CopiesContext (context_at index
+            (contexts_in (request_of (server_entry self.old.end.calls id))))
+            service.old service.new buffer.old buffer.new size.old size.new result }
+        ensures kept { self.new ≡ self.old }
+    {
+        let end = self.lift(alloc).attach(&self.interface);
+        let context = context_at(contexts_in(request_of(end.entry(id))), index);
+        let status = copy_context(context, service, buffer, size);
+        self.end = end.detach();
+        status
+    }
+
+    /// Copies the ins of the Request under an id as octets of a byte order, the first of them at
+    /// offset 0. It answers as `operation`; or NO_MEMORY; or FAULT, where the values aren't of
+    /// their descriptions.
+    pub fn ins(
+        &mut self,
+        alloc: Global,
+        id: u32,
+        order: Order,
+        buffer: &mut [u8],
+        size: &mut usize,
+    ) -> u32
+        ensures copies { CopiesIns (arc_value self.old.interface)
+            (request_of (server_entry self.old.end.calls id)) order
+            buffer.old buffer.new size.old size.new result }
+        ensures kept { self.new ≡ self.old }
+    {
+        let end = self.lift(alloc).attach(&self.interface);
+        let request = request_of(end.entry(id));
+        let status = copy_ins(alloc, &self.interface, request, order, buffer, size);
+        self.end = end.detach();
+        status
+    }
+}
+
+// Copies the ins of a Request as octets of a byte order, where there is one.
+fn copy_ins(
+    alloc: Global,
+    interface: &Interface,
+    request: Option<&Request>,
+    order: Order,
+    buffer: &mut [u8],
+    size: &mut usize,
+) -> u32
+    ensures { CopiesIns interface.now (option_copied request.entry) order
+        buffer.old buffer.new size.old size.new result }
+{
+    match request {
+        Some(request) => copy_ins_of(alloc, interface, request, order, buffer, size),
+        None => WAITS,
+    }
+}
+
+// Copies the ins of a Request as octets of a byte order.
+fn copy_ins_of(
+    alloc: Global,
+    interface: &Interface,
+    request: &Request,
+    order: Order,
+    buffer: &mut [u8],
+    size: &mut usize,
+) -> u32
+    ensures { CopiesIns interface.now (Some request.now) order
+        buffer.old buffer.new size.old size.new result }
+{
+    let Some(operation) = interface.operation(request.head.operation.as_slice()) else {
+        return WAITS;
+    };
+    copy_values(
+        alloc,
+        operation.ins.as_slice(),
+        request.body.as_slice(),
+        order,
+        buffer,
+        size,
+    )
+}
