@@ -1,10 +1,12 @@
--- Parts of the JSON lines of `trace`.
+-- Parts of the JSON lines.
 use Rattle.std.specs.Prelude.{ℕ, Bool, ◌&&◌, ◌==◌, nat_le, List, [], ◌∷◌, ◌++◌, Option, Some, None, codes, if◌then◌else◌}
-use Rattle.std.specs.Fmt.{decimal, signed_decimal}
+use Rattle.std.specs.Fmt.{decimal}
 use Rattle.std.specs.List.{flat_map, list_all}
 use Rattle.giop_cdr.specs.declared.fault.CdrFault.{CdrFault}
 use Rattle.giop_cdr.specs.Faults.{cdr_kind_number, cdr_kind_name}
 use Rattle.giop_msg.specs.declared.fault.WireFault.{WireFault}
+use Rattle.giop_msg.specs.declared.messages.request_fault.RequestFault.{RequestFault}
+use Rattle.giop_msg.specs.declared.messages.request_fault.RequestFault.TheVariants.{Header, Operation, Body}
 use Rattle.giop_msg.specs.declared.target.Target.TheVariants.{Key, Profile, Reference}
 use Rattle.giop_msg.specs.Fault.{wire_kind_number, wire_kind_name}
 use Rattle.giop_msg.specs.Target.{AnyTarget}
@@ -65,11 +67,21 @@ abbrev pub key_text_json : List ℕ → List ℕ
 key_text_json key =
     if is_printable key then codes ",\"key_text\":" ++ text_json key else []
 
--- the target of a Request, as members behind others
+-- an object key, as members
+unfoldable pub key_json : List ℕ → List ℕ
+key_json key = codes "\"key\":" ++ (hex_json key ++ key_text_json key)
+
+-- the target of a Request or a LocateRequest, as members
 abbrev pub target_json : AnyTarget → List ℕ
-target_json (Key key) = codes ",\"key\":" ++ (hex_json key ++ key_text_json key)
-target_json (Profile profile) = codes ",\"profile_tag\":" ++ decimal profile.tag
-target_json (Reference index ior) = codes ",\"reference_index\":" ++ decimal index
+target_json (Key key) = key_json key
+target_json (Profile profile) = codes "\"profile_tag\":" ++ decimal profile.tag
+target_json (Reference index ior) = codes "\"reference_index\":" ++ decimal index
+
+-- why a Request or a LocateRequest can't be decoded, as members: which part, and its fault
+abbrev pub request_fault_json : RequestFault → List ℕ
+request_fault_json (Header e) = codes "\"part\":\"header\",\"fault\":" ++ cdr_fault_json e
+request_fault_json Operation = codes "\"part\":\"operation\""
+request_fault_json (Body e) = codes "\"part\":\"body\",\"fault\":" ++ cdr_fault_json e
 
 -- how a direction ends: with a fault in a header, or with so many octets left
 abbrev pub direction_end_json : Direction → Option WireFault → ℕ → List ℕ

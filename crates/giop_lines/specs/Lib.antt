@@ -4,4 +4,7 @@ pub mod ConvertLines
 pub mod TableLines
 pub mod TraceLines
 pub mod JsonLines
+pub mod DumpJson
+pub mod TableJson
+pub mod ConvertJson
 pub mod BodyLines

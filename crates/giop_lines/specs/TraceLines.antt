@@ -1,6 +1,6 @@
 -- The lines that `trace` writes of calls, without their newlines.
-use Rattle.std.specs.Prelude.{ℕ, Bool, true, false, List, [], ◌++◌, Option, Some, None, Result, Ok, Err, codes, if◌then◌else◌}
-use Rattle.std.specs.Fmt.{decimal, signed_decimal}
+use Rattle.std.specs.Prelude.{ℕ, List, ◌++◌, Option, Some, None, codes}
+use Rattle.std.specs.Fmt.{decimal}
 use Rattle.std.specs.Int.{to_be_bytes, w32}
 use Rattle.giop_msg.specs.declared.fault.WireFault.{WireFault}
 use Rattle.giop_msg.specs.Fault.{wire_kind_number, wire_fault_text}

@@ -1,15 +1,33 @@
-//! Parts of the JSON lines of `trace`. Their texts are specs/JsonLines.antt.
+//! The JSON lines. The texts of what several commands tell are specs/JsonLines.antt, those of one
+//! alone specs/DumpJson.antt, TableJson.antt and ConvertJson.antt.
 ghost use Rattle.std.specs.Prelude.{◌≡◌};
 ghost use Rattle.giop_lines.specs.JsonLines.{is_printable};
 
+mod body;
+mod end;
+mod entry;
+mod head;
+mod message;
+mod reference;
+mod refusal;
+mod target;
+
 use crate::HexText;
 use crate::traced::DirectionText;
+pub use body::{InsJson, JoinedJson, RequestFaultJson, UndecodedJson, UnjoinedJson};
+pub use end::{FaultJson, RestJson};
+pub use entry::{AskedJson, ServerEntryJson};
 use giop_cdr::CdrFault;
-use giop_msg::{Target, WireFault};
+use giop_msg::WireFault;
 use giop_trace::Direction;
 use giop_types::FormFault;
+pub use head::{HeadFaultJson, LocateReplyJson, LocateRequestJson, ReplyJson, RequestJson};
+pub use message::MessageJson;
 use percent_encoding::ascii_str;
+pub use reference::{CorbalocJson, IiopJson, IorJson, ProfileJson, TypeJson};
+pub use refusal::RefusalJson;
 use std::fmt;
+pub use target::{KeyJson, TargetJson};
 
 // An octet in a text of JSON: one of 0x20 to 0x7E stands for itself, but `"` and `\`, behind which
 // a `\` stands; any other is `\u00` and two hexadecimal digits.
@@ -160,29 +178,6 @@ fn is_printable(octets: &[u8]) -> bool
     ensures { result ≡ is_printable octets.now }
 {
     octets.iter().all(|octet| 0x20 <= *octet && *octet <= 0x7E)
-}
-
-/// The target of a Request or a LocateRequest, as members behind others: `,"key":HEX` and where it
-/// is printable `,"key_text":TEXT`; or `,"profile_tag":TAG`, or `,"reference_index":INDEX`.
-#[derive(Clone, Copy)]
-pub struct TargetJson<'a>(pub &'a Target);
-
-impl fmt::Display for TargetJson<'_> {
-    ghost use Rattle.std.specs.Prelude.{Some};
-    ghost use Rattle.giop_lines.specs.JsonLines.{target_json};
-
-    ghost output = { λ t. Some (target_json t.0.now) };
-
-    fn fmt<W: fmt::Write>(&self, f: &mut fmt::Formatter<W>) -> fmt::Result {
-        match self.0 {
-            Target::Key(key) => {
-                let (hex, text) = (HexJson(key.as_slice()), KeyTextJson(key.as_slice()));
-                write!(f, ",\"key\":{hex}{text}")
-            }
-            Target::Profile(profile) => write!(f, ",\"profile_tag\":{}", profile.tag),
-            Target::Reference { index, ior: _ } => write!(f, ",\"reference_index\":{}", *index),
-        }
-    }
 }
 
 /// How a direction ends: `{"end":"client","rest":N}`, or `{"end":"client","fault":FAULT}` where the

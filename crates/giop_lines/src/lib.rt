@@ -1,7 +1,8 @@
 //! The lines that giopctl writes, without their newlines: of messages, of the entries of calls, of
 //! references and of what a trace tells, in words and as JSON. Each is pinned to a text in
-//! specs/Lines.antt, BodyLines.antt, TableLines.antt, ConvertLines.antt, TraceLines.antt or
-//! JsonLines.antt, and docs/giopctl.md or docs/FORMATS.md shows it: change all three.
+//! specs/Lines.antt, BodyLines.antt, TableLines.antt, ConvertLines.antt or TraceLines.antt, and
+//! docs/giopctl.md shows it; or, as JSON, in specs/JsonLines.antt, DumpJson.antt, TableJson.antt or
+//! ConvertJson.antt, and docs/FORMATS.md shows it: change all three.
 #![tactic(auto)]
 
 mod body;
@@ -25,7 +26,10 @@ pub use cdr_fault::CdrFaultText;
 pub use client_entry::{ClientEntryLine, CompletionText, ReplyText};
 pub use end::{FaultLine, HeadFaultLine, RestLine};
 pub use json::{
-    CdrFaultJson, DirectionEndJson, HexJson, IdJson, RefusedJson, TargetJson, TextJson,
+    AskedJson, CdrFaultJson, CorbalocJson, DirectionEndJson, FaultJson, HeadFaultJson, HexJson,
+    IdJson, IiopJson, InsJson, IorJson, JoinedJson, KeyJson, LocateReplyJson, LocateRequestJson,
+    MessageJson, ProfileJson, RefusalJson, RefusedJson, ReplyJson, RequestFaultJson, RequestJson,
+    RestJson, ServerEntryJson, TargetJson, TextJson, TypeJson, UndecodedJson, UnjoinedJson,
 };
 pub use locate::{LocateReplyLine, LocateRequestLine};
 pub use message::MessageLine;

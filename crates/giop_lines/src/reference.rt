@@ -43,9 +43,9 @@ impl fmt::Display for IiopLine<'_> {
     }
 }
 
-// A version of IIOP: `MAJOR.MINOR`.
+/// A version of IIOP: `MAJOR.MINOR`.
 #[derive(Clone, Copy)]
-struct VersionText(u8, u8);
+pub struct VersionText(pub u8, pub u8);
 
 impl fmt::Display for VersionText {
     ghost use Rattle.std.specs.Prelude.{Some};

@@ -63,9 +63,9 @@ impl fmt::Display for AskedText<'_> {
     }
 }
 
-// Whether an object is here: `1` or `0`.
+/// Whether an object is here: `1` or `0`.
 #[derive(Clone, Copy)]
-struct HereText(bool);
+pub struct HereText(pub bool);
 
 impl fmt::Display for HereText {
     ghost use Rattle.std.specs.Prelude.{Some};

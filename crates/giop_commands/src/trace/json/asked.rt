@@ -4,8 +4,7 @@ use crate::failure::Failure;
 use crate::serve::table::request_ins;
 use crate::trace::asked::{Asked, is_answer};
 use crate::trace::json::{write_message, write_null, write_what};
-use giop_cdr::CdrFault;
-use giop_lines::{CdrFaultJson, HexJson, TargetJson, TextJson};
+use giop_lines::{HexJson, RequestFaultJson, TargetJson, TextJson};
 use giop_msg::{Msg, Request, RequestFault};
 use giop_trace::Flow;
 use giop_types::Interface;
@@ -24,7 +23,7 @@ pub fn write_asked_json<W: Write>(
         (Asked::Request(request), _) => write_request(alloc, interface, request, writer),
         (Asked::Locate(request), _) => {
             let target = TargetJson(&request.target);
-            write!(writer, "{{\"what\":\"locate\"{target}}}")?;
+            write!(writer, "{{\"what\":\"locate\",{target}}}")?;
             Ok(())
         }
         (Asked::Undecoded(fault), Some(message)) => write_undecoded(*fault, message, writer),
@@ -45,7 +44,7 @@ fn write_request<W: Write>(
     let operation = TextJson(request.head.operation.as_slice());
     write!(
         writer,
-        "{{\"what\":\"request\"{target},\"operation\":{operation},\"ins\":{}}}",
+        "{{\"what\":\"request\",{target},\"operation\":{operation},\"ins\":{}}}",
         ins.as_str()
     )?;
     Ok(())
@@ -64,32 +63,11 @@ fn write_undecoded<W: Write>(
     message: &Msg,
     writer: &mut W,
 ) -> Result<(), Failure> {
-    match fault {
-        RequestFault::Header(fault) => write_part("header", fault, message, writer),
-        RequestFault::Operation => {
-            let octets = HexJson(message.payload.as_slice());
-            write!(
-                writer,
-                "{{\"what\":\"undecoded\",\"part\":\"operation\",\"octets\":{octets}}}"
-            )?;
-            Ok(())
-        }
-        RequestFault::Body(fault) => write_part("body", fault, message, writer),
-    }
-}
-
-// A part that can't be decoded, and why.
-fn write_part<W: Write>(
-    part: &str,
-    fault: CdrFault,
-    message: &Msg,
-    writer: &mut W,
-) -> Result<(), Failure> {
-    let fault = CdrFaultJson(fault);
+    let fault = RequestFaultJson(fault);
     let octets = HexJson(message.payload.as_slice());
     write!(
         writer,
-        "{{\"what\":\"undecoded\",\"part\":\"{part}\",\"fault\":{fault},\"octets\":{octets}}}"
+        "{{\"what\":\"undecoded\",{fault},\"octets\":{octets}}}"
     )?;
     Ok(())
 }
