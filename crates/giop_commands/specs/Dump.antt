@@ -1,76 +1,21 @@
--- The whole text of `dump`, and what a run of it does.
-use Rattle.std.specs.Prelude.{◌≡◌, ◌≢◌, ℕ, ◌+◌, ◌-◌, List, [], ◌∷◌, ◌++◌, Option, Some, None, length, take, nat_le, if◌then◌else◌, Result, Ok, Err, ⊤}
+-- The whole text of `dump`, and what a run of it does, however the messages are told.
+use Rattle.std.specs.Prelude.{◌≡◌, ◌≢◌, ℕ, ◌+◌, List, [], ◌∷◌, ◌++◌, Option, Some, None, length, take, nat_le, if◌then◌else◌, ⊤}
 use Rattle.std.specs.FinMap as finite
 use Rattle.std.specs.List.{flat_map}
 use Rattle.std.specs.Io.KnownBytes.{Appends}
-use Rattle.giop_cdr.specs.declared.fault.CdrFault.{CdrFault}
 use Rattle.giop_frag.specs.Gathered.{Lists}
 use Rattle.giop_msg.specs.declared.fault.WireFault.{WireFault}
-use Rattle.giop_msg.specs.declared.kind.Kind.{Kind}
-use Rattle.giop_msg.specs.declared.kind.Kind.TheVariants.{Request, Reply, LocateRequest, LocateReply}
 use Rattle.giop_msg.specs.declared.msg.Msg.{Msg}
-use Rattle.giop_msg.specs.declared.locate_reply_head.LocateReplyHead.{LocateReplyHead}
-use Rattle.giop_msg.specs.Joined.{body_place, head_of_joined, right_behind, whole_of_joined}
-use Rattle.giop_msg.specs.Locate.{AnyLocateRequest, locate_reply_head, locate_request}
-use Rattle.giop_msg.specs.ReplyHead.{AnyReplyHead, reply_head}
-use Rattle.giop_msg.specs.RequestHead.{Head, request_head}
 use Rattle.giop_msg.specs.Header.{header_fault}
 use Rattle.giop_msg.specs.Msg.{message_octets}
-use Rattle.giop_msg.specs.RequestId.{request_id_of}
 use Rattle.giop_msg.specs.Stream.{Msgs}
 use Rattle.giop_commands.specs.declared.status.Status.{Status}
 use Rattle.giop_commands.specs.declared.status.Status.TheVariants.{Done, Refused, LimitPassed, Usage, InputOutput, Memory}
-use Rattle.giop_lines.specs.Lines.{message_line, request_line, reply_line, locate_request_line, locate_reply_line, head_fault_line}
-use Rattle.giop_lines.specs.Lines.{fault_line, rest_line}
 use Rattle.giop_commands.specs.Status.{header_status}
 
 -- a line and its newline
 abbrev pub ended : List ℕ → List ℕ
 ended line = line ++ 10 ∷ []
-
--- the offset behind a message's last octet
-abbrev pub end_of : Msg → ℕ
-end_of m = 12 + length m.payload
-
--- the line of a Request's head and of the body that ends at an offset, or of the head's fault
-abbrev pub request_text : ℕ → Result (Head × ℕ) CdrFault → List ℕ
-request_text end (Ok head) = ended (request_line head.0 (end - head.1))
-request_text end (Err e) = ended (head_fault_line e)
-
--- the line of a Reply's head and of the body that ends at an offset, or of the head's fault
-abbrev pub reply_text : ℕ → Result (AnyReplyHead × ℕ) CdrFault → List ℕ
-reply_text end (Ok head) = ended (reply_line head.0 (end - head.1))
-reply_text end (Err e) = ended (head_fault_line e)
-
--- the line of a LocateRequest, or of its fault
-abbrev pub locate_request_text : Result AnyLocateRequest CdrFault → List ℕ
-locate_request_text (Ok request) = ended (locate_request_line request)
-locate_request_text (Err e) = ended (head_fault_line e)
-
--- the line of a LocateReply and of the octets behind its status, or of its fault
-abbrev pub locate_reply_text : ℕ → Result (LocateReplyHead × ℕ) CdrFault → List ℕ
-locate_reply_text end (Ok head) = ended (locate_reply_line head.0 (end - head.1))
-locate_reply_text end (Err e) = ended (head_fault_line e)
-
--- the second line of a message of a kind, where it has one
-unfoldable pub second_text : Kind → Msg → List ℕ
-second_text Request m =
-    request_text (end_of m)
-    (head_of_joined (request_head m.version) (body_place m.version) m.order m.payload)
-second_text Reply m =
-    reply_text (end_of m)
-    (head_of_joined (reply_head m.version) (body_place m.version) m.order m.payload)
-second_text LocateRequest m =
-    locate_request_text (whole_of_joined (locate_request m.version) m.order m.payload)
-second_text LocateReply m =
-    locate_reply_text (end_of m)
-    (head_of_joined (locate_reply_head m.version) right_behind m.order m.payload)
-second_text _ m = []
-
--- the lines of a message that begins at an offset of the file; a first fragment has one line alone
-abbrev pub message_text : ℕ → Msg → List ℕ
-message_text at m =
-    ended (message_line at m (request_id_of m)) ++ (if m.more then [] else second_text m.kind m)
 
 -- how a file is told: the lines of a message that begins at an offset, by what is gathered of those
 -- before it in pieces; what is gathered behind it; and the last line, where so many octets are
@@ -80,15 +25,6 @@ pub record Telling : Type 0 where
   pub after : Lists → Msg → Lists
   pub rest : ℕ → List ℕ
   pub fault : ℕ → WireFault → List ℕ
-
--- by heads alone: nothing is gathered
-abbrev pub heads_alone : Telling
-heads_alone = record {
-  lines = λ lists at m. message_text at m;
-  after = λ lists m. lists;
-  rest = rest_line;
-  fault = fault_line;
-}
 
 -- the lines of messages, the first of which begins at an offset of the file
 abbrev pub messages_text : Telling → Lists → ℕ → List Msg → List ℕ

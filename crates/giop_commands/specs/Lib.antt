@@ -1,5 +1,7 @@
 pub mod Status
 pub mod Dump
+pub mod Forms
+pub mod DumpHeads
 pub mod Joining
 pub mod DumpBodies
 pub mod Convert

@@ -2,8 +2,8 @@
 use Rattle.std.specs.Prelude.{ℕ, ◌==◌, List, Option, Some, None, if◌then◌else◌}
 use Rattle.giop_msg.specs.declared.fault.WireFault.{WireFault}
 use Rattle.giop_trace.specs.declared.direction.Direction.{Direction}
-use Rattle.giop_commands.specs.declared.trace.call_line.LineForm.{LineForm}
-use Rattle.giop_commands.specs.declared.trace.call_line.LineForm.TheVariants.{Text, Json}
+use Rattle.giop_commands.specs.declared.form.LineForm.{LineForm}
+use Rattle.giop_commands.specs.declared.form.LineForm.TheVariants.{Text, Json}
 use Rattle.giop_commands.specs.declared.status.Status.{Status}
 use Rattle.giop_commands.specs.declared.status.Status.TheVariants.{Done, Refused, LimitPassed}
 use Rattle.giop_lines.specs.JsonLines.{direction_end_json}

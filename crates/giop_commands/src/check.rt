@@ -14,6 +14,7 @@ use crate::check::strict::strictly;
 use crate::dump::BehindFault;
 use crate::dump::messages::write_rest;
 use crate::failure::Failure;
+use crate::form::LineForm;
 use crate::pieces::{PieceBuffer, drain};
 use crate::session::fault_line::SessionFaultLine;
 use crate::session::table::write_table;
@@ -123,7 +124,7 @@ fn write_last<S: Hearing, W: Write>(end: &End<'_, S>, writer: &mut W) -> Result<
 {
     match end.fault() {
         Some(fault) => write_fault(fault, writer),
-        None => write_rest(end.rest(), writer),
+        None => write_rest(LineForm::Text, end.rest(), writer),
     }
 }
 

@@ -1,9 +1,11 @@
 //! `dump`: each message of a file, and how the file ends. Its meaning is `Dumps` and `DumpsKnown`
-//! in specs/Dump.antt: change both.
+//! in specs/Dump.antt, of the telling that specs/DumpHeads.antt or DumpBodies.antt says: change them
+//! together.
 ghost use Rattle.std.specs.Prelude.{◌≡◌, ◌++◌, IfErr, IfOk, OnOk, option_copied};
 ghost use Rattle.std.specs.Io.KnownBytes.{IsAtEnd};
 ghost use Rattle.giop_commands.specs.DumpBodies.{telling_by};
-ghost use Rattle.giop_commands.specs.Dump.{Dumps, DumpsKnown, heads_alone, no_lists};
+ghost use Rattle.giop_commands.specs.Dump.{Dumps, DumpsKnown, no_lists};
+ghost use Rattle.giop_commands.specs.DumpHeads.{heads_alone};
 
 pub mod bodies;
 pub mod heads;
@@ -15,6 +17,7 @@ pub mod text;
 use crate::dump::messages::{write_fault, write_rest};
 use crate::dump::teller::Teller;
 use crate::failure::Failure;
+use crate::form::LineForm;
 use crate::pieces::{PieceBuffer, drain};
 use crate::status::Status;
 use giop_msg::Framer;
@@ -35,24 +38,26 @@ pub enum BehindFault {
     Leave,
 }
 
-/// Writes the messages that the octets of a file are, and then how many octets are left, or the
-/// fault that ends it. It is `Done` where the file is messages and nothing else, else `Refused`.
+/// Writes the messages that the octets of a file are, in lines of text, and then how many octets are
+/// left, or the fault that ends it. It is `Done` where the file is messages and nothing else, else
+/// `Refused`.
 ///
 /// Where writing fails, it is `InputOutput`. Where it is out of memory, it is `Memory`. After
 /// either, a part of the text may be written.
 pub fn dump_octets<W: Write>(alloc: Global, octets: &[u8], writer: &mut W) -> Status
-    ensures { Dumps heads_alone MESSAGE_LIMIT octets.now (W.contents writer.old)
+    ensures { Dumps (heads_alone LineForm.Text) MESSAGE_LIMIT octets.now (W.contents writer.old)
         (W.contents writer.new) result }
 {
     let mut left = octets;
-    match dump_stream(alloc, MESSAGE_LIMIT, &mut left, writer, BehindFault::Read) {
+    let (limit, form) = (MESSAGE_LIMIT, LineForm::Text);
+    match dump_stream(alloc, limit, form, &mut left, writer, BehindFault::Read) {
         Ok(status) => status,
         Err(failure) => failure.status(),
     }
 }
 
-/// Does what `dump_octets` does, for the octets that a reader gives and messages of up to this
-/// size, the header not counted. Where something fails, what failed is returned in place of a
+/// Does what `dump_octets` does, in a form, for the octets that a reader gives and messages of up to
+/// this size, the header not counted. Where something fails, what failed is returned in place of a
 /// status. No more octets are held than a message and a piece.
 ///
 /// The writer is flushed before each read, so that a message is shown as soon as it is whole. What
@@ -60,16 +65,17 @@ pub fn dump_octets<W: Write>(alloc: Global, octets: &[u8], writer: &mut W) -> St
 pub fn dump_stream<R: Read, W: Write>(
     alloc: Global,
     limit: u32,
+    form: LineForm,
     reader: &mut R,
     writer: &mut W,
     behind: BehindFault,
 ) -> Result<Status, Failure>
-    ensures text { IfOk result (DumpsKnown heads_alone limit (R.remaining reader.old)
+    ensures text { IfOk result (DumpsKnown (heads_alone form) limit (R.remaining reader.old)
         (W.contents writer.old) (W.contents writer.new)) }
     ensures end { OnOk result (behind ≡ BehindFault.Read → IsAtEnd (R.remaining reader.new)) }
     ensures done { IfOk result (λ status. status ≡ Status.Done → IsAtEnd (R.remaining reader.new)) }
 {
-    let mut teller = Teller::of_heads(alloc);
+    let mut teller = Teller::of_heads(alloc, form);
     dump_by(alloc, &mut teller, limit, reader, writer, behind)
 }
 
@@ -83,7 +89,7 @@ pub fn dump_by<R: Read, W: Write>(
     behind: BehindFault,
 ) -> Result<Status, Failure>
     requires { teller.old.gather.lists ≡ no_lists }
-    ensures text { let telling = telling_by (option_copied teller.old.interface)
+    ensures text { let telling = telling_by (option_copied teller.old.interface) teller.old.form
         teller.old.gather.limit in
         IfOk result (DumpsKnown telling limit (R.remaining reader.old)
         (W.contents writer.old) (W.contents writer.new)) }
@@ -107,7 +113,7 @@ pub fn dump_by<R: Read, W: Write>(
                 writer.flush()?;
                 let piece = buffer.fill(reader)?;
                 if piece.is_empty() {
-                    return write_rest(framer.rest(), writer);
+                    return write_rest(teller.form, framer.rest(), writer);
                 }
                 feed(&mut framer, piece)?;
             }
@@ -115,7 +121,7 @@ pub fn dump_by<R: Read, W: Write>(
                 if behind == BehindFault::Read {
                     drain(&mut buffer, reader)?;
                 }
-                return write_fault(at, fault, writer);
+                return write_fault(teller.form, at, fault, writer);
             }
         }
     }

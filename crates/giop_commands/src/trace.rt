@@ -13,8 +13,9 @@ mod json;
 pub mod text;
 
 use crate::failure::Failure;
+use crate::form::LineForm;
 use crate::status::Status;
-use crate::trace::call_line::{LineForm, Unanswered, write_call};
+use crate::trace::call_line::{Unanswered, write_call};
 use crate::trace::incoming::{Brought, Incoming};
 use giop_trace::{Direction, Observer};
 use giop_types::Interface;

@@ -54,6 +54,8 @@ pub struct DumpWords<'a> {
     pub limit: u32,
     /// The most octets of all Requests of which a piece is still to come.
     pub gathered: u64,
+    /// The form of its lines.
+    pub form: LineForm,
     pub ghost bounded: { gathered ≤ 2 ^ 62 },
 }
 
@@ -343,6 +345,7 @@ fn dumped<'a>(matches: &ArgMatches<'a>) -> Result<Option<Task<'a>>, &'static str
         file,
         limit,
         gathered,
+        form: form_of(matches),
     })))
 }
 
@@ -374,10 +377,7 @@ fn traced<'a>(matches: &ArgMatches<'a>) -> Result<Option<Task<'a>>, &'static str
         apart(interface, server)?;
         apart(client, server)?;
     }
-    let form = match matches.get_flag("json") {
-        true => LineForm::Json,
-        false => LineForm::Text,
-    };
+    let form = form_of(matches);
     Ok(Some(Task::Trace(TraceWords {
         interface,
         client,
@@ -385,6 +385,14 @@ fn traced<'a>(matches: &ArgMatches<'a>) -> Result<Option<Task<'a>>, &'static str
         limit,
         form,
     })))
+}
+
+// The form of the lines of a command that takes `--json`.
+fn form_of(matches: &ArgMatches<'_>) -> LineForm {
+    match matches.get_flag("json") {
+        true => LineForm::Json,
+        false => LineForm::Text,
+    }
 }
 
 fn converted<'a>(matches: &ArgMatches<'a>, kind: Option<ConvertKind<'a>>) -> Option<Task<'a>> {
@@ -420,6 +428,14 @@ fn giopctl<'a>(alloc: Global) -> Result<Command<'a>, AllocError> {
         .subcommand(serve(alloc)?)
 }
 
+// The word of a command that may write lines of JSON.
+fn json<'a>(alloc: Global) -> Arg<'a> {
+    Arg::new(alloc, "json")
+        .long("json")
+        .action(ArgAction::SetTrue)
+        .help("Each line is an object of JSON")
+}
+
 fn dump<'a>(alloc: Global) -> Result<Command<'a>, AllocError> {
     let file = Arg::new(alloc, "FILE")
         .required(true)
@@ -432,6 +448,7 @@ fn dump<'a>(alloc: Global) -> Result<Command<'a>, AllocError> {
         .about("Shows each message of a file")
         .after_help(DUMP_HELP)
         .arg(interface)?
+        .arg(json(alloc))?
         .arg(message_limit(alloc))?
         .arg(gathered_limit(alloc))?
         .arg(file)
@@ -464,10 +481,6 @@ fn trace<'a>(alloc: Global) -> Result<Command<'a>, AllocError> {
         .required(true)
         .value_name("FILE")
         .help("The file of the interface, in JSON");
-    let json = Arg::new(alloc, "json")
-        .long("json")
-        .action(ArgAction::SetTrue)
-        .help("Each line is an object of JSON");
     let client = Arg::new(alloc, "CLIENT").required(true).help(
         "A file of what the client sent, or - for the standard input",
     );
@@ -476,7 +489,7 @@ fn trace<'a>(alloc: Global) -> Result<Command<'a>, AllocError> {
         .about("Shows each call of a connection, and what it came to")
         .after_help(TRACE_HELP)
         .arg(interface)?
-        .arg(json)?
+        .arg(json(alloc))?
         .arg(message_limit(alloc))?
         .arg(client)?
         .arg(server)

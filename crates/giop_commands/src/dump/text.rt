@@ -4,11 +4,10 @@ ghost use Rattle.std.specs.Prelude.{◌≡◌, ◌≤◌, ◌^◌, IfOk};
 ghost use Rattle.std.specs.Io.KnownBytes.{IsAtEnd};
 ghost use Rattle.giop_commands.specs.DumpBodies.{DumpsText};
 
-use crate::convert::refuse;
-use crate::convert::value::form_refusal;
 use crate::dump::teller::Teller;
 use crate::dump::{BehindFault, dump_by};
 use crate::failure::Failure;
+use crate::form::{LineForm, refuse_interface};
 use crate::status::Status;
 use giop_types::Interface;
 use std::alloc::Global;
@@ -22,20 +21,21 @@ pub fn dump_text<R: Read, W: Write>(
     interface: &[u8],
     limit: u32,
     gathered: u64,
+    form: LineForm,
     reader: &mut R,
     writer: &mut W,
     behind: BehindFault,
 ) -> Result<Status, Failure>
     requires { gathered ≤ 2 ^ 62 }
-    ensures text { IfOk result (DumpsText interface.now limit gathered (R.remaining reader.old)
-        (W.contents writer.old) (W.contents writer.new)) }
+    ensures text { IfOk result (DumpsText interface.now limit gathered form
+        (R.remaining reader.old) (W.contents writer.old) (W.contents writer.new)) }
     ensures done { IfOk result (λ status. status ≡ Status.Done → IsAtEnd (R.remaining reader.new)) }
 {
     match Interface::from_json(alloc, interface) {
         Ok(interface) => {
-            let mut teller = Teller::of_bodies(alloc, &interface, gathered as usize);
+            let mut teller = Teller::of_bodies(alloc, &interface, gathered as usize, form);
             dump_by(alloc, &mut teller, limit, reader, writer, behind)
         }
-        Err(fault) => refuse(form_refusal(fault)?, writer),
+        Err(fault) => refuse_interface(form, fault, writer),
     }
 }

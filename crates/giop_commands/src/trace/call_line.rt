@@ -1,6 +1,7 @@
 //! The line of a call, in text or in JSON.
 
 use crate::failure::Failure;
+use crate::form::LineForm;
 use crate::trace::answer_part::write_answer;
 use crate::trace::answered::{Answered, answered_by};
 use crate::trace::asked::{Asked, asked_of, request_in};
@@ -12,15 +13,6 @@ use giop_trace::Flow;
 use giop_types::Interface;
 use std::alloc::Global;
 use std::io::Write;
-
-/// The form of a line.
-#[derive(Clone, Copy, Debug, PartialEq, Eq)]
-pub enum LineForm {
-    /// Words (docs/giopctl.md, "trace").
-    Text,
-    /// An object of JSON (docs/FORMATS.md, "Lines of trace").
-    Json,
-}
 
 /// What is said of a call that has no answer and wasn't cancelled.
 #[derive(Clone, Copy, Debug, PartialEq, Eq)]

@@ -5,9 +5,9 @@ ghost use Rattle.giop_commands.specs.Dump.{ended};
 ghost use Rattle.giop_commands.specs.Trace.{direction_end_in, direction_status};
 
 use crate::failure::Failure;
+use crate::form::LineForm;
 use crate::pieces::PieceBuffer;
 use crate::status::Status;
-use crate::trace::call_line::LineForm;
 use giop_lines::{DirectionEndJson, DirectionEndLine};
 use giop_msg::{Framer, Msg, WireFault, WireKind};
 use giop_trace::Direction;

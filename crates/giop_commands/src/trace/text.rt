@@ -1,17 +1,12 @@
 //! `trace` by the text of an interface.
-ghost use Rattle.std.specs.Prelude.{◌≡◌, IfOk, OnOk};
-ghost use Rattle.std.specs.Io.KnownBytes.{Appends, IsAtEnd};
-ghost use Rattle.giop_commands.specs.Dump.{ended};
-ghost use Rattle.giop_lines.specs.JsonLines.{refused_json};
+ghost use Rattle.std.specs.Prelude.{◌≡◌, IfOk};
+ghost use Rattle.std.specs.Io.KnownBytes.{IsAtEnd};
 
-use crate::convert::refuse;
-use crate::convert::value::form_refusal;
 use crate::failure::Failure;
+use crate::form::{LineForm, refuse_interface};
 use crate::status::Status;
-use crate::trace::call_line::LineForm;
 use crate::trace::{Heard, trace_stream};
-use giop_lines::RefusedJson;
-use giop_types::{FormFault, Interface};
+use giop_types::Interface;
 use std::alloc::Global;
 use std::io::{Read, Write};
 
@@ -38,22 +33,6 @@ pub fn trace_text<C: Read, S: Read, W: Write>(
         Ok(interface) => trace_stream(
             alloc, &interface, limit, form, heard, client, server, writer,
         ),
-        Err(fault) => match form {
-            LineForm::Text => refuse(form_refusal(fault)?, writer),
-            LineForm::Json => refuse_json(fault, writer),
-        },
+        Err(fault) => refuse_interface(form, fault, writer),
     }
-}
-
-// Writes the JSON line of the fault of an interface.
-fn refuse_json<W: Write>(fault: FormFault, writer: &mut W) -> Result<Status, Failure>
-    ensures text { OnOk result (Appends (W.contents writer.old) (W.contents writer.new)
-        (ended (refused_json fault))) }
-    ensures ok { IfOk result (λ status. status ≡ Status.Refused) }
-{
-    if fault == FormFault::NoMemory {
-        return Err(Failure::Memory);
-    }
-    writeln!(writer, "{}", RefusedJson(fault))?;
-    Ok(Status::Refused)
 }

@@ -1,7 +1,7 @@
 //! `dump` over readers that are interrupted, fail or never end, and over a writer that is watched.
 use giop_commands::failure::Failure;
 use giop_commands::status::Status;
-use giop_commands::{BehindFault, MESSAGE_LIMIT, dump_stream};
+use giop_commands::{BehindFault, LineForm, MESSAGE_LIMIT, dump_stream};
 use std::io;
 use std::io::{ErrorKind, Read, Write};
 use std::test::Fail;
@@ -66,6 +66,7 @@ fn the_pieces_that_come_do_not_matter(rt: HostRuntime) -> Result<(), Fail> {
         let answered = dump_stream(
             rt.alloc(),
             MESSAGE_LIMIT,
+            LineForm::Text,
             &mut reader,
             &mut written,
             BehindFault::Read,
@@ -98,6 +99,7 @@ fn a_read_that_fails_leaves_the_lines_before_it(rt: HostRuntime) -> Result<(), F
         let answered = dump_stream(
             rt.alloc(),
             MESSAGE_LIMIT,
+            LineForm::Text,
             &mut reader,
             &mut written,
             BehindFault::Read,
@@ -122,6 +124,7 @@ fn a_read_that_fails_behind_a_fault_is_told(rt: HostRuntime) -> Result<(), Fail>
         let answered = dump_stream(
             rt.alloc(),
             MESSAGE_LIMIT,
+            LineForm::Text,
             &mut reader,
             &mut written,
             BehindFault::Read,
@@ -149,6 +152,7 @@ fn a_fault_ends_an_input_that_never_ends(rt: HostRuntime) -> Result<(), Fail> {
     let answered = dump_stream(
         rt.alloc(),
         MESSAGE_LIMIT,
+        LineForm::Text,
         &mut Zeros,
         &mut written,
         BehindFault::Leave,
@@ -190,6 +194,7 @@ fn what_is_whole_is_shown_before_a_read(rt: HostRuntime) -> Result<(), Fail> {
         let answered = dump_stream(
             rt.alloc(),
             MESSAGE_LIMIT,
+            LineForm::Text,
             &mut reader,
             &mut writer,
             BehindFault::Leave,

@@ -44,10 +44,19 @@ fn dump_from<R: Read>(
     behind: BehindFault,
 ) -> Result<Status, Failure> {
     let mut writer = BufWriter::with_capacity(rt.alloc(), OUTPUT_BUFFER, io::writer(rt))?;
-    let (alloc, limit, gathered) = (rt.alloc(), words.limit, words.gathered);
+    let (alloc, limit, form) = (rt.alloc(), words.limit, words.form);
     let status = match interface {
-        Some(text) => dump_text(alloc, text, limit, gathered, reader, &mut writer, behind)?,
-        None => dump_stream(alloc, limit, reader, &mut writer, behind)?,
+        Some(text) => dump_text(
+            alloc,
+            text,
+            limit,
+            words.gathered,
+            form,
+            reader,
+            &mut writer,
+            behind,
+        )?,
+        None => dump_stream(alloc, limit, form, reader, &mut writer, behind)?,
     };
     writer.flush()?;
     Ok(status)

@@ -12,9 +12,10 @@ messages-init g c =
     record {
       shown =
           rw (c.new-framer.ensures, c.requires)
-          (of_none (telling_by (option_copied teller.interface) teller.gather.limit) c.args.limit (g.R.Read.remaining c.args.reader.now)
+          (of_none (telling_by (option_copied teller.interface) teller.form teller.gather.limit) c.args.limit (g.R.Read.remaining c.args.reader.now)
           (g.W.Write.contents c.args.writer.now));
       limit = ap (λ (u : Unread). u.limit) c.new-framer.ensures;
+      form = refl;
       interface = refl;
       gathered = refl;
     }
@@ -24,7 +25,7 @@ messages-preserved-in-Ok-Some g c =
     let before = c.messages.invariant in
     let takes : TakesMessage c.messages.framer c.in-Ok-Some.message c.next.new.self = rw c.in-Ok-Some.field-0-is at c.in-Ok-Some.ensures.found in
     let told = c.in_ok-tell-in-Ok-Some.ensures in
-    let text = rw (before.interface, before.gathered) at told.text in
+    let text = rw (before.interface, before.form, before.gathered) at told.text in
     let lists = rw (before.interface, before.gathered) at told.lists in
     let shown = of_message _ _ _ _ _ before.shown before.limit takes text lists in
     let next : c.in-Some.next ≡ c.messages.at + (12 + length c.in-Ok-Some.message.payload) =
@@ -32,6 +33,7 @@ messages-preserved-in-Ok-Some g c =
     record {
       shown = rw next shown;
       limit = takes.limit ∙ before.limit;
+      form = told.form ∙ before.form;
       interface = told.interface ∙ before.interface;
       gathered = told.limit ∙ before.gathered;
     }
@@ -48,6 +50,7 @@ messages-preserved g c =
     record {
       shown = rw octets (of_piece _ piece (of_kept _ before.shown c.flush.ensures.bytes) c.in_ok-piece-in-Ok-None.ensures.ok);
       limit = ap (λ (u : Unread). u.limit) fed ∙ ap (λ (u : Unread). u.limit) waits.1 ∙ before.limit;
+      form = before.form;
       interface = before.interface;
       gathered = before.gathered;
     }
@@ -62,10 +65,10 @@ returns-then-is_empty-clause-text g c =
     let all : c.messages.framer.octets ++ piece.now ≡ c.messages.framer.octets =
     ap (λ u. c.messages.framer.octets ++ u) (nothing_left piece.now empty) ∙ append-nil c.messages.framer.octets in
     let shown = rw all at (of_piece _ piece.now (of_kept _ before.shown c.flush.ensures.bytes) c.in_ok-piece-in-Ok-None.ensures.ok) in
-    of_rest c.messages.framer _ _ shown before.limit (c.in_ok-piece-in-Ok-None.ensures.end empty) waits.0 (rw (← n) c.write_rest.ensures.text)
+    of_rest c.messages.framer _ _ shown before.limit (c.in_ok-piece-in-Ok-None.ensures.end empty) waits.0 (rw (← n, ← before.form) c.write_rest.ensures.text)
     (rw (← n) c.write_rest.ensures.ok)
 
 pub returns-in-Err-clause-text : goal.returns-in-Err-clause-text
 returns-in-Err-clause-text g c =
-    of_fault c.messages.framer _ _ _ c.messages.invariant.shown c.messages.invariant.limit c.in-Err.ensures.err c.write_fault.ensures.text
+    of_fault c.messages.framer _ _ _ c.messages.invariant.shown c.messages.invariant.limit c.in-Err.ensures.err (rw c.messages.invariant.form at c.write_fault.ensures.text)
     c.write_fault.ensures.ok

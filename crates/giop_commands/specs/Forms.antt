@@ -1,0 +1,38 @@
+-- What a command tells in a form: as lines of text, or as lines of JSON.
+use Rattle.std.specs.Prelude.{ℕ, List, [], Option, Some, None, codes}
+use Rattle.giop_types.specs.declared.json.form_fault.FormFault.{FormFault}
+use Rattle.giop_lines.specs.declared.refusal.RefusalLine.TheVariants.{Form}
+use Rattle.giop_lines.specs.ConvertLines.{refusal_line}
+use Rattle.giop_lines.specs.JsonLines.{refused_json}
+use Rattle.giop_commands.specs.declared.form.LineForm.{LineForm}
+use Rattle.giop_commands.specs.declared.form.LineForm.TheVariants.{Text, Json}
+use Rattle.giop_commands.specs.Dump.{ended}
+
+-- a part of what is told: a line of text, or members of the JSON line
+abbrev pub part_in : LineForm → List ℕ → List ℕ → List ℕ
+part_in Text text json = ended text
+part_in Json text json = json
+
+-- a line without its newline, of text or of JSON
+abbrev pub line_in : LineForm → List ℕ → List ℕ → List ℕ
+line_in Text text json = text
+line_in Json text json = json
+
+-- what ends an object within a JSON line, and what ends a JSON line that is written in parts
+abbrev pub closed_in : LineForm → List ℕ
+closed_in Text = []
+closed_in Json = codes "}"
+
+abbrev pub ended_in : LineForm → List ℕ
+ended_in Text = []
+ended_in Json = ended (codes "}")
+
+-- what is told where the text and the JSON are known
+abbrev pub told_in : (List ℕ → List ℕ → List ℕ) → Option (List ℕ) → Option (List ℕ) → Option (List ℕ)
+told_in told (Some text) (Some json) = Some (told text json)
+told_in told (Some text) None = None
+told_in told None json = None
+
+-- why an interface is refused
+abbrev pub refused_in : LineForm → FormFault → List ℕ
+refused_in form e = line_in form (refusal_line (Form e)) (refused_json e)

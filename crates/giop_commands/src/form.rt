@@ -1,0 +1,100 @@
+//! The two forms in which a command tells what it read: lines of text, or lines of JSON. What stands
+//! in each is specs/Forms.antt: change both.
+ghost use Rattle.std.specs.Prelude.{◌≡◌, ◌≢◌, IfOk, IfSome, OnOk};
+ghost use Rattle.std.specs.Io.KnownBytes.{Appends};
+ghost use Rattle.giop_types.specs.declared.json.form_fault.FormFault.TheVariants.{NoMemory};
+ghost use Rattle.giop_commands.specs.Dump.{ended};
+ghost use Rattle.giop_commands.specs.Forms.{closed_in, ended_in, line_in, part_in, refused_in, told_in};
+
+use crate::failure::Failure;
+use crate::status::Status;
+use giop_lines::{RefusalLine, RefusedJson};
+use giop_types::FormFault;
+use std::fmt::Display;
+use std::io::Write;
+
+/// The form of a line.
+#[derive(Clone, Copy, Debug, PartialEq, Eq)]
+pub enum LineForm {
+    /// Words (docs/giopctl.md).
+    Text,
+    /// An object of JSON (docs/FORMATS.md).
+    Json,
+}
+
+/// Writes a part of what is told: a line of text, or members of the JSON line.
+pub fn write_part<T: Display + Drop, J: Display + Drop, W: Write>(
+    form: LineForm,
+    text: T,
+    json: J,
+    writer: &mut W,
+) -> Result<(), Failure>
+    ensures { OnOk result (IfSome (told_in (part_in form) (T.output text) (J.output json))
+        (Appends (W.contents writer.old) (W.contents writer.new))) }
+{
+    match form {
+        LineForm::Text => writeln!(writer, "{text}")?,
+        LineForm::Json => write!(writer, "{json}")?,
+    }
+    Ok(())
+}
+
+/// Writes a line, of text or of JSON.
+pub fn write_line<T: Display + Drop, J: Display + Drop, W: Write>(
+    form: LineForm,
+    text: T,
+    json: J,
+    writer: &mut W,
+) -> Result<(), Failure>
+    ensures { OnOk result (IfSome (told_in (line_in form) (T.output text) (J.output json))
+        (λ line. Appends (W.contents writer.old) (W.contents writer.new) (ended line))) }
+{
+    match form {
+        LineForm::Text => writeln!(writer, "{text}")?,
+        LineForm::Json => writeln!(writer, "{json}")?,
+    }
+    Ok(())
+}
+
+/// Writes what ends an object within a JSON line; nothing in text.
+pub fn write_closed<W: Write>(form: LineForm, writer: &mut W) -> Result<(), Failure>
+    ensures { OnOk result
+        (Appends (W.contents writer.old) (W.contents writer.new) (closed_in form)) }
+{
+    match form {
+        LineForm::Text => {}
+        LineForm::Json => write!(writer, "}}")?,
+    }
+    Ok(())
+}
+
+/// Writes what ends a JSON line that was written in parts; nothing in text.
+pub fn write_ended<W: Write>(form: LineForm, writer: &mut W) -> Result<(), Failure>
+    ensures { OnOk result
+        (Appends (W.contents writer.old) (W.contents writer.new) (ended_in form)) }
+{
+    match form {
+        LineForm::Text => {}
+        LineForm::Json => writeln!(writer, "}}")?,
+    }
+    Ok(())
+}
+
+/// Writes the line of the fault of an interface, which ends the run. Memory where it is that it was
+/// out of memory.
+pub fn refuse_interface<W: Write>(
+    form: LineForm,
+    fault: FormFault,
+    writer: &mut W,
+) -> Result<Status, Failure>
+    ensures text { OnOk result (Appends (W.contents writer.old) (W.contents writer.new)
+        (ended (refused_in form fault))) }
+    ensures ok { IfOk result (λ status. status ≡ Status.Refused) }
+    ensures refused { OnOk result (fault ≢ NoMemory) }
+{
+    if fault == FormFault::NoMemory {
+        return Err(Failure::Memory);
+    }
+    write_line(form, RefusalLine::Form(fault), RefusedJson(fault), writer)?;
+    Ok(Status::Refused)
+}
