@@ -27,6 +27,7 @@ pub use dump::{BehindFault, MESSAGE_LIMIT, dump_by, dump_octets, dump_stream};
 pub use serve::answering::{Answer, Due, due_to};
 pub use serve::given::Serving;
 pub use serve::{serve_over, serve_session};
+pub use session::ending::Ending;
 pub use session::table::{Tabled, write_table};
 pub use session::target::{Endpoint, Targeted, target_of};
 pub use trace::call_line::LineForm;

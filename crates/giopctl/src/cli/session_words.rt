@@ -7,7 +7,7 @@ ghost use Rattle.giop_commands.specs.Check.{AreLimits};
 use crate::cli::limit_words::{limited, limits_of};
 use crate::files::apart;
 use clap::builder::ValueParser;
-use clap::{Arg, ArgAction, ArgMatches, Command};
+use clap::{Arg, ArgAction, ArgGroup, ArgMatches, Command};
 use giop_cdr::Order;
 use giop_commands::serve::given::{KeyWord, Telling};
 use giop_session::{Form, Limits};
@@ -24,6 +24,8 @@ pub struct CallWords<'a> {
     pub file: &'a str,
     /// When the calls are told.
     pub telling: Telling,
+    /// For how many seconds nothing may come or go, 1 to 86,400; any number where it is `None`.
+    pub timeout: Option<u32>,
     /// How Requests are sent.
     pub form: Form,
     /// What the end holds at most.
@@ -77,6 +79,8 @@ With --stream a call is made as soon as there is room for it, each call is shown
 over, and then it is forgotten, so that a connection may have any number of calls. At the end the
 calls that are still open have their lines, and those that weren't made:
   Unsent                nothing of it was sent
+Where the server hangs up while calls are open, standard error says how many. With --timeout the
+connection is given up where nothing comes or goes for so many seconds, and each call has its line.
 
 Exit statuses:
   0  each call got its result, or was sent and has none
@@ -107,6 +111,7 @@ so that a connection may have any number of calls. Of a Request that is answered
   Asked OPERATION INS Answered REPLY, or Undecoded FAULT Answered REPLY
 with what giopctl call shows behind Done as REPLY. The calls that are still open have their lines at
 the end, and the last line is rest N, the octets that are no whole message, or the fault.
+Where a client hangs up within a message or a call in pieces, standard error says so.
 
 Exit statuses, of which the greatest of all connections is taken:
   0  the connection ended, or the client closed it
@@ -134,7 +139,8 @@ pub fn call<'a>(alloc: Global) -> Result<Command<'a>, AllocError> {
         .after_help(CALL_HELP)
         .arg(target)?
         .arg(interface(alloc))?
-        .arg(stream(alloc))?;
+        .arg(stream(alloc))?
+        .arg(timeout(alloc))?;
     sent(alloc, command)?.arg(file)
 }
 
@@ -165,27 +171,33 @@ pub fn serve<'a>(alloc: Global) -> Result<Command<'a>, AllocError> {
         .arg(port)?
         .arg(interface(alloc))?
         .arg(answers)?
-        .arg(key(alloc)?)?
-        .arg(key_text(alloc)?)?
+        .arg(key(alloc))?
+        .arg(key_text(alloc))?
+        .group(one_key(alloc)?)?
         .arg(connections)?
         .arg(stream(alloc))?;
     sent(alloc, command)
 }
 
-fn key<'a>(alloc: Global) -> Result<Arg<'a>, AllocError> {
+fn key<'a>(alloc: Global) -> Arg<'a> {
     Arg::new(alloc, "key")
         .long("key")
         .value_name("HEX")
         .help("The object key, in hexadecimal digits")
-        .required_unless_present("key-text")
 }
 
-fn key_text<'a>(alloc: Global) -> Result<Arg<'a>, AllocError> {
+fn key_text<'a>(alloc: Global) -> Arg<'a> {
     Arg::new(alloc, "key-text")
         .long("key-text")
         .value_name("TEXT")
         .help("The object key, as a text, in place of --key")
-        .conflicts_with("key")
+}
+
+// One of both is wanted, and no more.
+fn one_key<'a>(alloc: Global) -> Result<ArgGroup<'a>, AllocError> {
+    ArgGroup::new(alloc, "one-key")
+        .required(true)
+        .args(&["key", "key-text"])
 }
 
 fn stream<'a>(alloc: Global) -> Arg<'a> {
@@ -193,6 +205,14 @@ fn stream<'a>(alloc: Global) -> Arg<'a> {
         .long("stream")
         .action(ArgAction::SetTrue)
         .help("Each call is shown as soon as it is over, and forgotten")
+}
+
+fn timeout<'a>(alloc: Global) -> Arg<'a> {
+    Arg::new(alloc, "timeout")
+        .long("timeout")
+        .value_name("SECONDS")
+        .value_parser(ValueParser::Unsigned(1, 86_400))
+        .help("Gives up, with status 3, where nothing comes or goes for so long")
 }
 
 fn interface<'a>(alloc: Global) -> Arg<'a> {
@@ -240,6 +260,7 @@ pub fn call_words<'a>(matches: &ArgMatches<'a>) -> Result<CallWords<'a>, &'stati
         interface,
         file,
         telling: telling_of(matches),
+        timeout: timeout_of(matches)?,
         form,
         limits,
     })
@@ -289,6 +310,17 @@ fn telling_of(matches: &ArgMatches) -> Telling {
         Telling::WhenOver
     } else {
         Telling::AtTheEnd
+    }
+}
+
+// For how many seconds nothing may come or go, where that is bounded.
+fn timeout_of(matches: &ArgMatches) -> Result<Option<u32>, &'static str> {
+    if matches.get_str("timeout").is_none() {
+        return Ok(None);
+    }
+    match decimal(matches, "timeout") {
+        Some(seconds) if seconds > 0 && seconds <= 86_400 => Ok(Some(seconds)),
+        _ => Err("--timeout is a number of seconds from 1 to 86400, in decimal digits"),
     }
 }
 

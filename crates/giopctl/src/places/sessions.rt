@@ -69,10 +69,11 @@ fn call_place(
         return Ok(place);
     }
     match operation_of(interface, offered, name) {
-        Some(operation) => match operation.get("ins") {
-            Some(beside) => arguments_place(alloc, "ins", beside, ins, call, Role::Call, number),
-            None => whole(alloc, Role::Call, call, number),
-        },
+        Some(operation) => {
+            let none = Json::Array(Vec::new(alloc));
+            let beside = operation.get("ins").unwrap_or(&none);
+            arguments_place(alloc, "ins", beside, ins, call, Role::Call, number)
+        }
         None => {
             let place = whole(alloc, Role::Offered, name, number)?;
             Ok(place.under(key(alloc, "operation")?)?)
@@ -233,7 +234,9 @@ fn refused_answer(
     answer: &Json,
     number: u8,
 ) -> Result<Place, NoPlace> {
-    if let (Some(values), Some(outs)) = (answer.get("ok"), operation.get("outs")) {
+    if let Some(values) = answer.get("ok") {
+        let none = Json::Array(Vec::new(alloc));
+        let outs = operation.get("outs").unwrap_or(&none);
         return arguments_place(alloc, "ok", outs, values, answer, Role::Answer, number);
     }
     let (Some(id), Some(values)) = (answer.get("user"), answer.get("members")) else {

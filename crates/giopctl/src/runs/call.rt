@@ -11,10 +11,11 @@ use giop_commands::call::streaming::call_stream;
 use giop_commands::failure::Failure;
 use giop_commands::serve::given::Telling;
 use giop_commands::status::Status;
-use giop_commands::{Calling, Endpoint, Targeted, call_over, target_of};
+use giop_commands::{Calling, Ending, Endpoint, Targeted, call_over, target_of};
 use giop_lines::EscapedText;
 use std::io::{BufWriter, ErrorKind, Write};
-use std::net::TcpStream;
+use std::net::{TcpStream, ToSocketAddrs};
+use std::time::Duration;
 use std::{io, str};
 
 /// Reads the file of the interface and that of the calls, connects to where the target says, and
@@ -50,8 +51,8 @@ fn called(rt: &HostRuntime, words: CallWords) -> Result<Status, Status> {
         form: words.form,
         limits: words.limits,
     };
-    let answered = call_at(rt, calls, &endpoint, words.telling, calling);
-    Ok(report::answer(rt, peer.as_str(), answered))
+    let answered = call_at(rt, calls, &endpoint, words, calling);
+    Ok(report::called(rt, peer.as_str(), words.timeout, answered))
 }
 
 fn endpoint_of(rt: &HostRuntime, target: &str) -> Result<Endpoint, Status> {
@@ -72,29 +73,49 @@ fn call_at(
     rt: &HostRuntime,
     calls: Vec<CallLine>,
     endpoint: &Endpoint,
-    telling: Telling,
+    words: CallWords,
     calling: Calling<'_>,
-) -> Result<Status, Failure> {
-    let link = linked(rt, connected(rt, endpoint)?)?;
+) -> Result<Ending, Failure> {
+    let link = linked(rt, connected(rt, endpoint, words.timeout)?, words.timeout)?;
     let mut out = BufWriter::with_capacity(rt.alloc(), OUTPUT_BUFFER, io::writer(rt))?;
     let (mut reader, mut writer) = (&link, &link);
     let (reader, writer) = (&mut reader, &mut writer);
-    let status = match telling {
+    let ending = match words.telling {
         Telling::AtTheEnd => call_over(rt.alloc(), calling, calls, reader, writer, &mut out)?,
         Telling::WhenOver => call_stream(rt.alloc(), calling, calls, reader, writer, &mut out)?,
     };
     out.flush()?;
-    Ok(status)
+    Ok(ending)
 }
 
 // A connection to where an object is reached. A name is looked up, and each of its addresses is
-// tried.
-fn connected(rt: &HostRuntime, endpoint: &Endpoint) -> Result<TcpStream, Failure> {
+// tried, for so many seconds at most, if any are given.
+fn connected(
+    rt: &HostRuntime,
+    endpoint: &Endpoint,
+    timeout: Option<u32>,
+) -> Result<TcpStream, Failure> {
     let Ok(host) = str::from_utf8(endpoint.host.as_slice()) else {
         return Err(Failure::Connection(io::Error::from(ErrorKind::InvalidInput)));
     };
-    match TcpStream::connect(rt, (host, endpoint.port)) {
+    let stream = match timeout {
+        Some(seconds) => connect_within(rt, host, endpoint.port, seconds),
+        None => TcpStream::connect(rt, (host, endpoint.port)),
+    };
+    match stream {
         Ok(stream) => Ok(stream),
         Err(error) => Err(Failure::connection(error)),
     }
+}
+
+// Tries each address of a host for so many seconds, and returns the last error where none answers.
+fn connect_within(rt: &HostRuntime, host: &str, port: u16, seconds: u32) -> io::Result<TcpStream> {
+    let mut last = io::Error::from(ErrorKind::InvalidInput);
+    for address in (host, port).to_socket_addrs(rt)? {
+        match TcpStream::connect_timeout(rt, &address, Duration::from_secs(u64::from(seconds))) {
+            Ok(stream) => return Ok(stream),
+            Err(error) => last = error,
+        }
+    }
+    Err(last)
 }

@@ -64,9 +64,10 @@ fn written(rt: &HostRuntime, line: RefusalLine) -> Result<Status, Failure> {
     Ok(status)
 }
 
-/// A connection that is read while it is written to.
-pub fn linked(rt: &HostRuntime, stream: TcpStream) -> Result<Link, Failure> {
-    match Link::new(rt.alloc(), stream, None) {
+/// A connection that is read while it is written to. Where nothing comes or goes for so many
+/// seconds, if any are given, it fails.
+pub fn linked(rt: &HostRuntime, stream: TcpStream, timeout: Option<u32>) -> Result<Link, Failure> {
+    match Link::new(rt.alloc(), stream, timeout) {
         Ok(link) => Ok(link),
         Err(error) => Err(Failure::connection(error)),
     }
