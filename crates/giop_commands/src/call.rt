@@ -21,6 +21,7 @@ pub mod calls;
 pub mod given;
 pub mod streaming;
 pub mod table;
+pub mod words;
 
 use crate::call::calls::CallLine;
 use crate::call::given::Calling;

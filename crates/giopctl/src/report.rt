@@ -220,6 +220,13 @@ pub fn form(
     place(rt, file, at);
 }
 
+/// Prints which of some words are no JSON, and where they cease to be.
+pub fn words(rt: &impl Eprint, alloc: Global, words: &[&str]) {
+    for word in words {
+        let _ = bad_json(rt, alloc, word, word.as_bytes());
+    }
+}
+
 /// Prints what is wrong with a text that is no JSON.
 pub fn text(rt: &impl Eprint, file: &str, wrong: &str) {
     let _ = eprintln!(rt; "giopctl: {file}: {wrong}");

@@ -14,14 +14,18 @@ use giop_session::{Form, Limits};
 use std::alloc::{AllocError, Global};
 
 /// What `call` is asked for.
-#[derive(Clone, Copy, Debug)]
+#[derive(Debug, Drop)]
 pub struct CallWords<'a> {
-    /// The text of the object's reference, or a corbaloc.
+    /// The text of the object's reference, or a corbaloc; behind `@` the name of a file of it, or `-`
+    /// for the standard input.
     pub target: &'a str,
     /// The name of the interface's file, or `-` for the standard input.
     pub interface: &'a str,
-    /// The name of the file of the calls, or `-` for the standard input.
+    /// The name of the file of the calls, or `-` for the standard input; or that of an operation,
+    /// where there are values of its ins, or no such file.
     pub file: &'a str,
+    /// The ins of that operation, each the JSON text of a value.
+    pub values: Vec<&'a str>,
     /// When the calls are told.
     pub telling: Telling,
     /// For how many seconds nothing may come or go, 1 to 86,400; any number where it is `None`.
@@ -62,8 +66,11 @@ The target is the text of a reference, IOR: and hexadecimal digits, of which the
 is taken, or a corbaloc, of which the first address is taken; quote it, since a shell reads some of
 its signs. It says the version that is spoken: a corbaloc without one is of 1.0, and
 corbaloc::1.2@HOST:PORT/KEY of 1.2.
+--target @FILE takes the text from a file, in which a newline at the end is dropped.
 The file is a JSON list of calls, each with a request id of its own:
   [{\"id\":1,\"operation\":\"add\",\"ins\":[2,5]},{\"id\":2,\"operation\":\"ping\",\"ins\":[]}]
+In place of it one call may stand in words: the name of an operation, and its ins behind it, each a
+JSON value. A name alone is that of a file, where there is one. The id of such a call is 1.
 All of them are sent, then replies are read until all are there or the server closes the connection.
 Each call has a line, in ascending order of the id:
   Done 0 OUTS           its result, and the inout and out parameters, as a JSON list
@@ -89,9 +96,10 @@ Exit statuses:
   3  reading, writing or the connection failed
   4  out of memory
 
-Example, while the example of giopctl serve --help runs:
+Examples, one while the example of giopctl serve --help runs:
   giopctl call --target corbaloc::1.2@127.0.0.1:2810/k --interface examples/calculator.json \
-examples/calls.json";
+examples/calls.json
+  giopctl call --target corbaloc::1.2@127.0.0.1:2810/k --interface examples/calculator.json add 2 5";
 
 const SERVE_HELP: &str = "\
 It listens at 127.0.0.1 alone, and serves one connection after the other. The file of the answers is
@@ -130,10 +138,14 @@ pub fn call<'a>(alloc: Global) -> Result<Command<'a>, AllocError> {
         .long("target")
         .required(true)
         .value_name("TEXT")
-        .help("The object: the text of its reference, or a corbaloc");
+        .help("The object: the text of its reference, or a corbaloc; or @ and a file of that text");
     let file = Arg::new(alloc, "FILE").required(true).help(
-        "The file of the calls, in JSON, or - for the standard input",
+        "The file of the calls, in JSON, or - for the standard input; or an operation's name",
     );
+    let values = Arg::new(alloc, "VALUE")
+        .num_args(1..)
+        .allow_negative_numbers(true)
+        .help("The ins of that operation, each a JSON value");
     let command = Command::new(alloc, "call")
         .about("Calls operations of an object, and shows the replies")
         .after_help(CALL_HELP)
@@ -141,7 +153,7 @@ pub fn call<'a>(alloc: Global) -> Result<Command<'a>, AllocError> {
         .arg(interface(alloc))?
         .arg(stream(alloc))?
         .arg(timeout(alloc))?;
-    sent(alloc, command)?.arg(file)
+    sent(alloc, command)?.arg(file)?.arg(values)
 }
 
 /// The command `serve`.
@@ -243,8 +255,11 @@ fn sent<'a>(alloc: Global, command: Command<'a>) -> Result<Command<'a>, AllocErr
     limited(alloc, command.arg(piece)?.arg(little)?)
 }
 
-/// What `call` is asked for, or what is wrong with a word.
-pub fn call_words<'a>(matches: &ArgMatches<'a>) -> Result<CallWords<'a>, &'static str> {
+/// What `call` is asked for with these values, or what is wrong with a word.
+pub fn call_words<'a>(
+    matches: &ArgMatches<'a>,
+    values: Vec<&'a str>,
+) -> Result<CallWords<'a>, &'static str> {
     let form = form_of(matches)?;
     let limits = limits_of(matches)?;
     let (Some(target), Some(interface), Some(file)) = (
@@ -255,15 +270,28 @@ pub fn call_words<'a>(matches: &ArgMatches<'a>) -> Result<CallWords<'a>, &'stati
         return Err("--target, --interface and FILE are wanted");
     };
     apart(interface, file)?;
+    if let Some(reference) = target.strip_prefix('@') {
+        apart(reference, interface)?;
+        apart(reference, file)?;
+    }
     Ok(CallWords {
         target,
         interface,
         file,
+        values,
         telling: telling_of(matches),
         timeout: timeout_of(matches)?,
         form,
         limits,
     })
+}
+
+/// The values that `call` is asked for behind an operation.
+pub fn values_of<'a>(alloc: Global, matches: &ArgMatches<'a>) -> Result<Vec<&'a str>, AllocError> {
+    match matches.get_strs("VALUE") {
+        Some(values) => Vec::from_slice(alloc, values),
+        None => Ok(Vec::new(alloc)),
+    }
 }
 
 /// What `serve` is asked for, or what is wrong with a word.

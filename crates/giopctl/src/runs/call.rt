@@ -3,16 +3,19 @@
 
 use crate::cli::CallWords;
 use crate::files::OUTPUT_BUFFER;
-use crate::places::sessions::of_calls;
-use crate::report;
-use crate::runs::session::{interface_of, linked, read, refused, refused_form};
+use crate::places::sessions::{each_json, of_calls, of_words};
+use crate::runs::session::{interface_of, linked, read, refused, refused_form, refused_words};
+use crate::{files, report};
 use giop_commands::call::calls::{CallLine, calls_from_json};
 use giop_commands::call::streaming::call_stream;
+use giop_commands::call::words::call_from_words;
+use giop_commands::convert::unended;
 use giop_commands::failure::Failure;
 use giop_commands::serve::given::Telling;
 use giop_commands::status::Status;
 use giop_commands::{Calling, Ending, Endpoint, Targeted, call_over, target_of};
 use giop_lines::EscapedText;
+use giop_types::Interface;
 use std::io::{BufWriter, ErrorKind, Write};
 use std::net::{TcpStream, ToSocketAddrs};
 use std::time::Duration;
@@ -29,16 +32,14 @@ pub fn call(rt: &HostRuntime, words: CallWords) -> Status {
 }
 
 fn called(rt: &HostRuntime, words: CallWords) -> Result<Status, Status> {
+    let target = target_text(rt, words.target)?;
     let offered = read(rt, words.interface)?;
-    let calls = read(rt, words.file)?;
-    let endpoint = endpoint_of(rt, words.target)?;
+    let asked = asked_in(rt, &words, offered.as_slice())?;
+    let endpoint = endpoint_of(rt, words.target, target.as_slice())?;
     let interface = interface_of(rt, words.interface, offered.as_slice())?;
-    let calls = match calls_from_json(rt.alloc(), &interface, calls.as_slice()) {
-        Ok(calls) => calls,
-        Err(fault) => {
-            let at = of_calls(rt.alloc(), offered.as_slice(), calls.as_slice(), fault);
-            return Err(refused_form(rt, words.file, calls.as_slice(), fault, at));
-        }
+    let calls = match asked {
+        Asked::File(text) => calls_in_file(rt, &words, offered.as_slice(), &interface, &text)?,
+        Asked::Words => calls_in_words(rt, &words, offered.as_slice(), &interface)?,
     };
     let peer = match peer_of(rt, &endpoint) {
         Ok(peer) => peer,
@@ -51,12 +52,96 @@ fn called(rt: &HostRuntime, words: CallWords) -> Result<Status, Status> {
         form: words.form,
         limits: words.limits,
     };
-    let answered = call_at(rt, calls, &endpoint, words, calling);
+    let answered = call_at(rt, calls, &endpoint, &words, calling);
     Ok(report::called(rt, peer.as_str(), words.timeout, answered))
 }
 
-fn endpoint_of(rt: &HostRuntime, target: &str) -> Result<Endpoint, Status> {
-    match target_of(rt.alloc(), target.as_bytes()) {
+// The text of a target: itself, or behind `@` that of a file, of which a newline at the end is
+// dropped.
+fn target_text(rt: &HostRuntime, target: &str) -> Result<Vec<u8>, Status> {
+    let text = match target.strip_prefix('@') {
+        Some(file) => Vec::from_slice(rt.alloc(), unended(read(rt, file)?.as_slice())),
+        None => Vec::from_slice(rt.alloc(), target.as_bytes()),
+    };
+    match text {
+        Ok(text) => Ok(text),
+        Err(_) => Err(report::answer(rt, target, Err(Failure::Memory))),
+    }
+}
+
+// Where the calls stand.
+#[derive(Drop)]
+enum Asked {
+    // In a file of this text.
+    File(Vec<u8>),
+    // In words: an operation, and the values of its ins.
+    Words,
+}
+
+// Where the calls stand. One word is the name of a file, unless there is none and the interface of
+// this text has an operation of that name.
+fn asked_in(rt: &HostRuntime, words: &CallWords<'_>, interface: &[u8]) -> Result<Asked, Status> {
+    if !words.values.is_empty() {
+        return Ok(Asked::Words);
+    }
+    match files::read(rt, words.file) {
+        Ok(text) => Ok(Asked::File(text)),
+        Err(Failure::Input(error))
+            if error.kind() == ErrorKind::NotFound && offers(rt, interface, words.file) => {
+            Ok(Asked::Words)
+        }
+        Err(failure) => Err(report::answer(rt, words.file, Err(failure))),
+    }
+}
+
+// Whether the text of an interface has an operation of this name.
+fn offers(rt: &HostRuntime, interface: &[u8], name: &str) -> bool {
+    match Interface::from_json(rt.alloc(), interface) {
+        Ok(interface) => interface.operation(name.as_bytes()).is_some(),
+        Err(_) => false,
+    }
+}
+
+// The calls of a file, or the status where they are refused, which is reported.
+fn calls_in_file(
+    rt: &HostRuntime,
+    words: &CallWords<'_>,
+    offered: &[u8],
+    interface: &Interface,
+    text: &[u8],
+) -> Result<Vec<CallLine>, Status> {
+    match calls_from_json(rt.alloc(), interface, text) {
+        Ok(calls) => Ok(calls),
+        Err(fault) => {
+            let at = of_calls(rt.alloc(), offered, text, fault);
+            Err(refused_form(rt, words.file, text, fault, at))
+        }
+    }
+}
+
+// The call that words ask for, or the status where it is refused, which is reported.
+fn calls_in_words(
+    rt: &HostRuntime,
+    words: &CallWords<'_>,
+    offered: &[u8],
+    interface: &Interface,
+) -> Result<Vec<CallLine>, Status> {
+    let (name, values) = (words.file, words.values.as_slice());
+    let called = match each_json(rt.alloc(), values) {
+        Ok(ins) => call_from_words(rt.alloc(), interface, name, ins),
+        Err(fault) => Err(fault),
+    };
+    match called {
+        Ok(calls) => Ok(calls),
+        Err(fault) => {
+            let at = of_words(rt.alloc(), offered, name, values, fault);
+            Err(refused_words(rt, name, values, fault, at))
+        }
+    }
+}
+
+fn endpoint_of(rt: &HostRuntime, target: &str, text: &[u8]) -> Result<Endpoint, Status> {
+    match target_of(rt.alloc(), text) {
         Ok(Targeted::At(endpoint)) => Ok(endpoint),
         Ok(Targeted::Refused(line)) => Err(refused(rt, line)),
         Err(failure) => Err(report::answer(rt, target, Err(failure))),
@@ -73,7 +158,7 @@ fn call_at(
     rt: &HostRuntime,
     calls: Vec<CallLine>,
     endpoint: &Endpoint,
-    words: CallWords,
+    words: &CallWords<'_>,
     calling: Calling<'_>,
 ) -> Result<Ending, Failure> {
     let link = linked(rt, connected(rt, endpoint, words.timeout)?, words.timeout)?;

@@ -44,6 +44,21 @@ pub fn refused_form(
     refused_line(rt, file, form_refusal(fault))
 }
 
+/// Reports that a call by words is refused, and where it is at fault.
+pub fn refused_words(
+    rt: &HostRuntime,
+    name: &str,
+    values: &[&str],
+    fault: FormFault,
+    at: Option<Place>,
+) -> Status {
+    match fault {
+        FormFault::BadJson => report::words(rt, rt.alloc(), values),
+        _ => report::form(rt, rt.alloc(), name, name.as_bytes(), fault, at),
+    }
+    refused_line(rt, name, form_refusal(fault))
+}
+
 /// Writes the line of a refusal to the standard output.
 pub fn refused(rt: &HostRuntime, line: RefusalLine) -> Status {
     refused_line(rt, "-", Ok(line))
