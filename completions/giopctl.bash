@@ -17,7 +17,7 @@ _giopctl() {
     done
     case "$path $before" in
         'giopctl dump --interface'|'giopctl check --interface'|'giopctl trace --interface'|'giopctl convert encode --desc'|'giopctl convert decode --desc'|'giopctl call --interface'|'giopctl serve --interface'|'giopctl serve --answers') files=yes ;;
-        'giopctl dump --message-limit'|'giopctl dump --gathered-limit'|'giopctl check --message-limit'|'giopctl check --calls-limit'|'giopctl check --gathered-limit'|'giopctl trace --message-limit'|'giopctl call --target'|'giopctl call --piece'|'giopctl call --message-limit'|'giopctl call --calls-limit'|'giopctl call --gathered-limit'|'giopctl serve --port'|'giopctl serve --key'|'giopctl serve --key-text'|'giopctl serve --connections'|'giopctl serve --piece'|'giopctl serve --message-limit'|'giopctl serve --calls-limit'|'giopctl serve --gathered-limit') return ;;
+        'giopctl dump --message-limit'|'giopctl dump --gathered-limit'|'giopctl check --message-limit'|'giopctl check --calls-limit'|'giopctl check --gathered-limit'|'giopctl trace --message-limit'|'giopctl call --target'|'giopctl call --timeout'|'giopctl call --piece'|'giopctl call --message-limit'|'giopctl call --calls-limit'|'giopctl call --gathered-limit'|'giopctl serve --port'|'giopctl serve --key'|'giopctl serve --key-text'|'giopctl serve --connections'|'giopctl serve --piece'|'giopctl serve --message-limit'|'giopctl serve --calls-limit'|'giopctl serve --gathered-limit') return ;;
         *)
             case "$path:$word" in
                 'giopctl:-'*) words='-h --help -V --version' ;;
@@ -29,7 +29,7 @@ _giopctl() {
                 'giopctl convert corbaloc:-'*) words='-h --help' ;;
                 'giopctl convert encode:-'*) words='--desc --little -h --help' ;;
                 'giopctl convert decode:-'*) words='--desc --little -h --help' ;;
-                'giopctl call:-'*) words='--target --interface --stream --piece --little --message-limit --calls-limit --gathered-limit -h --help' ;;
+                'giopctl call:-'*) words='--target --interface --stream --timeout --piece --little --message-limit --calls-limit --gathered-limit -h --help' ;;
                 'giopctl serve:'*) words='--port --interface --answers --key --key-text --connections --stream --piece --little --message-limit --calls-limit --gathered-limit -h --help' ;;
                 'giopctl:'*) words='dump check trace convert call serve help' ;;
                 'giopctl convert:'*) words='ior corbaloc encode decode help' ;;

@@ -15,10 +15,11 @@ use Rattle.giop_session.specs.Calls.CallTable.{Held}
 use Rattle.giop_session.specs.Pumping.{Between, between}
 use Rattle.giop_commands.specs.declared.call.calls.CallLine.{CallLine}
 use Rattle.giop_commands.specs.declared.failure.Failure.{Failure}
-use Rattle.giop_commands.specs.declared.status.Status.{Status}
+use Rattle.giop_commands.specs.declared.session.ending.Ending.{Ending}
 use Rattle.giop_commands.specs.Acts.{Outbox}
 use Rattle.giop_commands.specs.Calling.{Asked, ClientCalls}
-use Rattle.giop_commands.specs.CallStreaming.{CallsNext, Course, CourseEnds, IsStreamed, Makes, MakesOne, Streams, TurnTells, Turns, TurnsIf, all_done, all_over_well, box_of, course, is_done, left_text, new_client, next_has_room, opened, still_open, stream_status, unsent_text, with_box}
+use Rattle.giop_commands.specs.CallStreaming.{CallsNext, Course, CourseEnds, Makes, MakesOne, Streams, TurnTells, Turns, TurnsIf, all_done, all_over_well, box_of, course, is_done, left_text, new_client, next_has_room, opened, still_open, stream_status, unsent_text, with_box}
+use Rattle.giop_commands.specs.Endings.{CallsStreamEnd, Ends}
 use Rattle.giop_commands.specs.Sessions.{Wire, told}
 use Rattle.giop_commands.specs.Streaming.{over_text}
 use Rattle.giop_commands.specs.Table.{client_entry_line}
@@ -123,24 +124,28 @@ module _ (asked : Asked) where
 
   -- the whole of it
   pub is_streamed : (before after : Wire) (old text new : Option (List ℕ)) (refused : Option SessionFault) (outgoing : List ℕ) (unread : Unread)
-      (still : ClientCalls) (fault : Option SessionFault) (left : List CallLine) (well : Bool) (r : Result Status Failure)
+      (still : ClientCalls) (fault : Option SessionFault) (left : List CallLine) (well : Bool) (r : Result Ending Failure)
       → Streams asked (course (new_client asked.limits before.input before.output) old asked.calls true) refused
       (course (between after.input after.output outgoing unread still fault) text left well)
       → OnOk r (Appends text new (left_text asked.interface still left (told refused fault)))
-      → IfOk r (λ status. status ≡ stream_status refused fault (all_done well still left)) → IfOk r (IsStreamed asked before after old new)
-  is_streamed before after old text new refused outgoing unread still fault left well (Err failure) streams last is = tt
-  is_streamed before after old text new refused outgoing unread still fault left well (Ok status) streams last is = record {
-    refused = refused;
-    outgoing = outgoing;
-    unread = unread;
-    still = still;
-    fault = fault;
-    text = text;
-    left = left;
-    well = well;
-    streams = streams;
-    last = last;
-    is = is;
+      → IfOk r (λ ending. ending.status ≡ stream_status refused fault (all_done well still left))
+      → IfOk r (Ends is_closed (told refused fault) still.table unread) → IfOk r (CallsStreamEnd asked before after old new)
+  is_streamed before after old text new refused outgoing unread still fault left well (Err failure) streams last is ends = tt
+  is_streamed before after old text new refused outgoing unread still fault left well (Ok ending) streams last is ends = record {
+    streamed = record {
+      refused = refused;
+      outgoing = outgoing;
+      unread = unread;
+      still = still;
+      fault = fault;
+      text = text;
+      left = left;
+      well = well;
+      streams = streams;
+      last = last;
+      is = is;
+    };
+    ends = ends;
   }
 
 -- the lines of calls that weren't made, in two parts

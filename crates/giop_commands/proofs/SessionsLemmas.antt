@@ -2,16 +2,20 @@
 use Rattle.std.proofs.Common.{◌≡◌, ℕ, false, List, ◌++◌, Option, None, Result, Ok, Err, IfOk, OnOk, sym, subst}
 use Rattle.std.specs.FinMap as finite
 use Rattle.std.specs.Io.KnownBytes.{Appends}
+use Rattle.giop_calls.specs.ClientTable as client
+use Rattle.giop_calls.specs.ServerTable as server
 use Rattle.giop_msg.specs.Stream.{Unread}
 use Rattle.giop_session.specs.declared.session_fault.SessionFault.{SessionFault}
 use Rattle.giop_session.specs.Pumping.{Between, between}
 use Rattle.giop_types.specs.declared.json.interface.Interface.{Interface}
 use Rattle.giop_commands.specs.declared.failure.Failure.{Failure}
+use Rattle.giop_commands.specs.declared.session.ending.Ending.{Ending}
 use Rattle.giop_commands.specs.declared.status.Status.{Status}
 use Rattle.giop_commands.specs.declared.status.Status.TheVariants.{Done, Refused, LimitPassed, Usage, InputOutput, Memory}
 use Rattle.giop_commands.specs.Acts.{Outbox}
 use Rattle.giop_commands.specs.Calling.{Asked, CallsAll, ClientCalls, Converses, ConversesIf, Talks, are_over, begun, client_hears, new_box}
 use Rattle.giop_commands.specs.Dump.{ended}
+use Rattle.giop_commands.specs.Endings.{CallsEnd, Ends, ServesEnd}
 use Rattle.giop_commands.specs.Sessions.{Calls, IsCalled, IsServed, Serves, Wire, call_status, connection_line, serve_status, session_text, told}
 use Rattle.giop_commands.specs.Serving as serving
 use Rattle.giop_commands.specs.Serving.{Served, ServerCalls, new_server}
@@ -20,62 +24,80 @@ use Rattle.giop_commands.specs.Table.{client_entry_line, server_entry_line}
 
 -- the calls of a client's end, its table and its fault
 pub called : (asked : Asked) (before after : Wire) (old new : Option (List ℕ)) (refused : Option SessionFault) (box : Outbox ClientCalls) (outgoing : List ℕ)
-    (unread : Unread) (left : ClientCalls) (fault : Option SessionFault) (r : Result Status Failure)
+    (unread : Unread) (left : ClientCalls) (fault : Option SessionFault) (r : Result Ending Failure)
     → CallsAll asked None (new_box asked.limits) refused box
     → Talks asked.interface refused (begun asked.limits before.input before.output box) (between after.input after.output outgoing unread left fault)
     → OnOk r (Appends old new (session_text (client_entry_line asked.interface) left.table (told refused fault)))
-    → IfOk r (λ status. status ≡ call_status refused fault left.table) → IfOk r (IsCalled asked before after old new)
-called asked before after old new refused box outgoing unread left fault (Err failure) calls talks text is = tt
-called asked before after old new refused box outgoing unread left fault (Ok status) calls talks text is = record {
-  refused = refused;
-  box = box;
-  calls = calls;
-  outgoing = outgoing;
-  unread = unread;
-  left = left;
-  fault = fault;
-  talks = talks;
-  text = text;
-  is = is;
+    → IfOk r (λ ending. ending.status ≡ call_status refused fault left.table)
+    → IfOk r (Ends client.is_closed (told refused fault) left.table unread) → IfOk r (CallsEnd asked before after old new)
+called asked before after old new refused box outgoing unread left fault (Err failure) calls talks text is ends = tt
+called asked before after old new refused box outgoing unread left fault (Ok ending) calls talks text is ends = record {
+  called = record {
+    refused = refused;
+    box = box;
+    calls = calls;
+    outgoing = outgoing;
+    unread = unread;
+    left = left;
+    fault = fault;
+    talks = talks;
+    text = text;
+    is = is;
+  };
+  ends = ends;
 }
 
--- the same by its status
-pub calls_told : (asked : Asked) (before after : Wire) (old new : Option (List ℕ)) (status : Status) → IsCalled asked before after old new status
+-- by its status
+calls_by : (asked : Asked) (before after : Wire) (old new : Option (List ℕ)) (status : Status) → IsCalled asked before after old new status
     → Calls asked before after old new status
-calls_told asked before after old new Done is = is
-calls_told asked before after old new Refused is = is
-calls_told asked before after old new (LimitPassed limit) is = is
-calls_told asked before after old new Usage is = is
-calls_told asked before after old new InputOutput is = tt
-calls_told asked before after old new Memory is = tt
+calls_by asked before after old new Done is = is
+calls_by asked before after old new Refused is = is
+calls_by asked before after old new (LimitPassed limit) is = is
+calls_by asked before after old new Usage is = is
+calls_by asked before after old new InputOutput is = tt
+calls_by asked before after old new Memory is = tt
+
+-- the same of an ending
+pub calls_told : (asked : Asked) (before after : Wire) (old new : Option (List ℕ)) (ending : Ending) → CallsEnd asked before after old new ending
+    → Calls asked before after old new ending.status
+calls_told asked before after old new ending end = calls_by asked before after old new ending.status end.called
 
 -- the connection of a server's end: its number, its table and its fault
 pub served : (number : ℕ) (it : Served) (before after : Wire) (old new : Option (List ℕ)) (refused : Option SessionFault) (outgoing : List ℕ)
-    (unread : Unread) (left : ServerCalls) (fault : Option SessionFault) (r : Result Status Failure)
+    (unread : Unread) (left : ServerCalls) (fault : Option SessionFault) (r : Result Ending Failure)
     → serving.Converses it it.limits (new_server it.limits before.input before.output) refused (between after.input after.output outgoing unread left fault)
     → OnOk r (Appends old new (ended (connection_line number) ++ session_text (server_entry_line it.interface) left.table (told refused fault)))
-    → IfOk r (λ status. status ≡ serve_status (told refused fault)) → IfOk r (IsServed number it before after old new)
-served number it before after old new refused outgoing unread left fault (Err failure) talks text is = tt
-served number it before after old new refused outgoing unread left fault (Ok status) talks text is = record {
-  refused = refused;
-  outgoing = outgoing;
-  unread = unread;
-  left = left;
-  fault = fault;
-  talks = talks;
-  text = text;
-  is = is;
+    → IfOk r (λ ending. ending.status ≡ serve_status (told refused fault))
+    → IfOk r (Ends server.is_closed (told refused fault) left.table unread) → IfOk r (ServesEnd number it before after old new)
+served number it before after old new refused outgoing unread left fault (Err failure) talks text is ends = tt
+served number it before after old new refused outgoing unread left fault (Ok ending) talks text is ends = record {
+  served = record {
+    refused = refused;
+    outgoing = outgoing;
+    unread = unread;
+    left = left;
+    fault = fault;
+    talks = talks;
+    text = text;
+    is = is;
+  };
+  ends = ends;
 }
 
--- the same by its status
-pub serves_told : (number : ℕ) (it : Served) (before after : Wire) (old new : Option (List ℕ)) (status : Status)
+-- by its status
+serves_by : (number : ℕ) (it : Served) (before after : Wire) (old new : Option (List ℕ)) (status : Status)
     → IsServed number it before after old new status → Serves number it before after old new status
-serves_told number it before after old new Done is = is
-serves_told number it before after old new Refused is = is
-serves_told number it before after old new (LimitPassed limit) is = is
-serves_told number it before after old new Usage is = is
-serves_told number it before after old new InputOutput is = tt
-serves_told number it before after old new Memory is = tt
+serves_by number it before after old new Done is = is
+serves_by number it before after old new Refused is = is
+serves_by number it before after old new (LimitPassed limit) is = is
+serves_by number it before after old new Usage is = is
+serves_by number it before after old new InputOutput is = tt
+serves_by number it before after old new Memory is = tt
+
+-- the same of an ending
+pub serves_told : (number : ℕ) (it : Served) (before after : Wire) (old new : Option (List ℕ)) (ending : Ending)
+    → ServesEnd number it before after old new ending → Serves number it before after old new ending.status
+serves_told number it before after old new ending end = serves_by number it before after old new ending.status end.served
 
 -- a client's turns, where its calls aren't over at first
 pub converses_by : (interface : Interface) (s t : Between ClientCalls) (ids : List ℕ) (r : Result (Unit {0}) Failure) → ids ≡ finite.keys s.state.calls.table

@@ -18,12 +18,13 @@ use Rattle.giop_calls.specs.ServerTable.{is_closed}
 use Rattle.giop_msg.specs.declared.msg.Msg.{Msg}
 use Rattle.giop_session.specs.Pumping.{Between, Feeds, State, between}
 use Rattle.giop_commands.specs.declared.failure.Failure.{Failure}
-use Rattle.giop_commands.specs.declared.status.Status.{Status}
+use Rattle.giop_commands.specs.declared.session.ending.Ending.{Ending}
 use Rattle.giop_commands.specs.Dump.{ended}
+use Rattle.giop_commands.specs.Endings.{Ends, ServesStreamEnd}
 use Rattle.giop_commands.specs.Serving.{ServeEnds, Served, ServerCalls, TurnAnswers, new_server}
 use Rattle.giop_commands.specs.Sessions.{Wire, connection_line, serve_status, told}
 use Rattle.giop_commands.specs.StreamLines.{server_told_line}
-use Rattle.giop_commands.specs.Streaming.{IsStreamed, Shown, Streams, TurnTells, left_text, opened, over_text, shown, still_open, without_ended, without_over}
+use Rattle.giop_commands.specs.Streaming.{Shown, Streams, TurnTells, left_text, opened, over_text, shown, still_open, without_ended, without_over}
 use Rattle.giop_commands.specs.Turns.{GoesOn, most_turns}
 use Rattle.giop_commands.proofs.StepLemmas.{Counted}
 
@@ -115,23 +116,26 @@ streamed it limits n s mid t refused before few ends = record {
 
 -- the whole of it
 pub is_streamed : (number : ℕ) (it : Served) (before after : Wire) (old named text new : Option (List ℕ)) (refused : Option SessionFault)
-    (outgoing : List ℕ) (unread : Unread) (left : ServerCalls) (fault : Option SessionFault) (r : Result Status Failure)
+    (outgoing : List ℕ) (unread : Unread) (left : ServerCalls) (fault : Option SessionFault) (r : Result Ending Failure)
     → Appends old named (ended (connection_line number))
     → Streams it it.limits (shown (new_server it.limits before.input before.output) named) refused
     (shown (between after.input after.output outgoing unread left fault) text)
-    → OnOk r (Appends text new (left_text it left (told refused fault) unread)) → IfOk r (λ status. status ≡ serve_status (told refused fault))
-    → IfOk r (IsStreamed number it before after old new)
-is_streamed number it before after old named text new refused outgoing unread left fault (Err failure) name streams last is = tt
-is_streamed number it before after old named text new refused outgoing unread left fault (Ok status) name streams last is = record {
-  named = named;
-  name = name;
-  refused = refused;
-  outgoing = outgoing;
-  unread = unread;
-  left = left;
-  fault = fault;
-  text = text;
-  streams = streams;
-  last = last;
-  is = is;
+    → OnOk r (Appends text new (left_text it left (told refused fault) unread)) → IfOk r (λ ending. ending.status ≡ serve_status (told refused fault))
+    → IfOk r (Ends is_closed (told refused fault) left.table unread) → IfOk r (ServesStreamEnd number it before after old new)
+is_streamed number it before after old named text new refused outgoing unread left fault (Err failure) name streams last is ends = tt
+is_streamed number it before after old named text new refused outgoing unread left fault (Ok ending) name streams last is ends = record {
+  streamed = record {
+    named = named;
+    name = name;
+    refused = refused;
+    outgoing = outgoing;
+    unread = unread;
+    left = left;
+    fault = fault;
+    text = text;
+    streams = streams;
+    last = last;
+    is = is;
+  };
+  ends = ends;
 }

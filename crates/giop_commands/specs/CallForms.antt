@@ -121,3 +121,10 @@ calls_told interface (Some d) = told (call_list interface d)
 
 abbrev pub calls_in : Interface → List ℕ → Result (List CallLine) FormFault
 calls_in interface bytes = calls_told interface (json_in bytes)
+
+-- ---- a call in words
+
+-- the one call of an operation, by its name and its ins, under the id 1
+abbrev pub call_in_words : Interface → List ℕ → Items → Result (List CallLine) FormFault
+call_in_words interface name ins = told (option_map (option_map (λ call. call ∷ []))
+    (call_named interface (json.number (json.unsigned 1)) (json.string name) (json.array ins)))

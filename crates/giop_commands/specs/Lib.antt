@@ -22,4 +22,5 @@ pub mod Sessions
 pub mod StreamLines
 pub mod Streaming
 pub mod CallStreaming
+pub mod Endings
 pub mod Target

@@ -7,10 +7,12 @@ ghost use Rattle.std.specs.List.{list_all};
 ghost use Rattle.giop_session.specs.Acts.Form.{IsForm};
 ghost use Rattle.giop_session.specs.Calls.Sending.{entry_of};
 ghost use Rattle.giop_session.specs.Pumping.{between};
+ghost use Rattle.giop_calls.specs.ClientTable.{is_closed};
 ghost use Rattle.giop_commands.specs.Acts.{outbox};
 ghost use Rattle.giop_commands.specs.Calling.{CallsAll, CallsOne, Converses, Talks, are_over, asked_of, client_hears, is_over, request_of};
 ghost use Rattle.giop_commands.specs.Check.{default_limits};
-ghost use Rattle.giop_commands.specs.Sessions.{Calls, IsCalled, all_well, call_status, is_well, session_text, told, wire};
+ghost use Rattle.giop_commands.specs.Endings.{CallsEnd, Ends};
+ghost use Rattle.giop_commands.specs.Sessions.{Calls, all_well, call_status, is_well, session_text, told, wire};
 ghost use Rattle.giop_commands.specs.Steps.{Upto};
 ghost use Rattle.giop_commands.specs.Table.{client_entry_line};
 ghost use Rattle.giop_commands.specs.Turns.{Waits};
@@ -19,10 +21,12 @@ pub mod calls;
 pub mod given;
 pub mod streaming;
 pub mod table;
+pub mod words;
 
 use crate::call::calls::CallLine;
 use crate::call::given::Calling;
 use crate::failure::Failure;
+use crate::session::ending::{Ending, ending_of};
 use crate::session::sending::send_all;
 use crate::session::{TURNS, goes_on, told, told_of, write_all_out, write_session};
 use crate::status::Status;
@@ -47,6 +51,7 @@ use std::io::{Read, Write};
 /// It is `Done` where no call was refused and each got its result, or was sent and has none;
 /// `LimitPassed` where a limit kept one from it; else `Refused`. Where reading or writing fails, it is `InputOutput`. Where
 /// it is out of memory, it is `Memory`. After either, a part of the text may be written.
+#[tactic(auto, using(crate::proofs::SessionsLemmas::calls_told))]
 pub fn call_session<R: Read, W: Write, O: Write>(
     alloc: Global,
     interface: &Interface,
@@ -79,13 +84,14 @@ pub fn call_session<R: Read, W: Write, O: Write>(
         limits: Limits::default(),
     };
     match call_over(alloc, calling, calls, reader, writer, out) {
-        Ok(status) => status,
+        Ok(ending) => ending.status,
         Err(failure) => failure.status(),
     }
 }
 
-/// Does what `call_session` does, with the limits of `calling`. Where something fails, what failed
-/// is returned in place of a status; where that is the connection, the table is written before.
+/// Does what `call_session` does, with the limits of `calling`, and tells besides which calls are
+/// open where the input ended. Where something fails, what failed is returned in place of that;
+/// where that is the connection, the table is written before.
 pub fn call_over<R: Read, W: Write, O: Write>(
     alloc: Global,
     calling: Calling<'_>,
@@ -93,8 +99,8 @@ pub fn call_over<R: Read, W: Write, O: Write>(
     reader: &mut R,
     writer: &mut W,
     out: &mut O,
-) -> Result<Status, Failure>
-    ensures { IfOk result (IsCalled (asked_of calling.entry calls.items)
+) -> Result<Ending, Failure>
+    ensures { IfOk result (CallsEnd (asked_of calling.entry calls.items)
         (wire (R.remaining reader.old) (W.contents writer.old))
         (wire (R.remaining reader.new) (W.contents writer.new))
         (O.contents out.old) (O.contents out.new)) }
@@ -113,23 +119,26 @@ pub fn call_over<R: Read, W: Write, O: Write>(
     }
 }
 
-// Writes the table of the calls and the fault of the session, and returns the status.
+// Writes the table of the calls and the fault of the session, and returns what it came to.
 fn tell<O: Write>(
     alloc: Global,
     interface: &Interface,
     end: &ClientEnd<'_>,
     refused: Option<SessionFault>,
     out: &mut O,
-) -> Result<Status, Failure>
+) -> Result<Ending, Failure>
     ensures text { OnOk result (Appends (O.contents out.old) (O.contents out.new)
         (session_text (client_entry_line interface.now) end.now.calls.table
         (told refused end.now.fault))) }
-    ensures ok { IfOk result (λ status. status
+    ensures ok { IfOk result (λ ending. ending.status
         ≡ call_status refused end.now.fault end.now.calls.table) }
+    ensures ends { IfOk result (Ends is_closed (told refused end.now.fault) end.now.calls.table
+        end.now.framer) }
 {
     let fault = told(refused, end.fault());
     write_session(alloc, interface, end, fault, out)?;
-    call_status(alloc, refused, end)
+    let status = call_status(alloc, refused, end)?;
+    Ok(ending_of(alloc, end, fault, status)?)
 }
 
 // Puts out the first piece of each call, then the others in turn. Returns the fault of a refused

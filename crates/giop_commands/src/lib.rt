@@ -29,6 +29,7 @@ pub use form::LineForm;
 pub use serve::answering::{Answer, Due, due_to};
 pub use serve::given::Serving;
 pub use serve::{serve_over, serve_session};
+pub use session::ending::Ending;
 pub use session::table::{Tabled, write_table};
 pub use session::target::{Endpoint, Targeted, target_of};
 pub use trace::text::trace_text;

@@ -5,11 +5,13 @@ ghost use Rattle.std.specs.Io.KnownBytes.{Appends};
 ghost use Rattle.serde_json.specs.View.{view};
 ghost use Rattle.giop_session.specs.Acts.Form.{IsForm};
 ghost use Rattle.giop_session.specs.Pumping.{between};
+ghost use Rattle.giop_calls.specs.ServerTable.{is_closed};
 ghost use Rattle.giop_commands.specs.Acts.{outbox};
 ghost use Rattle.giop_commands.specs.Check.{default_limits};
 ghost use Rattle.giop_commands.specs.Dump.{ended};
+ghost use Rattle.giop_commands.specs.Endings.{Ends, ServesEnd};
 ghost use Rattle.giop_commands.specs.Serving.{AnswersAll, AnswersOne, Converses, served_of};
-ghost use Rattle.giop_commands.specs.Sessions.{IsServed, Serves, connection_line, serve_status, session_text, wire};
+ghost use Rattle.giop_commands.specs.Sessions.{Serves, connection_line, serve_status, session_text, wire};
 ghost use Rattle.giop_commands.specs.Steps.{Upto};
 ghost use Rattle.giop_commands.specs.Table.{server_entry_line};
 
@@ -23,6 +25,7 @@ use crate::failure::Failure;
 use crate::serve::answering::{Due, due_to, reply_to};
 use crate::serve::answers::Answers;
 use crate::serve::given::Serving;
+use crate::session::ending::{Ending, ending_of};
 use crate::session::sending::send_all;
 use crate::session::{TURNS, goes_on, told, told_of, write_session};
 use crate::status::Status;
@@ -45,6 +48,7 @@ use std::io::{Read, Write};
 /// It is `Done` where there is no fault, or the peer closed the connection; `LimitPassed` where a
 /// limit ended it; else `Refused`. Where reading or writing fails, it is `InputOutput`. Where it is out of
 /// memory, it is `Memory`. After either, a part of the text may be written.
+#[tactic(auto, using(crate::proofs::SessionsLemmas::serves_told))]
 pub fn serve_session<R: Read, W: Write, O: Write>(
     alloc: Global,
     number: u32,
@@ -76,14 +80,15 @@ pub fn serve_session<R: Read, W: Write, O: Write>(
         limits: Limits::default(),
     };
     match serve_over(alloc, number, serving, reader, writer, out) {
-        Ok(status) => status,
+        Ok(ending) => ending.status,
         Err(failure) => failure.status(),
     }
 }
 
-/// Does what `serve_session` does, with the limits of `serving`. Where something fails, what failed
-/// is returned in place of a status; where that is the connection, its line and the table are
-/// written before.
+/// Does what `serve_session` does, with the limits of `serving`, and tells besides which calls are
+/// open where the input ended, and how many octets were read that are no whole message. Where
+/// something fails, what failed is returned in place of that; where that is the connection, its line
+/// and the table are written before.
 pub fn serve_over<R: Read, W: Write, O: Write>(
     alloc: Global,
     number: u32,
@@ -91,8 +96,8 @@ pub fn serve_over<R: Read, W: Write, O: Write>(
     reader: &mut R,
     writer: &mut W,
     out: &mut O,
-) -> Result<Status, Failure>
-    ensures { IfOk result (IsServed number (served_of serving.entry)
+) -> Result<Ending, Failure>
+    ensures { IfOk result (ServesEnd number (served_of serving.entry)
         (wire (R.remaining reader.old) (W.contents writer.old))
         (wire (R.remaining reader.new) (W.contents writer.new))
         (O.contents out.old) (O.contents out.new)) }
@@ -118,7 +123,7 @@ pub fn serve_over<R: Read, W: Write, O: Write>(
     }
 }
 
-// Writes the line of a connection, its table and its fault, and returns the status.
+// Writes the line of a connection, its table and its fault, and returns what it came to.
 fn tell<O: Write>(
     alloc: Global,
     number: u32,
@@ -126,15 +131,16 @@ fn tell<O: Write>(
     end: &ServerEnd<'_>,
     fault: Option<SessionFault>,
     out: &mut O,
-) -> Result<Status, Failure>
+) -> Result<Ending, Failure>
     ensures text { OnOk result (Appends (O.contents out.old) (O.contents out.new)
         (ended (connection_line number)
         ++ session_text (server_entry_line interface.now) end.now.calls.table fault)) }
-    ensures ok { IfOk result (λ status. status ≡ serve_status fault) }
+    ensures ok { IfOk result (λ ending. ending.status ≡ serve_status fault) }
+    ensures ends { IfOk result (Ends is_closed fault end.now.calls.table end.now.framer) }
 {
     write_connection(number, out)?;
     write_session(alloc, interface, end, fault, out)?;
-    Ok(serve_status(fault))
+    Ok(ending_of(alloc, end, fault, serve_status(fault))?)
 }
 
 fn write_connection<W: Write>(number: u32, writer: &mut W) -> Result<(), Failure>

@@ -14,6 +14,7 @@ ghost use Rattle.giop_commands.specs.Turns.{GoesOn, IsOfConnection, peer_octets}
 
 pub mod ahead;
 pub mod bodies;
+pub mod ending;
 pub mod fault_line;
 pub mod json;
 pub mod sending;
@@ -164,6 +165,7 @@ pub fn write_session<R: Tabled, W: Write>(
     write_fault(fault, writer)
 }
 
+/// Writes the line of the fault that ended a session; nothing where none did.
 pub fn write_fault<W: Write>(fault: Option<SessionFault>, writer: &mut W) -> Result<(), Failure>
     ensures { OnOk result (Appends (W.contents writer.old) (W.contents writer.new)
         (fault_text fault)) }

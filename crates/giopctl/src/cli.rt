@@ -10,7 +10,7 @@ mod session_words;
 use crate::cli::limit_words::{
     gathered_limit, gathered_limit_of, limited, limits_of, message_limit, message_limit_of,
 };
-use crate::cli::session_words::{call, call_words, serve, serve_words};
+use crate::cli::session_words::{call, call_words, serve, serve_words, values_of};
 pub use crate::cli::session_words::{CallWords, ServeWords};
 use crate::files::apart;
 use clap::error::ErrorKind;
@@ -21,7 +21,7 @@ use giop_session::Limits;
 use std::alloc::{AllocError, Global};
 
 /// What the command line asks for.
-#[derive(Clone, Copy, Debug)]
+#[derive(Debug, Drop)]
 pub enum Task<'a> {
     /// Show each message of a file.
     Dump(DumpWords<'a>),
@@ -278,7 +278,7 @@ pub fn task_of<'a>(alloc: Global, words: &'a [String]) -> Result<Option<Task<'a>
         };
     }
     if let Some(call) = matches.subcommand_matches("call") {
-        return match call_words(call) {
+        return match call_words(call, values_of(alloc, call)?) {
             Ok(words) => Ok(Some(Task::Call(words))),
             Err(wrong) => Err(misused(alloc, wrong)?),
         };

@@ -1,12 +1,19 @@
 //! What is printed on standard error, and the status that goes with it.
-ghost use Rattle.std.specs.Prelude.{◌≡◌, ◌≢◌, ◌⊎◌};
+ghost use Rattle.std.specs.Prelude.{◌≡◌, ◌≢◌, ◌⊎◌, true};
 ghost use Rattle.std.specs.IoError.{error_kind};
 ghost use Rattle.clap.specs.Words.{kind_of};
-ghost use Rattle.giop_commands.specs.Status.{answered_status};
+ghost use Rattle.giop_commands.specs.Endings.{ending_status};
+ghost use Rattle.giop_commands.specs.Status.{answered_status, failure_status};
 ghost use Rattle.giopctl.specs.Usage.{usage_status};
 
+mod counted;
+mod open_calls;
+
 use crate::places;
+use crate::report::counted::Counted;
+use crate::report::open_calls::OpenCalls;
 use clap::error::ErrorKind as UsageKind;
+use giop_commands::Ending;
 use giop_commands::failure::Failure;
 use giop_commands::status::{Limit, Status};
 use giop_types::{FormFault, Interface};
@@ -67,6 +74,72 @@ pub fn answer(rt: &impl Eprint, file: &str, answered: Result<Status, Failure>) -
         Failure::Output(error) => output_failed(rt, error),
     }
     failure.status()
+}
+
+/// The status of calls to this peer. What is open where its input ended is printed, and a failure as
+/// `answer` prints it; where a timeout in seconds ended it, that is said in place of the error.
+pub fn called(
+    rt: &impl Eprint,
+    peer: &str,
+    timeout: Option<u32>,
+    ended: Result<Ending, Failure>,
+) -> Status
+    ensures { result ≡ ending_status ended }
+{
+    match ended {
+        Ok(ending) => {
+            if !ending.open_calls.is_empty() {
+                left(rt, peer, &ending);
+            }
+            answer(rt, peer, Ok(ending.status))
+        }
+        Err(failure) => {
+            if is_told_silent(rt, peer, timeout, &failure) {
+                return Status::InputOutput;
+            }
+            answer(rt, peer, Err(failure))
+        }
+    }
+}
+
+/// The status of a connection that was served. What is open where its input ended is printed, and
+/// how much of a message came; and a failure as `answer` prints it.
+pub fn served(rt: &impl Eprint, peer: &str, ended: Result<Ending, Failure>) -> Status
+    ensures { result ≡ ending_status ended }
+{
+    match ended {
+        Ok(ending) => {
+            left(rt, peer, &ending);
+            answer(rt, peer, Ok(ending.status))
+        }
+        Err(failure) => answer(rt, peer, Err(failure)),
+    }
+}
+
+// Prints which calls are open where a session ended, and how much of a message came.
+fn left(rt: &impl Eprint, peer: &str, ending: &Ending) {
+    if !ending.open_calls.is_empty() {
+        let open = OpenCalls(ending.open_calls.as_slice());
+        let _ = eprintln!(rt; "giopctl: {peer}: ended with {open}");
+    }
+    if ending.rest > 0 {
+        let rest = Counted(ending.rest, "octet");
+        let _ = eprintln!(rt; "giopctl: {peer}: ended within a message, of which {rest} came");
+    }
+}
+
+// Prints that nothing came or went for so many seconds, where that is how it failed. Returns whether
+// it is.
+fn is_told_silent(rt: &impl Eprint, peer: &str, timeout: Option<u32>, failure: &Failure) -> bool
+    ensures { result ≡ true → failure_status failure.now ≡ Status.InputOutput }
+{
+    match (timeout, failure) {
+        (Some(seconds), Failure::Connection(error)) if error.kind() == ErrorKind::TimedOut => {
+            let _ = eprintln!(rt; "giopctl: {peer}: nothing came or went for {seconds} s");
+            true
+        }
+        _ => false,
+    }
 }
 
 // Prints the option that raises the limit that was passed, if one was.
@@ -145,6 +218,13 @@ pub fn form(
         );
     }
     place(rt, file, at);
+}
+
+/// Prints which of some words are no JSON, and where they cease to be.
+pub fn words(rt: &impl Eprint, alloc: Global, words: &[&str]) {
+    for word in words {
+        let _ = bad_json(rt, alloc, word, word.as_bytes());
+    }
 }
 
 /// Prints what is wrong with a text that is no JSON.

@@ -97,8 +97,9 @@ fn call_of(alloc: Global, interface: &Interface, json: &Json) -> Result<Option<C
     }
 }
 
-// A call, by the members of its object.
-fn call_named(
+/// A call, by the members of its object; `None` where its form is right, and its id or a value
+/// doesn't fit.
+pub fn call_named(
     alloc: Global,
     interface: &Interface,
     id: &Json,

@@ -8,8 +8,9 @@ ghost use Rattle.giop_session.specs.Acts.Form.{IsForm};
 ghost use Rattle.giop_session.specs.Pumping.{between};
 ghost use Rattle.giop_calls.specs.ClientTable.{is_closed};
 ghost use Rattle.giop_commands.specs.Acts.{outbox};
-ghost use Rattle.giop_commands.specs.CallStreaming.{CallsNext, IsStreamed, Makes, Streams, TakesNext, Turns, all_done, all_over_well, course, has_room, is_done, is_over_well, left_text, next_has_room, still_open, stream_status, unsent_text};
+ghost use Rattle.giop_commands.specs.CallStreaming.{CallsNext, Makes, Streams, TakesNext, Turns, all_done, all_over_well, course, has_room, is_done, is_over_well, left_text, next_has_room, still_open, stream_status, unsent_text};
 ghost use Rattle.giop_commands.specs.Calling.{asked_of};
+ghost use Rattle.giop_commands.specs.Endings.{CallsStreamEnd, Ends};
 ghost use Rattle.giop_commands.specs.Sessions.{told, wire};
 ghost use Rattle.giop_commands.specs.Streaming.{over_text};
 ghost use Rattle.giop_commands.specs.Table.{client_entry_line};
@@ -18,6 +19,7 @@ use crate::call::calls::CallLine;
 use crate::call::given::Calling;
 use crate::call::{all_well, are_over, call_one, is_well_at};
 use crate::failure::Failure;
+use crate::session::ending::{Ending, ending_of};
 use crate::session::sending::send_all;
 use crate::session::streaming::{Streamed, tell_left, tell_over};
 use crate::session::table::Tabled;
@@ -62,7 +64,8 @@ impl Streamed for ClientRule {
 ///
 /// It is `Done` where no call was refused, and each got its result, or was sent and has none;
 /// `LimitPassed` where a limit kept one from it; else `Refused`. Where something fails, what failed
-/// is returned; where that is the connection, what is left has its lines before.
+/// is returned; where that is the connection, what is left has its lines before. Beside the status
+/// it tells which calls are open where the input ended.
 pub fn call_stream<R: Read, W: Write, O: Write>(
     alloc: Global,
     calling: Calling<'_>,
@@ -70,8 +73,8 @@ pub fn call_stream<R: Read, W: Write, O: Write>(
     reader: &mut R,
     writer: &mut W,
     out: &mut O,
-) -> Result<Status, Failure>
-    ensures { IfOk result (IsStreamed (asked_of calling.entry calls.items)
+) -> Result<Ending, Failure>
+    ensures { IfOk result (CallsStreamEnd (asked_of calling.entry calls.items)
         (wire (R.remaining reader.old) (W.contents writer.old))
         (wire (R.remaining reader.new) (W.contents writer.new))
         (O.contents out.old) (O.contents out.new)) }
@@ -317,7 +320,7 @@ fn is_over_well(end: &ClientEnd<'_>, id: u32) -> bool
     }
 }
 
-// Writes what is left, and returns the status.
+// Writes what is left, and returns what the session came to.
 fn tell_end<O: Write>(
     alloc: Global,
     interface: &Interface,
@@ -326,15 +329,19 @@ fn tell_end<O: Write>(
     well: bool,
     refused: Option<SessionFault>,
     out: &mut O,
-) -> Result<Status, Failure>
+) -> Result<Ending, Failure>
     ensures text { OnOk result (Appends (O.contents out.old) (O.contents out.new)
         (left_text interface.now end.now.calls left.now.items (told refused end.now.fault))) }
-    ensures ok { IfOk result (λ status. status ≡ stream_status refused end.now.fault
+    ensures ok { IfOk result (λ ending. ending.status ≡ stream_status refused end.now.fault
         (all_done well end.now.calls left.now.items)) }
+    ensures ends { IfOk result (Ends is_closed (told refused end.now.fault) end.now.calls.table
+        end.now.framer) }
 {
-    tell_open(alloc, interface, end, left, told(refused, end.fault()), out)?;
+    let fault = told(refused, end.fault());
+    tell_open(alloc, interface, end, left, fault, out)?;
     let done = well && all_well(alloc, end)? && left.is_empty();
-    Ok(stream_status(refused, end.fault(), done))
+    let status = stream_status(refused, end.fault(), done);
+    Ok(ending_of(alloc, end, fault, status)?)
 }
 
 // Writes the lines of the calls that are open, those of the calls that weren't made, and the fault.

@@ -3,12 +3,14 @@
 ghost use Rattle.std.specs.Prelude.{◌≡◌, ◌++◌, IfOk, None, OnOk, length};
 ghost use Rattle.std.specs.Io.KnownBytes.{Appends};
 ghost use Rattle.giop_session.specs.Pumping.{between};
+ghost use Rattle.giop_calls.specs.ServerTable.{is_closed};
 ghost use Rattle.giop_commands.specs.Dump.{ended};
+ghost use Rattle.giop_commands.specs.Endings.{Ends, ServesStreamEnd};
 ghost use Rattle.giop_commands.specs.Serving.{served_of};
 ghost use Rattle.giop_commands.specs.SessionLines.{last_line};
 ghost use Rattle.giop_commands.specs.Sessions.{connection_line, serve_status, wire};
 ghost use Rattle.giop_commands.specs.StreamLines.{answered_line, server_told_line};
-ghost use Rattle.giop_commands.specs.Streaming.{IsStreamed, Streams, shown};
+ghost use Rattle.giop_commands.specs.Streaming.{Streams, shown};
 ghost use Rattle.giop_commands.specs.Table.{table_text};
 
 use crate::call::table::brought_by;
@@ -16,11 +18,11 @@ use crate::failure::Failure;
 use crate::serve::given::Serving;
 use crate::serve::table::request_ins;
 use crate::serve::{answer_all, serve_status, write_connection};
+use crate::session::ending::{Ending, ending_of};
 use crate::session::fault_line::SessionFaultLine;
 use crate::session::streaming::{Streamed, tell_left, tell_over};
 use crate::session::table::Tabled;
 use crate::session::{TURNS, goes_on, told};
-use crate::status::Status;
 use giop_calls::{Question, ServerEntry, ServerRule};
 use giop_lines::{AskedText, ReplyText, RequestFaultText, RestLine};
 use giop_msg::ReplyBody;
@@ -90,7 +92,7 @@ fn write_answered<W: Write>(
 /// that are left, and then how many octets are unread, or the fault. `out` is flushed before each
 /// read.
 ///
-/// The status is that of `serve_over`, and so are the failures. Where the connection fails, the
+/// What it comes to is that of `serve_over`, and so are the failures. Where the connection fails, the
 /// calls that are left have their lines before the failure is returned.
 pub fn stream_over<R: Read, W: Write, O: Write>(
     alloc: Global,
@@ -99,8 +101,8 @@ pub fn stream_over<R: Read, W: Write, O: Write>(
     reader: &mut R,
     writer: &mut W,
     out: &mut O,
-) -> Result<Status, Failure>
-    ensures { IfOk result (IsStreamed number (served_of serving.entry)
+) -> Result<Ending, Failure>
+    ensures { IfOk result (ServesStreamEnd number (served_of serving.entry)
         (wire (R.remaining reader.old) (W.contents writer.old))
         (wire (R.remaining reader.new) (W.contents writer.new))
         (O.contents out.old) (O.contents out.new)) }
@@ -128,22 +130,24 @@ fn tell_begin<O: Write>(number: u32, out: &mut O) -> Result<(), Failure>
     Ok(())
 }
 
-// Writes the lines of the calls that are left, and the last line, and returns the status.
+// Writes the lines of the calls that are left, and the last line, and returns what the connection
+// came to.
 fn tell_end<O: Write>(
     alloc: Global,
     interface: &Interface,
     end: &ServerEnd<'_>,
     fault: Option<SessionFault>,
     out: &mut O,
-) -> Result<Status, Failure>
+) -> Result<Ending, Failure>
     ensures text { OnOk result (Appends (O.contents out.old) (O.contents out.new)
         (table_text (server_told_line interface.now) end.now.calls.table
         ++ ended (last_line fault (length end.now.framer.octets)))) }
-    ensures ok { IfOk result (λ status. status ≡ serve_status fault) }
+    ensures ok { IfOk result (λ ending. ending.status ≡ serve_status fault) }
+    ensures ends { IfOk result (Ends is_closed fault end.now.calls.table end.now.framer) }
 {
     tell_left(alloc, interface, end, out)?;
     write_last(fault, end.rest(), out)?;
-    Ok(serve_status(fault))
+    Ok(ending_of(alloc, end, fault, serve_status(fault))?)
 }
 
 // The last line: the fault, or how many octets are unread.

@@ -118,8 +118,8 @@ fn write_at<R: Streamed, W: Write>(
     }
 }
 
-// Whether the call of an id is over.
-fn is_over_at<R: Streamed>(end: &End<'_, R>, id: u32) -> bool
+/// Whether something is stored for an id, and the call is over.
+pub fn is_over_at<R: Streamed>(end: &End<'_, R>, id: u32) -> bool
     ensures { result ≡ ended_at (R.closed end.now.calls.rule) end.now.calls.table id }
 {
     match end.entry(id) {

@@ -7,23 +7,29 @@ ghost use Rattle.giop_commands.specs.Check.{AreLimits};
 use crate::cli::limit_words::{limited, limits_of};
 use crate::files::apart;
 use clap::builder::ValueParser;
-use clap::{Arg, ArgAction, ArgMatches, Command};
+use clap::{Arg, ArgAction, ArgGroup, ArgMatches, Command};
 use giop_cdr::Order;
 use giop_commands::serve::given::{KeyWord, Telling};
 use giop_session::{Form, Limits};
 use std::alloc::{AllocError, Global};
 
 /// What `call` is asked for.
-#[derive(Clone, Copy, Debug)]
+#[derive(Debug, Drop)]
 pub struct CallWords<'a> {
-    /// The text of the object's reference, or a corbaloc.
+    /// The text of the object's reference, or a corbaloc; behind `@` the name of a file of it, or `-`
+    /// for the standard input.
     pub target: &'a str,
     /// The name of the interface's file, or `-` for the standard input.
     pub interface: &'a str,
-    /// The name of the file of the calls, or `-` for the standard input.
+    /// The name of the file of the calls, or `-` for the standard input; or that of an operation,
+    /// where there are values of its ins, or no such file.
     pub file: &'a str,
+    /// The ins of that operation, each the JSON text of a value.
+    pub values: Vec<&'a str>,
     /// When the calls are told.
     pub telling: Telling,
+    /// For how many seconds nothing may come or go, 1 to 86,400; any number where it is `None`.
+    pub timeout: Option<u32>,
     /// How Requests are sent.
     pub form: Form,
     /// What the end holds at most.
@@ -60,8 +66,11 @@ The target is the text of a reference, IOR: and hexadecimal digits, of which the
 is taken, or a corbaloc, of which the first address is taken; quote it, since a shell reads some of
 its signs. It says the version that is spoken: a corbaloc without one is of 1.0, and
 corbaloc::1.2@HOST:PORT/KEY of 1.2.
+--target @FILE takes the text from a file, in which a newline at the end is dropped.
 The file is a JSON list of calls, each with a request id of its own:
   [{\"id\":1,\"operation\":\"add\",\"ins\":[2,5]},{\"id\":2,\"operation\":\"ping\",\"ins\":[]}]
+In place of it one call may stand in words: the name of an operation, and its ins behind it, each a
+JSON value. A name alone is that of a file, where there is one. The id of such a call is 1.
 All of them are sent, then replies are read until all are there or the server closes the connection.
 Each call has a line, in ascending order of the id:
   Done 0 OUTS           its result, and the inout and out parameters, as a JSON list
@@ -77,6 +86,8 @@ With --stream a call is made as soon as there is room for it, each call is shown
 over, and then it is forgotten, so that a connection may have any number of calls. At the end the
 calls that are still open have their lines, and those that weren't made:
   Unsent                nothing of it was sent
+Where the server hangs up while calls are open, standard error says how many. With --timeout the
+connection is given up where nothing comes or goes for so many seconds, and each call has its line.
 
 Exit statuses:
   0  each call got its result, or was sent and has none
@@ -85,9 +96,10 @@ Exit statuses:
   3  reading, writing or the connection failed
   4  out of memory
 
-Example, while the example of giopctl serve --help runs:
+Examples, one while the example of giopctl serve --help runs:
   giopctl call --target corbaloc::1.2@127.0.0.1:2810/k --interface examples/calculator.json \
-examples/calls.json";
+examples/calls.json
+  giopctl call --target corbaloc::1.2@127.0.0.1:2810/k --interface examples/calculator.json add 2 5";
 
 const SERVE_HELP: &str = "\
 It listens at 127.0.0.1 alone, and serves one connection after the other. The file of the answers is
@@ -107,6 +119,7 @@ so that a connection may have any number of calls. Of a Request that is answered
   Asked OPERATION INS Answered REPLY, or Undecoded FAULT Answered REPLY
 with what giopctl call shows behind Done as REPLY. The calls that are still open have their lines at
 the end, and the last line is rest N, the octets that are no whole message, or the fault.
+Where a client hangs up within a message or a call in pieces, standard error says so.
 
 Exit statuses, of which the greatest of all connections is taken:
   0  the connection ended, or the client closed it
@@ -125,17 +138,22 @@ pub fn call<'a>(alloc: Global) -> Result<Command<'a>, AllocError> {
         .long("target")
         .required(true)
         .value_name("TEXT")
-        .help("The object: the text of its reference, or a corbaloc");
+        .help("The object: the text of its reference, or a corbaloc; or @ and a file of that text");
     let file = Arg::new(alloc, "FILE").required(true).help(
-        "The file of the calls, in JSON, or - for the standard input",
+        "The file of the calls, in JSON, or - for the standard input; or an operation's name",
     );
+    let values = Arg::new(alloc, "VALUE")
+        .num_args(1..)
+        .allow_negative_numbers(true)
+        .help("The ins of that operation, each a JSON value");
     let command = Command::new(alloc, "call")
         .about("Calls operations of an object, and shows the replies")
         .after_help(CALL_HELP)
         .arg(target)?
         .arg(interface(alloc))?
-        .arg(stream(alloc))?;
-    sent(alloc, command)?.arg(file)
+        .arg(stream(alloc))?
+        .arg(timeout(alloc))?;
+    sent(alloc, command)?.arg(file)?.arg(values)
 }
 
 /// The command `serve`.
@@ -165,27 +183,33 @@ pub fn serve<'a>(alloc: Global) -> Result<Command<'a>, AllocError> {
         .arg(port)?
         .arg(interface(alloc))?
         .arg(answers)?
-        .arg(key(alloc)?)?
-        .arg(key_text(alloc)?)?
+        .arg(key(alloc))?
+        .arg(key_text(alloc))?
+        .group(one_key(alloc)?)?
         .arg(connections)?
         .arg(stream(alloc))?;
     sent(alloc, command)
 }
 
-fn key<'a>(alloc: Global) -> Result<Arg<'a>, AllocError> {
+fn key<'a>(alloc: Global) -> Arg<'a> {
     Arg::new(alloc, "key")
         .long("key")
         .value_name("HEX")
         .help("The object key, in hexadecimal digits")
-        .required_unless_present("key-text")
 }
 
-fn key_text<'a>(alloc: Global) -> Result<Arg<'a>, AllocError> {
+fn key_text<'a>(alloc: Global) -> Arg<'a> {
     Arg::new(alloc, "key-text")
         .long("key-text")
         .value_name("TEXT")
         .help("The object key, as a text, in place of --key")
-        .conflicts_with("key")
+}
+
+// One of both is wanted, and no more.
+fn one_key<'a>(alloc: Global) -> Result<ArgGroup<'a>, AllocError> {
+    ArgGroup::new(alloc, "one-key")
+        .required(true)
+        .args(&["key", "key-text"])
 }
 
 fn stream<'a>(alloc: Global) -> Arg<'a> {
@@ -193,6 +217,14 @@ fn stream<'a>(alloc: Global) -> Arg<'a> {
         .long("stream")
         .action(ArgAction::SetTrue)
         .help("Each call is shown as soon as it is over, and forgotten")
+}
+
+fn timeout<'a>(alloc: Global) -> Arg<'a> {
+    Arg::new(alloc, "timeout")
+        .long("timeout")
+        .value_name("SECONDS")
+        .value_parser(ValueParser::Unsigned(1, 86_400))
+        .help("Gives up, with status 3, where nothing comes or goes for so long")
 }
 
 fn interface<'a>(alloc: Global) -> Arg<'a> {
@@ -223,8 +255,11 @@ fn sent<'a>(alloc: Global, command: Command<'a>) -> Result<Command<'a>, AllocErr
     limited(alloc, command.arg(piece)?.arg(little)?)
 }
 
-/// What `call` is asked for, or what is wrong with a word.
-pub fn call_words<'a>(matches: &ArgMatches<'a>) -> Result<CallWords<'a>, &'static str> {
+/// What `call` is asked for with these values, or what is wrong with a word.
+pub fn call_words<'a>(
+    matches: &ArgMatches<'a>,
+    values: Vec<&'a str>,
+) -> Result<CallWords<'a>, &'static str> {
     let form = form_of(matches)?;
     let limits = limits_of(matches)?;
     let (Some(target), Some(interface), Some(file)) = (
@@ -235,14 +270,28 @@ pub fn call_words<'a>(matches: &ArgMatches<'a>) -> Result<CallWords<'a>, &'stati
         return Err("--target, --interface and FILE are wanted");
     };
     apart(interface, file)?;
+    if let Some(reference) = target.strip_prefix('@') {
+        apart(reference, interface)?;
+        apart(reference, file)?;
+    }
     Ok(CallWords {
         target,
         interface,
         file,
+        values,
         telling: telling_of(matches),
+        timeout: timeout_of(matches)?,
         form,
         limits,
     })
+}
+
+/// The values that `call` is asked for behind an operation.
+pub fn values_of<'a>(alloc: Global, matches: &ArgMatches<'a>) -> Result<Vec<&'a str>, AllocError> {
+    match matches.get_strs("VALUE") {
+        Some(values) => Vec::from_slice(alloc, values),
+        None => Ok(Vec::new(alloc)),
+    }
 }
 
 /// What `serve` is asked for, or what is wrong with a word.
@@ -289,6 +338,17 @@ fn telling_of(matches: &ArgMatches) -> Telling {
         Telling::WhenOver
     } else {
         Telling::AtTheEnd
+    }
+}
+
+// For how many seconds nothing may come or go, where that is bounded.
+fn timeout_of(matches: &ArgMatches) -> Result<Option<u32>, &'static str> {
+    if matches.get_str("timeout").is_none() {
+        return Ok(None);
+    }
+    match decimal(matches, "timeout") {
+        Some(seconds) if seconds > 0 && seconds <= 86_400 => Ok(Some(seconds)),
+        _ => Err("--timeout is a number of seconds from 1 to 86400, in decimal digits"),
     }
 }
 

@@ -22,6 +22,43 @@ pub fn of_calls(alloc: Global, interface: &[u8], calls: &[u8], fault: FormFault)
     }
 }
 
+/// Where a call by words, which is refused with this fault, has it: by the texts of an interface and
+/// of each value, and the name of the operation.
+pub fn of_words(
+    alloc: Global,
+    interface: &[u8],
+    name: &str,
+    values: &[&str],
+    fault: FormFault,
+) -> Option<Place> {
+    let (Ok(offered), Ok(call)) = (parse_json(alloc, interface), call_json(alloc, name, values))
+    else {
+        return None;
+    };
+    let Ok(checked) = Interface::from_json(alloc, interface) else {
+        return None;
+    };
+    match call_place(alloc, &checked, &offered, &call, fault_code(fault)) {
+        Ok(place) => Some(place),
+        Err(_) => None,
+    }
+}
+
+// A call by words, as a file has it.
+fn call_json(alloc: Global, name: &str, values: &[&str]) -> Result<Json, FormFault> {
+    let ins = Json::Array(each_json(alloc, values)?);
+    Ok(json!(in alloc; {"id": 1, "operation": name, "ins": ins})?)
+}
+
+/// The JSON values of some texts; BadJson where one of them is none.
+pub fn each_json(alloc: Global, texts: &[&str]) -> Result<Vec<Json>, FormFault> {
+    let mut values = Vec::with_capacity(alloc, texts.len())?;
+    for text in texts {
+        values.push(parse_json(alloc, text.as_bytes())?)?;
+    }
+    Ok(values)
+}
+
 fn calls_place(
     alloc: Global,
     interface: &Interface,
@@ -69,10 +106,11 @@ fn call_place(
         return Ok(place);
     }
     match operation_of(interface, offered, name) {
-        Some(operation) => match operation.get("ins") {
-            Some(beside) => arguments_place(alloc, "ins", beside, ins, call, Role::Call, number),
-            None => whole(alloc, Role::Call, call, number),
-        },
+        Some(operation) => {
+            let none = Json::Array(Vec::new(alloc));
+            let beside = operation.get("ins").unwrap_or(&none);
+            arguments_place(alloc, "ins", beside, ins, call, Role::Call, number)
+        }
         None => {
             let place = whole(alloc, Role::Offered, name, number)?;
             Ok(place.under(key(alloc, "operation")?)?)
@@ -233,7 +271,9 @@ fn refused_answer(
     answer: &Json,
     number: u8,
 ) -> Result<Place, NoPlace> {
-    if let (Some(values), Some(outs)) = (answer.get("ok"), operation.get("outs")) {
+    if let Some(values) = answer.get("ok") {
+        let none = Json::Array(Vec::new(alloc));
+        let outs = operation.get("outs").unwrap_or(&none);
         return arguments_place(alloc, "ok", outs, values, answer, Role::Answer, number);
     }
     let (Some(id), Some(values)) = (answer.get("user"), answer.get("members")) else {

@@ -3,18 +3,22 @@
 
 use crate::cli::CallWords;
 use crate::files::OUTPUT_BUFFER;
-use crate::places::sessions::of_calls;
-use crate::report;
-use crate::runs::session::{interface_of, linked, read, refused, refused_form};
+use crate::places::sessions::{each_json, of_calls, of_words};
+use crate::runs::session::{interface_of, linked, read, refused, refused_form, refused_words};
+use crate::{files, report};
 use giop_commands::call::calls::{CallLine, calls_from_json};
 use giop_commands::call::streaming::call_stream;
+use giop_commands::call::words::call_from_words;
+use giop_commands::convert::unended;
 use giop_commands::failure::Failure;
 use giop_commands::serve::given::Telling;
 use giop_commands::status::Status;
-use giop_commands::{Calling, Endpoint, Targeted, call_over, target_of};
+use giop_commands::{Calling, Ending, Endpoint, Targeted, call_over, target_of};
 use giop_lines::EscapedText;
+use giop_types::Interface;
 use std::io::{BufWriter, ErrorKind, Write};
-use std::net::TcpStream;
+use std::net::{TcpStream, ToSocketAddrs};
+use std::time::Duration;
 use std::{io, str};
 
 /// Reads the file of the interface and that of the calls, connects to where the target says, and
@@ -28,16 +32,14 @@ pub fn call(rt: &HostRuntime, words: CallWords) -> Status {
 }
 
 fn called(rt: &HostRuntime, words: CallWords) -> Result<Status, Status> {
+    let target = target_text(rt, words.target)?;
     let offered = read(rt, words.interface)?;
-    let calls = read(rt, words.file)?;
-    let endpoint = endpoint_of(rt, words.target)?;
+    let asked = asked_in(rt, &words, offered.as_slice())?;
+    let endpoint = endpoint_of(rt, words.target, target.as_slice())?;
     let interface = interface_of(rt, words.interface, offered.as_slice())?;
-    let calls = match calls_from_json(rt.alloc(), &interface, calls.as_slice()) {
-        Ok(calls) => calls,
-        Err(fault) => {
-            let at = of_calls(rt.alloc(), offered.as_slice(), calls.as_slice(), fault);
-            return Err(refused_form(rt, words.file, calls.as_slice(), fault, at));
-        }
+    let calls = match asked {
+        Asked::File(text) => calls_in_file(rt, &words, offered.as_slice(), &interface, &text)?,
+        Asked::Words => calls_in_words(rt, &words, offered.as_slice(), &interface)?,
     };
     let peer = match peer_of(rt, &endpoint) {
         Ok(peer) => peer,
@@ -50,12 +52,96 @@ fn called(rt: &HostRuntime, words: CallWords) -> Result<Status, Status> {
         form: words.form,
         limits: words.limits,
     };
-    let answered = call_at(rt, calls, &endpoint, words.telling, calling);
-    Ok(report::answer(rt, peer.as_str(), answered))
+    let answered = call_at(rt, calls, &endpoint, &words, calling);
+    Ok(report::called(rt, peer.as_str(), words.timeout, answered))
 }
 
-fn endpoint_of(rt: &HostRuntime, target: &str) -> Result<Endpoint, Status> {
-    match target_of(rt.alloc(), target.as_bytes()) {
+// The text of a target: itself, or behind `@` that of a file, of which a newline at the end is
+// dropped.
+fn target_text(rt: &HostRuntime, target: &str) -> Result<Vec<u8>, Status> {
+    let text = match target.strip_prefix('@') {
+        Some(file) => Vec::from_slice(rt.alloc(), unended(read(rt, file)?.as_slice())),
+        None => Vec::from_slice(rt.alloc(), target.as_bytes()),
+    };
+    match text {
+        Ok(text) => Ok(text),
+        Err(_) => Err(report::answer(rt, target, Err(Failure::Memory))),
+    }
+}
+
+// Where the calls stand.
+#[derive(Drop)]
+enum Asked {
+    // In a file of this text.
+    File(Vec<u8>),
+    // In words: an operation, and the values of its ins.
+    Words,
+}
+
+// Where the calls stand. One word is the name of a file, unless there is none and the interface of
+// this text has an operation of that name.
+fn asked_in(rt: &HostRuntime, words: &CallWords<'_>, interface: &[u8]) -> Result<Asked, Status> {
+    if !words.values.is_empty() {
+        return Ok(Asked::Words);
+    }
+    match files::read(rt, words.file) {
+        Ok(text) => Ok(Asked::File(text)),
+        Err(Failure::Input(error))
+            if error.kind() == ErrorKind::NotFound && offers(rt, interface, words.file) => {
+            Ok(Asked::Words)
+        }
+        Err(failure) => Err(report::answer(rt, words.file, Err(failure))),
+    }
+}
+
+// Whether the text of an interface has an operation of this name.
+fn offers(rt: &HostRuntime, interface: &[u8], name: &str) -> bool {
+    match Interface::from_json(rt.alloc(), interface) {
+        Ok(interface) => interface.operation(name.as_bytes()).is_some(),
+        Err(_) => false,
+    }
+}
+
+// The calls of a file, or the status where they are refused, which is reported.
+fn calls_in_file(
+    rt: &HostRuntime,
+    words: &CallWords<'_>,
+    offered: &[u8],
+    interface: &Interface,
+    text: &[u8],
+) -> Result<Vec<CallLine>, Status> {
+    match calls_from_json(rt.alloc(), interface, text) {
+        Ok(calls) => Ok(calls),
+        Err(fault) => {
+            let at = of_calls(rt.alloc(), offered, text, fault);
+            Err(refused_form(rt, words.file, text, fault, at))
+        }
+    }
+}
+
+// The call that words ask for, or the status where it is refused, which is reported.
+fn calls_in_words(
+    rt: &HostRuntime,
+    words: &CallWords<'_>,
+    offered: &[u8],
+    interface: &Interface,
+) -> Result<Vec<CallLine>, Status> {
+    let (name, values) = (words.file, words.values.as_slice());
+    let called = match each_json(rt.alloc(), values) {
+        Ok(ins) => call_from_words(rt.alloc(), interface, name, ins),
+        Err(fault) => Err(fault),
+    };
+    match called {
+        Ok(calls) => Ok(calls),
+        Err(fault) => {
+            let at = of_words(rt.alloc(), offered, name, values, fault);
+            Err(refused_words(rt, name, values, fault, at))
+        }
+    }
+}
+
+fn endpoint_of(rt: &HostRuntime, target: &str, text: &[u8]) -> Result<Endpoint, Status> {
+    match target_of(rt.alloc(), text) {
         Ok(Targeted::At(endpoint)) => Ok(endpoint),
         Ok(Targeted::Refused(line)) => Err(refused(rt, line)),
         Err(failure) => Err(report::answer(rt, target, Err(failure))),
@@ -72,29 +158,49 @@ fn call_at(
     rt: &HostRuntime,
     calls: Vec<CallLine>,
     endpoint: &Endpoint,
-    telling: Telling,
+    words: &CallWords<'_>,
     calling: Calling<'_>,
-) -> Result<Status, Failure> {
-    let link = linked(rt, connected(rt, endpoint)?)?;
+) -> Result<Ending, Failure> {
+    let link = linked(rt, connected(rt, endpoint, words.timeout)?, words.timeout)?;
     let mut out = BufWriter::with_capacity(rt.alloc(), OUTPUT_BUFFER, io::writer(rt))?;
     let (mut reader, mut writer) = (&link, &link);
     let (reader, writer) = (&mut reader, &mut writer);
-    let status = match telling {
+    let ending = match words.telling {
         Telling::AtTheEnd => call_over(rt.alloc(), calling, calls, reader, writer, &mut out)?,
         Telling::WhenOver => call_stream(rt.alloc(), calling, calls, reader, writer, &mut out)?,
     };
     out.flush()?;
-    Ok(status)
+    Ok(ending)
 }
 
 // A connection to where an object is reached. A name is looked up, and each of its addresses is
-// tried.
-fn connected(rt: &HostRuntime, endpoint: &Endpoint) -> Result<TcpStream, Failure> {
+// tried, for so many seconds at most, if any are given.
+fn connected(
+    rt: &HostRuntime,
+    endpoint: &Endpoint,
+    timeout: Option<u32>,
+) -> Result<TcpStream, Failure> {
     let Ok(host) = str::from_utf8(endpoint.host.as_slice()) else {
         return Err(Failure::Connection(io::Error::from(ErrorKind::InvalidInput)));
     };
-    match TcpStream::connect(rt, (host, endpoint.port)) {
+    let stream = match timeout {
+        Some(seconds) => connect_within(rt, host, endpoint.port, seconds),
+        None => TcpStream::connect(rt, (host, endpoint.port)),
+    };
+    match stream {
         Ok(stream) => Ok(stream),
         Err(error) => Err(Failure::connection(error)),
     }
+}
+
+// Tries each address of a host for so many seconds, and returns the last error where none answers.
+fn connect_within(rt: &HostRuntime, host: &str, port: u16, seconds: u32) -> io::Result<TcpStream> {
+    let mut last = io::Error::from(ErrorKind::InvalidInput);
+    for address in (host, port).to_socket_addrs(rt)? {
+        match TcpStream::connect_timeout(rt, &address, Duration::from_secs(u64::from(seconds))) {
+            Ok(stream) => return Ok(stream),
+            Err(error) => last = error,
+        }
+    }
+    Err(last)
 }

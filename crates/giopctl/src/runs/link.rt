@@ -13,6 +13,9 @@ use std::time::Duration;
 // A write waits for so many milliseconds before the connection is read instead.
 const WRITE_WAIT: u64 = 10;
 
+// So many such waits take a second.
+const WAITS_IN_A_SECOND: u64 = 1_000 / WRITE_WAIT;
+
 /// A connection, what was read from it ahead, and the error of a write that failed. What the peer
 /// sent before that is read first, and then the error is told.
 #[derive(Drop)]
@@ -20,18 +23,20 @@ pub struct Link {
     stream: TcpStream,
     ahead: RefCell<Ahead>,
     failed: Cell<Option<io::Error>>,
+    patience: Patience,
 }
 
 impl Link {
-    /// A connection. A read that waits longer than this fails with `TimedOut`; without it a read
-    /// waits for ever.
-    pub fn new(alloc: Global, stream: TcpStream, timeout: Option<Duration>) -> io::Result<Link> {
+    /// A connection. Where nothing comes or goes for so many seconds, at least 1, it fails with
+    /// `TimedOut`; without a timeout it waits for ever.
+    pub fn new(alloc: Global, stream: TcpStream, timeout: Option<u32>) -> io::Result<Link> {
         stream.set_write_timeout(Some(Duration::from_millis(WRITE_WAIT)))?;
-        stream.set_read_timeout(timeout)?;
+        stream.set_read_timeout(timeout.map(|seconds| Duration::from_secs(u64::from(seconds))))?;
         Ok(Link {
             stream,
             ahead: RefCell::new(Ahead::new(alloc)),
             failed: Cell::new(None),
+            patience: Patience::of(timeout),
         })
     }
 
@@ -61,7 +66,18 @@ impl Link {
         let Ok(mut ahead) = self.ahead.try_borrow_mut() else {
             return Err(io::Error::from(ErrorKind::Other));
         };
-        ahead.write(&mut There(&self.stream), &mut &self.stream, octets)
+        ahead.write(&mut There(self), &mut Here(self), octets)
+    }
+
+    // Keeps the error of a write, which is told when what is there has been read. Where the peer
+    // takes nothing any more, no read waits for it a second time.
+    fn fail(&self, error: io::Error) {
+        if error.kind() == ErrorKind::TimedOut {
+            let _ = self
+                .stream
+                .set_read_timeout(Some(Duration::from_millis(WRITE_WAIT)));
+        }
+        self.failed.set(Some(error));
     }
 }
 
@@ -82,7 +98,7 @@ impl Write for &Link {
         match self.write_some(octets) {
             Ok(n) => Ok(n),
             Err(error) => {
-                self.failed.set(Some(error));
+                self.fail(error);
                 Ok(octets.len())
             }
         }
@@ -93,15 +109,74 @@ impl Write for &Link {
     }
 }
 
+// How long a peer may take nothing and send nothing while octets are to be written to it.
+#[derive(Drop)]
+struct Patience {
+    // So many writes in a row at most; any number where there is none.
+    most: Option<u64>,
+    // So many have found no room since something came or went.
+    spent: Cell<u64>,
+}
+
+impl Patience {
+    fn of(timeout: Option<u32>) -> Patience {
+        Patience {
+            most: timeout.map(|seconds| u64::from(seconds) * WAITS_IN_A_SECOND),
+            spent: Cell::new(0),
+        }
+    }
+
+    // Something came or went.
+    fn renew(&self) {
+        self.spent.set(0);
+    }
+
+    // A write found no room. Returns whether there may be another.
+    fn lasts(&self) -> bool {
+        let spent = self.spent.get().saturating_add(1);
+        self.spent.set(spent);
+        match self.most {
+            Some(most) => spent < most,
+            None => true,
+        }
+    }
+}
+
+// A connection that is written to; a write waits for `WRITE_WAIT` milliseconds at most.
+#[derive(Drop)]
+struct Here<'a>(&'a Link);
+
+impl Write for Here<'_> {
+    fn write(&mut self, octets: &[u8]) -> io::Result<usize> {
+        match (&mut &self.0.stream).write(octets) {
+            Ok(n) => {
+                self.0.patience.renew();
+                Ok(n)
+            }
+            Err(error) if error.kind() == ErrorKind::WouldBlock && !self.0.patience.lasts() => {
+                Err(io::Error::from(ErrorKind::TimedOut))
+            }
+            Err(error) => Err(error),
+        }
+    }
+
+    fn flush(&mut self) -> io::Result<()> {
+        Ok(())
+    }
+}
+
 // A connection that is read without waiting.
 #[derive(Drop)]
-struct There<'a>(&'a TcpStream);
+struct There<'a>(&'a Link);
 
 impl Read for There<'_> {
     fn read(&mut self, piece: &mut [u8]) -> io::Result<usize> {
-        self.0.set_nonblocking(true)?;
-        let read = (&mut &*self.0).read(piece);
-        self.0.set_nonblocking(false)?;
+        self.0.stream.set_nonblocking(true)?;
+        let read = (&mut &self.0.stream).read(piece);
+        self.0.stream.set_nonblocking(false)?;
+        if let Ok(1..) = read {
+            self.0.patience.renew();
+        }
         read
     }
 }

@@ -11,7 +11,7 @@ use giop_commands::serve::answers::answers_from_json;
 use giop_commands::serve::given::{KeyWord, Telling};
 use giop_commands::serve::streaming::stream_over;
 use giop_commands::status::Status;
-use giop_commands::{Serving, serve_over};
+use giop_commands::{Ending, Serving, serve_over};
 use std::io;
 use std::io::{BufWriter, Write};
 use std::net::{Ipv4Addr, TcpListener, TcpStream};
@@ -114,8 +114,8 @@ fn serve_next(
     let _ = eprintln!(rt; "giopctl: connection {number} from {peer}");
     let answered = serve_stream(rt, stream, number, telling, serving);
     match format!(in rt.alloc(); "connection {number}") {
-        Ok(name) => report::answer(rt, name.as_str(), answered),
-        Err(_) => report::answer(rt, HERE, answered),
+        Ok(name) => report::served(rt, name.as_str(), answered),
+        Err(_) => report::served(rt, HERE, answered),
     }
 }
 
@@ -125,15 +125,15 @@ fn serve_stream(
     number: u32,
     telling: Telling,
     serving: &Serving<'_>,
-) -> Result<Status, Failure> {
-    let link = linked(rt, stream)?;
+) -> Result<Ending, Failure> {
+    let link = linked(rt, stream, None)?;
     let (mut reader, mut writer) = (&link, &link);
     let mut out = BufWriter::with_capacity(rt.alloc(), OUTPUT_BUFFER, io::writer(rt))?;
     let (reader, writer) = (&mut reader, &mut writer);
-    let status = match telling {
+    let ending = match telling {
         Telling::AtTheEnd => serve_over(rt.alloc(), number, *serving, reader, writer, &mut out)?,
         Telling::WhenOver => stream_over(rt.alloc(), number, *serving, reader, writer, &mut out)?,
     };
     out.flush()?;
-    Ok(status)
+    Ok(ending)
 }

@@ -44,6 +44,21 @@ pub fn refused_form(
     refused_line(rt, file, form_refusal(fault))
 }
 
+/// Reports that a call by words is refused, and where it is at fault.
+pub fn refused_words(
+    rt: &HostRuntime,
+    name: &str,
+    values: &[&str],
+    fault: FormFault,
+    at: Option<Place>,
+) -> Status {
+    match fault {
+        FormFault::BadJson => report::words(rt, rt.alloc(), values),
+        _ => report::form(rt, rt.alloc(), name, name.as_bytes(), fault, at),
+    }
+    refused_line(rt, name, form_refusal(fault))
+}
+
 /// Writes the line of a refusal to the standard output.
 pub fn refused(rt: &HostRuntime, line: RefusalLine) -> Status {
     refused_line(rt, "-", Ok(line))
@@ -64,9 +79,10 @@ fn written(rt: &HostRuntime, line: RefusalLine) -> Result<Status, Failure> {
     Ok(status)
 }
 
-/// A connection that is read while it is written to.
-pub fn linked(rt: &HostRuntime, stream: TcpStream) -> Result<Link, Failure> {
-    match Link::new(rt.alloc(), stream, None) {
+/// A connection that is read while it is written to. Where nothing comes or goes for so many
+/// seconds, if any are given, it fails.
+pub fn linked(rt: &HostRuntime, stream: TcpStream, timeout: Option<u32>) -> Result<Link, Failure> {
+    match Link::new(rt.alloc(), stream, timeout) {
         Ok(link) => Ok(link),
         Err(error) => Err(Failure::connection(error)),
     }

@@ -15,4 +15,4 @@ returns-in-Ok g c =
     c.talk.new.end.calls c.talk.new.end.fault c.tell.result
     (rw (c.new-end.ensures.interface, c.new-end.ensures.limits, c.new-end.ensures.fault, c.new-end.ensures.calls, c.new-end.ensures.outgoing)
     at c.in_ok-refused.ensures.calls)
-    (rw (interface, unread, fault) at c.in-Ok.ensures.talks) c.tell.ensures.text c.tell.ensures.ok
+    (rw (interface, unread, fault) at c.in-Ok.ensures.talks) c.tell.ensures.text c.tell.ensures.ok c.tell.ensures.ends

@@ -17,3 +17,4 @@ returns-in-Ok g c =
     )
     at c.in-Ok.ensures.converses)
     (rw (c.told.ensures, c.fault.ensures) at c.tell.ensures.text) (rw (c.told.ensures, c.fault.ensures) at c.tell.ensures.ok)
+    (rw (c.told.ensures, c.fault.ensures) at c.tell.ensures.ends)

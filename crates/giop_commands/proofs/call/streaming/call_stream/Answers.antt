@@ -18,4 +18,4 @@ returns-in-Ok g c =
       c.from-left.ensures.0,
     )
     at c.in-Ok.ensures)
-    c.tell_end.ensures.text c.tell_end.ensures.ok
+    c.tell_end.ensures.text c.tell_end.ensures.ok c.tell_end.ensures.ends

@@ -16,3 +16,4 @@ returns-in-Ok g c =
     )
     at c.in-Ok.ensures)
     (rw (c.told.ensures, c.fault.ensures) at c.tell_end.ensures.text) (rw (c.told.ensures, c.fault.ensures) at c.tell_end.ensures.ok)
+    (rw (c.told.ensures, c.fault.ensures) at c.tell_end.ensures.ends)
