@@ -33,6 +33,7 @@ use crate::session_fault::SessionFault;
 pub use detached::Detached;
 use giop_calls::{ClientRule, ServerRule};
 use giop_cdr::{OctetList, Order};
+use giop_frag::Gather;
 use giop_msg::{Framer, Kind, Msg, Version};
 use giop_mux::CallRule;
 use giop_types::Interface;
@@ -220,13 +221,19 @@ impl<'a, R: Hearing> End<'a, R> {
         self.framer.rest()
     }
 
-    /// How many blocks of 512 octets the end has taken for pieces. None is freed until the end is
-    /// dropped. They are at least those that the gathered pieces need, each call's octets over 512,
-    /// rounded up; and at most the limit of gathered octets over 512, and one more for each entry
-    /// that there may be. It takes no memory.
-    ///
-    /// What the clauses leave open is how many blocks earlier pieces needed, which contracts don't
-    /// see of an end. That the number is the gatherer's own, tests show.
+    /// The gatherer of the pieces of which more are to come: it holds those of each id, and counts
+    /// its blocks. It takes no memory.
+    pub fn gatherer(&self) -> &Gather
+        ensures pieces { result.now.lists ≡ self.now.calls.gathered }
+        ensures limit { result.now.limit ≡ self.now.calls.room }
+    {
+        self.calls.gatherer()
+    }
+
+    /// How many blocks of 512 octets the end has taken for pieces, as `Gather::blocks` counts them
+    /// of its `gatherer`. None is freed until the end is dropped. They are at least those that the
+    /// gathered pieces need, each call's octets over 512, rounded up; and at most the limit of
+    /// gathered octets over 512, and one more for each entry that there may be. It takes no memory.
     pub fn blocks(&self) -> usize
         ensures least { blocks_of self.now.calls.gathered ≤ result }
         ensures within { result ≤ self.now.calls.room / 512 + self.now.calls.calls }

@@ -104,6 +104,14 @@ impl<R: Side> CallTable<R> {
         more <= self.gather.limit() - self.gather.total()
     }
 
+    /// The gatherer of the pieces. It takes no memory.
+    pub fn gatherer(&self) -> &Gather
+        ensures pieces { result.now.lists ≡ self.now.gathered }
+        ensures limit { result.now.limit ≡ self.now.room }
+    {
+        &self.gather
+    }
+
     /// How many blocks of 512 octets were taken for pieces. None is freed while the table lives.
     /// They are at least those that the gathered pieces need, each call's octets over 512, rounded
     /// up; and at most the limit of gathered octets over 512, and one more for each entry that
