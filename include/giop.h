@@ -1,5 +1,5 @@
-/* libgiop: a stream of octets, split into GIOP messages (1.0, 1.1 and 1.2; CORBA 3.3 Part 2, 9.4), and both
- * ends of a connection: a server's and a client's.
+/* libgiop: a stream of octets, split into GIOP messages (1.0, 1.1 and 1.2; CORBA 3.3 Part 2, 9.4), both ends of
+ * a connection: a server's and a client's; and values, as CDR or as JSON.
  *
  * The library opens no socket, starts no thread, prints nothing and keeps no global state. What each
  * function does is proved over what its handle holds; docs/c.md says what that leaves to the caller.
@@ -166,14 +166,83 @@ uint32_t giop_interface_new(giop_interface *interface, const uint8_t *json, size
 /* Lets go what the handle holds, which holds nothing then. A second call does nothing. */
 void giop_interface_free(giop_interface *interface);
 
+/* ---- faults ---- */
+
+/* Why an end fails, or refuses a call of its program; or why values aren't read. */
+typedef struct giop_end_fault {
+    size_t at;       /* with WIRE, NO_ID, VALUES and REFERENCE the place of what is wrong; else 0. It counts
+                      * from the first octet of the message's header, of the values, or of those that the text
+                      * of a reference says, which is their byte order */
+    uint32_t number; /* one of GIOP_END_ */
+    uint32_t part;   /* with WIRE what is wrong with the header, with NO_ID, VALUES and REFERENCE one of
+                      * GIOP_CDR_, with CALL one of GIOP_CALL_, with JSON one of GIOP_TEXT_, with TEXT 1 where it
+                      * doesn't begin with IOR:, 2 where no even number of hexadecimal digits follows; else 0 */
+    uint32_t id;     /* with CALL the request id; else 0 */
+} giop_end_fault;
+
+#define GIOP_END_WIRE 1u            /* the octets are no message */
+#define GIOP_END_CALL 2u            /* what happens to the call of the id, or is to be done to it, is refused */
+#define GIOP_END_WRONG_DIRECTION 3u /* the message is one that only the other end sends */
+#define GIOP_END_TOO_MANY_CALLS 4u  /* the table holds as many entries as it may */
+#define GIOP_END_GATHER_FULL 5u     /* all gathered octets together would be more than the limit */
+#define GIOP_END_PEER_ERROR 6u      /* the peer sent a MessageError */
+#define GIOP_END_CLOSED 7u          /* the connection was closed, by the peer or by this end */
+#define GIOP_END_NO_MEMORY 8u       /* memory ran out: the status is GIOP_NO_MEMORY */
+#define GIOP_END_STILL_OPEN 9u      /* the entry can't be taken out, since its call isn't over */
+#define GIOP_END_NO_ID 10u          /* a message before 1.2 has no request id: a field of it has a fault */
+#define GIOP_END_VALUES 11u         /* the octets are no such values */
+#define GIOP_END_FORM 12u           /* messages can't be cut into pieces of this size */
+#define GIOP_END_TEXT 13u           /* the text of a reference isn't IOR: and hexadecimal digits */
+#define GIOP_END_REFERENCE 14u      /* the octets that it says are no reference */
+#define GIOP_END_JSON 15u           /* the text of JSON isn't the values */
+
+#define GIOP_CALL_ID_IN_USE 1u          /* a call begins with an id whose former call isn't over */
+#define GIOP_CALL_STRAY 2u              /* a Fragment comes with an id for which nothing is gathered */
+#define GIOP_CALL_ORDER_DIFFERS 3u      /* a Fragment has another byte order than what it continues */
+#define GIOP_CALL_UNKNOWN_REPLY 4u      /* a reply comes with an id that waits for none */
+#define GIOP_CALL_WRONG_KIND 5u         /* a Request is answered as a LocateRequest, or the other way round */
+#define GIOP_CALL_NOT_OPEN 6u           /* the call that is to be answered isn't open */
+#define GIOP_CALL_UNFIT 7u              /* what is to be sent has no place in a message, or doesn't answer */
+#define GIOP_CALL_UNKNOWN_OPERATION 8u  /* the interface has no such operation */
+#define GIOP_CALL_NOTHING_TO_SEND 9u    /* no piece of a message is left to be sent */
+
+/* ---- values ----
+ *
+ * Values cross as octets in a form that you say: wherever a parameter is called values, it is one of these.
+ */
+#define GIOP_BIG_ENDIAN 0u    /* CDR in big endian */
+#define GIOP_LITTLE_ENDIAN 1u /* CDR in little endian, as is every number but 0 and 2 */
+#define GIOP_JSON 2u          /* a text of JSON, a list of the values (docs/FORMATS.md); where the library writes
+                               * it, it has no blanks and no null */
+/* CDR octets stand by themselves: the values one after another, each aligned as if the first octet had the
+ * offset 0. */
+
+/* Which values of an interface. */
+#define GIOP_INS 0u     /* the in and inout parameters of the operation of a name */
+#define GIOP_OUTS 1u    /* its result, and then its inout and out parameters */
+#define GIOP_MEMBERS 2u /* the members of the exception of a repository id, as is every number above */
+
+/* Copies values in another form than the one in which they are given: which of the interface they are, and the
+ * name or the id without a null. Writes how many octets they are then. Answers
+ *   GIOP_OK;
+ *   GIOP_SMALL: the buffer has fewer octets than *size, and nothing was copied;
+ *   GIOP_WAITS: the interface has no such operation or exception, and nothing is written;
+ *   GIOP_FAULT: what is given is refused, and *fault says why, as VALUES or JSON;
+ *   GIOP_NO_MEMORY;
+ *   GIOP_CLOSED: the interface's handle holds nothing.
+ * With the last three but for *fault nothing is written; *fault is written with GIOP_FAULT, and may be with
+ * GIOP_NO_MEMORY. What is given is at most 2^62 octets. name, given and buffer may each be NULL where its size
+ * is 0. */
+uint32_t giop_interface_convert(giop_interface *interface, uint32_t which, const uint8_t *name, size_t name_size,
+                                uint32_t given_values, const uint8_t *given, size_t given_size,
+                                uint32_t wanted_values, uint8_t *buffer, size_t room, size_t *size,
+                                giop_end_fault *fault);
+
 /* ---- the end of a connection that answers calls ----
  *
  * An end is fed what was read of its client, in pieces of any size, and keeps a table: for each request id
  * what is stored of its call. Your program looks at the table, answers, writes what is outgoing, and takes
  * out the calls that are over. docs/PROFILE.md has what each message does to a call ("Calls").
- *
- * Values cross as CDR octets that stand by themselves: the values one after another, each aligned as if the
- * first octet had the offset 0, in the byte order that you say: 0 is big endian, any other number little.
  */
 typedef struct giop_server {
     void *at;
@@ -196,43 +265,6 @@ typedef struct giop_form {
 } giop_form;
 
 #define GIOP_FORM {4096u, 0u}
-
-/* Why an end fails, or refuses a call of its program. */
-typedef struct giop_end_fault {
-    size_t at;       /* with WIRE, NO_ID, VALUES and REFERENCE the place of what is wrong; else 0. It counts
-                      * from the first octet of the message's header, of the values, or of those that the text
-                      * of a reference says, which is their byte order */
-    uint32_t number; /* one of GIOP_END_ */
-    uint32_t part;   /* with WIRE what is wrong with the header, with NO_ID, VALUES and REFERENCE one of
-                      * GIOP_CDR_, with CALL one of GIOP_CALL_, with TEXT 1 where it doesn't begin with IOR:, 2
-                      * where no even number of hexadecimal digits follows; else 0 */
-    uint32_t id;     /* with CALL the request id; else 0 */
-} giop_end_fault;
-
-#define GIOP_END_WIRE 1u            /* the octets are no message */
-#define GIOP_END_CALL 2u            /* what happens to the call of the id, or is to be done to it, is refused */
-#define GIOP_END_WRONG_DIRECTION 3u /* the message is one that only the other end sends */
-#define GIOP_END_TOO_MANY_CALLS 4u  /* the table holds as many entries as it may */
-#define GIOP_END_GATHER_FULL 5u     /* all gathered octets together would be more than the limit */
-#define GIOP_END_PEER_ERROR 6u      /* the peer sent a MessageError */
-#define GIOP_END_CLOSED 7u          /* the connection was closed, by the peer or by this end */
-#define GIOP_END_NO_MEMORY 8u       /* memory ran out: the status is GIOP_NO_MEMORY */
-#define GIOP_END_STILL_OPEN 9u      /* the entry can't be taken out, since its call isn't over */
-#define GIOP_END_NO_ID 10u          /* a message before 1.2 has no request id: a field of it has a fault */
-#define GIOP_END_VALUES 11u         /* the octets are no values of the answer */
-#define GIOP_END_FORM 12u           /* messages can't be cut into pieces of this size */
-#define GIOP_END_TEXT 13u           /* the text of a reference isn't IOR: and hexadecimal digits */
-#define GIOP_END_REFERENCE 14u      /* the octets that it says are no reference */
-
-#define GIOP_CALL_ID_IN_USE 1u          /* a call begins with an id whose former call isn't over */
-#define GIOP_CALL_STRAY 2u              /* a Fragment comes with an id for which nothing is gathered */
-#define GIOP_CALL_ORDER_DIFFERS 3u      /* a Fragment has another byte order than what it continues */
-#define GIOP_CALL_UNKNOWN_REPLY 4u      /* a reply comes with an id that waits for none */
-#define GIOP_CALL_WRONG_KIND 5u         /* a Request is answered as a LocateRequest, or the other way round */
-#define GIOP_CALL_NOT_OPEN 6u           /* the call that is to be answered isn't open */
-#define GIOP_CALL_UNFIT 7u              /* what is to be sent has no place in a message, or doesn't answer */
-#define GIOP_CALL_UNKNOWN_OPERATION 8u  /* the interface has no such operation */
-#define GIOP_CALL_NOTHING_TO_SEND 9u    /* no piece of a message is left to be sent */
 
 /* What is stored for the id of a call at a server: the kind of a giop_server_entry. */
 #define GIOP_NOTHING 0        /* nothing */
@@ -325,32 +357,32 @@ uint32_t giop_server_key(giop_server *server, uint32_t id, uint8_t *buffer, size
 uint32_t giop_server_context(giop_server *server, uint32_t id, size_t index, uint32_t *service,
                              uint8_t *buffer, size_t room, size_t *size);
 
-/* Copies the ins of the Request under an id, as octets of this byte order, and writes their number. Answers
- * as giop_server_operation; or GIOP_NO_MEMORY, or GIOP_FAULT: what is stored are no values of the
- * operation. With both nothing is written. */
-uint32_t giop_server_ins(giop_server *server, uint32_t id, uint32_t little_endian,
+/* Copies the ins of the Request under an id, in this form, and writes how many octets they are. Answers as
+ * giop_server_operation; or GIOP_NO_MEMORY, or GIOP_FAULT: what is stored are no values of the operation. With
+ * both nothing is written. */
+uint32_t giop_server_ins(giop_server *server, uint32_t id, uint32_t values,
                          uint8_t *buffer, size_t room, size_t *size);
 
-/* Answers the Request under an id without an exception (9.4.3): outs are the octets, of this byte order, of
- * the result and then of the inout and out parameters; none where the Request's flags are 1. The Reply has
+/* Answers the Request under an id without an exception (9.4.3): outs are the octets, in this form, of the
+ * result and then of the inout and out parameters; of no values where the Request's flags are 1. The Reply has
  * the Request's version and no service contexts. Its first piece is outgoing then, and giop_server_send puts
  * out each other one. Answers
  *   GIOP_OK;
- *   GIOP_FAULT: *fault says why it isn't sent: FORM; VALUES; the end's own; or CALL with NOT_OPEN,
+ *   GIOP_FAULT: *fault says why it isn't sent: FORM; VALUES or JSON; the end's own; or CALL with NOT_OPEN,
  *     WRONG_KIND or UNFIT;
  *   GIOP_NO_MEMORY: it can be answered again, unless the end has failed;
  *   GIOP_CLOSED.
  * Where it isn't sent, nothing has changed. outs are at most 2^62 octets; they may be NULL where size is
  * 0. */
-uint32_t giop_server_answer(giop_server *server, uint32_t id, uint32_t little_endian,
+uint32_t giop_server_answer(giop_server *server, uint32_t id, uint32_t values,
                             const uint8_t *outs, size_t size, const giop_form *form,
                             giop_end_fault *fault);
 
 /* Answers the Request under an id by an exception of the interface: its repository id without a null, and
- * the octets of its members, of this byte order. Answers as giop_server_answer. */
+ * the octets of its members, in this form. Answers as giop_server_answer. */
 uint32_t giop_server_answer_user(giop_server *server, uint32_t id,
                                  const uint8_t *exception, size_t exception_size,
-                                 uint32_t little_endian, const uint8_t *members, size_t members_size,
+                                 uint32_t values, const uint8_t *members, size_t members_size,
                                  const giop_form *form, giop_end_fault *fault);
 
 /* Answers the Request under an id, also one that couldn't be decoded, by an exception of the broker: its
@@ -364,7 +396,7 @@ uint32_t giop_server_answer_system(giop_server *server, uint32_t id,
 /* Answers the Request under an id by where its object is (9.4.3.1): a reference, as a text (7.6.9) of IOR: and
  * hexadecimal digits, without a null. It is for this request alone where permanent is 0; any other number, in
  * 1.2 alone, is from now on. Answers as giop_server_answer; *fault may be TEXT or REFERENCE in place of
- * VALUES. */
+ * VALUES or JSON. */
 uint32_t giop_server_answer_forward(giop_server *server, uint32_t id,
                                     const uint8_t *reference, size_t size, uint32_t permanent,
                                     const giop_form *form, giop_end_fault *fault);
@@ -403,7 +435,7 @@ void giop_server_free(giop_server *server);
  * program calls, writes what is outgoing, feeds what was read of the server, looks at the table, and takes
  * out the calls that are over. docs/PROFILE.md has what each message does to a call ("Calls").
  *
- * Limits, forms, faults, outcomes and values are those of the end that answers, above.
+ * Limits, forms and outcomes are those of the end that answers, above.
  */
 typedef struct giop_client {
     void *at;
@@ -494,11 +526,11 @@ uint32_t giop_client_outgoing(giop_client *client, uint8_t *buffer, size_t room,
 uint32_t giop_client_wrote(giop_client *client, size_t size);
 
 /* Calls an operation under an id (9.4.2): of the target that the octets are, as the call says, by the
- * operation's name without a null, with the octets, of this byte order, of its in and inout parameters. The
- * Request has no service contexts. Its first piece is outgoing then, and giop_client_send puts out each other
- * one. Answers
+ * operation's name without a null, with the octets, in this form, of its in and inout parameters. The Request
+ * has no service contexts. Its first piece is outgoing then, and giop_client_send puts out each other one.
+ * Answers
  *   GIOP_OK;
- *   GIOP_FAULT: *fault says why it isn't sent: FORM; VALUES; the end's own; or CALL with ID_IN_USE,
+ *   GIOP_FAULT: *fault says why it isn't sent: FORM; VALUES or JSON; the end's own; or CALL with ID_IN_USE,
  *     UNKNOWN_OPERATION or UNFIT;
  *   GIOP_NO_MEMORY: it can be called again, unless the end has failed;
  *   GIOP_CLOSED.
@@ -507,7 +539,7 @@ uint32_t giop_client_wrote(giop_client *client, size_t size);
 uint32_t giop_client_call(giop_client *client, uint32_t id, const giop_call *call,
                           const uint8_t *target, size_t target_size,
                           const uint8_t *operation, size_t operation_size,
-                          uint32_t little_endian, const uint8_t *ins, size_t size,
+                          uint32_t values, const uint8_t *ins, size_t size,
                           const giop_form *form, giop_end_fault *fault);
 
 /* Asks under an id where the object is of the target that the octets are, as the call says (9.4.5). Its first
@@ -535,12 +567,12 @@ uint32_t giop_client_ids(giop_client *client, uint32_t *ids, size_t room, size_t
  * GIOP_CLOSED. */
 uint32_t giop_client_entry_of(giop_client *client, uint32_t id, giop_client_entry *entry);
 
-/* Copies what the Reply under an id brought without an exception, as octets of this byte order: the result
- * and then the inout and out parameters. Writes their number. Answers GIOP_OK; GIOP_SMALL: the buffer has
- * fewer octets than *size, and nothing was copied; GIOP_WAITS: no Reply of GIOP_NO_EXCEPTION is there, and
- * *size is as it was; GIOP_NO_MEMORY, or GIOP_FAULT: what is stored are no values of the operation, and with
- * both nothing is written; or GIOP_CLOSED. */
-uint32_t giop_client_outs(giop_client *client, uint32_t id, uint32_t little_endian,
+/* Copies what the Reply under an id brought without an exception, in this form: the result and then the inout
+ * and out parameters. Writes how many octets they are. Answers GIOP_OK; GIOP_SMALL: the buffer has fewer octets
+ * than *size, and nothing was copied; GIOP_WAITS: no Reply of GIOP_NO_EXCEPTION is there, and *size is as it
+ * was; GIOP_NO_MEMORY, or GIOP_FAULT: what is stored are no values of the operation, and with both nothing is
+ * written; or GIOP_CLOSED. */
+uint32_t giop_client_outs(giop_client *client, uint32_t id, uint32_t values,
                           uint8_t *buffer, size_t room, size_t *size);
 
 /* Copies the repository id of the exception that the Reply under an id brought, the interface's or the
@@ -548,10 +580,10 @@ uint32_t giop_client_outs(giop_client *client, uint32_t id, uint32_t little_endi
  * no such Reply is there, and *size is as it was; or GIOP_CLOSED. */
 uint32_t giop_client_exception(giop_client *client, uint32_t id, uint8_t *buffer, size_t room, size_t *size);
 
-/* Copies the members of the exception of the interface that the Reply under an id brought, as octets of this
- * byte order, and writes their number. Answers as giop_client_outs; GIOP_WAITS: no Reply of
+/* Copies the members of the exception of the interface that the Reply under an id brought, in this form, and
+ * writes how many octets they are. Answers as giop_client_outs; GIOP_WAITS: no Reply of
  * GIOP_USER_EXCEPTION is there. */
-uint32_t giop_client_members(giop_client *client, uint32_t id, uint32_t little_endian,
+uint32_t giop_client_members(giop_client *client, uint32_t id, uint32_t values,
                              uint8_t *buffer, size_t room, size_t *size);
 
 /* Writes the id of a service context (7.7) of the Reply under an id to *service, the first at index 0, and

@@ -91,7 +91,7 @@ static int is_guarded(uint32_t status, size_t size) {
     return memcmp(buffer + (status == GIOP_OK ? size : 0), kept, GUARD) == 0;
 }
 
-/* An operation, a key, a context, or the ins in either byte order, copied into room that may be too small. */
+/* An operation, a key, a context, or the ins in each form, copied into room that may be too small. */
 static uint64_t copied(giop_server *server, uint32_t id, int what, uint64_t sum) {
     uint32_t service = 0;
     size_t size = 99, room = at_random(3) == 0 ? at_random(12) : sizeof buffer - GUARD;
@@ -101,8 +101,8 @@ static uint64_t copied(giop_server *server, uint32_t id, int what, uint64_t sum)
         uint8_t *at = room == 0 ? NULL : buffer;
         status = what == 0   ? giop_server_operation(server, id, at, room, &size)
                  : what == 1 ? giop_server_key(server, id, at, room, &size)
-                 : what < 4 ? giop_server_ins(server, id, (uint32_t)what - 2, at, room, &size)
-                            : giop_server_context(server, id, (size_t)what - 4, &service, at, room, &size);
+                 : what < 5 ? giop_server_ins(server, id, (uint32_t)what - 2, at, room, &size)
+                            : giop_server_context(server, id, (size_t)what - 5, &service, at, room, &size);
         CHECK(is_guarded(status, size));
         if (status != GIOP_SMALL) {
             break;
@@ -130,7 +130,7 @@ static uint64_t seen(giop_server *server, uint32_t id, uint64_t sum) {
     sum = with(with(with(with(sum, id), entry.kind), entry.awaits), entry.over);
     sum = with(with(with(with(sum, entry.outcome), entry.flags), entry.left), entry.status);
     sum = with(with(with(sum, entry.part), entry.number), entry.at);
-    for (int what = 0; what < 6; what++) {
+    for (int what = 0; what < 7; what++) {
         sum = copied(server, id, what, sum);
     }
     return sum;

@@ -34,7 +34,7 @@ static uint32_t opens(const giop_limits *limits) {
 /* A status and its fault: OK and unwritten, or FAULT or NO_MEMORY with one of the numbers. */
 static void judged(uint32_t status, const giop_end_fault *fault) {
     CHECK(status == GIOP_OK || status == GIOP_FAULT || (status == GIOP_NO_MEMORY && may_refuse));
-    CHECK(status == GIOP_OK ? fault->number == 77 : fault->number - 1 < 12 && fault->part <= 9);
+    CHECK(status == GIOP_OK ? fault->number == 77 : fault->number - 1 < 15 && fault->part <= 9);
     CHECK((status == GIOP_NO_MEMORY) == (fault->number == GIOP_END_NO_MEMORY) || may_refuse);
 }
 
@@ -53,18 +53,24 @@ static const char *const NAMES[] = {"ping", "add", "echo", "tell", "nothing"};
 static const uint8_t NUMBERS[8] = {0, 0, 0, 2, 0, 0, 0, 5};
 /* A string of 48 octets, a count before it. */
 static const uint8_t TEXT[52] = "\0\0\0\60" "a text that is sent in more than a single piece";
+/* The same as JSON. */
+static const char NUMBERS_JSON[] = "[2,5]", TEXT_JSON[] = "[\"a text that is sent in more than a single piece\"]";
 
 static void calls(uint32_t id) {
     uint32_t operation = at_random(20) == 0 ? 4 : at_random(4);
     uint32_t minor = at_random(3), flags = operation == 3 ? 0 : minor == 2 && at_random(8) == 0 ? 1 : 3;
     const giop_call call = {minor, flags, 0};
     const giop_form form = {at_random(20) == 0 ? at_random(30) : 24 + 8 * at_random(6), at_random(2)};
-    const uint8_t *ins = operation == 1 ? NUMBERS : TEXT;
-    size_t size = operation == 1 ? 8 : operation == 2 || operation == 3 ? sizeof TEXT : 0;
+    uint32_t values = at_random(2) ? GIOP_JSON : GIOP_BIG_ENDIAN;
+    const char *text = operation == 1 ? NUMBERS_JSON : operation == 2 || operation == 3 ? TEXT_JSON : "[]";
+    const uint8_t *octets = operation == 1 ? NUMBERS : TEXT;
+    size_t of_octets = operation == 1 ? 8 : operation == 2 || operation == 3 ? sizeof TEXT : 0;
+    const uint8_t *ins = values == GIOP_JSON ? (const uint8_t *)text : octets;
+    size_t size = values == GIOP_JSON ? strlen(text) : of_octets;
     giop_end_fault fault = {77, 77, 77, 77};
     giop_client_entry before = entry_of(id);
     uint32_t status = giop_client_call(&client, id, &call, (const uint8_t *)"k", at_random(2),
-                                       (const uint8_t *)NAMES[operation], strlen(NAMES[operation]), 0, ins,
+                                       (const uint8_t *)NAMES[operation], strlen(NAMES[operation]), values, ins,
                                        at_random(20) == 0 ? size / 2 : size, &form, &fault);
     judged(status, &fault);
     CHECK(status == GIOP_OK || before.kind == entry_of(id).kind);
@@ -101,13 +107,13 @@ static void client_acts(uint32_t id) {
  * forward. Their status, and how many there are. */
 static uint32_t copied(uint32_t id, int what, size_t *size) {
     size_t room = at_random(3) == 0 ? at_random(12) : sizeof buffer - GUARD;
-    uint32_t status = GIOP_SMALL;
+    uint32_t status = GIOP_SMALL, values = at_random(3);
     memset(buffer, 0xEE, sizeof buffer);
     for (int again = 0; status == GIOP_SMALL && again < 2; again++, room = *size) {
         uint8_t *at = room == 0 ? NULL : buffer;
-        status = what == 0   ? giop_client_outs(&client, id, 0, at, room, size)
+        status = what == 0   ? giop_client_outs(&client, id, values, at, room, size)
                  : what == 1 ? giop_client_exception(&client, id, at, room, size)
-                 : what == 2 ? giop_client_members(&client, id, 0, at, room, size)
+                 : what == 2 ? giop_client_members(&client, id, values, at, room, size)
                              : giop_client_forward(&client, id, at, room, size);
         for (size_t i = 0; i < GUARD; i++) {
             CHECK(buffer[(status == GIOP_OK ? *size : 0) + i] == 0xEE);

@@ -1,3 +1,5 @@
 pub mod AtLemmas
 pub mod Crossing
 pub mod HandleRows
+pub mod ValueLoops
+pub mod ValuesFit

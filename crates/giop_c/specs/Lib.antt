@@ -6,6 +6,7 @@ pub mod Copying
 pub mod EndRecords
 pub mod Heads
 pub mod Interfaces
+pub mod JsonValues
 pub mod Records
 pub mod Server
 pub mod Values

@@ -1,12 +1,12 @@
 //! Why an act of an end's own program isn't done, and what C is told of it.
 ghost use Rattle.std.specs.Prelude.{◌≡◌};
-ghost use Rattle.giop_c.specs.Acts.{IsToldAct, act_status, c_act_fault, c_reference_fault, of_end};
+ghost use Rattle.giop_c.specs.Acts.{IsToldAct, act_status, c_act_fault, c_json_fault, c_reference_fault, of_end};
 
 use crate::end_records::EndFault;
 use crate::status::{FAULT, NO_MEMORY, OK};
 use giop_cdr::{CdrFault, CdrKind};
 use giop_session::SessionFault;
-use giop_types::IorTextFault;
+use giop_types::{FormFault, IorTextFault};
 
 /// Why an answer or a call isn't sent.
 #[derive(Clone, Copy, Debug, PartialEq, Eq)]
@@ -15,6 +15,8 @@ pub enum ActFault {
     End(SessionFault),
     /// The octets are no values of what is sent: the place counts from the first of them.
     Values(CdrFault),
+    /// The JSON text isn't the values of what is sent.
+    Json(FormFault),
     /// Messages can't be cut into pieces of this size.
     Form,
     /// The text is no reference.
@@ -34,6 +36,7 @@ impl ActFault {
                 part: u32::from(fault.number()),
                 id: 0,
             },
+            ActFault::Json(why) => json_fault(why),
             ActFault::Form => EndFault {
                 at: 0,
                 number: 12,
@@ -51,9 +54,25 @@ impl ActFault {
         match self {
             ActFault::End(SessionFault::NoMemory) => NO_MEMORY,
             ActFault::Values(fault) if fault.kind == CdrKind::NoMemory => NO_MEMORY,
+            ActFault::Json(FormFault::NoMemory) => NO_MEMORY,
             ActFault::Reference(IorTextFault::NoMemory) => NO_MEMORY,
             _ => FAULT,
         }
+    }
+}
+
+// The fault of a JSON text as C sees it.
+fn json_fault(why: FormFault) -> EndFault
+    ensures { result ≡ c_json_fault why }
+{
+    match why {
+        FormFault::NoMemory => EndFault::of(SessionFault::NoMemory),
+        _ => EndFault {
+            at: 0,
+            number: 15,
+            part: u32::from(why.number()),
+            id: 0,
+        },
     }
 }
 

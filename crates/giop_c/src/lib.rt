@@ -5,12 +5,14 @@
 mod act_fault;
 mod client;
 mod contexts;
+mod converting;
 mod copying;
 mod end_records;
 mod framer_calls;
 mod framer_handle;
 mod interface_calls;
 mod interface_handle;
+mod json_values;
 mod parameters;
 mod reader;
 mod records;
@@ -20,6 +22,7 @@ mod shared;
 mod status;
 #[cfg(test)]
 mod tests;
+mod value_form;
 mod values;
 
 pub use client::{CallHead, Caller, ClientHandle, ClientRow};

@@ -6,6 +6,7 @@ mod contexts;
 mod server;
 mod server_entries;
 mod threads;
+mod values;
 
 use crate::framer_calls::{
     giop_framer_feed, giop_framer_free, giop_framer_new, giop_framer_next, giop_framer_payload,

@@ -1,6 +1,6 @@
 //! The end of a connection that calls.
 use crate::end::{copied, error_of, told, CForm, EndError, EndFault, Form, Limits};
-use crate::{Handle, HeadFault, Interface, OK};
+use crate::{Handle, HeadFault, Interface, ValueForm, OK};
 use std::ptr;
 
 #[repr(C)]
@@ -147,7 +147,7 @@ extern "C" {
         target_size: usize,
         operation: *const u8,
         operation_size: usize,
-        little_endian: u32,
+        values: u32,
         ins: *const u8,
         size: usize,
         form: *const CForm,
@@ -169,7 +169,7 @@ extern "C" {
     fn giop_client_outs(
         client: *mut Handle,
         id: u32,
-        little_endian: u32,
+        values: u32,
         buffer: *mut u8,
         room: usize,
         size: *mut usize,
@@ -178,7 +178,7 @@ extern "C" {
     fn giop_client_members(
         client: *mut Handle,
         id: u32,
-        little_endian: u32,
+        values: u32,
         buffer: *mut u8,
         room: usize,
         size: *mut usize,
@@ -272,7 +272,7 @@ impl Client {
         unsafe { giop_client_wrote(&mut self.handle, size) == OK }
     }
 
-    /// Calls an operation under an id, by the octets of its ins in a byte order. The first piece of the
+    /// Calls an operation under an id, by the octets of its ins in a form. The first piece of the
     /// Request is outgoing then, and `send` puts out each other one.
     ///
     /// # Errors
@@ -282,7 +282,7 @@ impl Client {
         id: u32,
         call: Call<'_>,
         operation: &[u8],
-        little_endian: bool,
+        values: ValueForm,
         ins: &[u8],
         form: Form,
     ) -> Result<(), EndError> {
@@ -297,7 +297,7 @@ impl Client {
                 target.len(),
                 operation.as_ptr(),
                 operation.len(),
-                little_endian.into(),
+                values.number(),
                 ins.as_ptr(),
                 ins.len(),
                 &form,
@@ -368,15 +368,15 @@ impl Client {
         ClientEntry::of(&entry)
     }
 
-    /// What the Reply under an id brought without an exception: the octets, in a byte order, of the result
-    /// and then of the inout and out parameters. `None` where there is no such Reply.
+    /// What the Reply under an id brought without an exception: the octets, in a form, of the result and then
+    /// of the inout and out parameters. `None` where there is no such Reply.
     ///
     /// # Errors
     /// `NoMemory`.
-    pub fn outs(&mut self, id: u32, little_endian: bool) -> Result<Option<Vec<u8>>, EndError> {
-        let order = little_endian.into();
+    pub fn outs(&mut self, id: u32, values: ValueForm) -> Result<Option<Vec<u8>>, EndError> {
+        let form = values.number();
         // SAFETY: the handle was opened, and the buffer has so much room.
-        let call = |at, room, size| unsafe { giop_client_outs(&mut self.handle, id, order, at, room, size) };
+        let call = |at, room, size| unsafe { giop_client_outs(&mut self.handle, id, form, at, room, size) };
         copied(call).map_err(|status| error_of(status, EndFault::default()))
     }
 
@@ -388,15 +388,15 @@ impl Client {
         copied(call).ok().flatten()
     }
 
-    /// The octets, in a byte order, of the members of the exception of the interface that the Reply under an
-    /// id brought; `None` where there is no such Reply.
+    /// The octets, in a form, of the members of the exception of the interface that the Reply under an id
+    /// brought; `None` where there is no such Reply.
     ///
     /// # Errors
     /// `NoMemory`.
-    pub fn members(&mut self, id: u32, little_endian: bool) -> Result<Option<Vec<u8>>, EndError> {
-        let order = little_endian.into();
+    pub fn members(&mut self, id: u32, values: ValueForm) -> Result<Option<Vec<u8>>, EndError> {
+        let form = values.number();
         // SAFETY: the handle was opened, and the buffer has so much room.
-        let call = |at, room, size| unsafe { giop_client_members(&mut self.handle, id, order, at, room, size) };
+        let call = |at, room, size| unsafe { giop_client_members(&mut self.handle, id, form, at, room, size) };
         copied(call).map_err(|status| error_of(status, EndFault::default()))
     }
 

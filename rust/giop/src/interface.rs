@@ -1,5 +1,6 @@
 //! An interface: what the operations of an object take and give.
-use crate::{Handle, FAULT, OK};
+use crate::end::{copied, error_of, EndError, EndFault};
+use crate::{Handle, ValueForm, Values, FAULT, OK};
 use std::error;
 use std::fmt;
 use std::ptr;
@@ -13,6 +14,20 @@ struct CTextFault {
 extern "C" {
     fn giop_interface_new(interface: *mut Handle, json: *const u8, size: usize, fault: *mut CTextFault) -> u32;
     fn giop_interface_free(interface: *mut Handle);
+    fn giop_interface_convert(
+        interface: *mut Handle,
+        which: u32,
+        name: *const u8,
+        name_size: usize,
+        given_values: u32,
+        given: *const u8,
+        given_size: usize,
+        wanted_values: u32,
+        buffer: *mut u8,
+        room: usize,
+        size: *mut usize,
+        fault: *mut EndFault,
+    ) -> u32;
 }
 
 /// Why an interface wasn't made.
@@ -61,6 +76,39 @@ impl Interface {
             FAULT => Err(InterfaceError::Refused { number: fault.number, description: fault.description }),
             _ => Err(InterfaceError::NoMemory),
         }
+    }
+
+    /// Values of the interface in another form than the one in which they are given; `None` where it has no
+    /// such operation or exception.
+    ///
+    /// # Errors
+    /// Why what is given is refused.
+    pub fn convert(
+        &mut self,
+        values: Values<'_>,
+        given: ValueForm,
+        octets: &[u8],
+        wanted: ValueForm,
+    ) -> Result<Option<Vec<u8>>, EndError> {
+        let (mut fault, (which, name)) = (EndFault::default(), values.written());
+        // SAFETY: the handle was opened, each slice is that long, and the buffer has so much room.
+        let call = |at, room, size| unsafe {
+            giop_interface_convert(
+                &mut self.handle,
+                which,
+                name.as_ptr(),
+                name.len(),
+                given.number(),
+                octets.as_ptr(),
+                octets.len(),
+                wanted.number(),
+                at,
+                room,
+                size,
+                &mut fault,
+            )
+        };
+        copied(call).map_err(|status| error_of(status, fault))
     }
 }
 

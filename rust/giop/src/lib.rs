@@ -20,11 +20,13 @@ mod client;
 mod end;
 mod interface;
 mod server;
+mod values;
 
 pub use client::{Call, Client, ClientEntry, ClientKind, Target};
 pub use end::{EndError, EndFault, Form, Limits};
 pub use interface::{Interface, InterfaceError};
 pub use server::{Awaits, CallKind, Entry, RequestFault, Server};
+pub use values::{ValueForm, Values};
 
 use std::error;
 use std::ffi::c_void;

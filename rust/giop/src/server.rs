@@ -1,6 +1,6 @@
 //! The end of a connection that answers calls.
 use crate::end::{copied, error_of, told, CForm, EndError, EndFault, Form, Limits};
-use crate::{Handle, HeadFault, Interface, OK};
+use crate::{Handle, HeadFault, Interface, ValueForm, OK};
 use std::ptr;
 
 #[repr(C)]
@@ -100,7 +100,7 @@ extern "C" {
     fn giop_server_ins(
         server: *mut Handle,
         id: u32,
-        little_endian: u32,
+        values: u32,
         buffer: *mut u8,
         room: usize,
         size: *mut usize,
@@ -108,7 +108,7 @@ extern "C" {
     fn giop_server_answer(
         server: *mut Handle,
         id: u32,
-        little_endian: u32,
+        values: u32,
         outs: *const u8,
         size: usize,
         form: *const CForm,
@@ -119,7 +119,7 @@ extern "C" {
         id: u32,
         exception: *const u8,
         exception_size: usize,
-        little_endian: u32,
+        values: u32,
         members: *const u8,
         members_size: usize,
         form: *const CForm,
@@ -316,33 +316,33 @@ impl Server {
         Some((service, octets))
     }
 
-    /// The ins of the Request under an id; `None` where no Request is known.
+    /// The ins of the Request under an id, in a form; `None` where no Request is known.
     ///
     /// # Errors
     /// `NoMemory`.
-    pub fn ins(&mut self, id: u32, little_endian: bool) -> Result<Option<Vec<u8>>, EndError> {
-        let order = little_endian.into();
+    pub fn ins(&mut self, id: u32, values: ValueForm) -> Result<Option<Vec<u8>>, EndError> {
+        let form = values.number();
         // SAFETY: the handle was opened, and the buffer has so much room.
-        let call = |at, room, size| unsafe { giop_server_ins(&mut self.handle, id, order, at, room, size) };
+        let call = |at, room, size| unsafe { giop_server_ins(&mut self.handle, id, form, at, room, size) };
         copied(call).map_err(|status| error_of(status, EndFault::default()))
     }
 
-    /// Answers a Request without an exception, by the octets of its outs in a byte order. The first piece of
-    /// the Reply is outgoing then, and `send` puts out each other one.
+    /// Answers a Request without an exception, by the octets of its outs in a form. The first piece of the
+    /// Reply is outgoing then, and `send` puts out each other one.
     ///
     /// # Errors
     /// Why it isn't sent; nothing has changed then.
-    pub fn answer(&mut self, id: u32, little_endian: bool, outs: &[u8], form: Form) -> Result<(), EndError> {
-        let (mut fault, order, form) = (EndFault::default(), little_endian.into(), form.written());
+    pub fn answer(&mut self, id: u32, values: ValueForm, outs: &[u8], form: Form) -> Result<(), EndError> {
+        let (mut fault, values, form) = (EndFault::default(), values.number(), form.written());
         // SAFETY: the handle was opened, and the slice is that long.
         let status = unsafe {
-            giop_server_answer(&mut self.handle, id, order, outs.as_ptr(), outs.len(), &form, &mut fault)
+            giop_server_answer(&mut self.handle, id, values, outs.as_ptr(), outs.len(), &form, &mut fault)
         };
         told(status, fault)
     }
 
     /// Answers a Request by an exception of the interface: its repository id, and the octets of its members
-    /// in a byte order.
+    /// in a form.
     ///
     /// # Errors
     /// Why it isn't sent; nothing has changed then.
@@ -350,7 +350,7 @@ impl Server {
         &mut self,
         id: u32,
         exception: &[u8],
-        little_endian: bool,
+        values: ValueForm,
         members: &[u8],
         form: Form,
     ) -> Result<(), EndError> {
@@ -362,7 +362,7 @@ impl Server {
                 id,
                 exception.as_ptr(),
                 exception.len(),
-                little_endian.into(),
+                values.number(),
                 members.as_ptr(),
                 members.len(),
                 &form,

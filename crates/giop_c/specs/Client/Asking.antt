@@ -2,16 +2,11 @@
 -- where an object is (9.4.5).
 use Rattle.std.specs.Prelude.{◌≡◌, ◌⊎◌, ℕ, ◌==◌, if◌then◌else◌, List, [], Option, Some, None, Result, Ok, Err}
 use Rattle.std_alloc.specs.Arc.{arc_value}
-use Rattle.giop_cdr.specs.declared.fault.CdrFault.{CdrFault}
-use Rattle.giop_cdr.specs.declared.fault.CdrKind.TheVariants as cdr
-use Rattle.giop_cdr.specs.declared.order.Order.{Order}
-use Rattle.giop_cdr.specs.Ending.{ended}
 use Rattle.giop_types.specs.declared.json.interface.Operation.{Operation}
 use Rattle.giop_types.specs.Values.Tree.{Tree}
 use Rattle.giop_msg.specs.declared.messages.request.Request.{Request}
 use Rattle.giop_msg.specs.declared.target.Target.TheVariants.{Key, Profile}
 use Rattle.giop_msg.specs.Locate.{AnyLocateRequest}
-use Rattle.giop_msg.specs.Messages.Body.{values}
 use Rattle.giop_msg.specs.Messages.Request.{operation_of}
 use Rattle.giop_msg.specs.Target.{AnyTarget}
 use Rattle.giop_msg.specs.Version.{version_of}
@@ -24,9 +19,9 @@ use Rattle.giop_c.specs.declared.act_fault.ActFault.{ActFault}
 use Rattle.giop_c.specs.declared.act_fault.ActFault.TheVariants as refused
 use Rattle.giop_c.specs.declared.client.asking.CallHead.{CallHead}
 use Rattle.giop_c.specs.declared.client.caller.Caller.{Caller}
-use Rattle.giop_c.specs.Acts.{InForm, OrNot, of_end}
+use Rattle.giop_c.specs.declared.value_form.ValueForm.{ValueForm}
+use Rattle.giop_c.specs.Acts.{InForm, IsReadAs, OrNot, of_end, values_in}
 use Rattle.giop_c.specs.Client.Ends.{PutsAtClient}
-use Rattle.giop_c.specs.Values.{begun}
 
 -- the target that octets are: the object's key, or the data of an IIOP profile, whose tag is 0
 abbrev pub target_of : CallHead → List ℕ → AnyTarget
@@ -54,14 +49,10 @@ locate_of id head target =
 
 -- the ins that octets are: they are read by the operation, or refused; where there is no operation
 -- they aren't read
-abbrev pub IsRead : Option Operation → Order → List ℕ → Result (List Tree) ActFault → Type 0
-IsRead None order octets ins = ins ≡ Ok []
-IsRead (Some operation) order octets ins =
-    ((e : CdrFault) × (ins ≡ Err (refused.Values e))
-    × (((ended (values operation.ins.list.items)).read (begun order octets) ≡ Err e)
-    ⊎ (e.kind ≡ cdr.NoMemory)))
-    ⊎ ((trees : List Tree) × (ins ≡ Ok trees)
-    × ((ended (values operation.ins.list.items)).read (begun order octets) ≡ Ok trees))
+abbrev pub IsRead : Option Operation → ValueForm → List ℕ → Result (List Tree) ActFault → Type 0
+IsRead None value_form octets ins = ins ≡ Ok []
+IsRead (Some operation) value_form octets ins =
+    IsReadAs (values_in operation.ins.list.items value_form octets) ins
 
 -- the Request with these ins; or memory ran out
 abbrev pub IsMade : (List Tree → Request) → Result (List Tree) ActFault → Result Request ActFault
@@ -71,10 +62,10 @@ IsMade request (Ok ins) asked =
 IsMade request (Err why) asked = asked ≡ Err why
 
 -- the Request of an operation that is made of octets
-abbrev pub IsAsked : Option Operation → Order → List ℕ → (List Tree → Request)
+abbrev pub IsAsked : Option Operation → ValueForm → List ℕ → (List Tree → Request)
     → Result Request ActFault → Type 0
-IsAsked operation order octets request asked =
-    (ins : Result (List Tree) ActFault) × IsRead operation order octets ins
+IsAsked operation value_form octets request asked =
+    (ins : Result (List Tree) ActFault) × IsRead operation value_form octets ins
     × IsMade request ins asked
 
 -- a Request is sent
@@ -93,12 +84,12 @@ SendsAsked (Ok q) form old answer new =
     × SendsRequest q form old told new
 SendsAsked (Err why) form old answer new = (answer ≡ Err why) × (new ≡ old)
 
--- an operation is called, by octets in this byte order
-abbrev pub CallsOperation : ℕ → CallHead → List ℕ → List ℕ → Order → List ℕ → Form → Caller
+-- an operation is called, by its ins in a form
+abbrev pub CallsOperation : ℕ → CallHead → List ℕ → List ℕ → ValueForm → List ℕ → Form → Caller
     → Result (Unit {0}) ActFault → Caller → Type 0
-CallsOperation id head target operation order octets form old answer new =
+CallsOperation id head target operation value_form octets form old answer new =
     InForm form old answer new ((asked : Result Request ActFault)
-    × IsAsked (operation_of (arc_value old.interface) operation) order octets
+    × IsAsked (operation_of (arc_value old.interface) operation) value_form octets
     (request_of id head target operation) asked
     × SendsAsked asked form old answer new)
 

@@ -1,6 +1,5 @@
 -- What is stored for the id of a call at a client, as C sees it.
 use Rattle.std.specs.Prelude.{◌≡◌, ◌⊎◌, ℕ, ℤ, pos, if◌then◌else◌, true, false, Option, Some, None, List, length}
-use Rattle.giop_cdr.specs.declared.order.Order.{Order}
 use Rattle.giop_cdr.specs.Faults.{cdr_kind_number}
 use Rattle.giop_types.specs.declared.json.interface.Interface.{Interface}
 use Rattle.giop_types.specs.declared.json.parameters.Parameter.{Parameter}
@@ -15,6 +14,7 @@ use Rattle.giop_calls.specs.declared.client.entry.ClientEntry.{ClientEntry}
 use Rattle.giop_calls.specs.declared.client.entry.ClientEntry.TheVariants.{Sending, Waiting, Gathering, Done, LocateDone, Undecoded, OnewaySent, Cancelled}
 use Rattle.giop_calls.specs.ClientTable.{is_closed, left_of, outcome}
 use Rattle.giop_c.specs.declared.client.entries.ClientRow.{ClientRow}
+use Rattle.giop_c.specs.declared.value_form.ValueForm.{ValueForm}
 use Rattle.giop_c.specs.Calls.{no_memory, fault}
 use Rattle.giop_c.specs.Contexts.{count_in}
 use Rattle.giop_c.specs.Copying.{CopiesOctets}
@@ -136,22 +136,24 @@ c_client_row entry = record {
 }
 
 -- the outs of a body that has no exception are copied
-abbrev pub CopiesOutsOf : List Parameter → ReplyBody → Order → List ℕ → List ℕ → ℕ → ℕ → ℕ → Type 0
-CopiesOutsOf parameters (NoException outs) order = CopiesValues parameters outs order
-CopiesOutsOf parameters _ order = CopiesOctets None
+abbrev pub CopiesOutsOf : List Parameter → ReplyBody → ValueForm → List ℕ → List ℕ → ℕ → ℕ → ℕ
+    → Type 0
+CopiesOutsOf parameters (NoException outs) form = CopiesValues parameters outs form
+CopiesOutsOf parameters _ form = CopiesOctets None
 
 -- by the Request that it answers
-abbrev pub CopiesOuts : Interface → Option ClientEntry → Order → List ℕ → List ℕ → ℕ → ℕ → ℕ → Type 0
-CopiesOuts interface (Some (Done request reply)) order =
-    CopiesOutsOf (outs_for interface (Some request)) reply.body order
-CopiesOuts interface _ order = CopiesOctets None
+abbrev pub CopiesOuts : Interface → Option ClientEntry → ValueForm → List ℕ → List ℕ → ℕ → ℕ → ℕ
+    → Type 0
+CopiesOuts interface (Some (Done request reply)) form =
+    CopiesOutsOf (outs_for interface (Some request)) reply.body form
+CopiesOuts interface _ form = CopiesOctets None
 
 -- the members of an exception of the interface are copied
-abbrev pub CopiesMembers : Interface → Option ReplyBody → Order → List ℕ → List ℕ → ℕ → ℕ → ℕ
+abbrev pub CopiesMembers : Interface → Option ReplyBody → ValueForm → List ℕ → List ℕ → ℕ → ℕ → ℕ
     → Type 0
-CopiesMembers interface (Some (UserException id members)) order =
-    CopiesValues (listed (exception_of interface id)) members order
-CopiesMembers interface _ order = CopiesOctets None
+CopiesMembers interface (Some (UserException id members)) form =
+    CopiesValues (listed (exception_of interface id)) members form
+CopiesMembers interface _ form = CopiesOctets None
 
 -- the text of a reference is copied, where there is one that octets spell; or memory ran out
 abbrev pub CopiesReference : Option Reference → List ℕ → List ℕ → ℕ → ℕ → ℕ → Type 0

@@ -1,7 +1,6 @@
 -- What the program of a server answers to a Request by C.
 use Rattle.std.specs.Prelude.{ℕ, Bool, if◌then◌else◌, List, [], Result}
 use Rattle.std_alloc.specs.Arc.{arc_value}
-use Rattle.giop_cdr.specs.declared.order.Order.{Order}
 use Rattle.giop_ior.specs.Ior.{Reference}
 use Rattle.giop_msg.specs.declared.messages.completion.Completion.{Completion}
 use Rattle.giop_msg.specs.declared.messages.reply.Reply.{Reply}
@@ -14,6 +13,7 @@ use Rattle.giop_session.specs.Acts.ServerAnswers.{IsAnswer, answer_fault, questi
 use Rattle.giop_session.specs.Runs.ServerRuns.{server_entry}
 use Rattle.giop_c.specs.declared.act_fault.ActFault.{ActFault}
 use Rattle.giop_c.specs.declared.server.served.Served.{Served}
+use Rattle.giop_c.specs.declared.value_form.ValueForm.{ValueForm}
 use Rattle.giop_c.specs.Acts.{InForm, OrNot, ReadsReference, ReadsValues}
 use Rattle.giop_c.specs.Server.Entries.{request_of, version_asked}
 use Rattle.giop_c.specs.Server.Ends.{PutsAtServer}
@@ -45,19 +45,20 @@ RepliesOrNot id body form old answer new =
     OrNot (λ told. Replies id body form old told new) old answer new
 
 -- without an exception: by the outs of its operation
-abbrev pub AnswersOuts : ℕ → Order → List ℕ → Form → Served → Result (Unit {0}) ActFault → Served
-    → Type 0
-AnswersOuts id order octets form old answer new =
+abbrev pub AnswersOuts : ℕ → ValueForm → List ℕ → Form → Served → Result (Unit {0}) ActFault
+    → Served → Type 0
+AnswersOuts id value_form octets form old answer new =
     InForm form old answer new
     (ReadsValues (outs_for (arc_value old.interface) (request_of (server_entry old.end.calls id)))
-    order octets (λ outs. RepliesOrNot id (NoException outs) form old answer new) old answer new)
+    value_form octets (λ outs. RepliesOrNot id (NoException outs) form old answer new)
+    old answer new)
 
 -- by an exception of the interface: its members
-abbrev pub AnswersUser : ℕ → List ℕ → Order → List ℕ → Form → Served
+abbrev pub AnswersUser : ℕ → List ℕ → ValueForm → List ℕ → Form → Served
     → Result (Unit {0}) ActFault → Served → Type 0
-AnswersUser id exception order octets form old answer new =
+AnswersUser id exception value_form octets form old answer new =
     InForm form old answer new
-    (ReadsValues (listed (exception_of (arc_value old.interface) exception)) order octets
+    (ReadsValues (listed (exception_of (arc_value old.interface) exception)) value_form octets
     (λ members. RepliesOrNot id (UserException exception members) form old answer new)
     old answer new)
 

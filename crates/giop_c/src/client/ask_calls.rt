@@ -5,17 +5,18 @@ ghost use Rattle.giop_c.specs.Calls.{At};
 ghost use Rattle.giop_c.specs.Client.Asking.{AsksWhere, CallsOperation};
 ghost use Rattle.giop_c.specs.Client.Ends.{CancelsAtClient};
 ghost use Rattle.giop_c.specs.EndRecords.{c_order_of};
+ghost use Rattle.giop_c.specs.Values.{c_value_form};
 
 use crate::act_fault::told_act;
 use crate::client::asking::CallHead;
 use crate::client::client_handle::ClientHandle;
 use crate::end_records::{EndFault, SendForm, form_of, order_of, told};
 use crate::status::CLOSED;
+use crate::value_form::value_form_of;
 use std::alloc::Global;
 
-/// Calls an operation of a target under an id: its ins are octets of a byte order of which the first
-/// is at offset 0. It answers OK; FAULT or NO_MEMORY, and writes the fault, and nothing has changed;
-/// or CLOSED.
+/// Calls an operation of a target under an id, by its ins in a form of values. It answers OK; FAULT
+/// or NO_MEMORY, and writes the fault, and nothing has changed; or CLOSED.
 #[unsafe(no_mangle)]
 pub extern "C" fn giop_client_call(
     alloc: Global,
@@ -24,7 +25,7 @@ pub extern "C" fn giop_client_call(
     call: &CallHead,
     target: &[u8],
     operation: &[u8],
-    little_endian: u32,
+    value_form: u32,
     ins: &[u8],
     form: &SendForm,
     fault: &mut EndFault,
@@ -32,14 +33,14 @@ pub extern "C" fn giop_client_call(
     requires { length ins.now ≤ 2 ^ 62 }
     ensures { At client.old.value client.new.value result (fault.new ≡ fault.old)
         (λ old new. TellsAct (λ answer. CallsOperation id call.now target.now operation.now
-        (c_order_of little_endian) ins.now (form_of form.now) old answer new)
+        (c_value_form value_form) ins.now (form_of form.now) old answer new)
         fault.old fault.new result) }
 {
     let Some(mut caller) = client.take(alloc) else {
         return CLOSED;
     };
-    let (order, form) = (order_of(little_endian), form_of(form));
-    let answer = caller.call(alloc, id, *call, target, operation, order, ins, form);
+    let (values, form) = (value_form_of(value_form), form_of(form));
+    let answer = caller.call(alloc, id, *call, target, operation, values, ins, form);
     *client = ClientHandle::of(caller);
     told_act(answer, fault)
 }

@@ -9,8 +9,9 @@ ghost use Rattle.giop_c.specs.Client.Asking.{AsksWhere, CallsOperation, IsAsked,
 
 use crate::act_fault::{ActFault, of_end};
 use crate::client::caller::Caller;
-use crate::values::read_last_values;
-use giop_cdr::{OctetList, Order};
+use crate::value_form::ValueForm;
+use crate::values::read_values;
+use giop_cdr::OctetList;
 use giop_ior::TaggedProfile;
 use giop_msg::{LocateRequest, Request, RequestHead, ServiceContexts, Target, Version};
 use giop_session::{Form, SessionFault};
@@ -31,11 +32,11 @@ pub struct CallHead {
 }
 
 impl Caller {
-    /// Calls an operation of a target: with its ins, as octets of a byte order, in a form.
+    /// Calls an operation of a target: with its ins, as octets in a form of values.
     ///
-    /// The first of these that holds is returned, and nothing has changed: `Form`; `Values`, where
-    /// the interface has the operation and the octets aren't its ins; what `ClientEnd::call`
-    /// refuses.
+    /// The first of these that holds is returned, and nothing has changed: `Form`; `Values` or
+    /// `Json`, where the interface has the operation and the octets aren't its ins; what
+    /// `ClientEnd::call` refuses.
     pub fn call(
         &mut self,
         alloc: Global,
@@ -43,18 +44,18 @@ impl Caller {
         head: CallHead,
         target: &[u8],
         operation: &[u8],
-        order: Order,
+        value_form: ValueForm,
         octets: &[u8],
         form: Form,
     ) -> Result<(), ActFault>
         requires { length octets.now ≤ 2 ^ 62 }
-        ensures { CallsOperation id head target.now operation.now order octets.now form self.old
-            result self.new }
+        ensures { CallsOperation id head target.now operation.now value_form octets.now form
+            self.old result self.new }
     {
         if !form.is_valid() {
             return Err(ActFault::Form);
         }
-        match self.asked(alloc, id, head, target, operation, order, octets) {
+        match self.asked(alloc, id, head, target, operation, value_form, octets) {
             Ok(request) => of_end(self.send_request(alloc, request, form)),
             Err(why) => Err(why),
         }
@@ -91,15 +92,15 @@ impl Caller {
         head: CallHead,
         target: &[u8],
         operation: &[u8],
-        order: Order,
+        value_form: ValueForm,
         octets: &[u8],
     ) -> Result<Request, ActFault>
         requires { length octets.now ≤ 2 ^ 62 }
-        ensures { IsAsked (operation_of (arc_value self.now.interface) operation.now) order
-            octets.now (request_of id head target.now operation.now) result }
+        ensures { IsAsked (operation_of (arc_value self.now.interface) operation.now)
+            value_form octets.now (request_of id head target.now operation.now) result }
     {
         let described = self.interface.operation(operation);
-        let ins = match read_ins(alloc, described, order, octets) {
+        let ins = match read_ins(alloc, described, value_form, octets) {
             Ok(ins) => ins,
             Err(why) => return Err(why),
         };
@@ -146,19 +147,16 @@ impl Caller {
 fn read_ins(
     alloc: Global,
     operation: Option<&Operation>,
-    order: Order,
+    value_form: ValueForm,
     octets: &[u8],
 ) -> Result<ValueList, ActFault>
     requires { length octets.now ≤ 2 ^ 62 }
-    ensures { IsRead (option_copied operation.entry) order octets.now result }
+    ensures { IsRead (option_copied operation.entry) value_form octets.now result }
 {
     let Some(operation) = operation else {
         return Ok(ValueList::new(alloc));
     };
-    match read_last_values(alloc, operation.ins.as_slice(), octets, order) {
-        Ok(ins) => Ok(ins),
-        Err(fault) => Err(ActFault::Values(fault)),
-    }
+    read_values(alloc, operation.ins.as_slice(), value_form, octets)
 }
 
 // The Request of an operation with these ins, without service contexts.

@@ -16,6 +16,7 @@ use crate::client::replies::{copy_members, copy_outs, copy_reference};
 use crate::contexts::{context_at, copy_context};
 use crate::copying::{copy_front, copy_ids, copy_octets};
 use crate::status::{OK, SMALL};
+use crate::value_form::ValueForm;
 use giop_calls::ClientRule;
 use giop_cdr::Order;
 use giop_session::{Detached, Limits, SessionFault};
@@ -201,25 +202,25 @@ impl Caller {
         row
     }
 
-    /// Copies what the Reply under an id brought without an exception, as octets of a byte order,
-    /// the first of them at offset 0. It answers OK; SMALL, where the buffer has no room for them;
+    /// Copies what the Reply under an id brought without an exception, in a form. It answers OK;
+    /// SMALL, where the buffer has no room for it;
     /// WAITS, where there is no such Reply; NO_MEMORY; or FAULT, where the values aren't of their
     /// descriptions.
     pub fn outs(
         &mut self,
         alloc: Global,
         id: u32,
-        order: Order,
+        form: ValueForm,
         buffer: &mut [u8],
         size: &mut usize,
     ) -> u32
         ensures copies { CopiesOuts (arc_value self.old.interface)
-            (client_entry self.old.end.calls id) order
+            (client_entry self.old.end.calls id) form
             buffer.old buffer.new size.old size.new result }
         ensures kept { self.new ≡ self.old }
     {
         let end = self.lift(alloc).attach(&self.interface);
-        let status = copy_outs(alloc, &self.interface, end.entry(id), order, buffer, size);
+        let status = copy_outs(alloc, &self.interface, end.entry(id), form, buffer, size);
         self.end = end.detach();
         status
     }
@@ -239,23 +240,23 @@ impl Caller {
     }
 
     /// Copies the members of the exception of the interface that the Reply under an id brought, as
-    /// octets of a byte order. It answers as `outs`.
+    /// in a form. It answers as `outs`.
     pub fn members(
         &mut self,
         alloc: Global,
         id: u32,
-        order: Order,
+        form: ValueForm,
         buffer: &mut [u8],
         size: &mut usize,
     ) -> u32
         ensures copies { CopiesMembers (arc_value self.old.interface)
-            (body_of (client_entry self.old.end.calls id)) order
+            (body_of (client_entry self.old.end.calls id)) form
             buffer.old buffer.new size.old size.new result }
         ensures kept { self.new ≡ self.old }
     {
         let end = self.lift(alloc).attach(&self.interface);
         let body = body_of(end.entry(id));
-        let status = copy_members(alloc, &self.interface, body, order, buffer, size);
+        let status = copy_members(alloc, &self.interface, body, form, buffer, size);
         self.end = end.detach();
         status
     }

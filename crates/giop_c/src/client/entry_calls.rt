@@ -7,12 +7,12 @@ ghost use Rattle.giop_c.specs.Calls.{At, ok};
 ghost use Rattle.giop_c.specs.Client.Entries.{CopiesMembers, CopiesOuts, CopiesReference, body_of, c_client_row, contexts_of, exception_in, forward_in};
 ghost use Rattle.giop_c.specs.Contexts.{CopiesContext, context_at};
 ghost use Rattle.giop_c.specs.Copying.{CopiesOctets};
-ghost use Rattle.giop_c.specs.EndRecords.{c_order_of};
+ghost use Rattle.giop_c.specs.Values.{c_value_form};
 
 use crate::client::client_handle::ClientHandle;
 use crate::client::entries::ClientRow;
-use crate::end_records::order_of;
 use crate::status::{CLOSED, OK};
+use crate::value_form::value_form_of;
 use std::alloc::Global;
 
 /// Writes what is stored for an id: kind 0 where nothing is. It answers OK or CLOSED.
@@ -35,16 +35,15 @@ pub extern "C" fn giop_client_entry_of(
     OK
 }
 
-/// Copies what the Reply under an id brought without an exception, as octets of a byte order, the
-/// first of them at offset 0, and writes their number. It answers OK; SMALL, where the buffer has no
-/// room for them; WAITS, where there is no such Reply; NO_MEMORY; FAULT, where they aren't values of
-/// the operation; or CLOSED.
+/// Copies what the Reply under an id brought without an exception, in a form, and writes how many
+/// octets it is. It answers OK; SMALL, where the buffer has no room for it; WAITS, where there is no
+/// such Reply; NO_MEMORY; FAULT, where it isn't values of the operation; or CLOSED.
 #[unsafe(no_mangle)]
 pub extern "C" fn giop_client_outs(
     alloc: Global,
     client: &mut ClientHandle,
     id: u32,
-    little_endian: u32,
+    value_form: u32,
     buffer: &mut [u8],
     size: &mut usize,
 ) -> u32
@@ -52,12 +51,12 @@ pub extern "C" fn giop_client_outs(
         ((buffer.new ≡ buffer.old) × (size.new ≡ size.old))
         (λ old new. (new ≡ old)
         × CopiesOuts (arc_value old.interface) (client_entry old.end.calls id)
-        (c_order_of little_endian) buffer.old buffer.new size.old size.new result) }
+        (c_value_form value_form) buffer.old buffer.new size.old size.new result) }
 {
     let Some(mut caller) = client.take(alloc) else {
         return CLOSED;
     };
-    let status = caller.outs(alloc, id, order_of(little_endian), buffer, size);
+    let status = caller.outs(alloc, id, value_form_of(value_form), buffer, size);
     *client = ClientHandle::of(caller);
     status
 }
@@ -86,15 +85,14 @@ pub extern "C" fn giop_client_exception(
     status
 }
 
-/// Copies the members of the exception of the interface that the Reply under an id brought, as
-/// octets of a byte order, the first of them at offset 0, and writes their number. It answers as
-/// `giop_client_outs`.
+/// Copies the members of the exception of the interface that the Reply under an id brought, in a
+/// form, and writes how many octets they are. It answers as `giop_client_outs`.
 #[unsafe(no_mangle)]
 pub extern "C" fn giop_client_members(
     alloc: Global,
     client: &mut ClientHandle,
     id: u32,
-    little_endian: u32,
+    value_form: u32,
     buffer: &mut [u8],
     size: &mut usize,
 ) -> u32
@@ -102,12 +100,12 @@ pub extern "C" fn giop_client_members(
         ((buffer.new ≡ buffer.old) × (size.new ≡ size.old))
         (λ old new. (new ≡ old)
         × CopiesMembers (arc_value old.interface) (body_of (client_entry old.end.calls id))
-        (c_order_of little_endian) buffer.old buffer.new size.old size.new result) }
+        (c_value_form value_form) buffer.old buffer.new size.old size.new result) }
 {
     let Some(mut caller) = client.take(alloc) else {
         return CLOSED;
     };
-    let status = caller.members(alloc, id, order_of(little_endian), buffer, size);
+    let status = caller.members(alloc, id, value_form_of(value_form), buffer, size);
     *client = ClientHandle::of(caller);
     status
 }

@@ -1,5 +1,5 @@
-//! What the Reply to a call brought, copied into the caller's buffers: values as CDR octets that
-//! stand by themselves, and a reference as its text.
+//! What the Reply to a call brought, copied into the caller's buffers: values in a form, and a
+//! reference as its text.
 ghost use Rattle.std.specs.Prelude.{◌≡◌, Some, map, option_copied};
 ghost use Rattle.giop_types.specs.Values.Views.{value_view};
 ghost use Rattle.giop_msg.specs.Messages.Reply.{exception_of, listed, outs_for};
@@ -9,9 +9,9 @@ ghost use Rattle.giop_c.specs.Values.{CopiesValues};
 use crate::copying::copy_octets;
 use crate::parameters::{members_of, outs_for};
 use crate::status::{FAULT, NO_MEMORY, WAITS};
+use crate::value_form::ValueForm;
 use crate::values::copy_values;
 use giop_calls::ClientEntry;
-use giop_cdr::Order;
 use giop_ior::{Ior, ior_to_text};
 use giop_msg::{ReplyBody, Request};
 use giop_types::{Interface, Parameter, Value};
@@ -22,15 +22,15 @@ pub fn copy_outs(
     alloc: Global,
     interface: &Interface,
     entry: Option<&ClientEntry>,
-    order: Order,
+    form: ValueForm,
     buffer: &mut [u8],
     size: &mut usize,
 ) -> u32
-    ensures { CopiesOuts interface.now (option_copied entry.entry) order
+    ensures { CopiesOuts interface.now (option_copied entry.entry) form
         buffer.old buffer.new size.old size.new result }
 {
     match entry {
-        Some(entry) => copy_outs_in(alloc, interface, entry, order, buffer, size),
+        Some(entry) => copy_outs_in(alloc, interface, entry, form, buffer, size),
         None => WAITS,
     }
 }
@@ -40,16 +40,16 @@ fn copy_outs_in(
     alloc: Global,
     interface: &Interface,
     entry: &ClientEntry,
-    order: Order,
+    form: ValueForm,
     buffer: &mut [u8],
     size: &mut usize,
 ) -> u32
-    ensures { CopiesOuts interface.now (Some entry.now) order
+    ensures { CopiesOuts interface.now (Some entry.now) form
         buffer.old buffer.new size.old size.new result }
 {
     match entry {
         ClientEntry::Done { request, reply } => {
-            copy_outs_to(alloc, interface, request, &reply.body, order, buffer, size)
+            copy_outs_to(alloc, interface, request, &reply.body, form, buffer, size)
         }
         _ => WAITS,
     }
@@ -61,15 +61,15 @@ fn copy_outs_to(
     interface: &Interface,
     request: &Request,
     body: &ReplyBody,
-    order: Order,
+    form: ValueForm,
     buffer: &mut [u8],
     size: &mut usize,
 ) -> u32
-    ensures { CopiesOutsOf (outs_for interface.now (Some request.now)) body.now order
+    ensures { CopiesOutsOf (outs_for interface.now (Some request.now)) body.now form
         buffer.old buffer.new size.old size.new result }
 {
     let parameters = outs_for(interface, Some(request));
-    copy_outs_of(alloc, parameters, body, order, buffer, size)
+    copy_outs_of(alloc, parameters, body, form, buffer, size)
 }
 
 // Copies the outs of a body that has no exception.
@@ -77,16 +77,16 @@ fn copy_outs_of(
     alloc: Global,
     parameters: &[Parameter],
     body: &ReplyBody,
-    order: Order,
+    form: ValueForm,
     buffer: &mut [u8],
     size: &mut usize,
 ) -> u32
-    ensures { CopiesOutsOf parameters.now body.now order
+    ensures { CopiesOutsOf parameters.now body.now form
         buffer.old buffer.new size.old size.new result }
 {
     match body {
         ReplyBody::NoException(outs) => {
-            copy_values(alloc, parameters, outs.as_slice(), order, buffer, size)
+            copy_values(alloc, parameters, outs.as_slice(), form, buffer, size)
         }
         _ => WAITS,
     }
@@ -97,15 +97,15 @@ pub fn copy_members(
     alloc: Global,
     interface: &Interface,
     body: Option<&ReplyBody>,
-    order: Order,
+    form: ValueForm,
     buffer: &mut [u8],
     size: &mut usize,
 ) -> u32
-    ensures { CopiesMembers interface.now (option_copied body.entry) order
+    ensures { CopiesMembers interface.now (option_copied body.entry) form
         buffer.old buffer.new size.old size.new result }
 {
     match body {
-        Some(body) => copy_members_in(alloc, interface, body, order, buffer, size),
+        Some(body) => copy_members_in(alloc, interface, body, form, buffer, size),
         None => WAITS,
     }
 }
@@ -115,17 +115,17 @@ fn copy_members_in(
     alloc: Global,
     interface: &Interface,
     body: &ReplyBody,
-    order: Order,
+    form: ValueForm,
     buffer: &mut [u8],
     size: &mut usize,
 ) -> u32
-    ensures { CopiesMembers interface.now (Some body.now) order
+    ensures { CopiesMembers interface.now (Some body.now) form
         buffer.old buffer.new size.old size.new result }
 {
     match body {
         ReplyBody::UserException { id, members } => {
             let (id, members) = (id.as_slice(), members.as_slice());
-            copy_members_of(alloc, interface, id, members, order, buffer, size)
+            copy_members_of(alloc, interface, id, members, form, buffer, size)
         }
         _ => WAITS,
     }
@@ -137,15 +137,15 @@ fn copy_members_of(
     interface: &Interface,
     id: &[u8],
     members: &[Value],
-    order: Order,
+    form: ValueForm,
     buffer: &mut [u8],
     size: &mut usize,
 ) -> u32
     ensures { CopiesValues (listed (exception_of interface.now id.now))
-        (map value_view members.now) order buffer.old buffer.new size.old size.new result }
+        (map value_view members.now) form buffer.old buffer.new size.old size.new result }
 {
     let parameters = members_of(interface, id);
-    copy_values(alloc, parameters, members, order, buffer, size)
+    copy_values(alloc, parameters, members, form, buffer, size)
 }
 
 /// Copies the text of a reference, where there is one.

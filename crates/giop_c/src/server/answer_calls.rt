@@ -6,50 +6,50 @@ ghost use Rattle.giop_c.specs.Calls.{At};
 ghost use Rattle.giop_c.specs.EndRecords.{c_order_of};
 ghost use Rattle.giop_c.specs.Server.Answers.{AnswersForward, AnswersOuts, AnswersSystem, AnswersUser};
 ghost use Rattle.giop_c.specs.Server.Ends.{LocatesAtServer};
+ghost use Rattle.giop_c.specs.Values.{c_value_form};
 
 use crate::act_fault::told_act;
 use crate::end_records::{EndFault, SendForm, form_of, order_of, told};
 use crate::server::server_handle::ServerHandle;
 use crate::status::CLOSED;
+use crate::value_form::value_form_of;
 use giop_msg::Completion;
 use std::alloc::Global;
 
-/// Answers a Request without an exception: by its outs, as octets of a byte order of which the first
-/// is at offset 0. It answers OK; FAULT or NO_MEMORY, and writes the fault, and nothing has changed;
-/// or CLOSED.
+/// Answers a Request without an exception: by its outs in a form of values. It answers OK; FAULT or
+/// NO_MEMORY, and writes the fault, and nothing has changed; or CLOSED.
 #[unsafe(no_mangle)]
 pub extern "C" fn giop_server_answer(
     alloc: Global,
     server: &mut ServerHandle,
     id: u32,
-    little_endian: u32,
+    value_form: u32,
     outs: &[u8],
     form: &SendForm,
     fault: &mut EndFault,
 ) -> u32
     requires { length outs.now ≤ 2 ^ 62 }
     ensures { At server.old.value server.new.value result (fault.new ≡ fault.old)
-        (λ old new. TellsAct (λ answer. AnswersOuts id (c_order_of little_endian) outs.now
+        (λ old new. TellsAct (λ answer. AnswersOuts id (c_value_form value_form) outs.now
         (form_of form.now) old answer new) fault.old fault.new result) }
 {
     let Some(mut served) = server.take(alloc) else {
         return CLOSED;
     };
-    let answer = served.answer_outs(alloc, id, order_of(little_endian), outs, form_of(form));
+    let answer = served.answer_outs(alloc, id, value_form_of(value_form), outs, form_of(form));
     *server = ServerHandle::of(served);
     told_act(answer, fault)
 }
 
 /// Answers a Request by an exception of the interface: its repository id without a null, and its
-/// members as octets of a byte order of which the first is at offset 0. It answers as
-/// `giop_server_answer`.
+/// members in a form of values. It answers as `giop_server_answer`.
 #[unsafe(no_mangle)]
 pub extern "C" fn giop_server_answer_user(
     alloc: Global,
     server: &mut ServerHandle,
     id: u32,
     exception: &[u8],
-    little_endian: u32,
+    value_form: u32,
     members: &[u8],
     form: &SendForm,
     fault: &mut EndFault,
@@ -57,14 +57,14 @@ pub extern "C" fn giop_server_answer_user(
     requires { length members.now ≤ 2 ^ 62 }
     ensures { At server.old.value server.new.value result (fault.new ≡ fault.old)
         (λ old new. TellsAct (λ answer. AnswersUser id exception.now
-        (c_order_of little_endian) members.now (form_of form.now) old answer new)
+        (c_value_form value_form) members.now (form_of form.now) old answer new)
         fault.old fault.new result) }
 {
     let Some(mut served) = server.take(alloc) else {
         return CLOSED;
     };
-    let order = order_of(little_endian);
-    let answer = served.answer_user(alloc, id, exception, order, members, form_of(form));
+    let values = value_form_of(value_form);
+    let answer = served.answer_user(alloc, id, exception, values, members, form_of(form));
     *server = ServerHandle::of(served);
     told_act(answer, fault)
 }

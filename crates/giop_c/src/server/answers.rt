@@ -1,24 +1,22 @@
-//! What the program of a server answers to a Request: its outs or the members of an exception, as
-//! CDR octets that stand by themselves, an exception of the broker, or where its object is.
+//! What the program of a server answers to a Request: its outs or the members of an exception, in a
+//! form of values, an exception of the broker, or where its object is.
 ghost use Rattle.std.specs.Prelude.{◌≡◌, ◌≤◌, ◌^◌, length};
 ghost use Rattle.std_alloc.specs.Arc.{arc_value};
-ghost use Rattle.giop_cdr.specs.Ending.{ended};
 ghost use Rattle.giop_msg.specs.declared.messages.reply_body.ReplyBody.TheVariants.{UserException};
-ghost use Rattle.giop_msg.specs.Messages.Body.{values};
-ghost use Rattle.giop_msg.specs.Messages.Outcome.{FollowsToEnd};
 ghost use Rattle.giop_msg.specs.Messages.Reply.{exception_of, listed, outs_for};
 ghost use Rattle.giop_session.specs.Acts.Form.{IsForm};
 ghost use Rattle.giop_session.specs.Runs.ServerRuns.{server_entry};
+ghost use Rattle.giop_c.specs.Acts.{IsReadAs, values_in};
 ghost use Rattle.giop_c.specs.Server.Answers.{AnswersForward, AnswersOuts, AnswersSystem, AnswersUser, Replies, RepliesOrNot, forward_to};
 ghost use Rattle.giop_c.specs.Server.Entries.{request_of};
-ghost use Rattle.giop_c.specs.Values.{begun};
 
 use crate::act_fault::{ActFault, of_end};
 use crate::parameters::{members_of, outs_for};
 use crate::server::entries::{request_of, version_asked};
 use crate::server::served::Served;
-use crate::values::read_last_values;
-use giop_cdr::{CdrFault, OctetList, Order};
+use crate::value_form::ValueForm;
+use crate::values::read_values;
+use giop_cdr::OctetList;
 use giop_ior::{Ior, ior_from_text};
 use giop_msg::{Completion, Reply, ReplyBody, ServiceContexts};
 use giop_session::{Form, SessionFault};
@@ -26,48 +24,49 @@ use giop_types::ValueList;
 use std::alloc::Global;
 
 impl Served {
-    /// Answers a Request by its outs, as octets of a byte order.
+    /// Answers a Request by its outs, as octets in a form of values.
     pub fn answer_outs(
         &mut self,
         alloc: Global,
         id: u32,
-        order: Order,
+        value_form: ValueForm,
         octets: &[u8],
         form: Form,
     ) -> Result<(), ActFault>
         requires { length octets.now ≤ 2 ^ 62 }
-        ensures { AnswersOuts id order octets.now form self.old result self.new }
+        ensures { AnswersOuts id value_form octets.now form self.old result self.new }
     {
         if !form.is_valid() {
             return Err(ActFault::Form);
         }
-        match self.outs(alloc, id, order, octets) {
+        match self.outs(alloc, id, value_form, octets) {
             Ok(outs) => of_end(self.reply(alloc, id, ReplyBody::NoException(outs), form)),
-            Err(fault) => Err(ActFault::Values(fault)),
+            Err(why) => Err(why),
         }
     }
 
-    /// Answers a Request by an exception of the interface: its id, and its members as octets of a
-    /// byte order.
+    /// Answers a Request by an exception of the interface: its id, and its members as octets in a
+    /// form of values.
     pub fn answer_user(
         &mut self,
         alloc: Global,
         id: u32,
         exception: &[u8],
-        order: Order,
+        value_form: ValueForm,
         octets: &[u8],
         form: Form,
     ) -> Result<(), ActFault>
         requires { length octets.now ≤ 2 ^ 62 }
-        ensures { AnswersUser id exception.now order octets.now form self.old result self.new }
+        ensures { AnswersUser id exception.now value_form octets.now form self.old result
+            self.new }
     {
         if !form.is_valid() {
             return Err(ActFault::Form);
         }
         let parameters = members_of(&self.interface, exception);
-        match read_last_values(alloc, parameters, octets, order) {
+        match read_values(alloc, parameters, value_form, octets) {
             Ok(members) => self.reply_user(alloc, id, exception, members, form),
-            Err(fault) => Err(ActFault::Values(fault)),
+            Err(why) => Err(why),
         }
     }
 
@@ -124,17 +123,17 @@ impl Served {
         &mut self,
         alloc: Global,
         id: u32,
-        order: Order,
+        value_form: ValueForm,
         octets: &[u8],
-    ) -> Result<ValueList, CdrFault>
+    ) -> Result<ValueList, ActFault>
         requires { length octets.now ≤ 2 ^ 62 }
-        ensures read { FollowsToEnd result ((ended (values (outs_for (arc_value self.old.interface)
-            (request_of (server_entry self.old.end.calls id))))).read (begun order octets.now)) }
+        ensures read { IsReadAs (values_in (outs_for (arc_value self.old.interface)
+            (request_of (server_entry self.old.end.calls id))) value_form octets.now) result }
         ensures kept { self.new ≡ self.old }
     {
         let end = self.lift(alloc).attach(&self.interface);
         let parameters = outs_for(&self.interface, request_of(end.entry(id)));
-        let outs = read_last_values(alloc, parameters, octets, order);
+        let outs = read_values(alloc, parameters, value_form, octets);
         self.end = end.detach();
         outs
     }

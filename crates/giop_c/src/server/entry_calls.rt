@@ -4,15 +4,14 @@ ghost use Rattle.std_alloc.specs.Arc.{arc_value};
 ghost use Rattle.giop_session.specs.Runs.ServerRuns.{server_entry};
 ghost use Rattle.giop_c.specs.Calls.{At, ok};
 ghost use Rattle.giop_c.specs.Contexts.{CopiesContext, context_at};
-ghost use Rattle.giop_c.specs.EndRecords.{c_order_of};
 ghost use Rattle.giop_c.specs.Server.Entries.{c_server_row, contexts_in, key_in, operation_in, request_of, target_of};
 ghost use Rattle.giop_c.specs.Copying.{CopiesOctets};
-ghost use Rattle.giop_c.specs.Values.{CopiesIns};
+ghost use Rattle.giop_c.specs.Values.{CopiesIns, c_value_form};
 
-use crate::end_records::order_of;
 use crate::server::entries::ServerRow;
 use crate::server::server_handle::ServerHandle;
 use crate::status::{CLOSED, OK};
+use crate::value_form::value_form_of;
 use std::alloc::Global;
 
 /// Writes what is stored for an id: kind 0 where nothing is. It answers OK or CLOSED.
@@ -113,16 +112,15 @@ pub extern "C" fn giop_server_context(
     status
 }
 
-/// Copies the ins of the Request under an id as octets of a byte order, the first of them at offset
-/// 0, and writes their number. It answers OK; SMALL, where the buffer has no room for them; WAITS,
-/// where no Request is known; NO_MEMORY; FAULT, where they aren't values of the operation; or
-/// CLOSED.
+/// Copies the ins of the Request under an id in a form, and writes how many octets they are. It
+/// answers OK; SMALL, where the buffer has no room for them; WAITS, where no Request is known;
+/// NO_MEMORY; FAULT, where they aren't values of the operation; or CLOSED.
 #[unsafe(no_mangle)]
 pub extern "C" fn giop_server_ins(
     alloc: Global,
     server: &mut ServerHandle,
     id: u32,
-    little_endian: u32,
+    value_form: u32,
     buffer: &mut [u8],
     size: &mut usize,
 ) -> u32
@@ -130,12 +128,12 @@ pub extern "C" fn giop_server_ins(
         ((buffer.new ≡ buffer.old) × (size.new ≡ size.old))
         (λ old new. (new ≡ old)
         × CopiesIns (arc_value old.interface) (request_of (server_entry old.end.calls id))
-        (c_order_of little_endian) buffer.old buffer.new size.old size.new result) }
+        (c_value_form value_form) buffer.old buffer.new size.old size.new result) }
 {
     let Some(mut served) = server.take(alloc) else {
         return CLOSED;
     };
-    let status = served.ins(alloc, id, order_of(little_endian), buffer, size);
+    let status = served.ins(alloc, id, value_form_of(value_form), buffer, size);
     *server = ServerHandle::of(served);
     status
 }

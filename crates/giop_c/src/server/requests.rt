@@ -12,8 +12,8 @@ use crate::copying::copy_octets;
 use crate::server::entries::{contexts_in, key_in, operation_in, request_of, target_of};
 use crate::server::served::Served;
 use crate::status::WAITS;
+use crate::value_form::ValueForm;
 use crate::values::copy_values;
-use giop_cdr::Order;
 use giop_msg::Request;
 use giop_types::Interface;
 use std::alloc::Global;
@@ -69,58 +69,57 @@ impl Served {
         status
     }
 
-    /// Copies the ins of the Request under an id as octets of a byte order, the first of them at
-    /// offset 0. It answers as `operation`; or NO_MEMORY; or FAULT, where the values aren't of
-    /// their descriptions.
+    /// Copies the ins of the Request under an id in a form. It answers as `operation`; or NO_MEMORY;
+    /// or FAULT, where the values aren't of their descriptions.
     pub fn ins(
         &mut self,
         alloc: Global,
         id: u32,
-        order: Order,
+        form: ValueForm,
         buffer: &mut [u8],
         size: &mut usize,
     ) -> u32
         ensures copies { CopiesIns (arc_value self.old.interface)
-            (request_of (server_entry self.old.end.calls id)) order
+            (request_of (server_entry self.old.end.calls id)) form
             buffer.old buffer.new size.old size.new result }
         ensures kept { self.new ≡ self.old }
     {
         let end = self.lift(alloc).attach(&self.interface);
         let request = request_of(end.entry(id));
-        let status = copy_ins(alloc, &self.interface, request, order, buffer, size);
+        let status = copy_ins(alloc, &self.interface, request, form, buffer, size);
         self.end = end.detach();
         status
     }
 }
 
-// Copies the ins of a Request as octets of a byte order, where there is one.
+// Copies the ins of a Request in a form, where there is one.
 fn copy_ins(
     alloc: Global,
     interface: &Interface,
     request: Option<&Request>,
-    order: Order,
+    form: ValueForm,
     buffer: &mut [u8],
     size: &mut usize,
 ) -> u32
-    ensures { CopiesIns interface.now (option_copied request.entry) order
+    ensures { CopiesIns interface.now (option_copied request.entry) form
         buffer.old buffer.new size.old size.new result }
 {
     match request {
-        Some(request) => copy_ins_of(alloc, interface, request, order, buffer, size),
+        Some(request) => copy_ins_of(alloc, interface, request, form, buffer, size),
         None => WAITS,
     }
 }
 
-// Copies the ins of a Request as octets of a byte order.
+// Copies the ins of a Request in a form.
 fn copy_ins_of(
     alloc: Global,
     interface: &Interface,
     request: &Request,
-    order: Order,
+    form: ValueForm,
     buffer: &mut [u8],
     size: &mut usize,
 ) -> u32
-    ensures { CopiesIns interface.now (Some request.now) order
+    ensures { CopiesIns interface.now (Some request.now) form
         buffer.old buffer.new size.old size.new result }
 {
     let Some(operation) = interface.operation(request.head.operation.as_slice()) else {
@@ -130,7 +129,7 @@ fn copy_ins_of(
         alloc,
         operation.ins.as_slice(),
         request.body.as_slice(),
-        order,
+        form,
         buffer,
         size,
     )

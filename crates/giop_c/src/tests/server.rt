@@ -17,7 +17,7 @@ use crate::status::{CLOSED, FAULT, OK, SMALL, WAITS};
 use crate::{EndFault, EndLimits, InterfaceHandle, SendForm, ServerHandle, ServerRow, TextFault};
 use std::alloc::Global;
 
-const ADD: &[u8] =
+pub const ADD: &[u8] =
     b"{\"operations\":{\"add\":{\"ins\":[[\"a\",\"long\"],[\"b\",\"long\"]],\"outs\":[[\"sum\",\"long\"]]}},\"exceptions\":{\"IDL:E:1.0\":[[\"why\",\"long\"]]}}";
 
 // A Request of 1.2, big endian, id 1, to the key "k", of add (9.4.2): its head ends at 44, and its
@@ -32,7 +32,7 @@ pub const ASK: [u8; 56] = [
 const TWO_AND_FIVE: &[u8] = &[2, 0, 0, 0, 5, 0, 0, 0];
 
 // The Reply to it in 1.2, big endian: 7, at offset 24 (9.4.3).
-const SEVEN: [u8; 28] = [
+pub const SEVEN: [u8; 28] = [
     b'G', b'I', b'O', b'P', 1, 2, 0, 1, 0, 0, 0, 16, 0, 0, 0, 1, 0, 0, 0, 0, 0, 0, 0, 0, 0, 0, 0, 7,
 ];
 

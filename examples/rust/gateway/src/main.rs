@@ -3,13 +3,12 @@
 //!
 //! Usage: gateway HOST:PORT KEY INTERFACE     as in: gateway 127.0.0.1:2810 calc examples/demo.json
 //!
-//! A call is `{"operation":"add","ins":"0000000200000005"}`: `ins` are its parameters as CDR, big endian, in
-//! hexadecimal digits, and may be left out; `"reply":"none"` asks for no reply. Its line has the number of the call,
-//! from 1, and what it brought:
+//! A call is `{"operation":"add","ins":[2,5]}`: `ins` are its parameters (docs/FORMATS.md), and may be left out;
+//! `"reply":"none"` asks for no reply. Its line has the number of the call, from 1, and what it brought:
 //!
 //! ```text
-//! {"call":1,"outs":"00000007"}
-//! {"call":2,"exception":"IDL:Demo/Bad:1.0","members":"00000007"}
+//! {"call":1,"outs":[7]}
+//! {"call":2,"exception":"IDL:Demo/Bad:1.0","members":[7]}
 //! {"call":3,"exception":"IDL:omg.org/CORBA/OBJECT_NOT_EXIST:1.0","minor":0,"completed":false}
 //! {"call":4,"forward":"IOR:.."}
 //! {"call":5,"error":".."}
@@ -18,7 +17,8 @@
 //! One thread reads lines and one reads the socket; the end of the connection stays on the thread that made it.
 mod json;
 
-use giop::{Call, Client, ClientKind, Form, Interface, Limits};
+use giop::{Call, Client, ClientKind, Form, Interface, Limits, ValueForm};
+use json::Member;
 use std::io::{self, BufRead, Read, Write};
 use std::net::{Shutdown, TcpStream};
 use std::sync::mpsc::{self, Sender};
@@ -65,17 +65,21 @@ struct Gateway {
 impl Gateway {
     /// Calls what a line says, under the number of the call; its Request is outgoing then.
     fn call(&mut self, line: &str) -> Result<(), Error> {
-        let fields = json::object(line).ok_or("no object of texts")?;
-        let operation = fields.get("operation").ok_or("no operation")?;
+        let fields = json::object(line).ok_or("no object of texts and lists")?;
+        let Some(Member::Text(operation)) = fields.get("operation") else {
+            return Err("no operation".into());
+        };
         let ins = match fields.get("ins") {
-            Some(digits) => json::octets(digits).ok_or("ins: no hexadecimal digits")?,
-            None => Vec::new(),
+            Some(Member::List(ins)) => ins,
+            Some(Member::Text(_)) => return Err("ins: no list".into()),
+            None => "[]",
         };
         let mut call = Call::of_key(&self.key);
-        if fields.get("reply") == Some(&"none") {
+        if fields.get("reply") == Some(&Member::Text("none")) {
             call.flags = 0;
         }
-        self.client.call(self.calls, call, operation.as_bytes(), false, &ins, Form::default())?;
+        let (operation, ins) = (operation.as_bytes(), ins.as_bytes());
+        self.client.call(self.calls, call, operation, ValueForm::Json, ins, Form::default())?;
         while self.client.entry(self.calls).left > 0 {
             self.client.send(self.calls)?;
         }
@@ -90,15 +94,15 @@ impl Gateway {
             return Ok(format!(r#""error":"{fault}""#));
         }
         if entry.kind == ClientKind::OnewaySent {
-            return Ok(r#""outs":"""#.to_string());
+            return Ok(r#""outs":[]"#.to_string());
         }
-        if let Some(outs) = self.client.outs(id, false)? {
-            return Ok(format!(r#""outs":"{}""#, json::digits(&outs)));
+        if let Some(outs) = self.client.outs(id, ValueForm::Json)? {
+            return Ok(format!(r#""outs":{}"#, String::from_utf8(outs)?));
         }
         if let Some(exception) = self.client.exception(id) {
             let exception = json::text(&String::from_utf8_lossy(&exception));
-            let more = match self.client.members(id, false)? {
-                Some(members) => format!(r#""members":"{}""#, json::digits(&members)),
+            let more = match self.client.members(id, ValueForm::Json)? {
+                Some(members) => format!(r#""members":{}"#, String::from_utf8(members)?),
                 None => {
                     let completed = entry.completed.map_or("null".to_string(), |it| it.to_string());
                     format!(r#""minor":{},"completed":{completed}"#, entry.minor)

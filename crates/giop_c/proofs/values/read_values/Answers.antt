@@ -1,28 +1,13 @@
-use Rattle.std.proofs.Common.{◌≡◌, inl, inr, [], ◌∷◌, ◌++◌, ap, arith}
-use Rattle.std.proofs.lemmas.Grind.{common_steps}
-use Rattle.giop_types.specs.Coding.Decoding.{fields_at}
-use Rattle.giop_types.specs.Values.Views.{value_view}
-use Rattle.giop_msg.specs.Messages.Body.{fields_in}
-use Rattle.giop_msg.proofs.WholeMessages.ParameterLoops.{read_on, read_end, all_read}
+use Rattle.std.proofs.Common.{◌<◌, arith}
+use Rattle.std.proofs.lemmas.List.Elements.{All-from_get_or}
+use Rattle.giop_c.proofs.ValuesFit.{spelled_fit, text_fits}
 use Rattle.giop_c.proofs.values.read_values.Goals as goal
 
-pub returns-in-Err : goal.returns-in-Err
-returns-in-Err c =
-    elim c.in-Err.ensures.value.0 [
-      | inl refused ↦ inl (read_end c.loop-parameter.values c.args.parameters.now c.loop-parameter.parameter-index c.parameter-item.result c.loop-parameter.input
-          c.in-Err.fault (fields_at (fields_in c.args.parameters.now) c.args.input.now) c.loop-parameter-test.true c.parameter-item.is refused
-          c.loop-parameter.invariant)
-      | inr want ↦ inr (ap (λ e. e.kind) want.0)
-    ]
+pub returns-in-Ok-clause-fit : goal.returns-in-Ok-clause-fit
+returns-in-Ok-clause-fit c =
+    spelled_fit c.args.parameters.now c.in-Cdr.order c.in-Ok.values c.args.octets.now
+    (All-from_get_or (λ octet. octet < 256) c.args.octets.now 0 (λ i there. let fits = c.type_inv.octets i in omega arith)) c.in-Ok.ensures.found
 
-pub loop-parameter-preserved : goal.loop-parameter-preserved
-loop-parameter-preserved c =
-    let pushed : c.push.new.self ≡ c.loop-parameter.values ++ value_view c.in-Ok.value ∷ [] = grind (arith, common_steps) in
-    rw pushed (read_on c.loop-parameter.values c.args.parameters.now c.loop-parameter.parameter-index c.parameter-item.result c.loop-parameter.input
-    (value_view c.in-Ok.value) c.decode.new.input (fields_at (fields_in c.args.parameters.now) c.args.input.now) c.loop-parameter-test.true
-    c.parameter-item.is c.in-Ok.ensures.value c.loop-parameter.invariant)
-
-pub returns : goal.returns
-returns c =
-    all_read c.loop-parameter.values c.args.parameters.now c.loop-parameter.parameter-index c.loop-parameter.input
-    (fields_at (fields_in c.args.parameters.now) c.args.input.now) c.loop-parameter-test.false c.loop-parameter.invariant
+pub returns-in-Ok-values_from_text-clause-fit : goal.returns-in-Ok-values_from_text-clause-fit
+returns-in-Ok-values_from_text-clause-fit c =
+    text_fits c.args.parameters.now c.args.octets.now c.in-Ok-values_from_text.values c.in-Ok-values_from_text.ensures

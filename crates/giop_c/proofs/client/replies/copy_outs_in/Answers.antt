@@ -6,11 +6,11 @@ use Rattle.giop_c.proofs.client.replies.copy_outs_in.Goals as goal
 pub returns-in-Done : goal.returns-in-Done
 returns-in-Done c =
     let interface = c.args.interface.now in
-    let order = c.args.order in
+    let form = c.args.form in
     let call = c.copy_outs_to in
     let buffer = c.args.buffer.now in
     let size = c.args.size.now in
-    let done = subst (λ request. CopiesOutsOf (outs_for interface (Some request)) c.in-Done.reply.body order buffer call.new.buffer size call.new.size call.result) c.deref.ensures
-    (subst (λ reply. CopiesOutsOf (outs_for interface (Some c.deref.result.now)) reply.body order buffer call.new.buffer size call.new.size call.result) c.deref-in-Done.ensures call.ensures) in
-    subst (λ entry. CopiesOuts interface (Some entry) order buffer call.new.buffer size call.new.size call.result)
+    let done = subst (λ request. CopiesOutsOf (outs_for interface (Some request)) c.in-Done.reply.body form buffer call.new.buffer size call.new.size call.result) c.deref.ensures
+    (subst (λ reply. CopiesOutsOf (outs_for interface (Some c.deref.result.now)) reply.body form buffer call.new.buffer size call.new.size call.result) c.deref-in-Done.ensures call.ensures) in
+    subst (λ entry. CopiesOuts interface (Some entry) form buffer call.new.buffer size call.new.size call.result)
     (sym c.in-Done.is) done
