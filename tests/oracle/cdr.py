@@ -17,8 +17,11 @@ class Fault(Exception):
         super().__init__(kind, at)
         self.kind, self.at = kind, at
 
+    def number(self):
+        return KINDS.index(self.kind) + 1
+
     def __str__(self):
-        return f'{KINDS.index(self.kind) + 1} {self.kind} at {self.at}'
+        return f'{self.number()} {self.kind} at {self.at}'
 
 
 def place(offset, width):

@@ -1,5 +1,7 @@
 """What giopctl's `dump`, `check` and `convert` print for given octets, and their exit status, by
 docs/FORMATS.md. Each command answers both: (text, status)."""
+import json
+
 from cdr import Fault, Reader, Writer
 from forms import FormFault, description_of, interface_of, value_of, value_text
 from messages import HEADS, messages
@@ -12,7 +14,7 @@ def foretold(words, file, other):
     """What a command line prints, and its exit status; of it, FILE is a file of the first octets
     and OTHER one of the second, an interface or a description."""
     if words[0] == 'dump':
-        return dump(file)
+        return dump_json(file) if '--json' in words else dump(file)
     if words[0] == 'check':
         return check(other, file)
     return convert(words[1], file, other, '--little' in words)
@@ -68,6 +70,69 @@ def head_text(message):
 
 def target_text(target):
     return f'{target[0]} {hexed(target[1]) if target[0] == "key" else target[1]}'
+
+
+# dump --json
+
+def dump_json(stream):
+    """As docs/FORMATS.md, "Lines of dump", has it."""
+    found, at, fault = messages(stream)
+    lines = [compact(message_members(offset, message)) for offset, message in found]
+    if fault:
+        return printed([*lines, compact({'at': at, 'fault': fault_members(fault)})], 1)
+    left = len(stream) - at
+    return printed([*lines, compact({'rest': left})], 1 if left else 0)
+
+
+def compact(members):
+    return json.dumps(members, separators=(',', ':'))
+
+
+def fault_members(fault):
+    return {'number': fault.number(), 'name': fault.kind, 'at': fault.at}
+
+
+def message_members(offset, message):
+    members = {'at': offset, 'message': message.kind, 'version': f'1.{message.minor}',
+               'order': 'little' if message.little else 'big', 'more': bool(message.more),
+               'size': len(message.octets), 'id': id_or_none(message)}
+    if message.kind in HEADS and not message.more:
+        members['head'] = head_members(message)
+    return members
+
+
+def id_or_none(message):
+    try:
+        return message.id()
+    except Fault:
+        return None
+
+
+def head_members(message):
+    reader = message.reader()
+    try:
+        head = HEADS[message.kind](message, reader)
+    except Fault as fault:
+        return {'fault': fault_members(fault)}
+    body = {'body': max(reader.end - head.body, 0)}
+    if message.kind == 'Request':
+        return {'flags': head.flags, **target_members(head.target),
+                'operation': bytes(head.operation).decode('latin-1'),
+                'contexts': len(head.contexts), **body}
+    if message.kind == 'Reply':
+        return {'status': head.status, 'contexts': len(head.contexts), **body}
+    if message.kind == 'LocateRequest':
+        return target_members(head.target)
+    return {'status': head.status, **body}
+
+
+def target_members(target):
+    kind, told = target[:2]
+    if kind != 'key':
+        return {'profile_tag' if kind == 'profile' else 'reference_index': told}
+    key = bytes(told)
+    printable = all(0x20 <= octet <= 0x7E for octet in key)
+    return {'key': key.hex(), **({'key_text': key.decode('ascii')} if printable else {})}
 
 
 # check

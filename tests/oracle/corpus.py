@@ -29,6 +29,11 @@ def dump(file):
     return Case(['dump', 'FILE'], file)
 
 
+def as_json(case):
+    """The same case, told as JSON."""
+    return Case([case.words[0], '--json', *case.words[1:]], case.file, case.other)
+
+
 def check(interface, file):
     return Case(['check', '--interface', 'OTHER', 'FILE'], file, interface)
 
@@ -114,6 +119,12 @@ def check_table(number):
 
 def check_gatherer(number):
     return check(compact(random_edges.ACTS), random_edges.full_gatherer(number))
+
+
+def dump_json(rng):
+    """Any of the above, as JSON."""
+    recipe = rng.choice((dump_lawful, dump_replies, dump_damaged, dump_header, dump_cut))
+    return as_json(recipe(rng))
 
 
 def dump_large(number):
@@ -252,6 +263,7 @@ def decode_damaged(rng):
 # How many of each kind there are; each case of the last three is told by its number
 RECIPES = {
     dump_lawful: 1500, dump_replies: 1500, dump_damaged: 1500, dump_header: 1500, dump_cut: 1500,
+    dump_json: 3000,
     check_lawful: 2500, check_wrong: 2000, check_damaged: 1000, check_acts: 2500, check_cut: 1000,
     check_interface: 2000, ior: 1500, ior_damaged: 500, corbaloc: 1500, corbaloc_damaged: 500,
     encode: 1000, encode_spoilt: 1500, encode_bounds: 700, encode_description: 1500,

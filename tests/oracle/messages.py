@@ -26,8 +26,11 @@ class WireFault(Exception):
         super().__init__(kind, at)
         self.kind, self.at = kind, at
 
+    def number(self):
+        return WIRE_FAULTS.index(self.kind) + 1
+
     def __str__(self):
-        return f'{WIRE_FAULTS.index(self.kind) + 1} {self.kind} at {self.at}'
+        return f'{self.number()} {self.kind} at {self.at}'
 
 
 @dataclass

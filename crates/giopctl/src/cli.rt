@@ -204,6 +204,8 @@ With --interface a Request has a line of its body, if its head can be read:
 The last Fragment of a Request has `joined`, how many octets its pieces are together, and then the
 lines of the whole Request. A piece that isn't joined has `unjoined` and why.
 The last line tells how many octets are left, or what is wrong with the header that stands there.
+With --json each message is {\"at\":OFFSET,\"message\":KIND,..}, with its \"head\" and its \"ins\"
+in it; the last line is {\"rest\":N} or {\"at\":OFFSET,\"fault\":{..}}.
 
 Exit statuses:
   0  the file is messages and nothing else
