@@ -51,13 +51,17 @@ extern "C" {
 #define GIOP_MESSAGE_ERROR 6
 #define GIOP_FRAGMENT 7
 
-/* What the header of a message says. */
+/* What the header of a message says, and its request id. */
 typedef struct giop_message {
     uint8_t minor;         /* the minor number of the version: 0, 1 or 2 */
     uint8_t little_endian; /* 1 where the message is little endian, else 0 */
     uint8_t more;          /* 1 where more fragments follow, else 0 */
     uint8_t kind;          /* the message type, 0 to 7 */
     uint32_t size;         /* the number of octets after the header */
+    uint32_t id;           /* the request id; 0 where has_id is 0 */
+    uint8_t has_id;        /* 1 where the message has a request id (9.4.2 to 9.4.9), else 0: a CloseConnection and a
+                            * MessageError have none, and before 1.2 that of a Request or of a Reply stands behind
+                            * its service contexts, which can be wrong */
 } giop_message;
 
 /* Why octets are refused, and where. */
@@ -104,7 +108,7 @@ uint32_t giop_framer_new(giop_framer *framer, uint32_t limit);
 uint32_t giop_framer_feed(giop_framer *framer, const uint8_t *octets, size_t size);
 
 /* Takes the first message of the unread octets. The message that was taken before is gone. Answers
- *   GIOP_OK: its header is in *message, and its payload at hand for giop_framer_payload;
+ *   GIOP_OK: its header and its request id are in *message, and its payload at hand for giop_framer_payload;
  *   GIOP_WAITS: neither a whole message nor a fault stands there; feed more;
  *   GIOP_FAULT: no message begins there, and *fault says why. It stays so: the stream can't be read on;
  *   GIOP_NO_MEMORY: a whole message stands there still, and *fault is 9 at 0;

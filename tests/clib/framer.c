@@ -18,10 +18,10 @@ static const uint8_t PIECE[32] = {'G', 'I', 'O', 'P', 1, 2, 3, 7, 20, 0, 0, 0, 9
                                   1, 2, 3, 4, 5, 6, 7, 8, 9, 10, 11, 12, 13, 14, 15, 16};
 
 static const giop_message HEADS[4] = {
-    {2, 0, 0, GIOP_REQUEST, 36},
-    {0, 1, 0, GIOP_CANCEL_REQUEST, 4},
-    {2, 1, 1, GIOP_FRAGMENT, 20},
-    {2, 1, 0, GIOP_CLOSE_CONNECTION, 0},
+    {2, 0, 0, GIOP_REQUEST, 36, 1, 1},
+    {0, 1, 0, GIOP_CANCEL_REQUEST, 4, 7, 1},
+    {2, 1, 1, GIOP_FRAGMENT, 20, 9, 1},
+    {2, 1, 0, GIOP_CLOSE_CONNECTION, 0, 0, 0},
 };
 
 #define STREAM_SIZE (sizeof PING + sizeof CANCEL + sizeof PIECE + sizeof CLOSE)
@@ -40,12 +40,12 @@ static const uint8_t *payload_of(size_t number) {
 
 static int same_head(giop_message a, giop_message b) {
     return a.minor == b.minor && a.little_endian == b.little_endian && a.more == b.more
-        && a.kind == b.kind && a.size == b.size;
+        && a.kind == b.kind && a.size == b.size && a.id == b.id && a.has_id == b.has_id;
 }
 
 /* Takes all messages that are there, the first of which has this number in the stream. */
 static size_t takes(giop_framer *framer, size_t number) {
-    giop_message head = {9, 9, 9, 9, 9};
+    giop_message head = {9, 9, 9, 9, 9, 9, 9};
     giop_fault fault = {77, 77};
     uint8_t payload[64];
     size_t size;
@@ -120,7 +120,7 @@ static const struct refused {
 static void headers_are_refused_at_their_place(void) {
     for (size_t i = 0; i < sizeof REFUSED / sizeof *REFUSED; i++) {
         giop_framer framer = GIOP_FRAMER_CLOSED;
-        giop_message head = {9, 9, 9, 9, 9};
+        giop_message head = {9, 9, 9, 9, 9, 9, 9};
         giop_fault fault = {77, 77};
         size_t rest = 99;
         CHECK(giop_framer_new(&framer, 100) == GIOP_OK);
@@ -163,7 +163,7 @@ static void a_small_buffer_is_told_the_size(void) {
 
 static void a_closed_handle_answers_closed(void) {
     giop_framer framer = GIOP_FRAMER_CLOSED, zeroed;
-    giop_message head = {9, 9, 9, 9, 9};
+    giop_message head = {9, 9, 9, 9, 9, 9, 9};
     giop_fault fault = {77, 77};
     uint8_t buffer[4] = {1, 2, 3, 4};
     size_t number = 99;
@@ -244,7 +244,7 @@ static void refused_memory_changes_nothing(void) {
     long before = blocks;
     for (long grant = 0; grant < 12; grant++) {
         giop_framer framer = GIOP_FRAMER_CLOSED;
-        giop_message head = {9, 9, 9, 9, 9};
+        giop_message head = {9, 9, 9, 9, 9, 9, 9};
         giop_fault fault = {77, 77};
         uint8_t payload[64];
         size_t size = 99, rest = 99;
@@ -341,7 +341,36 @@ static void streams_at_random(void) {
     }
 }
 
+/* Before 1.2 the id of a Request or of a Reply stands behind its service contexts (9.4.2.1): here the context 6 of
+ * two octets, which ends at 26, and the id 5 at 28. Then a count of contexts that the octets can't hold. */
+static const uint8_t EARLY[32] = {
+    'G', 'I', 'O', 'P', 1, 1, 0, 1, 0, 0, 0, 20, 0, 0, 0, 1, 0, 0, 0, 6, 0, 0, 0, 2, 4, 5, 0, 0, 0, 0, 0, 5};
+
+static void a_request_id_is_found_in_each_version(void) {
+    giop_framer framer = {0};
+    giop_message head = {9, 9, 9, 9, 9, 9, 9};
+    giop_fault fault;
+    uint8_t octets[32];
+    CHECK(giop_framer_new(&framer, 100) == GIOP_OK);
+    memcpy(octets, EARLY, sizeof octets);
+    for (uint8_t minor = 0; minor < 2; minor++) {
+        octets[5] = minor;
+        CHECK(giop_framer_feed(&framer, octets, sizeof octets) == GIOP_OK);
+        CHECK(giop_framer_next(&framer, &head, &fault) == GIOP_OK && head.has_id == 1 && head.id == 5);
+    }
+    /* in 1.2 it is the first field */
+    octets[5] = 2;
+    CHECK(giop_framer_feed(&framer, octets, sizeof octets) == GIOP_OK);
+    CHECK(giop_framer_next(&framer, &head, &fault) == GIOP_OK && head.has_id == 1 && head.id == 1);
+    octets[5] = 1;
+    octets[12] = 1;
+    CHECK(giop_framer_feed(&framer, octets, sizeof octets) == GIOP_OK);
+    CHECK(giop_framer_next(&framer, &head, &fault) == GIOP_OK && head.has_id == 0 && head.id == 0);
+    giop_framer_free(&framer);
+}
+
 int main(void) {
+    a_request_id_is_found_in_each_version();
     each_cut_gives_the_same_messages();
     octets_may_come_one_by_one();
     headers_are_refused_at_their_place();

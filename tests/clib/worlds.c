@@ -18,6 +18,7 @@ enum { IDS = 5, GUARD = 8 };
 
 static giop_client client;
 static giop_server server;
+static giop_framer beside[2]; /* beside the client and the server, fed the same octets */
 static int is_damaged, may_refuse; /* octets were damaged; the heap may refuse */
 static uint8_t buffer[8192 + GUARD];
 
@@ -27,6 +28,9 @@ static uint32_t opens(const giop_limits *limits) {
     uint32_t status = giop_interface_new(&interface, (const uint8_t *)CALCULATOR, strlen(CALCULATOR), &fault);
     status = status == GIOP_OK ? giop_client_new(&client, &interface, limits) : status;
     status = status == GIOP_OK ? giop_server_new(&server, &interface, limits) : status;
+    for (int i = 0; status == GIOP_OK && i < 2; i++) {
+        status = giop_framer_new(&beside[i], limits->message);
+    }
     giop_interface_free(&interface);
     return status;
 }
@@ -177,7 +181,36 @@ static void server_acts(uint32_t id) {
 
 /* ---- the connection ---- */
 
-/* So much of what an end has to send arrives at the other. */
+/* The ids of the messages that are whole with these octets: a bit each. */
+static uint32_t touched(int at_server, size_t size) {
+    giop_message head;
+    giop_fault fault;
+    uint32_t ids = 0;
+    long allowed = left;
+    left = -1;
+    CHECK(giop_framer_feed(&beside[at_server], buffer, size) == GIOP_OK);
+    while (giop_framer_next(&beside[at_server], &head, &fault) == GIOP_OK) {
+        CHECK(head.has_id == (head.kind != GIOP_CLOSE_CONNECTION && head.kind != GIOP_MESSAGE_ERROR) || is_damaged);
+        ids |= head.has_id && head.id < IDS ? 1u << head.id : 0;
+    }
+    left = allowed;
+    return ids;
+}
+
+/* What is stored for an id at either end, as one number. */
+static uint64_t stored(int at_server, uint32_t id) {
+    giop_server_entry entry;
+    giop_client_entry called;
+    if (at_server) {
+        CHECK(giop_server_entry_of(&server, id, &entry) == GIOP_OK);
+        return entry.kind | entry.awaits << 8 | entry.over << 16 | (uint64_t)entry.left << 32;
+    }
+    called = entry_of(id);
+    return called.kind | called.status << 8 | called.over << 16 | (uint64_t)called.left << 32;
+}
+
+/* So much of what an end has to send arrives at the other, which changes what is stored for the ids of the messages
+ * that are whole, and for no other. */
 static void arrives(int at_server) {
     giop_end_fault fault = {77, 77, 77, 77};
     size_t size = 0;
@@ -188,9 +221,17 @@ static void arrives(int at_server) {
     if (is_damaged && size > 0 && at_random(10) == 0) {
         buffer[at_random((uint32_t)size)] ^= (uint8_t)(1u << at_random(8));
     }
+    uint64_t before[IDS];
+    for (uint32_t id = 0; id < IDS; id++) {
+        before[id] = stored(at_server, id);
+    }
     status = at_server ? giop_server_feed(&server, buffer, size, &fault)
                        : giop_client_feed(&client, buffer, size, &fault);
     judged(status, &fault);
+    uint32_t ids = touched(at_server, size);
+    for (uint32_t id = 0; id < IDS; id++) {
+        CHECK(ids >> id & 1 || stored(at_server, id) == before[id]);
+    }
     if (status == GIOP_FAULT && !is_damaged && !may_refuse) {
         CHECK(fault.number == GIOP_END_CLOSED || fault.number == GIOP_END_TOO_MANY_CALLS
               || fault.number == GIOP_END_GATHER_FULL);
@@ -244,6 +285,8 @@ static void one_turn(uint32_t turn) {
     agreed();
     giop_client_free(&client);
     giop_server_free(&server);
+    giop_framer_free(&beside[0]);
+    giop_framer_free(&beside[1]);
     CHECK(blocks == 0);
 }
 

@@ -2,13 +2,13 @@
 ghost use Rattle.std.specs.Prelude.{◌≡◌, ◌<◌, ◌^◌, length};
 ghost use Rattle.giop_c.specs.Heads.{c_cdr_fault};
 ghost use Rattle.giop_c.specs.Interfaces.{c_text_fault, description_number};
-ghost use Rattle.giop_c.specs.Records.{c_fault, c_message};
+ghost use Rattle.giop_c.specs.Records.{c_fault, c_message, has_id, id_told};
 
 use giop_cdr::CdrFault;
 use giop_msg::{Msg, WireFault};
 use giop_types::FormFault;
 
-/// What the header of a message says, as C sees it: `giop_message`.
+/// What the header of a message says, and its request id, as C sees it: `giop_message`.
 #[repr(C)]
 #[derive(Clone, Copy, Debug, PartialEq, Eq)]
 pub struct Message {
@@ -22,21 +22,48 @@ pub struct Message {
     pub kind: u8,
     /// The number of octets after the header.
     pub size: u32,
+    /// The request id; 0 where `has_id` is 0.
+    pub id: u32,
+    /// 1 where the message has a request id that can be read, else 0.
+    pub has_id: u8,
 }
 
 impl Message {
-    /// The header of a message whose size is an unsigned long.
+    /// The header of a message whose size is an unsigned long, and its request id.
     pub fn of(message: &Msg) -> Message
         requires { length message.now.payload < 2 ^ 32 }
         ensures { result ≡ c_message message.now }
     {
+        let id = message.request_id();
         Message {
             minor: message.version.minor(),
             little_endian: message.order.octet(),
             more: if message.more { 1 } else { 0 },
             kind: message.kind.number(),
             size: message.payload.len() as u32,
+            id: id_told(&id),
+            has_id: has_id(&id),
         }
+    }
+}
+
+// The request id that was read; 0 where none was.
+fn id_told(id: &Option<Result<u32, CdrFault>>) -> u32
+    ensures { result ≡ id_told id.now }
+{
+    match id {
+        Some(Ok(id)) => *id,
+        _ => 0,
+    }
+}
+
+// 1 where a request id was read, else 0.
+fn has_id(id: &Option<Result<u32, CdrFault>>) -> u8
+    ensures { result ≡ has_id id.now }
+{
+    match id {
+        Some(Ok(_)) => 1,
+        _ => 0,
     }
 }
 

@@ -25,6 +25,8 @@ const UNWRITTEN: Message = Message {
     more: 9,
     kind: 9,
     size: 9,
+    id: 9,
+    has_id: 9,
 };
 
 #[test]
@@ -56,6 +58,8 @@ fn a_message_is_taken_and_its_payload_copied(rt: HostRuntime) {
         more: 0,
         kind: 2,
         size: 4,
+        id: 7,
+        has_id: 1,
     };
     assert_eq!(rt; message, taken);
     assert_eq!(rt;
@@ -103,6 +107,8 @@ fn the_head_of_a_request_is_read_and_copied(rt: HostRuntime) {
         more: 0,
         kind: 0,
         size: 36,
+        id: 1,
+        has_id: 1,
     };
     let mut request = Request {
         body: 0,

@@ -46,6 +46,8 @@ struct Head {
     more: u8,
     kind: u8,
     size: u32,
+    id: u32,
+    has_id: u8,
 }
 
 #[repr(C)]
@@ -264,6 +266,13 @@ impl<'a> Message<'a> {
         }
     }
 
+    /// The request id (9.4.2 to 9.4.9); `None` of a CloseConnection, of a MessageError, and where the service
+    /// contexts before it are wrong. An end that is fed the octets of messages changes what it has stored for
+    /// their ids, and for no other.
+    pub fn request_id(&self) -> Option<u32> {
+        (self.head.has_id == 1).then_some(self.head.id)
+    }
+
     /// The octets after the header.
     pub fn payload(&self) -> &'a [u8] {
         self.payload
@@ -358,7 +367,7 @@ impl Framer {
     /// A fault of the octets, which stands for good; or `NoMemory`, and the message stands there still.
     #[allow(clippy::should_implement_trait)]
     pub fn next(&mut self) -> Result<Option<Message<'_>>, Error> {
-        let mut head = Head { minor: 0, little_endian: 0, more: 0, kind: 0, size: 0 };
+        let mut head = Head { minor: 0, little_endian: 0, more: 0, kind: 0, size: 0, id: 0, has_id: 0 };
         let mut fault = CFault { at: 0, number: 0 };
         // SAFETY: the handle was opened, and both structs are written.
         match unsafe { giop_framer_next(&mut self.handle, &mut head, &mut fault) } {
