@@ -134,11 +134,6 @@ Example:
 
 /// The command `call`.
 pub fn call<'a>(alloc: Global) -> Result<Command<'a>, AllocError> {
-    let target = Arg::new(alloc, "target")
-        .long("target")
-        .required(true)
-        .value_name("TEXT")
-        .help("The object: the text of its reference, or a corbaloc; or @ and a file of that text");
     let file = Arg::new(alloc, "FILE").required(true).help(
         "The file of the calls, in JSON, or - for the standard input; or an operation's name",
     );
@@ -149,7 +144,7 @@ pub fn call<'a>(alloc: Global) -> Result<Command<'a>, AllocError> {
     let command = Command::new(alloc, "call")
         .about("Calls operations of an object, and shows the replies")
         .after_help(CALL_HELP)
-        .arg(target)?
+        .arg(target(alloc))?
         .arg(interface(alloc))?
         .arg(stream(alloc))?
         .arg(timeout(alloc))?;
@@ -219,7 +214,17 @@ fn stream<'a>(alloc: Global) -> Arg<'a> {
         .help("Each call is shown as soon as it is over, and forgotten")
 }
 
-fn timeout<'a>(alloc: Global) -> Arg<'a> {
+/// The option of the object that is called.
+pub fn target<'a>(alloc: Global) -> Arg<'a> {
+    Arg::new(alloc, "target")
+        .long("target")
+        .required(true)
+        .value_name("TEXT")
+        .help("The object: the text of its reference, or a corbaloc; or @ and a file of that text")
+}
+
+/// The option of how long nothing may come or go.
+pub fn timeout<'a>(alloc: Global) -> Arg<'a> {
     Arg::new(alloc, "timeout")
         .long("timeout")
         .value_name("SECONDS")
@@ -248,11 +253,15 @@ fn sent<'a>(alloc: Global, command: Command<'a>) -> Result<Command<'a>, AllocErr
     )
     .default_value("4096")
     .value_parser(ValueParser::Unsigned(24, 1_048_584));
-    let little = Arg::new(alloc, "little")
+    limited(alloc, command.arg(piece)?.arg(little(alloc))?)
+}
+
+/// The option of the byte order of what is sent.
+pub fn little<'a>(alloc: Global) -> Arg<'a> {
+    Arg::new(alloc, "little")
         .long("little")
         .action(ArgAction::SetTrue)
-        .help("Messages are sent little-endian, not big-endian");
-    limited(alloc, command.arg(piece)?.arg(little)?)
+        .help("Messages are sent little-endian, not big-endian")
 }
 
 /// What `call` is asked for with these values, or what is wrong with a word.
@@ -341,8 +350,9 @@ fn telling_of(matches: &ArgMatches) -> Telling {
     }
 }
 
-// For how many seconds nothing may come or go, where that is bounded.
-fn timeout_of(matches: &ArgMatches) -> Result<Option<u32>, &'static str> {
+/// For how many seconds nothing may come or go, where that is bounded; or what is wrong with the
+/// word.
+pub fn timeout_of(matches: &ArgMatches) -> Result<Option<u32>, &'static str> {
     if matches.get_str("timeout").is_none() {
         return Ok(None);
     }
