@@ -16,8 +16,8 @@ _giopctl() {
         esac
     done
     case "$path $before" in
-        'giopctl dump --interface'|'giopctl check --interface'|'giopctl trace --interface'|'giopctl convert encode --desc'|'giopctl convert decode --desc'|'giopctl call --interface'|'giopctl serve --interface'|'giopctl serve --answers') files=yes ;;
-        'giopctl dump --message-limit'|'giopctl dump --gathered-limit'|'giopctl check --message-limit'|'giopctl check --calls-limit'|'giopctl check --gathered-limit'|'giopctl trace --message-limit'|'giopctl call --target'|'giopctl call --timeout'|'giopctl call --piece'|'giopctl call --message-limit'|'giopctl call --calls-limit'|'giopctl call --gathered-limit'|'giopctl ping --target'|'giopctl ping --timeout'|'giopctl serve --port'|'giopctl serve --key'|'giopctl serve --key-text'|'giopctl serve --connections'|'giopctl serve --piece'|'giopctl serve --message-limit'|'giopctl serve --calls-limit'|'giopctl serve --gathered-limit') return ;;
+        'giopctl dump --interface'|'giopctl check --interface'|'giopctl trace --interface'|'giopctl convert encode --desc'|'giopctl convert decode --desc'|'giopctl call --interface'|'giopctl serve --interface'|'giopctl serve --answers'|'giopctl serve --ior-file') files=yes ;;
+        'giopctl dump --message-limit'|'giopctl dump --gathered-limit'|'giopctl check --message-limit'|'giopctl check --calls-limit'|'giopctl check --gathered-limit'|'giopctl trace --message-limit'|'giopctl call --target'|'giopctl call --timeout'|'giopctl call --piece'|'giopctl call --message-limit'|'giopctl call --calls-limit'|'giopctl call --gathered-limit'|'giopctl ping --target'|'giopctl ping --timeout'|'giopctl serve --port'|'giopctl serve --key'|'giopctl serve --key-text'|'giopctl serve --type-id'|'giopctl serve --connections'|'giopctl serve --piece'|'giopctl serve --message-limit'|'giopctl serve --calls-limit'|'giopctl serve --gathered-limit') return ;;
         *)
             case "$path:$word" in
                 'giopctl:-'*) words='-h --help -V --version' ;;
@@ -31,7 +31,7 @@ _giopctl() {
                 'giopctl convert decode:-'*) words='--desc --little -h --help' ;;
                 'giopctl call:-'*) words='--target --interface --stream --timeout --piece --little --message-limit --calls-limit --gathered-limit -h --help' ;;
                 'giopctl ping:'*) words='--target --timeout --little -h --help' ;;
-                'giopctl serve:'*) words='--port --interface --answers --key --key-text --connections --stream --piece --little --message-limit --calls-limit --gathered-limit -h --help' ;;
+                'giopctl serve:'*) words='--port --interface --answers --key --key-text --ior-file --type-id --connections --stream --piece --little --message-limit --calls-limit --gathered-limit -h --help' ;;
                 'giopctl:'*) words='dump check trace convert call ping serve help' ;;
                 'giopctl convert:'*) words='ior corbaloc encode decode help' ;;
                 'giopctl help:'*) words='dump check trace convert call ping serve' ;;
