@@ -10,7 +10,7 @@ use Rattle.giop_ior.specs.declared.addresses.corbaloc.Corbaloc.{Corbaloc}
 use Rattle.giop_ior.specs.declared.addresses.corbaloc_fault.CorbalocFault.{CorbalocFault}
 use Rattle.giop_ior.specs.declared.references.tagged_profile.TaggedProfile.{TaggedProfile}
 use Rattle.giop_ior.specs.CorbalocReading.{corbaloc_of}
-use Rattle.giop_ior.specs.Iiop.{Profile, iiop_of}
+use Rattle.giop_ior.specs.Iiop.{Profile, iiop_octets, iiop_of}
 use Rattle.giop_ior.specs.Ior.{Reference, ior_layout}
 use Rattle.giop_msg.specs.Version.{version_of}
 use Rattle.giop_types.specs.declared.ior_text_fault.IorTextFault.{IorTextFault}
@@ -52,6 +52,27 @@ at_profile None = Err NoIiopProfile
 abbrev pub by_reference : Result Reference IorTextFault → Result Endpoint RefusalLine
 by_reference (Ok ior) = at_profile (first_iiop ior.profiles)
 by_reference (Err e) = Err (ior_refusal e)
+
+-- the profile of IIOP 1.2 of an object, without components
+abbrev pub profile_at : List ℕ → ℕ → List ℕ → TaggedProfile
+profile_at host port key = record {
+  tag = 0;
+  octets = iiop_octets (record {
+    major = 1;
+    minor = 2;
+    host = host;
+    port = port;
+    key = key;
+    components = [];
+  });
+}
+
+-- the reference of an object of this type id, which has that profile alone
+abbrev pub reference_at : List ℕ → List ℕ → ℕ → List ℕ → Reference
+reference_at type_id host port key = record {
+  type_id = type_id;
+  profiles = profile_at host port key ∷ [];
+}
 
 -- ---- corbalocs
 

@@ -5,11 +5,14 @@ ghost use Rattle.std.specs.Prelude.{◌≤◌, ◌^◌};
 ghost use Rattle.giop_commands.specs.Check.{AreLimits};
 
 mod limit_words;
+mod ping_words;
 mod session_words;
 
 use crate::cli::limit_words::{
     gathered_limit, gathered_limit_of, limited, limits_of, message_limit, message_limit_of,
 };
+pub use crate::cli::ping_words::PingWords;
+use crate::cli::ping_words::{ping, ping_words};
 use crate::cli::session_words::{call, call_words, serve, serve_words, values_of};
 pub use crate::cli::session_words::{CallWords, ServeWords};
 use crate::files::apart;
@@ -38,6 +41,8 @@ pub enum Task<'a> {
     },
     /// Call operations of an object.
     Call(CallWords<'a>),
+    /// Ask an object whether it is there.
+    Ping(PingWords<'a>),
     /// Serve an object.
     Serve(ServeWords<'a>),
 }
@@ -121,7 +126,8 @@ Examples:
   giopctl serve --port 2810 --interface examples/calculator.json --answers examples/answers.json \
 --key 6b
   giopctl call --target corbaloc::1.2@127.0.0.1:2810/k --interface examples/calculator.json \
-examples/calls.json";
+examples/calls.json
+  giopctl ping --target corbaloc::1.2@127.0.0.1:2810/k";
 
 const CHECK_HELP: &str = "\
 The file is what a client sent on one connection. A server's end hears it, which answers nothing:
@@ -262,41 +268,37 @@ Example:
 pub fn task_of<'a>(alloc: Global, words: &'a [String]) -> Result<Option<Task<'a>>, Error> {
     let matches = giopctl(alloc)?.try_get_matches_from(words)?;
     if let Some(dump) = matches.subcommand_matches("dump") {
-        return match dumped(dump) {
-            Ok(task) => Ok(task),
-            Err(wrong) => Err(misused(alloc, wrong)?),
-        };
+        return judged(alloc, dumped(dump));
     }
     if let Some(check) = matches.subcommand_matches("check") {
-        return match checked(check) {
-            Ok(task) => Ok(task),
-            Err(wrong) => Err(misused(alloc, wrong)?),
-        };
+        return judged(alloc, checked(check));
     }
     if let Some(trace) = matches.subcommand_matches("trace") {
-        return match traced(trace) {
-            Ok(task) => Ok(task),
-            Err(wrong) => Err(misused(alloc, wrong)?),
-        };
+        return judged(alloc, traced(trace));
     }
     if let Some(call) = matches.subcommand_matches("call") {
-        return match call_words(call, values_of(alloc, call)?) {
-            Ok(words) => Ok(Some(Task::Call(words))),
-            Err(wrong) => Err(misused(alloc, wrong)?),
-        };
+        return judged(alloc, called(call, values_of(alloc, call)?));
+    }
+    if let Some(ping) = matches.subcommand_matches("ping") {
+        return judged(alloc, pinged(ping));
     }
     if let Some(serve) = matches.subcommand_matches("serve") {
-        return match serve_words(serve) {
-            Ok(words) => Ok(Some(Task::Serve(words))),
-            Err(wrong) => Err(misused(alloc, wrong)?),
-        };
+        return judged(alloc, served(serve));
     }
     match matches.subcommand_matches("convert") {
-        Some(convert) => match conversion(convert) {
-            Ok(task) => Ok(task),
-            Err(wrong) => Err(misused(alloc, wrong)?),
-        },
+        Some(convert) => judged(alloc, conversion(convert)),
         None => Ok(None),
+    }
+}
+
+// What a command asks for, or the error of what is wrong with one of its words.
+fn judged<'a>(
+    alloc: Global,
+    task: Result<Option<Task<'a>>, &'static str>,
+) -> Result<Option<Task<'a>>, Error> {
+    match task {
+        Ok(task) => Ok(task),
+        Err(wrong) => Err(misused(alloc, wrong)?),
     }
 }
 
@@ -397,6 +399,21 @@ fn form_of(matches: &ArgMatches<'_>) -> LineForm {
     }
 }
 
+fn called<'a>(
+    matches: &ArgMatches<'a>,
+    values: Vec<&'a str>,
+) -> Result<Option<Task<'a>>, &'static str> {
+    Ok(Some(Task::Call(call_words(matches, values)?)))
+}
+
+fn pinged<'a>(matches: &ArgMatches<'a>) -> Result<Option<Task<'a>>, &'static str> {
+    Ok(Some(Task::Ping(ping_words(matches)?)))
+}
+
+fn served<'a>(matches: &ArgMatches<'a>) -> Result<Option<Task<'a>>, &'static str> {
+    Ok(Some(Task::Serve(serve_words(matches)?)))
+}
+
 fn converted<'a>(matches: &ArgMatches<'a>, kind: Option<ConvertKind<'a>>) -> Option<Task<'a>> {
     let file = matches.get_str("FILE")?;
     let kind = kind?;
@@ -427,6 +444,7 @@ fn giopctl<'a>(alloc: Global) -> Result<Command<'a>, AllocError> {
         .subcommand(trace(alloc)?)?
         .subcommand(convert(alloc)?)?
         .subcommand(call(alloc)?)?
+        .subcommand(ping(alloc)?)?
         .subcommand(serve(alloc)?)
 }
 

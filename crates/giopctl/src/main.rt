@@ -30,6 +30,7 @@ fn run(rt: &HostRuntime) -> Status {
         Ok(Some(Task::Trace(words))) => runs::trace::trace(rt, words),
         Ok(Some(Task::Convert { file, kind })) => runs::convert::convert(rt, file, kind),
         Ok(Some(Task::Call(words))) => runs::call::call(rt, words),
+        Ok(Some(Task::Ping(words))) => runs::ping::ping(rt, words),
         Ok(Some(Task::Serve(words))) => runs::serve::serve(rt, words),
         Ok(None) => Status::Usage,
         Err(error) => report::usage(rt, &error),

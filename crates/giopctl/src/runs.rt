@@ -5,6 +5,8 @@ pub mod check;
 pub mod convert;
 pub mod dump;
 pub mod link;
+pub mod ping;
+pub mod reach;
 pub mod serve;
 pub mod session;
 pub mod trace;

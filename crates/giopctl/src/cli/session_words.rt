@@ -49,6 +49,10 @@ pub struct ServeWords<'a> {
     pub answers: &'a str,
     /// The object key.
     pub key: KeyWord<'a>,
+    /// The name of the file that the object's reference is written to, if one is given.
+    pub ior_file: Option<&'a str>,
+    /// The type id of that reference; it may be empty.
+    pub type_id: &'a str,
     /// How many connections are served, 1 to 65,535.
     pub connections: u32,
     /// When the calls are told.
@@ -96,7 +100,7 @@ Exit statuses:
   3  reading, writing or the connection failed
   4  out of memory
 
-Examples, one while the example of giopctl serve --help runs:
+Examples, each while the example of giopctl serve --help runs:
   giopctl call --target corbaloc::1.2@127.0.0.1:2810/k --interface examples/calculator.json \
 examples/calls.json
   giopctl call --target corbaloc::1.2@127.0.0.1:2810/k --interface examples/calculator.json add 2 5";
@@ -120,6 +124,8 @@ so that a connection may have any number of calls. Of a Request that is answered
 with what giopctl call shows behind Done as REPLY. The calls that are still open have their lines at
 the end, and the last line is rest N, the octets that are no whole message, or the fault.
 Where a client hangs up within a message or a call in pieces, standard error says so.
+With --ior-file the object's reference is written to a file before the port is told; giopctl call takes
+it by --target @FILE.
 
 Exit statuses, of which the greatest of all connections is taken:
   0  the connection ended, or the client closed it
@@ -134,11 +140,6 @@ Example:
 
 /// The command `call`.
 pub fn call<'a>(alloc: Global) -> Result<Command<'a>, AllocError> {
-    let target = Arg::new(alloc, "target")
-        .long("target")
-        .required(true)
-        .value_name("TEXT")
-        .help("The object: the text of its reference, or a corbaloc; or @ and a file of that text");
     let file = Arg::new(alloc, "FILE").required(true).help(
         "The file of the calls, in JSON, or - for the standard input; or an operation's name",
     );
@@ -149,7 +150,7 @@ pub fn call<'a>(alloc: Global) -> Result<Command<'a>, AllocError> {
     let command = Command::new(alloc, "call")
         .about("Calls operations of an object, and shows the replies")
         .after_help(CALL_HELP)
-        .arg(target)?
+        .arg(target(alloc))?
         .arg(interface(alloc))?
         .arg(stream(alloc))?
         .arg(timeout(alloc))?;
@@ -177,6 +178,15 @@ pub fn serve<'a>(alloc: Global) -> Result<Command<'a>, AllocError> {
     )
     .default_value("1")
     .value_parser(ValueParser::Unsigned(1, 65_535));
+    let ior_file = Arg::new(alloc, "ior-file")
+        .long("ior-file")
+        .value_name("FILE")
+        .help("The file that the object's reference is written to");
+    let type_id = Arg::new(alloc, "type-id")
+        .long("type-id")
+        .value_name("ID")
+        .default_value("")
+        .help("The type id of that reference");
     let command = Command::new(alloc, "serve")
         .about("Answers the calls of one object")
         .after_help(SERVE_HELP)
@@ -186,6 +196,8 @@ pub fn serve<'a>(alloc: Global) -> Result<Command<'a>, AllocError> {
         .arg(key(alloc))?
         .arg(key_text(alloc))?
         .group(one_key(alloc)?)?
+        .arg(ior_file)?
+        .arg(type_id)?
         .arg(connections)?
         .arg(stream(alloc))?;
     sent(alloc, command)
@@ -209,7 +221,8 @@ fn key_text<'a>(alloc: Global) -> Arg<'a> {
 fn one_key<'a>(alloc: Global) -> Result<ArgGroup<'a>, AllocError> {
     ArgGroup::new(alloc, "one-key")
         .required(true)
-        .args(&["key", "key-text"])
+        .arg("key")?
+        .arg("key-text")
 }
 
 fn stream<'a>(alloc: Global) -> Arg<'a> {
@@ -219,7 +232,17 @@ fn stream<'a>(alloc: Global) -> Arg<'a> {
         .help("Each call is shown as soon as it is over, and forgotten")
 }
 
-fn timeout<'a>(alloc: Global) -> Arg<'a> {
+/// The option of the object that is called.
+pub fn target<'a>(alloc: Global) -> Arg<'a> {
+    Arg::new(alloc, "target")
+        .long("target")
+        .required(true)
+        .value_name("TEXT")
+        .help("The object: the text of its reference, or a corbaloc; or @ and a file of that text")
+}
+
+/// The option of how long nothing may come or go.
+pub fn timeout<'a>(alloc: Global) -> Arg<'a> {
     Arg::new(alloc, "timeout")
         .long("timeout")
         .value_name("SECONDS")
@@ -248,11 +271,15 @@ fn sent<'a>(alloc: Global, command: Command<'a>) -> Result<Command<'a>, AllocErr
     )
     .default_value("4096")
     .value_parser(ValueParser::Unsigned(24, 1_048_584));
-    let little = Arg::new(alloc, "little")
+    limited(alloc, command.arg(piece)?.arg(little(alloc))?)
+}
+
+/// The option of the byte order of what is sent.
+pub fn little<'a>(alloc: Global) -> Arg<'a> {
+    Arg::new(alloc, "little")
         .long("little")
         .action(ArgAction::SetTrue)
-        .help("Messages are sent little-endian, not big-endian");
-    limited(alloc, command.arg(piece)?.arg(little)?)
+        .help("Messages are sent little-endian, not big-endian")
 }
 
 /// What `call` is asked for with these values, or what is wrong with a word.
@@ -316,6 +343,8 @@ pub fn serve_words<'a>(matches: &ArgMatches<'a>) -> Result<ServeWords<'a>, &'sta
         interface,
         answers,
         key: key_of(matches)?,
+        ior_file: matches.get_str("ior-file"),
+        type_id: matches.get_str("type-id").unwrap_or(""),
         connections,
         telling: telling_of(matches),
         form,
@@ -341,8 +370,9 @@ fn telling_of(matches: &ArgMatches) -> Telling {
     }
 }
 
-// For how many seconds nothing may come or go, where that is bounded.
-fn timeout_of(matches: &ArgMatches) -> Result<Option<u32>, &'static str> {
+/// For how many seconds nothing may come or go, where that is bounded; or what is wrong with the
+/// word.
+pub fn timeout_of(matches: &ArgMatches) -> Result<Option<u32>, &'static str> {
     if matches.get_str("timeout").is_none() {
         return Ok(None);
     }

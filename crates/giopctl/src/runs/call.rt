@@ -4,22 +4,19 @@
 use crate::cli::CallWords;
 use crate::files::OUTPUT_BUFFER;
 use crate::places::sessions::{each_json, of_calls, of_words};
-use crate::runs::session::{interface_of, linked, read, refused, refused_form, refused_words};
+use crate::runs::reach::{connected, endpoint_of, peer_of, target_text};
+use crate::runs::session::{interface_of, read, refused_form, refused_words};
 use crate::{files, report};
 use giop_commands::call::calls::{CallLine, calls_from_json};
 use giop_commands::call::streaming::call_stream;
 use giop_commands::call::words::call_from_words;
-use giop_commands::convert::unended;
 use giop_commands::failure::Failure;
 use giop_commands::serve::given::Telling;
 use giop_commands::status::Status;
-use giop_commands::{Calling, Ending, Endpoint, Targeted, call_over, target_of};
-use giop_lines::EscapedText;
+use giop_commands::{Calling, Ending, Endpoint, call_over};
 use giop_types::Interface;
+use std::io;
 use std::io::{BufWriter, ErrorKind, Write};
-use std::net::{TcpStream, ToSocketAddrs};
-use std::time::Duration;
-use std::{io, str};
 
 /// Reads the file of the interface and that of the calls, connects to where the target says, and
 /// calls. What is refused is reported before anything is connected: the target, the interface, the
@@ -41,10 +38,7 @@ fn called(rt: &HostRuntime, words: CallWords) -> Result<Status, Status> {
         Asked::File(text) => calls_in_file(rt, &words, offered.as_slice(), &interface, &text)?,
         Asked::Words => calls_in_words(rt, &words, offered.as_slice(), &interface)?,
     };
-    let peer = match peer_of(rt, &endpoint) {
-        Ok(peer) => peer,
-        Err(failure) => return Err(report::answer(rt, words.target, Err(failure))),
-    };
+    let peer = peer_of(rt, words.target, &endpoint)?;
     let calling = Calling {
         interface: &interface,
         key: endpoint.key.as_slice(),
@@ -54,19 +48,6 @@ fn called(rt: &HostRuntime, words: CallWords) -> Result<Status, Status> {
     };
     let answered = call_at(rt, calls, &endpoint, &words, calling);
     Ok(report::called(rt, peer.as_str(), words.timeout, answered))
-}
-
-// The text of a target: itself, or behind `@` that of a file, of which a newline at the end is
-// dropped.
-fn target_text(rt: &HostRuntime, target: &str) -> Result<Vec<u8>, Status> {
-    let text = match target.strip_prefix('@') {
-        Some(file) => Vec::from_slice(rt.alloc(), unended(read(rt, file)?.as_slice())),
-        None => Vec::from_slice(rt.alloc(), target.as_bytes()),
-    };
-    match text {
-        Ok(text) => Ok(text),
-        Err(_) => Err(report::answer(rt, target, Err(Failure::Memory))),
-    }
 }
 
 // Where the calls stand.
@@ -140,20 +121,6 @@ fn calls_in_words(
     }
 }
 
-fn endpoint_of(rt: &HostRuntime, target: &str, text: &[u8]) -> Result<Endpoint, Status> {
-    match target_of(rt.alloc(), text) {
-        Ok(Targeted::At(endpoint)) => Ok(endpoint),
-        Ok(Targeted::Refused(line)) => Err(refused(rt, line)),
-        Err(failure) => Err(report::answer(rt, target, Err(failure))),
-    }
-}
-
-// The name of a peer, as standard error has it: `HOST:PORT`.
-fn peer_of(rt: &HostRuntime, endpoint: &Endpoint) -> Result<String, Failure> {
-    let host = EscapedText(endpoint.host.as_slice());
-    Ok(format!(in rt.alloc(); "{host}:{}", endpoint.port)?)
-}
-
 fn call_at(
     rt: &HostRuntime,
     calls: Vec<CallLine>,
@@ -161,7 +128,7 @@ fn call_at(
     words: &CallWords<'_>,
     calling: Calling<'_>,
 ) -> Result<Ending, Failure> {
-    let link = linked(rt, connected(rt, endpoint, words.timeout)?, words.timeout)?;
+    let link = connected(rt, endpoint, words.timeout)?;
     let mut out = BufWriter::with_capacity(rt.alloc(), OUTPUT_BUFFER, io::writer(rt))?;
     let (mut reader, mut writer) = (&link, &link);
     let (reader, writer) = (&mut reader, &mut writer);
@@ -171,36 +138,4 @@ fn call_at(
     };
     out.flush()?;
     Ok(ending)
-}
-
-// A connection to where an object is reached. A name is looked up, and each of its addresses is
-// tried, for so many seconds at most, if any are given.
-fn connected(
-    rt: &HostRuntime,
-    endpoint: &Endpoint,
-    timeout: Option<u32>,
-) -> Result<TcpStream, Failure> {
-    let Ok(host) = str::from_utf8(endpoint.host.as_slice()) else {
-        return Err(Failure::Connection(io::Error::from(ErrorKind::InvalidInput)));
-    };
-    let stream = match timeout {
-        Some(seconds) => connect_within(rt, host, endpoint.port, seconds),
-        None => TcpStream::connect(rt, (host, endpoint.port)),
-    };
-    match stream {
-        Ok(stream) => Ok(stream),
-        Err(error) => Err(Failure::connection(error)),
-    }
-}
-
-// Tries each address of a host for so many seconds, and returns the last error where none answers.
-fn connect_within(rt: &HostRuntime, host: &str, port: u16, seconds: u32) -> io::Result<TcpStream> {
-    let mut last = io::Error::from(ErrorKind::InvalidInput);
-    for address in (host, port).to_socket_addrs(rt)? {
-        match TcpStream::connect_timeout(rt, &address, Duration::from_secs(u64::from(seconds))) {
-            Ok(stream) => return Ok(stream),
-            Err(error) => last = error,
-        }
-    }
-    Err(last)
 }

@@ -9,12 +9,13 @@ use crate::runs::session::{interface_of, linked, read, refused_form};
 use giop_commands::failure::Failure;
 use giop_commands::serve::answers::answers_from_json;
 use giop_commands::serve::given::{KeyWord, Telling};
+use giop_commands::serve::reference::reference_text;
 use giop_commands::serve::streaming::stream_over;
 use giop_commands::status::Status;
 use giop_commands::{Ending, Serving, serve_over};
-use std::io;
 use std::io::{BufWriter, Write};
 use std::net::{Ipv4Addr, TcpListener, TcpStream};
+use std::{fs, io};
 
 // The address that is listened at, as standard error has it.
 const HERE: &str = "127.0.0.1";
@@ -48,7 +49,7 @@ fn served(rt: &HostRuntime, words: ServeWords) -> Result<Status, Status> {
         form: words.form,
         limits: words.limits,
     };
-    let listener = listening(rt, words.port)?;
+    let listener = listening(rt, &words, key.as_slice())?;
     Ok(serve_each(rt, &listener, &words, &serving))
 }
 
@@ -64,18 +65,43 @@ fn key_of(rt: &HostRuntime, key: KeyWord<'_>) -> Result<Vec<u8>, Status> {
     }
 }
 
-// Listens at a port, or where that is 0 at one that is free, and says which it is.
-fn listening(rt: &HostRuntime, port: u16) -> Result<TcpListener, Status> {
-    match bound(rt, port) {
+// Listens at a port, or where that is 0 at one that is free, writes the file of the reference of the
+// object of this key, and says which port it is.
+fn listening(rt: &HostRuntime, words: &ServeWords<'_>, key: &[u8]) -> Result<TcpListener, Status> {
+    match bound(rt, words.port) {
         Ok((listener, port)) => {
+            if let Some(file) = words.ior_file {
+                write_reference(rt, file, words.type_id, port, key)?;
+            }
             let _ = eprintln!(rt; "giopctl: listening on {HERE}:{port}");
             Ok(listener)
         }
         Err(error) => {
             let failure = Failure::connection(error);
-            let _ = eprintln!(rt; "giopctl: {HERE}:{port}: {failure}");
+            let _ = eprintln!(rt; "giopctl: {HERE}:{}: {failure}", words.port);
             Err(failure.status())
         }
+    }
+}
+
+// Writes the text of the object's reference, and a newline, to a file.
+fn write_reference(
+    rt: &HostRuntime,
+    file: &str,
+    type_id: &str,
+    port: u16,
+    key: &[u8],
+) -> Result<(), Status> {
+    let (type_id, host) = (type_id.as_bytes(), HERE.as_bytes());
+    let Ok(mut text) = reference_text(rt.alloc(), type_id, host, port, key) else {
+        return Err(report::answer(rt, file, Err(Failure::Memory)));
+    };
+    if text.push(b'\n').is_err() {
+        return Err(report::answer(rt, file, Err(Failure::Memory)));
+    }
+    match fs::write(rt, file, text) {
+        Ok(()) => Ok(()),
+        Err(error) => Err(report::answer(rt, file, Err(Failure::input(error)))),
     }
 }
 
