@@ -22,7 +22,7 @@ _giopctl() {
             case "$path:$word" in
                 'giopctl:-'*) words='-h --help -V --version' ;;
                 'giopctl dump:-'*) words='--interface --json --message-limit --gathered-limit -h --help' ;;
-                'giopctl check:-'*) words='--interface --strict --message-limit --calls-limit --gathered-limit -h --help' ;;
+                'giopctl check:-'*) words='--interface --json --strict --message-limit --calls-limit --gathered-limit -h --help' ;;
                 'giopctl trace:-'*) words='--interface --json --message-limit -h --help' ;;
                 'giopctl convert:-'*) words='-h --help' ;;
                 'giopctl convert ior:-'*) words='-h --help' ;;

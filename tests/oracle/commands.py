@@ -7,7 +7,7 @@ from forms import FormFault, description_of, interface_of, value_of, value_text
 from messages import HEADS, messages
 from references import BadText, corbaloc_of, iiop_profile, octets_of_hex, reference_of, text_of
 from server import heard
-from text import escaped, hexed
+from text import escaped, hexed, quoted, unescaped
 
 
 def foretold(words, file, other):
@@ -16,7 +16,7 @@ def foretold(words, file, other):
     if words[0] == 'dump':
         return dump_json(file) if '--json' in words else dump(file)
     if words[0] == 'check':
-        return check(other, file)
+        return check_json(other, file) if '--json' in words else check(other, file)
     return convert(words[1], file, other, '--little' in words)
 
 
@@ -84,8 +84,11 @@ def dump_json(stream):
     return printed([*lines, compact({'rest': left})], 1 if left else 0)
 
 
-def compact(members):
-    return json.dumps(members, separators=(',', ':'))
+def compact(value):
+    """JSON without blanks, in which octets are a text."""
+    if isinstance(value, dict):
+        return '{' + ','.join(f'"{name}":{compact(member)}' for name, member in value.items()) + '}'
+    return quoted(value) if isinstance(value, bytes) else json.dumps(value)
 
 
 def fault_members(fault):
@@ -117,7 +120,7 @@ def head_members(message):
     body = {'body': max(reader.end - head.body, 0)}
     if message.kind == 'Request':
         return {'flags': head.flags, **target_members(head.target),
-                'operation': bytes(head.operation).decode('latin-1'),
+                'operation': bytes(head.operation),
                 'contexts': len(head.contexts), **body}
     if message.kind == 'Reply':
         return {'status': head.status, 'contexts': len(head.contexts), **body}
@@ -132,7 +135,7 @@ def target_members(target):
         return {'profile_tag' if kind == 'profile' else 'reference_index': told}
     key = bytes(told)
     printable = all(0x20 <= octet <= 0x7E for octet in key)
-    return {'key': key.hex(), **({'key_text': key.decode('ascii')} if printable else {})}
+    return {'key': key.hex(), **({'key_text': key} if printable else {})}
 
 
 # check
@@ -146,6 +149,49 @@ def check(interface, stream):
     table, last = heard(interface, stream)
     lines = [f'{call} {entry.name}{entry.told}' for call, entry in sorted(table.items())]
     return printed([*lines, last], 0 if last in ('rest 0', 'fault 7 Closed') else 1)
+
+
+# check --json
+
+WHATS = {'LocateAsked': 'locate_asked'}
+
+
+def check_json(interface, stream):
+    """As docs/FORMATS.md, "Lines of check", has it."""
+    try:
+        interface = interface_of(interface)
+    except FormFault as fault:
+        return printed([compact({'refused': named(str(fault))})], 1)
+    table, last = heard(interface, stream)
+    lines = [entry_line(call, entry) for call, entry in sorted(table.items())]
+    return printed([*lines, compact(last_members(last))],
+                   0 if last in ('rest 0', 'fault 7 Closed') else 1)
+
+
+def named(text):
+    """A fault by its text: NUMBER NAME, and at PLACE where it has one."""
+    number, name, *place = text.split()
+    return {'number': int(number), 'name': name, **({'at': int(place[1])} if place else {})}
+
+
+def entry_line(call, entry):
+    members = {'id': call, 'what': WHATS.get(entry.name, entry.name.lower())}
+    first, _, behind = entry.told[1:].partition(' ')
+    if entry.name == 'Undecoded':
+        members |= {'part': first, **({'fault': named(behind)} if behind else {})}
+    if entry.name not in ('Asked', 'Delivered'):
+        return compact(members)
+    return compact({**members, 'operation': unescaped(first)})[:-1] + f',"ins":{behind}}}'
+
+
+def last_members(last):
+    kind, number, *words = last.split()
+    if kind == 'rest':
+        return {'rest': int(number)}
+    fault = {'number': int(number), 'name': words.pop(0)}
+    if fault['name'] == 'Call':
+        fault['id'] = int(words.pop(0))
+    return {'fault': {**fault, **({'fault': named(' '.join(words))} if words else {})}}
 
 
 # convert

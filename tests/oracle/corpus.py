@@ -113,6 +113,13 @@ def a_cut_message(rng):
     return interface, message(kind, minor, little, payload[:rng.randrange(4, len(payload) + 1)])
 
 
+def check_json(rng):
+    """Any of the above, as JSON."""
+    recipe = rng.choice((check_lawful, check_wrong, check_damaged, check_acts, check_cut,
+                         check_interface))
+    return as_json(recipe(rng))
+
+
 def check_table(number):
     return check(compact(random_edges.ACTS), random_edges.full_table(number))
 
@@ -265,7 +272,7 @@ RECIPES = {
     dump_lawful: 1500, dump_replies: 1500, dump_damaged: 1500, dump_header: 1500, dump_cut: 1500,
     dump_json: 3000,
     check_lawful: 2500, check_wrong: 2000, check_damaged: 1000, check_acts: 2500, check_cut: 1000,
-    check_interface: 2000, ior: 1500, ior_damaged: 500, corbaloc: 1500, corbaloc_damaged: 500,
+    check_interface: 2000, check_json: 3000, ior: 1500, ior_damaged: 500, corbaloc: 1500, corbaloc_damaged: 500,
     encode: 1000, encode_spoilt: 1500, encode_bounds: 700, encode_description: 1500,
     decode: 1000, decode_bounds: 700, decode_damaged: 1500,
     dump_large: random_edges.LARGE, check_table: random_edges.FULL_TABLES,

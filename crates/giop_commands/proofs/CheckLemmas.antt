@@ -19,10 +19,11 @@ use Rattle.giop_session.specs.Calls.CallTable.{Held}
 use Rattle.giop_commands.specs.declared.failure.Failure.{Failure}
 use Rattle.giop_commands.specs.declared.status.Status.{Status}
 use Rattle.giop_commands.specs.declared.status.Status.TheVariants.{Done, Refused, LimitPassed, Usage, InputOutput, Memory}
-use Rattle.giop_commands.specs.Check.{Checks, ChecksKnown, HeardKnown, Hears, IsChecked, last_status, nothing_read, server_hears, strict_status}
+use Rattle.giop_commands.specs.declared.form.LineForm.{LineForm}
+use Rattle.giop_commands.specs.declared.form.LineForm.TheVariants.{Text}
+use Rattle.giop_commands.specs.Check.{Checks, ChecksKnown, HeardKnown, Hears, IsChecked, last_in, last_status, nothing_read, server_entry_in, server_hears, strict_status}
 use Rattle.giop_commands.specs.Dump.{ended}
-use Rattle.giop_commands.specs.SessionLines.{last_line}
-use Rattle.giop_commands.specs.Table.{server_entry_line, table_text}
+use Rattle.giop_commands.specs.Table.{table_text}
 use Rattle.giop_commands.proofs.DumpLemmas.{Appends-append, nothing_left}
 
 -- where nothing is unread, no message stands at the front, and no fault
@@ -184,7 +185,7 @@ module _ {S : Type 0} (hears : Msg → S → Result (Unit {0}) SessionFault → 
 -- ---- what is told
 
 pub of_status : (interface : Interface) (limits : Limits) (octets : List ℕ) (old new : Option (List ℕ)) (status : Status)
-    → IsChecked interface limits false octets old new status → Checks interface limits octets old new status
+    → IsChecked interface limits false Text octets old new status → Checks interface limits octets old new status
 of_status interface limits octets old new Done is = is
 of_status interface limits octets old new Refused is = is
 of_status interface limits octets old new (LimitPassed limit) is = is
@@ -193,23 +194,23 @@ of_status interface limits octets old new InputOutput is = tt
 of_status interface limits octets old new Memory is = tt
 
 -- the table and the last line of an end that heard what a reader gave
-pub checked : (interface : Interface) (limits : Limits) (strict : Bool) (all old middle new : Option (List ℕ)) (fault : Option SessionFault) (left : Unread)
+pub checked : (interface : Interface) (limits : Limits) (strict : Bool) (form : LineForm) (all old middle new : Option (List ℕ)) (fault : Option SessionFault) (left : Unread)
     (calls : Held ServerRule ServerEntry) (s : Status) (r : Result Status Failure)
     → HeardKnown (server_hears interface) all (nothing_read limits) (no_calls (record {}) limits) fault left calls
-    → Appends old middle (table_text (server_entry_line interface) calls.table)
-    → Appends middle new (ended (last_line fault (length left.octets)))
+    → Appends old middle (table_text (server_entry_in form interface) calls.table)
+    → Appends middle new (ended (last_in form fault (length left.octets)))
     → s ≡ last_status fault (length left.octets)
     → IfOk r (λ status. status ≡ strict_status strict calls.table s)
-    → IfOk r (ChecksKnown interface limits strict all old new)
-checked interface limits strict all old middle new fault left calls s (Err failure) heard table line last status = tt
-checked interface limits strict None old middle new fault left calls s (Ok t) heard table line last status = tt
-checked interface limits strict (Some octets) old middle new fault left calls s (Ok t) heard table line last status = record {
+    → IfOk r (ChecksKnown interface limits strict form all old new)
+checked interface limits strict form all old middle new fault left calls s (Err failure) heard table line last status = tt
+checked interface limits strict form None old middle new fault left calls s (Ok t) heard table line last status = tt
+checked interface limits strict form (Some octets) old middle new fault left calls s (Ok t) heard table line last status = record {
   fault = fault;
   left = left;
   calls = calls;
   heard = heard;
   text =
-      Appends-append old middle new (table_text (server_entry_line interface) calls.table) (ended (last_line fault (length left.octets)))
+      Appends-append old middle new (table_text (server_entry_in form interface) calls.table) (ended (last_in form fault (length left.octets)))
       table line;
   is = status ∙ ap (strict_status strict calls.table) last;
 }

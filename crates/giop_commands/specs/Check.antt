@@ -27,11 +27,18 @@ use Rattle.giop_session.specs.Hearing.ServerHears.{server_befalls, server_breaks
 use Rattle.giop_commands.specs.declared.status.Status.{Status}
 use Rattle.giop_commands.specs.declared.status.Status.TheVariants.{Done, Refused, InputOutput, Memory}
 use Rattle.giop_lines.specs.declared.refusal.RefusalLine.TheVariants.{Form}
-use Rattle.giop_commands.specs.Convert.{Tells}
+use Rattle.giop_lines.specs.TableJson.{server_json}
+use Rattle.giop_lines.specs.TableLines.{server_line}
+use Rattle.giop_commands.specs.declared.form.LineForm.{LineForm}
+use Rattle.giop_commands.specs.declared.form.LineForm.TheVariants.{Text}
+use Rattle.giop_commands.specs.Bodies.{ins_text}
+use Rattle.giop_commands.specs.CheckJson.{session_fault_json}
 use Rattle.giop_commands.specs.Dump.{ended}
-use Rattle.giop_commands.specs.SessionLines.{last_line}
+use Rattle.giop_commands.specs.DumpHeads.{rest_in}
+use Rattle.giop_commands.specs.Forms.{line_in, refused_in}
+use Rattle.giop_commands.specs.SessionLines.{session_fault_line}
 use Rattle.giop_commands.specs.Status.{broken_status}
-use Rattle.giop_commands.specs.Table.{server_entry_line, table_text}
+use Rattle.giop_commands.specs.Table.{table_text}
 
 -- the status of a session that ended with a fault: an orderly end is none of its own
 abbrev pub fault_status : SessionFault → Status
@@ -98,45 +105,60 @@ default_limits = record { calls = 1024; message = 1048576; gathered = 8388608 }
 abbrev pub nothing_read : Limits → Unread
 nothing_read limits = record { limit = limits.message; octets = [] }
 
+-- the line of what is stored for an id at a server of an interface, in a form
+abbrev pub server_entry_in : LineForm → Interface → ℕ → ServerEntry → List ℕ
+server_entry_in form interface id entry =
+    line_in form (server_line id entry (ins_text interface entry))
+    (server_json id entry (ins_text interface entry))
+
+-- the last line, in a form: why the session ended, or how many octets are unread
+abbrev pub session_fault_in : LineForm → SessionFault → List ℕ
+session_fault_in form why = line_in form (session_fault_line why) (session_fault_json why)
+
+abbrev pub last_in : LineForm → Option SessionFault → ℕ → List ℕ
+last_in form (Some why) unread = session_fault_in form why
+last_in form None unread = rest_in form unread
+
 -- the text of a server's end: its table, and the last line
-abbrev pub end_text : Interface → Held ServerRule ServerEntry → Option SessionFault → ℕ → List ℕ
-end_text interface calls fault unread =
-    table_text (server_entry_line interface) calls.table ++ ended (last_line fault unread)
+abbrev pub end_text : Interface → LineForm → Held ServerRule ServerEntry → Option SessionFault → ℕ
+    → List ℕ
+end_text interface form calls fault unread =
+    table_text (server_entry_in form interface) calls.table ++ ended (last_in form fault unread)
 
 -- a new server's end of an interface, with these limits, heard these octets, the writer's contents
 -- grew by its text, and this is its status, strictly or not
-pub record IsChecked (interface : Interface) (limits : Limits) (strict : Bool) (octets : List ℕ)
-    (old new : Option (List ℕ)) (status : Status) : Type 0 where
+pub record IsChecked (interface : Interface) (limits : Limits) (strict : Bool) (form : LineForm)
+    (octets : List ℕ) (old new : Option (List ℕ)) (status : Status) : Type 0 where
   pub fault : Option SessionFault
   pub left : Unread
   pub calls : Held ServerRule ServerEntry
   pub heard :
       Hears (server_hears interface) octets (nothing_read limits) (no_calls (record {}) limits) fault
       left calls
-  pub text : Appends old new (end_text interface calls fault (length left.octets))
+  pub text : Appends old new (end_text interface form calls fault (length left.octets))
   pub is : status ≡ strict_status strict calls.table (last_status fault (length left.octets))
 
--- what a check of these octets that isn't strict does to the writer's contents, by the status that
+-- what a check of these octets that isn't strict, told as text, does to the writer's contents, by the status that
 -- it answers
 abbrev pub Checks : Interface → Limits → List ℕ → Option (List ℕ) → Option (List ℕ) → Status
     → Type 0
 Checks interface limits octets old new InputOutput = ⊤
 Checks interface limits octets old new Memory = ⊤
 Checks interface limits octets old new status =
-    IsChecked interface limits false octets old new status
+    IsChecked interface limits false Text octets old new status
 
 -- what a check does of the octets that a reader gives, where they are known and nothing failed
-abbrev pub ChecksKnown : Interface → Limits → Bool → Option (List ℕ) → Option (List ℕ)
+abbrev pub ChecksKnown : Interface → Limits → Bool → LineForm → Option (List ℕ) → Option (List ℕ)
     → Option (List ℕ) → Status → Type 0
-ChecksKnown interface limits strict None old new status = ⊤
-ChecksKnown interface limits strict (Some octets) old new status =
-    IsChecked interface limits strict octets old new status
+ChecksKnown interface limits strict form None old new status = ⊤
+ChecksKnown interface limits strict form (Some octets) old new status =
+    IsChecked interface limits strict form octets old new status
 
 -- such a check by the interface that a JSON text is; where it is none, its fault is reported alone
-abbrev pub ChecksText : List ℕ → Limits → Bool → Option (List ℕ) → Option (List ℕ)
+abbrev pub ChecksText : List ℕ → Limits → Bool → LineForm → Option (List ℕ) → Option (List ℕ)
     → Option (List ℕ) → Status → Type 0
-ChecksText text limits strict octets old new status =
+ChecksText text limits strict form octets old new status =
     ((interface : Interface) × (interface_told (json_in text) ≡ Ok (interface_view interface))
-    × ChecksKnown interface limits strict octets old new status)
+    × ChecksKnown interface limits strict form octets old new status)
     ⊎ ((status ≡ Refused) × ((e : FormFault) × (interface_told (json_in text) ≡ Err e)
-    × Tells old new (Form e)))
+    × Appends old new (ended (refused_in form (Form e)))))

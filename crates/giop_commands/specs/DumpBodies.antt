@@ -15,6 +15,7 @@ use Rattle.giop_types.specs.JsonForms.DescFromJson.{json_in}
 use Rattle.giop_types.specs.JsonForms.InterfaceFromJson.{interface_told, interface_view}
 use Rattle.giop_lines.specs.DumpJson.{ins_json, joined_json, undecoded_json, unjoined_json}
 use Rattle.giop_lines.specs.BodyLines.{ins_line, joined_line, undecoded_line, unjoined_line}
+use Rattle.giop_lines.specs.declared.refusal.RefusalLine.TheVariants.{Form}
 use Rattle.giop_commands.specs.declared.form.LineForm.{LineForm}
 use Rattle.giop_commands.specs.declared.dump.joining.Piece.{Piece}
 use Rattle.giop_commands.specs.declared.dump.joining.Piece.TheVariants.{Joined, Unjoined, Untold}
@@ -100,4 +101,4 @@ DumpsText text limit gathered form octets old new status =
     ((interface : Interface) × (interface_told (json_in text) ≡ Ok (interface_view interface))
     × DumpsKnown (telling_by (Some interface) form gathered) limit octets old new status)
     ⊎ ((status ≡ Refused) × ((e : FormFault) × (interface_told (json_in text) ≡ Err e)
-    × Appends old new (ended (refused_in form e))))
+    × Appends old new (ended (refused_in form (Form e)))))

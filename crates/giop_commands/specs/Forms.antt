@@ -1,9 +1,8 @@
 -- What a command tells in a form: as lines of text, or as lines of JSON.
 use Rattle.std.specs.Prelude.{ℕ, List, [], Option, Some, None, codes}
-use Rattle.giop_types.specs.declared.json.form_fault.FormFault.{FormFault}
-use Rattle.giop_lines.specs.declared.refusal.RefusalLine.TheVariants.{Form}
+use Rattle.giop_lines.specs.declared.refusal.RefusalLine.{RefusalLine}
+use Rattle.giop_lines.specs.ConvertJson.{refusal_json}
 use Rattle.giop_lines.specs.ConvertLines.{refusal_line}
-use Rattle.giop_lines.specs.JsonLines.{refused_json}
 use Rattle.giop_commands.specs.declared.form.LineForm.{LineForm}
 use Rattle.giop_commands.specs.declared.form.LineForm.TheVariants.{Text, Json}
 use Rattle.giop_commands.specs.Dump.{ended}
@@ -33,6 +32,6 @@ told_in told (Some text) (Some json) = Some (told text json)
 told_in told (Some text) None = None
 told_in told None json = None
 
--- why an interface is refused
-abbrev pub refused_in : LineForm → FormFault → List ℕ
-refused_in form e = line_in form (refusal_line (Form e)) (refused_json e)
+-- a refusal
+abbrev pub refused_in : LineForm → RefusalLine → List ℕ
+refused_in form line = line_in form (refusal_line line) (refusal_json line)

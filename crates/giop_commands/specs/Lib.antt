@@ -8,6 +8,7 @@ pub mod Convert
 pub mod SessionLines
 pub mod Bodies
 pub mod Table
+pub mod CheckJson
 pub mod Check
 pub mod Trace
 pub mod Steps

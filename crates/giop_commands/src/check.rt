@@ -3,21 +3,23 @@ ghost use Rattle.std.specs.Prelude.{◌≡◌, ◌≢◌, [], IfOk, OnOk, Some, 
 ghost use Rattle.std.specs.Io.KnownBytes.{Appends, IsAtEnd};
 ghost use Rattle.giop_session.specs.declared.session_fault.SessionFault.TheVariants.{NoMemory};
 ghost use Rattle.giop_session.specs.Hearing.Heard.{hears_by};
-ghost use Rattle.giop_commands.specs.Check.{AreLimits, Checks, ChecksKnown, HeardKnown, default_limits, fault_status, last_status};
+ghost use Rattle.giop_commands.specs.Check.{AreLimits, Checks, ChecksKnown, HeardKnown, default_limits, fault_status, last_in, last_status, session_fault_in};
 ghost use Rattle.giop_commands.specs.Dump.{ended};
-ghost use Rattle.giop_commands.specs.SessionLines.{last_line, session_fault_line};
 
+pub mod entries;
+pub mod fault_json;
 pub mod strict;
 pub mod text;
 
+use crate::check::entries::write_entries;
+use crate::check::fault_json::SessionFaultJson;
 use crate::check::strict::strictly;
 use crate::dump::BehindFault;
 use crate::dump::messages::write_rest;
 use crate::failure::Failure;
-use crate::form::LineForm;
+use crate::form::{LineForm, write_line};
 use crate::pieces::{PieceBuffer, drain};
 use crate::session::fault_line::SessionFaultLine;
-use crate::session::table::write_table;
 use crate::status::Status;
 use giop_session::{End, Hearing, Limits, ServerEnd, SessionFault};
 use giop_types::Interface;
@@ -47,6 +49,7 @@ pub fn check_octets<W: Write>(
         interface,
         Limits::default(),
         false,
+        LineForm::Text,
         &mut left,
         writer,
         BehindFault::Read,
@@ -56,7 +59,7 @@ pub fn check_octets<W: Write>(
     }
 }
 
-/// Does what `check_octets` does, for the octets that a reader gives and an end with these limits.
+/// Does what `check_octets` does, in a form, for the octets that a reader gives and an end with these limits.
 /// Where it is strict, it is `Refused` also where anything can't be decoded. Where something fails,
 /// what failed is returned in place of a status. No more octets are held than a message, a piece,
 /// and the calls. Nothing is written before all is heard.
@@ -65,19 +68,20 @@ pub fn check_stream<R: Read, W: Write>(
     interface: &Interface,
     limits: Limits,
     strict: bool,
+    form: LineForm,
     reader: &mut R,
     writer: &mut W,
     behind: BehindFault,
 ) -> Result<Status, Failure>
     requires { AreLimits limits }
-    ensures text { IfOk result (ChecksKnown interface.now limits strict (R.remaining reader.old)
-        (W.contents writer.old) (W.contents writer.new)) }
+    ensures text { IfOk result (ChecksKnown interface.now limits strict form
+        (R.remaining reader.old) (W.contents writer.old) (W.contents writer.new)) }
     ensures end { OnOk result (behind ≡ BehindFault.Read → IsAtEnd (R.remaining reader.new)) }
 {
     let mut end = ServerEnd::new(alloc, interface, limits);
     hear(alloc, &mut end, reader, behind)?;
-    write_table(alloc, interface, &end, writer)?;
-    let status = write_last(&end, writer)?;
+    write_entries(alloc, interface, form, &end, writer)?;
+    let status = write_last(form, &end, writer)?;
     strictly(alloc, strict, &end, status)
 }
 
@@ -116,26 +120,39 @@ fn hear<S: Hearing, R: Read>(
 }
 
 // The last line: the fault that ended the session, or how many octets are unread.
-fn write_last<S: Hearing, W: Write>(end: &End<'_, S>, writer: &mut W) -> Result<Status, Failure>
+fn write_last<S: Hearing, W: Write>(
+    form: LineForm,
+    end: &End<'_, S>,
+    writer: &mut W,
+) -> Result<Status, Failure>
     ensures text { OnOk result (Appends (W.contents writer.old) (W.contents writer.new)
-        (ended (last_line end.now.fault (length end.now.framer.octets)))) }
+        (ended (last_in form end.now.fault (length end.now.framer.octets)))) }
     ensures ok { IfOk result (λ status. status
         ≡ last_status end.now.fault (length end.now.framer.octets)) }
 {
     match end.fault() {
-        Some(fault) => write_fault(fault, writer),
-        None => write_rest(LineForm::Text, end.rest(), writer),
+        Some(fault) => write_fault(form, fault, writer),
+        None => write_rest(form, end.rest(), writer),
     }
 }
 
 // The last line of a session that a fault ended. That the client closed the connection is no
 // refusal.
-fn write_fault<W: Write>(fault: SessionFault, writer: &mut W) -> Result<Status, Failure>
+fn write_fault<W: Write>(
+    form: LineForm,
+    fault: SessionFault,
+    writer: &mut W,
+) -> Result<Status, Failure>
     ensures text { OnOk result (Appends (W.contents writer.old) (W.contents writer.new)
-        (ended (session_fault_line fault))) }
+        (ended (session_fault_in form fault))) }
     ensures ok { IfOk result (λ status. status ≡ fault_status fault) }
 {
-    writeln!(writer, "{}", SessionFaultLine(fault))?;
+    write_line(
+        form,
+        SessionFaultLine(fault),
+        SessionFaultJson(fault),
+        writer,
+    )?;
     Ok(match fault {
         SessionFault::Closed => Status::Done,
         fault => Status::broken_by(fault),

@@ -1,15 +1,13 @@
 //! The two forms in which a command tells what it read: lines of text, or lines of JSON. What stands
 //! in each is specs/Forms.antt: change both.
-ghost use Rattle.std.specs.Prelude.{◌≡◌, ◌≢◌, IfOk, IfSome, OnOk};
+ghost use Rattle.std.specs.Prelude.{◌≡◌, IfOk, IfSome, OnOk};
 ghost use Rattle.std.specs.Io.KnownBytes.{Appends};
-ghost use Rattle.giop_types.specs.declared.json.form_fault.FormFault.TheVariants.{NoMemory};
 ghost use Rattle.giop_commands.specs.Dump.{ended};
 ghost use Rattle.giop_commands.specs.Forms.{closed_in, ended_in, line_in, part_in, refused_in, told_in};
 
 use crate::failure::Failure;
 use crate::status::Status;
-use giop_lines::{RefusalLine, RefusedJson};
-use giop_types::FormFault;
+use giop_lines::{RefusalJson, RefusalLine};
 use std::fmt::Display;
 use std::io::Write;
 
@@ -80,21 +78,16 @@ pub fn write_ended<W: Write>(form: LineForm, writer: &mut W) -> Result<(), Failu
     Ok(())
 }
 
-/// Writes the line of the fault of an interface, which ends the run. Memory where it is that it was
-/// out of memory.
-pub fn refuse_interface<W: Write>(
+/// Writes the line of a refusal, which ends the run.
+pub fn refuse_in<W: Write>(
     form: LineForm,
-    fault: FormFault,
+    line: RefusalLine,
     writer: &mut W,
 ) -> Result<Status, Failure>
     ensures text { OnOk result (Appends (W.contents writer.old) (W.contents writer.new)
-        (ended (refused_in form fault))) }
+        (ended (refused_in form line))) }
     ensures ok { IfOk result (λ status. status ≡ Status.Refused) }
-    ensures refused { OnOk result (fault ≢ NoMemory) }
 {
-    if fault == FormFault::NoMemory {
-        return Err(Failure::Memory);
-    }
-    write_line(form, RefusalLine::Form(fault), RefusedJson(fault), writer)?;
+    write_line(form, line, RefusalJson(line), writer)?;
     Ok(Status::Refused)
 }

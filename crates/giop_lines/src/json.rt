@@ -136,9 +136,9 @@ impl fmt::Display for CdrFaultJson {
     }
 }
 
-// A fault of a header, in the same form.
+/// A fault of a header, in the same form.
 #[derive(Clone, Copy)]
-struct WireFaultJson(WireFault);
+pub struct WireFaultJson(pub WireFault);
 
 impl fmt::Display for WireFaultJson {
     ghost use Rattle.std.specs.Prelude.{Some};

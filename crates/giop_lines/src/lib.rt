@@ -30,6 +30,7 @@ pub use json::{
     IdJson, IiopJson, InsJson, IorJson, JoinedJson, KeyJson, LocateReplyJson, LocateRequestJson,
     MessageJson, ProfileJson, RefusalJson, RefusedJson, ReplyJson, RequestFaultJson, RequestJson,
     RestJson, ServerEntryJson, TargetJson, TextJson, TypeJson, UndecodedJson, UnjoinedJson,
+    WireFaultJson,
 };
 pub use locate::{LocateReplyLine, LocateRequestLine};
 pub use message::MessageLine;

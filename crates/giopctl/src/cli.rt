@@ -75,6 +75,8 @@ pub struct CheckWords<'a> {
     pub limits: Limits,
     /// Whether what can't be decoded is refused.
     pub strict: bool,
+    /// The form of its lines.
+    pub form: LineForm,
     pub ghost bounded: { AreLimits limits },
 }
 
@@ -141,6 +143,8 @@ each of its calls has a line, in ascending order of the request id, with what st
   Cancelled             a call that was cancelled
 The last line tells how many octets are left, or the fault that ends the session. What stands in the
 table then came before it.
+With --json each call is {\"id\":ID,\"what\":WHAT,..}, in which WHAT is gathering, asked, delivered,
+undecoded, locate_asked or cancelled; the last line is {\"rest\":N} or {\"fault\":{..}}.
 The interface is a JSON object of operations, each with its ins and outs:
   {\"operations\":{\"add\":{
     \"ins\":[[\"a\",\"long\"],[\"b\",\"long\"]],\"outs\":[[\"sum\",\"long\"]]}}}
@@ -366,6 +370,7 @@ fn checked<'a>(matches: &ArgMatches<'a>) -> Result<Option<Task<'a>>, &'static st
         file,
         limits,
         strict,
+        form: form_of(matches),
     })))
 }
 
@@ -491,6 +496,7 @@ fn check<'a>(alloc: Global) -> Result<Command<'a>, AllocError> {
         .about("Shows what becomes of the calls of a file")
         .after_help(CHECK_HELP)
         .arg(interface)?
+        .arg(json(alloc))?
         .arg(strict)?;
     limited(alloc, command)?.arg(file)
 }

@@ -5,10 +5,10 @@ ghost use Rattle.std.specs.Io.KnownBytes.{IsAtEnd};
 ghost use Rattle.giop_commands.specs.Check.{AreLimits, ChecksText};
 
 use crate::check::check_stream;
-use crate::convert::refuse;
 use crate::convert::value::form_refusal;
 use crate::dump::BehindFault;
 use crate::failure::Failure;
+use crate::form::{LineForm, refuse_in};
 use crate::pieces::{PieceBuffer, drain};
 use crate::status::Status;
 use giop_session::Limits;
@@ -25,23 +25,26 @@ pub fn check_text<R: Read, W: Write>(
     interface: &[u8],
     limits: Limits,
     strict: bool,
+    form: LineForm,
     reader: &mut R,
     writer: &mut W,
     behind: BehindFault,
 ) -> Result<Status, Failure>
     requires { AreLimits limits }
-    ensures text { IfOk result (ChecksText interface.now limits strict (R.remaining reader.old)
-        (W.contents writer.old) (W.contents writer.new)) }
+    ensures text { IfOk result (ChecksText interface.now limits strict form
+        (R.remaining reader.old) (W.contents writer.old) (W.contents writer.new)) }
     ensures end { OnOk result (behind ≡ BehindFault.Read → IsAtEnd (R.remaining reader.new)) }
 {
     match Interface::from_json(alloc, interface) {
         Ok(interface) => {
-            check_stream(alloc, &interface, limits, strict, reader, writer, behind)
+            check_stream(
+                alloc, &interface, limits, strict, form, reader, writer, behind,
+            )
         },
         Err(fault) => {
             let line = form_refusal(fault)?;
             read_on(alloc, reader, behind)?;
-            refuse(line, writer)
+            refuse_in(form, line, writer)
         }
     }
 }

@@ -4,10 +4,11 @@ ghost use Rattle.std.specs.Prelude.{◌≡◌, ◌≤◌, ◌^◌, IfOk};
 ghost use Rattle.std.specs.Io.KnownBytes.{IsAtEnd};
 ghost use Rattle.giop_commands.specs.DumpBodies.{DumpsText};
 
+use crate::convert::value::form_refusal;
 use crate::dump::teller::Teller;
 use crate::dump::{BehindFault, dump_by};
 use crate::failure::Failure;
-use crate::form::{LineForm, refuse_interface};
+use crate::form::{LineForm, refuse_in};
 use crate::status::Status;
 use giop_types::Interface;
 use std::alloc::Global;
@@ -36,6 +37,6 @@ pub fn dump_text<R: Read, W: Write>(
             let mut teller = Teller::of_bodies(alloc, &interface, gathered as usize, form);
             dump_by(alloc, &mut teller, limit, reader, writer, behind)
         }
-        Err(fault) => refuse_interface(form, fault, writer),
+        Err(fault) => refuse_in(form, form_refusal(fault)?, writer),
     }
 }

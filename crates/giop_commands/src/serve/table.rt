@@ -32,8 +32,12 @@ impl Tabled for ServerRule {
     }
 }
 
-// The ins of the decoded Request of an entry, as a JSON list; empty where the entry has none.
-fn ins_text(alloc: Global, interface: &Interface, entry: &ServerEntry) -> Result<String, AllocError>
+/// The ins of the decoded Request of an entry, as a JSON list; empty where the entry has none.
+pub fn ins_text(
+    alloc: Global,
+    interface: &Interface,
+    entry: &ServerEntry,
+) -> Result<String, AllocError>
     ensures { IfOk result (λ text. string_bytes text ≡ ins_text interface.now entry.now) }
 {
     match entry {

@@ -2,8 +2,9 @@
 ghost use Rattle.std.specs.Prelude.{◌≡◌, IfOk};
 ghost use Rattle.std.specs.Io.KnownBytes.{IsAtEnd};
 
+use crate::convert::value::form_refusal;
 use crate::failure::Failure;
-use crate::form::{LineForm, refuse_interface};
+use crate::form::{LineForm, refuse_in};
 use crate::status::Status;
 use crate::trace::{Heard, trace_stream};
 use giop_types::Interface;
@@ -33,6 +34,6 @@ pub fn trace_text<C: Read, S: Read, W: Write>(
         Ok(interface) => trace_stream(
             alloc, &interface, limit, form, heard, client, server, writer,
         ),
-        Err(fault) => refuse_interface(form, fault, writer),
+        Err(fault) => refuse_in(form, form_refusal(fault)?, writer),
     }
 }

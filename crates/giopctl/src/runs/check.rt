@@ -38,12 +38,13 @@ fn check_from<R: Read>(
     behind: BehindFault,
 ) -> Result<Status, Failure> {
     let mut writer = BufWriter::with_capacity(rt.alloc(), OUTPUT_BUFFER, io::writer(rt))?;
-    let (limits, strict) = (words.limits, words.strict);
+    let (limits, strict, form) = (words.limits, words.strict, words.form);
     let status = check_text(
         rt.alloc(),
         interface,
         limits,
         strict,
+        form,
         reader,
         &mut writer,
         behind,

@@ -1,0 +1,11 @@
+use Rattle.std.proofs.Common.{take}
+use Rattle.std.specs.List.{flat_map}
+use Rattle.std.specs.Io.KnownBytes.{Appends}
+use Rattle.giop_commands.specs.Check.{server_entry_in}
+use Rattle.giop_commands.specs.Table.{text_at}
+use Rattle.giop_commands.proofs.check.entries.write_entries.Given as goal
+
+abbrev pub invariant-loop-id : goal.invariant-loop-id
+invariant-loop-id g l =
+    Appends (g.W.Write.contents l.fn.writer) (g.W.Write.contents l.writer)
+    (flat_map (text_at (server_entry_in l.form l.interface) l.end.calls.table) (take l.id-index l.id-items))
