@@ -43,9 +43,11 @@ static void must(int went_well) {
 
 /* ---- counting ---- */
 
-static unsigned long allocations, fed, sent, copied;
+static unsigned long fed, sent;
 
 #ifdef COUNTS
+static unsigned long allocations, copied;
+
 void *__real_malloc(size_t size);
 void *__real_realloc(void *old, size_t size);
 void *__real_memcpy(void *to, const void *from, size_t size);

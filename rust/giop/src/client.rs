@@ -204,15 +204,15 @@ extern "C" {
 /// The end of a connection that calls, without IO: it calls, is fed what was read of the server, keeps the
 /// calls by their request ids, and says what is to be written.
 ///
-/// Values cross as CDR octets that stand by themselves: each aligned as if the first octet had the offset 0.
+/// Values cross in the form that you say, a [`ValueForm`]: as CDR octets or as JSON.
 /// It stays on its thread: it is neither `Send` nor `Sync`, since neither is proved of it.
 ///
 /// ```
-/// use giop::{Call, Client, ClientKind, Form, Interface, Limits};
+/// use giop::{Call, Client, ClientKind, Form, Interface, Limits, ValueForm};
 ///
 /// let json = br#"{"operations":{"twice":{"ins":[["n","long"]],"outs":[["r","long"]]}}}"#;
 /// let mut client = Client::new(&mut Interface::from_json(json)?, Limits::default())?;
-/// client.call(5, Call::of_key(b"k"), b"twice", false, &[0, 0, 0, 21], Form::default())?;
+/// client.call(5, Call::of_key(b"k"), b"twice", ValueForm::Json, b"[21]", Form::default())?;
 /// let written = client.outgoing().len();
 /// assert_eq!(written, 52);
 /// assert!(client.wrote(written));
@@ -221,7 +221,8 @@ extern "C" {
 /// client.feed(b"GIOP\x01\x02\0\x01\0\0\0\x10\0\0\0\x05\0\0\0\0")?;
 /// client.feed(b"\0\0\0\0\0\0\0\x2a")?;
 /// assert_eq!(client.ids()?, [5]);
-/// assert_eq!(client.outs(5, true)?.as_deref(), Some(&[42, 0, 0, 0][..]));
+/// assert_eq!(client.outs(5, ValueForm::Json)?.as_deref(), Some(&b"[42]"[..]));
+/// assert_eq!(client.outs(5, ValueForm::LittleEndian)?.as_deref(), Some(&[42, 0, 0, 0][..]));
 /// client.take(5)?;
 /// # Ok::<(), Box<dyn std::error::Error>>(())
 /// ```

@@ -171,11 +171,11 @@ extern "C" {
 /// The end of a connection that answers calls, without IO: it is fed what was read of the client, keeps the
 /// calls by their request ids, and says what is to be written.
 ///
-/// Values cross as CDR octets that stand by themselves: each aligned as if the first octet had the offset 0.
+/// Values cross in the form that you say, a [`ValueForm`]: as CDR octets or as JSON.
 /// It stays on its thread: it is neither `Send` nor `Sync`, since neither is proved of it.
 ///
 /// ```
-/// use giop::{Awaits, Form, Interface, Limits, Server};
+/// use giop::{Awaits, Form, Interface, Limits, Server, ValueForm};
 ///
 /// let json = br#"{"operations":{"twice":{"ins":[["n","long"]],"outs":[["r","long"]]}}}"#;
 /// let mut server = Server::new(&mut Interface::from_json(json)?, Limits::default())?;
@@ -185,8 +185,8 @@ extern "C" {
 /// assert_eq!(server.ids()?, [5]);
 /// assert_eq!(server.entry(5).awaits, Awaits::Reply);
 /// assert_eq!(server.operation(5).as_deref(), Some(&b"twice"[..]));
-/// assert_eq!(server.ins(5, false)?.as_deref(), Some(&[0, 0, 0, 21][..]));
-/// server.answer(5, false, &[0, 0, 0, 42], Form::default())?;
+/// assert_eq!(server.ins(5, ValueForm::BigEndian)?.as_deref(), Some(&[0, 0, 0, 21][..]));
+/// server.answer(5, ValueForm::Json, b"[42]", Form::default())?;
 /// let written = server.outgoing().len();
 /// assert_eq!(written, 28);
 /// assert!(server.wrote(written));

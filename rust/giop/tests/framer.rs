@@ -17,7 +17,7 @@ fn a_request_in_two_pieces() -> Result<(), Error> {
         let message = framer.next()?.expect("a whole message");
         assert_eq!(message.kind(), Kind::Request);
         assert_eq!((message.minor(), message.is_little_endian(), message.has_more()), (2, false, false));
-        assert_eq!(message.payload(), &PING[12..]);
+        assert_eq!((message.request_id(), message.payload()), (Some(1), &PING[12..]));
         assert_eq!(framer.rest(), 0);
     }
     Ok(())
@@ -61,5 +61,19 @@ fn the_head_of_a_request() -> Result<(), Error> {
     let message = framer.next()?.expect("a whole message");
     let fault = message.request_head().expect("a Request").expect_err("it is short");
     assert_eq!((fault.at, fault.number), (16, 1));
+    Ok(())
+}
+
+#[test]
+fn a_message_tells_its_request_id_where_it_has_one() -> Result<(), Error> {
+    let mut framer = Framer::new(36)?;
+    // A CloseConnection; then Replies of 1.1, whose id 5 is behind the context 6 of two octets, and behind a count
+    // of contexts that the octets can't hold.
+    framer.feed(b"GIOP\x01\x02\0\x05\0\0\0\0")?;
+    framer.feed(b"GIOP\x01\x01\0\x01\0\0\0\x14\0\0\0\x01\0\0\0\x06\0\0\0\x02\x04\x05\0\0\0\0\0\x05")?;
+    framer.feed(b"GIOP\x01\x01\0\x01\0\0\0\x08\0\0\0\x01\0\0\0\x05")?;
+    for id in [None, Some(5), None] {
+        assert_eq!(framer.next()?.expect("a whole message").request_id(), id);
+    }
     Ok(())
 }
