@@ -25,8 +25,8 @@ _giopctl() {
                 'giopctl check:-'*) words='--interface --json --strict --message-limit --calls-limit --gathered-limit -h --help' ;;
                 'giopctl trace:-'*) words='--interface --json --message-limit -h --help' ;;
                 'giopctl convert:-'*) words='-h --help' ;;
-                'giopctl convert ior:-'*) words='-h --help' ;;
-                'giopctl convert corbaloc:-'*) words='-h --help' ;;
+                'giopctl convert ior:-'*) words='--json -h --help' ;;
+                'giopctl convert corbaloc:-'*) words='--json -h --help' ;;
                 'giopctl convert encode:-'*) words='--desc --little -h --help' ;;
                 'giopctl convert decode:-'*) words='--desc --little -h --help' ;;
                 'giopctl call:-'*) words='--target --interface --stream --timeout --piece --little --message-limit --calls-limit --gathered-limit -h --help' ;;

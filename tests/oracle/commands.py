@@ -17,6 +17,8 @@ def foretold(words, file, other):
         return dump_json(file) if '--json' in words else dump(file)
     if words[0] == 'check':
         return check_json(other, file) if '--json' in words else check(other, file)
+    if '--json' in words:
+        return convert_json(words[1], file)
     return convert(words[1], file, other, '--little' in words)
 
 
@@ -88,6 +90,8 @@ def compact(value):
     """JSON without blanks, in which octets are a text."""
     if isinstance(value, dict):
         return '{' + ','.join(f'"{name}":{compact(member)}' for name, member in value.items()) + '}'
+    if isinstance(value, list):
+        return '[' + ','.join(compact(item) for item in value) + ']'
     return quoted(value) if isinstance(value, bytes) else json.dumps(value)
 
 
@@ -99,7 +103,7 @@ def message_members(offset, message):
     members = {'at': offset, 'message': message.kind, 'version': f'1.{message.minor}',
                'order': 'little' if message.little else 'big', 'more': bool(message.more),
                'size': len(message.octets), 'id': id_or_none(message)}
-    if message.kind in HEADS and not message.more:
+    if not message.more and message.kind in HEADS:
         members['head'] = head_members(message)
     return members
 
@@ -148,7 +152,11 @@ def check(interface, stream):
         return printed([f'fault {fault}'], 1)
     table, last = heard(interface, stream)
     lines = [f'{call} {entry.name}{entry.told}' for call, entry in sorted(table.items())]
-    return printed([*lines, last], 0 if last in ('rest 0', 'fault 7 Closed') else 1)
+    return printed([*lines, last], check_status(last))
+
+
+def check_status(last):
+    return 0 if last in ('rest 0', 'fault 7 Closed') else 1
 
 
 # check --json
@@ -163,9 +171,8 @@ def check_json(interface, stream):
     except FormFault as fault:
         return printed([compact({'refused': named(str(fault))})], 1)
     table, last = heard(interface, stream)
-    lines = [entry_line(call, entry) for call, entry in sorted(table.items())]
-    return printed([*lines, compact(last_members(last))],
-                   0 if last in ('rest 0', 'fault 7 Closed') else 1)
+    lines = [entry_line(call, table[call]) for call in sorted(table)]
+    return printed([*lines, compact(last_members(last))], check_status(last))
 
 
 def named(text):
@@ -241,3 +248,37 @@ def convert_decode(text, description, little):
 
 CONVERSIONS = {'ior': convert_ior, 'corbaloc': convert_corbaloc, 'encode': convert_encode,
                'decode': convert_decode}
+
+
+# convert --json
+
+def convert_json(kind, text):
+    """As docs/FORMATS.md, "Lines of convert", has it: of a reference or a corbaloc."""
+    try:
+        return printed([compact(JSON_CONVERSIONS[kind](text.removesuffix(b'\n')))], 0)
+    except (BadText, FormFault, Fault) as fault:
+        return printed([compact({'refused': named(str(fault))})], 1)
+
+
+def ior_members(text):
+    type_id, profiles = reference = reference_of(text)
+    return {'type_id': bytes(type_id),
+            'profiles': [profile_members(*profile) for profile in profiles],
+            'ior': text_of(reference).encode()}
+
+
+def profile_members(tag, octets):
+    profile = iiop_profile(tag, octets)
+    if not profile:
+        return {'tag': tag, 'octets': bytes(octets).hex()}
+    return {'tag': 0, 'version': f'{profile.major}.{profile.minor}', 'host': bytes(profile.host),
+            'port': profile.port, **target_members(('key', profile.key)),
+            'components': len(profile.components)}
+
+
+def corbaloc_members(text):
+    corbaloc = corbaloc_of(text)
+    return {'corbaloc': corbaloc.text().encode(), 'ior': text_of(corbaloc.reference()).encode()}
+
+
+JSON_CONVERSIONS = {'ior': ior_members, 'corbaloc': corbaloc_members}

@@ -176,6 +176,12 @@ def corbaloc_damaged(rng):
                 ended(rng, damaged(rng, random_texts.corbaloc_text(rng))))
 
 
+def reference_json(rng):
+    """Any of the above, as JSON."""
+    case = rng.choice((ior, ior_damaged, corbaloc, corbaloc_damaged))(rng)
+    return Case([*case.words[:2], '--json', *case.words[2:]], case.file)
+
+
 # Values
 
 def some_description(rng):
@@ -273,6 +279,7 @@ RECIPES = {
     dump_json: 3000,
     check_lawful: 2500, check_wrong: 2000, check_damaged: 1000, check_acts: 2500, check_cut: 1000,
     check_interface: 2000, check_json: 3000, ior: 1500, ior_damaged: 500, corbaloc: 1500, corbaloc_damaged: 500,
+    reference_json: 2000,
     encode: 1000, encode_spoilt: 1500, encode_bounds: 700, encode_description: 1500,
     decode: 1000, decode_bounds: 700, decode_damaged: 1500,
     dump_large: random_edges.LARGE, check_table: random_edges.FULL_TABLES,

@@ -1,6 +1,5 @@
 -- What `convert` writes line by line, and how it tells a refusal.
-use Rattle.std.proofs.Common.{◌≡◌, ◌⊎◌, inl, inr, ℕ, true, List, [], ◌∷◌, ◌++◌, get_or, Option, Result, Ok, Err, IfOk, OnOk, sym, ap, subst, ◌∙◌}
-use Rattle.std.proofs.lemmas.Grind.{flat_map-append}
+use Rattle.std.proofs.Common.{◌≡◌, ◌⊎◌, inl, inr, ℕ, Bool, true, false, List, [], ◌∷◌, ◌++◌, append_assoc, refl, get_or, Option, Result, Ok, Err, IfOk, OnOk, sym, ap, subst, ◌∙◌}
 use Rattle.std.proofs.lemmas.List.{append-nil}
 use Rattle.std.proofs.lemmas.List.Folds.{list_all-append}
 use Rattle.std.proofs.lemmas.Bool.{and_parts}
@@ -30,29 +29,54 @@ use Rattle.giop_types.specs.Values.Tree.{Tree}
 use Rattle.giop_types.proofs.Coding.SpelledFits.{shape_fits}
 use Rattle.giop_types.proofs.Values.FitLemmas.{all_octets}
 use Rattle.giop_commands.specs.declared.convert.described.Way.{Way}
-use Rattle.giop_commands.specs.Convert.{unended, Tells, line_of_profile, profile_lines, ior_refusal, ConvertsIor, RefusedForm, ConvertsEncode, ConvertsValue, reader_of}
+use Rattle.giop_commands.specs.Convert.{unended, Tells, comma_in, profile_in, profiles_in, ior_refusal, ConvertsIor, RefusedForm, ConvertsEncode, ConvertsValue, reader_of}
+use Rattle.giop_commands.specs.declared.form.LineForm.{LineForm}
 use Rattle.giop_commands.specs.Dump.{ended}
+use Rattle.giop_commands.specs.Forms.{refused_in}
 use Rattle.giop_commands.proofs.DumpLemmas.{Appends-append}
 
--- the lines of some profiles and one more
-pub lines_more : (profiles : List TaggedProfile) (p : TaggedProfile) → profile_lines (profiles ++ p ∷ []) ≡ profile_lines profiles ++ ended (line_of_profile p)
-lines_more profiles p =
-    flat_map-append (λ p. ended (line_of_profile p)) profiles (p ∷ []) ∙ ap (λ u. profile_lines profiles ++ u) (append-nil (ended (line_of_profile p)))
+-- whether what comes behind some profiles comes first
+abbrev pub leads : Bool → List TaggedProfile → Bool
+leads first [] = first
+leads first (p ∷ ps) = false
 
-pub profile_told : (old middle new : Option (List ℕ)) (before after : List TaggedProfile) (p : TaggedProfile) → after ≡ before ++ p ∷ []
-    → Appends old middle (profile_lines before) → Appends middle new (ended (line_of_profile p)) → Appends old new (profile_lines after)
-profile_told old middle new before after p is told more =
-    subst (Appends old new) (sym (ap profile_lines is ∙ lines_more before p))
-    (Appends-append old middle new (profile_lines before) (ended (line_of_profile p)) told more)
+leads_false : (profiles : List TaggedProfile) → leads false profiles ≡ false
+leads_false [] = refl
+leads_false (p ∷ ps) = refl
+
+pub leads_more : (first : Bool) (profiles : List TaggedProfile) (p : TaggedProfile) → leads first (profiles ++ p ∷ []) ≡ false
+leads_more first [] p = refl
+leads_more first (q ∷ qs) p = refl
+
+-- what is told of some profiles and one more
+pub profiles_more : (form : LineForm) (first : Bool) (profiles : List TaggedProfile) (p : TaggedProfile)
+    → profiles_in form first (profiles ++ p ∷ []) ≡ profiles_in form first profiles ++ (comma_in form (leads first profiles) ++ profile_in form p)
+profiles_more form first [] p = ap (λ u. comma_in form first ++ u) (append-nil (profile_in form p))
+profiles_more form first (q ∷ qs) p =
+    let behind = comma_in form (leads false qs) ++ profile_in form p in
+    ap (λ u. comma_in form first ++ (profile_in form q ++ u))
+    (profiles_more form false qs p ∙ ap (λ b. profiles_in form false qs ++ (comma_in form b ++ profile_in form p)) (leads_false qs))
+    ∙ ap (λ u. comma_in form first ++ u) (sym (append_assoc (profile_in form q) (profiles_in form false qs) (comma_in form false ++ profile_in form p)))
+    ∙ sym (append_assoc (comma_in form first) (profile_in form q ++ profiles_in form false qs) (comma_in form false ++ profile_in form p))
+
+pub profile_told : (form : LineForm) (old middle comma new : Option (List ℕ)) (before after : List TaggedProfile) (p : TaggedProfile) (first : Bool)
+    → after ≡ before ++ p ∷ [] → first ≡ leads true before
+    → Appends old middle (profiles_in form true before) → Appends middle comma (comma_in form first) → Appends comma new (profile_in form p)
+    → Appends old new (profiles_in form true after)
+profile_told form old middle comma new before after p first is leading told between more =
+    subst (Appends old new)
+    (ap (λ b. profiles_in form true before ++ (comma_in form b ++ profile_in form p)) leading ∙ sym (ap (profiles_in form true) is ∙ profiles_more form true before p))
+    (Appends-append old middle new (profiles_in form true before) (comma_in form first ++ profile_in form p) told
+    (Appends-append middle comma new (comma_in form first) (profile_in form p) between more))
 
 -- a text of a reference that is refused, as its fault
-pub ior_told : (octets : List ℕ) (old new : Option (List ℕ)) (r : Result Status Failure) (e : IorTextFault) → IfOk r (λ s. s ≡ Refused)
-    → OnOk r (Tells old new (ior_refusal e))
-    → (ior_text_of ior_layout.read (unended octets) ≡ Err e) ⊎ (e ≡ NoMemory) → (e ≡ NoMemory → ⊥) → IfOk r (ConvertsIor octets old new)
-ior_told octets old new (Ok status) e is told (inl why) some =
-    subst (ConvertsIor octets old new) (sym is) (e, iors_read.refused (unended octets) e why, told)
-ior_told octets old new (Ok status) e is told (inr wants) some = absurd (some wants)
-ior_told octets old new (Err failure) e is told why some = tt
+pub ior_told : (form : LineForm) (octets : List ℕ) (old new : Option (List ℕ)) (r : Result Status Failure) (e : IorTextFault) → IfOk r (λ s. s ≡ Refused)
+    → OnOk r (Appends old new (ended (refused_in form (ior_refusal e))))
+    → (ior_text_of ior_layout.read (unended octets) ≡ Err e) ⊎ (e ≡ NoMemory) → (e ≡ NoMemory → ⊥) → IfOk r (ConvertsIor form octets old new)
+ior_told form octets old new (Ok status) e is told (inl why) some =
+    subst (ConvertsIor form octets old new) (sym is) (e, iors_read.refused (unended octets) e why, told)
+ior_told form octets old new (Ok status) e is told (inr wants) some = absurd (some wants)
+ior_told form octets old new (Err failure) e is told why some = tt
 
 -- a value in JSON that is refused, as its fault
 pub form_told : (shape : Shape) (order : Order) (octets : List ℕ) (old new : Option (List ℕ)) (r : Result Status Failure) (e : FormFault)

@@ -1,7 +1,6 @@
 -- The whole text of `convert`, and what a run of it does: by the status that it answers, what its
 -- input was and how the writer's contents grew.
-use Rattle.std.specs.Prelude.{◌≡◌, ◌≢◌, ◌⊎◌, ℕ, ◌-◌, ◌==◌, ◌&&◌, Bool, if◌then◌else◌, List, [], ◌++◌, length, take, slice_index, Option, Some, None, Result, Ok, Err}
-use Rattle.std.specs.List.{flat_map}
+use Rattle.std.specs.Prelude.{◌≡◌, ◌≢◌, ◌⊎◌, ℕ, ◌-◌, ◌==◌, ◌&&◌, Bool, true, false, if◌then◌else◌, List, [], ◌∷◌, ◌++◌, codes, length, take, slice_index, Option, Some, None, Result, Ok, Err}
 use Rattle.std.specs.Io.KnownBytes.{Appends}
 use Rattle.hex.specs.declared.error.FromHexError.{FromHexError}
 use Rattle.hex.specs.Hex.{decode_of, encode_lower}
@@ -41,8 +40,12 @@ use Rattle.giop_commands.specs.declared.convert.described.Way.{Way}
 use Rattle.giop_commands.specs.declared.convert.described.Way.TheVariants.{Encode, Decode}
 use Rattle.giop_commands.specs.declared.status.Status.{Status}
 use Rattle.giop_commands.specs.declared.status.Status.TheVariants.{Done, Refused}
+use Rattle.giop_lines.specs.ConvertJson.{corbaloc_json, iiop_json, ior_json, profile_json, type_json}
 use Rattle.giop_lines.specs.ConvertLines.{refusal_line, type_line, iiop_line, profile_line}
+use Rattle.giop_commands.specs.declared.form.LineForm.{LineForm}
+use Rattle.giop_commands.specs.declared.form.LineForm.TheVariants.{Text, Json}
 use Rattle.giop_commands.specs.Dump.{ended}
+use Rattle.giop_commands.specs.Forms.{line_in, part_in, refused_in}
 
 -- whether the last octet is a newline
 abbrev pub ends_line : List ℕ → Bool
@@ -58,42 +61,53 @@ Tells old new line = Appends old new (ended (refusal_line line))
 
 -- ---- references
 
--- the line of a profile: as IIOP where it is of tag 0 and has a view
-abbrev pub viewed_line : TaggedProfile → Result Profile CdrFault → List ℕ
-viewed_line p (Ok view) = iiop_line view
-viewed_line p (Err e) = profile_line p
+-- a profile: as IIOP where it is of tag 0 and has a view
+abbrev pub viewed_in : LineForm → TaggedProfile → Result Profile CdrFault → List ℕ
+viewed_in form p (Ok view) = part_in form (iiop_line view) (iiop_json view)
+viewed_in form p (Err e) = part_in form (profile_line p) (profile_json p)
 
--- the line of a profile by its tag
-abbrev pub line_of_profile : TaggedProfile → List ℕ
-line_of_profile p = if p.tag == 0 then viewed_line p (iiop_of p.octets) else profile_line p
+-- a profile by its tag
+abbrev pub profile_in : LineForm → TaggedProfile → List ℕ
+profile_in form p =
+    if p.tag == 0 then viewed_in form p (iiop_of p.octets)
+    else part_in form (profile_line p) (profile_json p)
 
--- a line for each profile
-abbrev pub profile_lines : List TaggedProfile → List ℕ
-profile_lines profiles = flat_map (λ p. ended (line_of_profile p)) profiles
+-- what stands before an item of a list in JSON, but before the first
+abbrev pub comma_in : LineForm → Bool → List ℕ
+comma_in Text first = []
+comma_in Json first = if first then [] else codes ","
+
+-- each profile, of which the first is the first of all or not
+abbrev pub profiles_in : LineForm → Bool → List TaggedProfile → List ℕ
+profiles_in form first [] = []
+profiles_in form first (p ∷ ps) =
+    comma_in form first ++ (profile_in form p ++ profiles_in form false ps)
 
 -- the text of a reference, written again
 abbrev pub reference_text : Reference → List ℕ
 reference_text ior = text_written ior_layout.written ior
 
 -- the type id, the profiles, and the text
-abbrev pub reference_lines : Reference → List ℕ
-reference_lines ior =
-    ended (type_line ior.type_id) ++ (profile_lines ior.profiles ++ ended (reference_text ior))
+abbrev pub reference_in : LineForm → Reference → List ℕ
+reference_in form ior =
+    part_in form (type_line ior.type_id) (type_json ior.type_id)
+    ++ (profiles_in form true ior.profiles
+    ++ ended (line_in form (reference_text ior) (ior_json (reference_text ior))))
 
 -- how a refused text of a reference is reported: a fault of its octets as that
 abbrev pub ior_refusal : IorTextFault → RefusalLine
 ior_refusal (Cdr e) = refusal.Octets e
 ior_refusal e = refusal.IorText e
 
--- `convert ior` of a file's octets
-abbrev pub ConvertsIor : List ℕ → Option (List ℕ) → Option (List ℕ) → Status → Type 0
-ConvertsIor octets old new Done =
+-- `convert ior` of a file's octets, in a form
+abbrev pub ConvertsIor : LineForm → List ℕ → Option (List ℕ) → Option (List ℕ) → Status → Type 0
+ConvertsIor form octets old new Done =
     (ior : Reference) × IorText ior_layout.spells ior (unended octets)
-    × Appends old new (reference_lines ior)
-ConvertsIor octets old new Refused =
+    × Appends old new (reference_in form ior)
+ConvertsIor form octets old new Refused =
     (e : IorTextFault) × RefusedText ior_layout.refused (unended octets) e
-    × Tells old new (ior_refusal e)
-ConvertsIor octets old new _ = ⊥
+    × Appends old new (ended (refused_in form (ior_refusal e)))
+ConvertsIor form octets old new _ = ⊥
 
 -- the text of the reference of a corbaloc, where octets spell it
 abbrev pub text_of_corbaloc : Corbaloc → Option (List ℕ)
@@ -101,20 +115,22 @@ text_of_corbaloc c =
     if are_profiles c && ior_layout.fits (ior_of c) then Some (reference_text (ior_of c)) else None
 
 -- the corbaloc again, and its reference
-abbrev pub corbaloc_lines : Corbaloc → List ℕ → List ℕ
-corbaloc_lines c text = ended (corbaloc_text c) ++ ended text
+abbrev pub corbaloc_in : LineForm → Corbaloc → List ℕ → List ℕ
+corbaloc_in Text c text = ended (corbaloc_text c) ++ ended text
+corbaloc_in Json c text = ended (corbaloc_json (corbaloc_text c) text)
 
--- `convert corbaloc` of a file's octets
-abbrev pub ConvertsCorbaloc : List ℕ → Option (List ℕ) → Option (List ℕ) → Status → Type 0
-ConvertsCorbaloc octets old new Done =
+-- `convert corbaloc` of a file's octets, in a form
+abbrev pub ConvertsCorbaloc : LineForm → List ℕ → Option (List ℕ) → Option (List ℕ) → Status → Type 0
+ConvertsCorbaloc form octets old new Done =
     (c : Corbaloc) × (text : List ℕ) × CorbalocText c (unended octets)
-    × (text_of_corbaloc c ≡ Some text) × Appends old new (corbaloc_lines c text)
-ConvertsCorbaloc octets old new Refused =
+    × (text_of_corbaloc c ≡ Some text) × Appends old new (corbaloc_in form c text)
+ConvertsCorbaloc form octets old new Refused =
     ((e : CorbalocFault) × (corbaloc_of (unended octets) ≡ Err e)
-    × Tells old new (refusal.Corbaloc e))
+    × Appends old new (ended (refused_in form (refusal.Corbaloc e))))
     ⊎ ((c : Corbaloc) × CorbalocText c (unended octets)
-    × (text_of_corbaloc c ≡ None) × Tells old new (refusal.Reference Unfit))
-ConvertsCorbaloc octets old new _ = ⊥
+    × (text_of_corbaloc c ≡ None)
+    × Appends old new (ended (refused_in form (refusal.Reference Unfit))))
+ConvertsCorbaloc form octets old new _ = ⊥
 
 -- ---- values
 

@@ -98,10 +98,10 @@ pub struct TraceWords<'a> {
 /// The kinds of `convert`.
 #[derive(Clone, Copy, Debug)]
 pub enum ConvertKind<'a> {
-    /// The text of a reference, shown.
-    Ior,
-    /// A corbaloc, and its reference.
-    Corbaloc,
+    /// The text of a reference, shown in a form.
+    Ior(LineForm),
+    /// A corbaloc, and its reference, in a form.
+    Corbaloc(LineForm),
     /// A value, between JSON and octets.
     Value {
         /// Which of them the file holds.
@@ -242,6 +242,7 @@ const IOR_HELP: &str = "\
 The file holds IOR: and hexadecimal digits. The first line is the type id, the last one the text
 again; between them each profile has a line: one of tag 0 its version, host, port, object key and
 the number of its components, any other its tag and its octets.
+With --json the line is {\"type_id\":TYPE,\"profiles\":[{..},..],\"ior\":TEXT}.
 
 Example:
   giopctl convert ior examples/printer.ior";
@@ -249,6 +250,7 @@ Example:
 const CORBALOC_HELP: &str = "\
 The file holds corbaloc: and addresses of IIOP. The first line is the corbaloc written in full, the
 second one the text of its reference.
+With --json the line is {\"corbaloc\":TEXT,\"ior\":TEXT}.
 
 Example:
   giopctl convert corbaloc examples/printer.corbaloc";
@@ -314,10 +316,11 @@ fn misused(alloc: Global, wrong: &str) -> Result<Error, AllocError> {
 
 fn conversion<'a>(convert: &ArgMatches<'a>) -> Result<Option<Task<'a>>, &'static str> {
     if let Some(ior) = convert.subcommand_matches("ior") {
-        return Ok(converted(ior, Some(ConvertKind::Ior)));
+        return Ok(converted(ior, Some(ConvertKind::Ior(form_of(ior)))));
     }
     if let Some(corbaloc) = convert.subcommand_matches("corbaloc") {
-        return Ok(converted(corbaloc, Some(ConvertKind::Corbaloc)));
+        let form = form_of(corbaloc);
+        return Ok(converted(corbaloc, Some(ConvertKind::Corbaloc(form))));
     }
     if let Some(encode) = convert.subcommand_matches("encode") {
         return value_conversion(encode, Way::Encode);
@@ -527,8 +530,8 @@ fn convert<'a>(alloc: Global) -> Result<Command<'a>, AllocError> {
         .subcommand_required(true)
         .arg_required_else_help(true)
         .after_help(CONVERT_HELP)
-        .subcommand(kind(alloc, "ior", "Shows the text of a reference", IOR_HELP)?)?
-        .subcommand(kind(
+        .subcommand(of_reference(alloc, "ior", "Shows the text of a reference", IOR_HELP)?)?
+        .subcommand(of_reference(
             alloc,
             "corbaloc",
             "Writes a corbaloc in full, and its reference",
@@ -562,6 +565,16 @@ fn kind<'a>(
         .about(about)
         .after_help(help)
         .arg(file)
+}
+
+// A kind of `convert` for a reference, which may be told as JSON.
+fn of_reference<'a>(
+    alloc: Global,
+    name: &'a str,
+    about: &'a str,
+    help: &'a str,
+) -> Result<Command<'a>, AllocError> {
+    kind(alloc, name, about, help)?.arg(json(alloc))
 }
 
 // A kind of `convert` for a value: it takes the value's description too, and may take a byte order.

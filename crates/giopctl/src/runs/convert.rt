@@ -8,7 +8,7 @@ use giop_cdr::Order;
 use giop_commands::convert::unended;
 use giop_commands::failure::Failure;
 use giop_commands::status::Status;
-use giop_commands::{Way, convert_corbaloc, convert_ior, convert_value};
+use giop_commands::{LineForm, Way, convert_corbaloc, convert_ior, convert_value};
 use giop_types::{
     CheckedDesc, IorTextFault, desc_from_json, ior_octets_from_text, parse_json, value_from_json,
 };
@@ -27,15 +27,15 @@ pub fn convert(rt: &HostRuntime, file: &str, kind: ConvertKind) -> Status {
     };
     let octets = octets.as_slice();
     let answered = match kind {
-        ConvertKind::Ior => {
-            let answered = written_ior(rt, octets);
+        ConvertKind::Ior(form) => {
+            let answered = written_ior(rt, octets, form);
             if let Ok(Status::Refused) = &answered {
                 refused_ior(rt, file, unended(octets));
             }
             answered
         }
-        ConvertKind::Corbaloc => {
-            let answered = written_corbaloc(rt, octets);
+        ConvertKind::Corbaloc(form) => {
+            let answered = written_corbaloc(rt, octets, form);
             if let Ok(Status::Refused) = &answered {
                 report::text(rt, file, "no corbaloc");
             }
@@ -108,16 +108,16 @@ fn refused_json(rt: &HostRuntime, file: &str, text: &[u8], desc: &CheckedDesc, d
     }
 }
 
-fn written_ior(rt: &HostRuntime, octets: &[u8]) -> Result<Status, Failure> {
+fn written_ior(rt: &HostRuntime, octets: &[u8], form: LineForm) -> Result<Status, Failure> {
     let mut writer = BufWriter::with_capacity(rt.alloc(), OUTPUT_BUFFER, io::writer(rt))?;
-    let status = convert_ior(rt.alloc(), octets, &mut writer)?;
+    let status = convert_ior(rt.alloc(), octets, form, &mut writer)?;
     writer.flush()?;
     Ok(status)
 }
 
-fn written_corbaloc(rt: &HostRuntime, octets: &[u8]) -> Result<Status, Failure> {
+fn written_corbaloc(rt: &HostRuntime, octets: &[u8], form: LineForm) -> Result<Status, Failure> {
     let mut writer = BufWriter::with_capacity(rt.alloc(), OUTPUT_BUFFER, io::writer(rt))?;
-    let status = convert_corbaloc(rt.alloc(), octets, &mut writer)?;
+    let status = convert_corbaloc(rt.alloc(), octets, form, &mut writer)?;
     writer.flush()?;
     Ok(status)
 }
