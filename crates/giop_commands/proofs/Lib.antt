@@ -13,6 +13,7 @@ pub mod TurnLemmas
 pub mod TargetLemmas
 pub mod ServingLemmas
 pub mod SessionsLemmas
+pub mod LocatingLemmas
 pub mod StreamingLemmas
 pub mod AheadLemmas
 pub mod CallStreamingLemmas

@@ -24,4 +24,5 @@ pub mod StreamLines
 pub mod Streaming
 pub mod CallStreaming
 pub mod Endings
+pub mod Locating
 pub mod Target

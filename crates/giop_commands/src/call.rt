@@ -19,6 +19,7 @@ ghost use Rattle.giop_commands.specs.Turns.{Waits};
 
 pub mod calls;
 pub mod given;
+pub mod locating;
 pub mod streaming;
 pub mod table;
 pub mod words;

@@ -14,7 +14,7 @@ use giop_commands::failure::Failure;
 use giop_commands::serve::given::Telling;
 use giop_commands::status::Status;
 use giop_commands::{Calling, Ending, Endpoint, call_over};
-use giop_types::Interface;
+use giop_types::{FormFault, Interface};
 use std::io;
 use std::io::{BufWriter, ErrorKind, Write};
 
@@ -65,21 +65,31 @@ fn asked_in(rt: &HostRuntime, words: &CallWords<'_>, interface: &[u8]) -> Result
     if !words.values.is_empty() {
         return Ok(Asked::Words);
     }
-    match files::read(rt, words.file) {
-        Ok(text) => Ok(Asked::File(text)),
-        Err(Failure::Input(error))
-            if error.kind() == ErrorKind::NotFound && offers(rt, interface, words.file) => {
-            Ok(Asked::Words)
-        }
-        Err(failure) => Err(report::answer(rt, words.file, Err(failure))),
+    let failure = match files::read(rt, words.file) {
+        Ok(text) => return Ok(Asked::File(text)),
+        Err(failure) => failure,
+    };
+    match offers(rt, interface, words.file) {
+        Ok(true) if is_missing(&failure) => Ok(Asked::Words),
+        Ok(_) => Err(report::answer(rt, words.file, Err(failure))),
+        Err(memory) => Err(report::answer(rt, words.file, Err(memory))),
+    }
+}
+
+// Whether a file can't be read since there is none.
+fn is_missing(failure: &Failure) -> bool {
+    match failure {
+        Failure::Input(error) => error.kind() == ErrorKind::NotFound,
+        _ => false,
     }
 }
 
 // Whether the text of an interface has an operation of this name.
-fn offers(rt: &HostRuntime, interface: &[u8], name: &str) -> bool {
+fn offers(rt: &HostRuntime, interface: &[u8], name: &str) -> Result<bool, Failure> {
     match Interface::from_json(rt.alloc(), interface) {
-        Ok(interface) => interface.operation(name.as_bytes()).is_some(),
-        Err(_) => false,
+        Ok(interface) => Ok(interface.operation(name.as_bytes()).is_some()),
+        Err(FormFault::NoMemory) => Err(Failure::Memory),
+        Err(_) => Ok(false),
     }
 }
 

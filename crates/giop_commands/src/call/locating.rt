@@ -1,0 +1,156 @@
+//! `locate`: a client's end asks where an object is, and waits for the answer (CORBA 3.3 Part 2,
+//! 9.4.5, 9.4.6). Its meaning is specs/Locating.antt: change both.
+ghost use Rattle.std.specs.Prelude.{◌≡◌, [], IfOk, OnOk, option_copied};
+ghost use Rattle.std.specs.Io.KnownBytes.{Appends};
+ghost use Rattle.giop_calls.specs.ClientTable.{is_closed};
+ghost use Rattle.giop_session.specs.Acts.Form.{IsForm};
+ghost use Rattle.giop_commands.specs.Acts.{outbox};
+ghost use Rattle.giop_commands.specs.Calling.{asked_of};
+ghost use Rattle.giop_commands.specs.Endings.{Ends};
+ghost use Rattle.giop_commands.specs.Locating.{Locates, LocatesEnd, LocatesOne, is_here, locate_of, locate_status};
+ghost use Rattle.giop_commands.specs.Sessions.{session_text, told, wire};
+ghost use Rattle.giop_commands.specs.Table.{client_entry_line};
+
+use crate::call::given::Calling;
+use crate::call::talk;
+use crate::failure::Failure;
+use crate::session::ending::{Ending, ending_of};
+use crate::session::sending::send_all;
+use crate::session::{told, told_of, write_session};
+use crate::status::Status;
+use giop_calls::ClientEntry;
+use giop_cdr::OctetList;
+use giop_msg::{LocateRequest, Target, Version};
+use giop_session::{ClientEnd, SessionFault};
+use giop_types::Interface;
+use std::alloc::{AllocError, Global};
+use std::io::{Read, Write};
+
+// The request id of the LocateRequest.
+const ID: u32 = 1;
+
+/// Asks where the object of `calling` is, by a new client's end: a LocateRequest under the id 1. What
+/// is put out is written, and answers are read until that one is there or the input ends. Then its
+/// line is written to `out`, and the fault that ended the session, where one did.
+///
+/// It is `Done` where the answer is OBJECT_HERE; `LimitPassed` where a limit kept it from being; else
+/// `Refused`. Where something fails, what failed is returned; where that is the connection, the line
+/// is written before.
+pub fn locate_over<R: Read, W: Write, O: Write>(
+    alloc: Global,
+    calling: Calling<'_>,
+    reader: &mut R,
+    writer: &mut W,
+    out: &mut O,
+) -> Result<Ending, Failure>
+    ensures { IfOk result (LocatesEnd (asked_of calling.entry [])
+        (wire (R.remaining reader.old) (W.contents writer.old))
+        (wire (R.remaining reader.new) (W.contents writer.new))
+        (O.contents out.old) (O.contents out.new)) }
+{
+    let mut end = ClientEnd::new(alloc, calling.interface, calling.limits);
+    let refused = locate_all(alloc, &mut end, calling)?;
+    match talk(alloc, &mut end, refused, reader, writer) {
+        Ok(()) => tell(alloc, calling.interface, &end, refused, out),
+        Err(Failure::Memory) => Err(Failure::Memory),
+        Err(failure) => {
+            write_session(alloc, calling.interface, &end, None, out)?;
+            out.flush()?;
+            Err(failure)
+        }
+    }
+}
+
+// Puts out the LocateRequest. Returns its fault where it is refused.
+fn locate_all(
+    alloc: Global,
+    end: &mut ClientEnd<'_>,
+    calling: Calling<'_>,
+) -> Result<Option<SessionFault>, Failure>
+    requires { end.old.limits ≡ calling.limits }
+    ensures locates { IfOk result (λ refused. Locates (asked_of calling.entry []) end.old.fault
+        (outbox end.old.calls end.old.outgoing) refused
+        (outbox end.new.calls end.new.outgoing)) }
+    ensures others { end.new ≡ record end.old {
+      calls = end.new.calls;
+      outgoing = end.new.outgoing;
+    } }
+{
+    if let Some(fault) = locate_one(alloc, end, calling)? {
+        return Ok(Some(fault));
+    }
+    send_all(alloc, end)
+}
+
+// Puts out its first piece. Returns its fault where it is refused.
+fn locate_one(
+    alloc: Global,
+    end: &mut ClientEnd<'_>,
+    calling: Calling<'_>,
+) -> Result<Option<SessionFault>, Failure>
+    requires { end.old.limits ≡ calling.limits }
+    ensures locates { IfOk result (λ refused. LocatesOne (asked_of calling.entry []) end.old.fault
+        (outbox end.old.calls end.old.outgoing) refused
+        (outbox end.new.calls end.new.outgoing)) }
+    ensures others { end.new ≡ record end.old {
+      calls = end.new.calls;
+      outgoing = end.new.outgoing;
+    } }
+{
+    let request = request_of(alloc, calling.key, calling.version)?;
+    told_of(end.locate(request, calling.form))
+}
+
+// The LocateRequest of the object of a key.
+fn request_of(alloc: Global, key: &[u8], version: Version) -> Result<LocateRequest, AllocError>
+    ensures { IfOk result (λ request. request ≡ locate_of key.now version) }
+{
+    Ok(LocateRequest {
+        version,
+        id: ID,
+        target: Target::Key(OctetList::from_slice(alloc, key)?),
+    })
+}
+
+// Writes the line of the LocateRequest and the fault of the session, and returns what it came to.
+fn tell<O: Write>(
+    alloc: Global,
+    interface: &Interface,
+    end: &ClientEnd<'_>,
+    refused: Option<SessionFault>,
+    out: &mut O,
+) -> Result<Ending, Failure>
+    ensures text { OnOk result (Appends (O.contents out.old) (O.contents out.new)
+        (session_text (client_entry_line interface.now) end.now.calls.table
+        (told refused end.now.fault))) }
+    ensures ok { IfOk result (λ ending. ending.status
+        ≡ locate_status refused end.now.fault end.now.calls.table) }
+    ensures ends { IfOk result (Ends is_closed (told refused end.now.fault) end.now.calls.table
+        end.now.framer) }
+{
+    let fault = told(refused, end.fault());
+    write_session(alloc, interface, end, fault, out)?;
+    Ok(ending_of(alloc, end, fault, locate_status(refused, end))?)
+}
+
+// The status: whether the object is here.
+fn locate_status(refused: Option<SessionFault>, end: &ClientEnd<'_>) -> Status
+    ensures { result ≡ locate_status refused end.now.fault end.now.calls.table }
+{
+    match (refused, end.fault()) {
+        (Some(why), _) => Status::broken_by(why),
+        (None, _) if is_here(end.entry(ID)) => Status::Done,
+        (None, Some(why)) => Status::broken_by(why),
+        (None, None) => Status::Refused,
+    }
+}
+
+// Whether an entry has the answer OBJECT_HERE.
+fn is_here(entry: Option<&ClientEntry>) -> bool
+    ensures { result ≡ is_here (option_copied entry.entry) }
+{
+    match entry {
+        Some(ClientEntry::LocateDone { reply, .. }) => reply.head.status == 1,
+        _ => false,
+    }
+}
