@@ -12,12 +12,12 @@ _giopctl() {
     fi
     for ((i = 1; i < COMP_CWORD; i++)); do
         case "$path ${COMP_WORDS[i]}" in
-            'giopctl dump'|'giopctl check'|'giopctl trace'|'giopctl convert'|'giopctl convert ior'|'giopctl convert corbaloc'|'giopctl convert encode'|'giopctl convert decode'|'giopctl call'|'giopctl ping'|'giopctl serve'|'giopctl help'|'giopctl convert help') path="$path ${COMP_WORDS[i]}" ;;
+            'giopctl dump'|'giopctl check'|'giopctl trace'|'giopctl convert'|'giopctl convert ior'|'giopctl convert corbaloc'|'giopctl convert encode'|'giopctl convert decode'|'giopctl call'|'giopctl locate'|'giopctl ping'|'giopctl serve'|'giopctl help'|'giopctl convert help') path="$path ${COMP_WORDS[i]}" ;;
         esac
     done
     case "$path $before" in
         'giopctl dump --interface'|'giopctl check --interface'|'giopctl trace --interface'|'giopctl convert encode --desc'|'giopctl convert decode --desc'|'giopctl call --interface'|'giopctl serve --interface'|'giopctl serve --answers'|'giopctl serve --ior-file') files=yes ;;
-        'giopctl dump --message-limit'|'giopctl dump --gathered-limit'|'giopctl check --message-limit'|'giopctl check --calls-limit'|'giopctl check --gathered-limit'|'giopctl trace --message-limit'|'giopctl call --target'|'giopctl call --timeout'|'giopctl call --piece'|'giopctl call --message-limit'|'giopctl call --calls-limit'|'giopctl call --gathered-limit'|'giopctl ping --target'|'giopctl ping --timeout'|'giopctl serve --port'|'giopctl serve --key'|'giopctl serve --key-text'|'giopctl serve --type-id'|'giopctl serve --connections'|'giopctl serve --piece'|'giopctl serve --message-limit'|'giopctl serve --calls-limit'|'giopctl serve --gathered-limit') return ;;
+        'giopctl dump --message-limit'|'giopctl dump --gathered-limit'|'giopctl check --message-limit'|'giopctl check --calls-limit'|'giopctl check --gathered-limit'|'giopctl trace --message-limit'|'giopctl call --target'|'giopctl call --timeout'|'giopctl call --piece'|'giopctl call --message-limit'|'giopctl call --calls-limit'|'giopctl call --gathered-limit'|'giopctl locate --target'|'giopctl locate --timeout'|'giopctl ping --target'|'giopctl ping --timeout'|'giopctl serve --port'|'giopctl serve --key'|'giopctl serve --key-text'|'giopctl serve --type-id'|'giopctl serve --connections'|'giopctl serve --piece'|'giopctl serve --message-limit'|'giopctl serve --calls-limit'|'giopctl serve --gathered-limit') return ;;
         *)
             case "$path:$word" in
                 'giopctl:-'*) words='-h --help -V --version' ;;
@@ -30,11 +30,12 @@ _giopctl() {
                 'giopctl convert encode:-'*) words='--desc --little -h --help' ;;
                 'giopctl convert decode:-'*) words='--desc --little -h --help' ;;
                 'giopctl call:-'*) words='--target --interface --stream --timeout --piece --little --message-limit --calls-limit --gathered-limit -h --help' ;;
+                'giopctl locate:'*) words='--target --timeout --little -h --help' ;;
                 'giopctl ping:'*) words='--target --timeout --little -h --help' ;;
                 'giopctl serve:'*) words='--port --interface --answers --key --key-text --ior-file --type-id --connections --stream --piece --little --message-limit --calls-limit --gathered-limit -h --help' ;;
-                'giopctl:'*) words='dump check trace convert call ping serve help' ;;
+                'giopctl:'*) words='dump check trace convert call locate ping serve help' ;;
                 'giopctl convert:'*) words='ior corbaloc encode decode help' ;;
-                'giopctl help:'*) words='dump check trace convert call ping serve' ;;
+                'giopctl help:'*) words='dump check trace convert call locate ping serve' ;;
                 'giopctl convert help:'*) words='ior corbaloc encode decode' ;;
                 'giopctl dump:'*|'giopctl check:'*|'giopctl trace:'*|'giopctl convert ior:'*|'giopctl convert corbaloc:'*|'giopctl convert encode:'*|'giopctl convert decode:'*|'giopctl call:'*) files=yes ;;
             esac ;;

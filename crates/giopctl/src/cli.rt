@@ -5,14 +5,14 @@ ghost use Rattle.std.specs.Prelude.{◌≤◌, ◌^◌};
 ghost use Rattle.giop_commands.specs.Check.{AreLimits};
 
 mod limit_words;
-mod ping_words;
+mod object_words;
 mod session_words;
 
 use crate::cli::limit_words::{
     gathered_limit, gathered_limit_of, limited, limits_of, message_limit, message_limit_of,
 };
-pub use crate::cli::ping_words::PingWords;
-use crate::cli::ping_words::{ping, ping_words};
+pub use crate::cli::object_words::ObjectWords;
+use crate::cli::object_words::{locate, object_words, ping};
 use crate::cli::session_words::{call, call_words, serve, serve_words, values_of};
 pub use crate::cli::session_words::{CallWords, ServeWords};
 use crate::files::apart;
@@ -41,8 +41,10 @@ pub enum Task<'a> {
     },
     /// Call operations of an object.
     Call(CallWords<'a>),
+    /// Ask where an object is.
+    Locate(ObjectWords<'a>),
     /// Ask an object whether it is there.
-    Ping(PingWords<'a>),
+    Ping(ObjectWords<'a>),
     /// Serve an object.
     Serve(ServeWords<'a>),
 }
@@ -285,6 +287,9 @@ pub fn task_of<'a>(alloc: Global, words: &'a [String]) -> Result<Option<Task<'a>
     if let Some(call) = matches.subcommand_matches("call") {
         return judged(alloc, called(call, values_of(alloc, call)?));
     }
+    if let Some(locate) = matches.subcommand_matches("locate") {
+        return judged(alloc, located(locate));
+    }
     if let Some(ping) = matches.subcommand_matches("ping") {
         return judged(alloc, pinged(ping));
     }
@@ -414,8 +419,12 @@ fn called<'a>(
     Ok(Some(Task::Call(call_words(matches, values)?)))
 }
 
+fn located<'a>(matches: &ArgMatches<'a>) -> Result<Option<Task<'a>>, &'static str> {
+    Ok(Some(Task::Locate(object_words(matches)?)))
+}
+
 fn pinged<'a>(matches: &ArgMatches<'a>) -> Result<Option<Task<'a>>, &'static str> {
-    Ok(Some(Task::Ping(ping_words(matches)?)))
+    Ok(Some(Task::Ping(object_words(matches)?)))
 }
 
 fn served<'a>(matches: &ArgMatches<'a>) -> Result<Option<Task<'a>>, &'static str> {
@@ -452,6 +461,7 @@ fn giopctl<'a>(alloc: Global) -> Result<Command<'a>, AllocError> {
         .subcommand(trace(alloc)?)?
         .subcommand(convert(alloc)?)?
         .subcommand(call(alloc)?)?
+        .subcommand(locate(alloc)?)?
         .subcommand(ping(alloc)?)?
         .subcommand(serve(alloc)?)
 }

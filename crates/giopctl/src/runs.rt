@@ -5,7 +5,7 @@ pub mod check;
 pub mod convert;
 pub mod dump;
 pub mod link;
-pub mod ping;
+pub mod object;
 pub mod reach;
 pub mod serve;
 pub mod session;

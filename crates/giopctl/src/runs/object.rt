@@ -1,11 +1,13 @@
-//! `ping` over a connection and the standard output: it calls `_non_existent`, the operation by which
-//! an ORB asks whether an object is there (CORBA 3.3 Part 2, 9.4.2.1), and tells how long that took.
+//! `locate` and `ping` over a connection and the standard output. `locate` sends a LocateRequest
+//! (CORBA 3.3 Part 2, 9.4.5), `ping` calls `_non_existent`, the operation by which a client asks
+//! whether an object is there (9.4.2.1), and tells how long that took.
 
-use crate::cli::PingWords;
+use crate::cli::ObjectWords;
 use crate::files::OUTPUT_BUFFER;
 use crate::report;
 use crate::runs::reach::{connected, endpoint_of, peer_of, target_text};
 use giop_cdr::Order;
+use giop_commands::call::locating::locate_over;
 use giop_commands::call::words::call_from_words;
 use giop_commands::failure::Failure;
 use giop_commands::status::Status;
@@ -22,22 +24,40 @@ const ASKED: &str = "_non_existent";
 const OFFERED: &[u8] =
     b"{\"operations\":{\"_non_existent\":{\"outs\":[[\"result\",\"boolean\"]]}}}";
 
-/// Connects to where the target says, asks the object whether it is there, and tells how long that
-/// took. A refused target is reported before anything is connected.
-pub fn ping(rt: &HostRuntime, words: PingWords) -> Status {
-    match pinged(rt, words) {
+// What is asked of an object.
+#[derive(Clone, Copy, PartialEq, Eq)]
+enum Question {
+    // Where it is.
+    Where,
+    // Whether it is there.
+    IsThere,
+}
+
+/// Connects to where the target says, and asks where the object is. A refused target is reported
+/// before anything is connected.
+pub fn locate(rt: &HostRuntime, words: ObjectWords) -> Status {
+    match asked(rt, words, Question::Where) {
         Ok(status) => status,
         Err(status) => status,
     }
 }
 
-fn pinged(rt: &HostRuntime, words: PingWords) -> Result<Status, Status> {
+/// Connects to where the target says, asks the object whether it is there, and tells how long that
+/// took. A refused target is reported before anything is connected.
+pub fn ping(rt: &HostRuntime, words: ObjectWords) -> Status {
+    match asked(rt, words, Question::IsThere) {
+        Ok(status) => status,
+        Err(status) => status,
+    }
+}
+
+fn asked(rt: &HostRuntime, words: ObjectWords, question: Question) -> Result<Status, Status> {
     let text = target_text(rt, words.target)?;
     let endpoint = endpoint_of(rt, words.target, text.as_slice())?;
     let peer = peer_of(rt, words.target, &endpoint)?;
     let began = Instant::now(rt);
-    let ended = asked(rt, &endpoint, words);
-    if let (Ok(began), Ok(_)) = (began, &ended) {
+    let ended = ask(rt, &endpoint, words, question);
+    if let (Question::IsThere, Ok(began), Ok(_)) = (question, began, &ended) {
         if let Ok(time) = began.elapsed(rt) {
             let _ = eprintln!(rt; "giopctl: {}: took {} us", peer.as_str(), time.as_micros());
         }
@@ -45,8 +65,13 @@ fn pinged(rt: &HostRuntime, words: PingWords) -> Result<Status, Status> {
     Ok(report::called(rt, peer.as_str(), words.timeout, ended))
 }
 
-// Makes the call, and writes its line.
-fn asked(rt: &HostRuntime, endpoint: &Endpoint, words: PingWords) -> Result<Ending, Failure> {
+// Asks over a connection, and writes what came of it.
+fn ask(
+    rt: &HostRuntime,
+    endpoint: &Endpoint,
+    words: ObjectWords,
+    question: Question,
+) -> Result<Ending, Failure> {
     let Ok(interface) = Interface::from_json(rt.alloc(), OFFERED) else {
         return Err(Failure::Memory);
     };
@@ -71,14 +96,11 @@ fn asked(rt: &HostRuntime, endpoint: &Endpoint, words: PingWords) -> Result<Endi
     let link = connected(rt, endpoint, words.timeout)?;
     let mut out = BufWriter::with_capacity(rt.alloc(), OUTPUT_BUFFER, io::writer(rt))?;
     let (mut reader, mut writer) = (&link, &link);
-    let ended = call_over(
-        rt.alloc(),
-        calling,
-        calls,
-        &mut reader,
-        &mut writer,
-        &mut out,
-    )?;
+    let (reader, writer) = (&mut reader, &mut writer);
+    let ended = match question {
+        Question::Where => locate_over(rt.alloc(), calling, reader, writer, &mut out)?,
+        Question::IsThere => call_over(rt.alloc(), calling, calls, reader, writer, &mut out)?,
+    };
     out.flush()?;
     Ok(ended)
 }

@@ -1,0 +1,94 @@
+//! The words of `locate` and `ping`: their arguments and their help. A change here is one in
+//! docs/giopctl.md and tests/program too.
+
+use crate::cli::session_words::{little, target, timeout, timeout_of};
+use clap::{ArgMatches, Command};
+use std::alloc::{AllocError, Global};
+
+/// What `locate` and `ping` are asked for.
+#[derive(Clone, Copy, Debug)]
+pub struct ObjectWords<'a> {
+    /// The text of the object's reference, or a corbaloc; behind `@` the name of a file of it, or `-`
+    /// for the standard input.
+    pub target: &'a str,
+    /// For how many seconds nothing may come or go, 1 to 86,400; any number where it is `None`.
+    pub timeout: Option<u32>,
+    /// Whether the message is sent little-endian.
+    pub little: bool,
+}
+
+const PING_HELP: &str = "\
+It calls _non_existent, the operation by which a client asks whether an object is there, and shows
+what that came to, as giopctl call does:
+  1 Done 0 [false]      the object is there
+  1 Done 0 [true]       it isn't
+  1 Done 2 ID MINOR COMPLETION   a system exception, such as OBJECT_NOT_EXIST
+Standard error tells how long it took from the beginning of the connection on, in microseconds.
+
+Exit statuses:
+  0  the object answered
+  1  it didn't, or by an exception or a forward; or the target is refused
+  2  usage
+  3  the connection failed
+  4  out of memory
+
+Example:
+  giopctl ping --timeout 5 --target corbaloc::1.2@127.0.0.1:2810/k";
+
+const LOCATE_HELP: &str = "\
+It sends a LocateRequest, the message by which a client asks where an object is, and shows the answer:
+  1 LocateDone 0        the server knows no such object
+  1 LocateDone 1        the object is here
+  1 LocateDone STATUS   2 or 3: it is elsewhere, for now or for good; 4: a system exception; 5: the
+                        server wants the object addressed in another way
+  1 Waiting             no answer came
+The last line is the fault that ended the session, where there is one.
+
+Exit statuses:
+  0  the object is here
+  1  it isn't, or no answer came; or the target is refused
+  2  usage
+  3  the connection failed
+  4  out of memory
+
+Example:
+  giopctl locate --target corbaloc::1.2@127.0.0.1:2810/k";
+
+/// The command `ping`.
+pub fn ping<'a>(alloc: Global) -> Result<Command<'a>, AllocError> {
+    let about = "Asks an object whether it is there, and tells how long that took";
+    asking(alloc, "ping", about, PING_HELP)
+}
+
+/// The command `locate`.
+pub fn locate<'a>(alloc: Global) -> Result<Command<'a>, AllocError> {
+    let about = "Asks a server where an object is";
+    asking(alloc, "locate", about, LOCATE_HELP)
+}
+
+// A command that asks something of an object.
+fn asking<'a>(
+    alloc: Global,
+    name: &'a str,
+    about: &'a str,
+    help: &'a str,
+) -> Result<Command<'a>, AllocError> {
+    Command::new(alloc, name)
+        .about(about)
+        .after_help(help)
+        .arg(target(alloc))?
+        .arg(timeout(alloc))?
+        .arg(little(alloc))
+}
+
+/// What `locate` or `ping` is asked for, or what is wrong with a word.
+pub fn object_words<'a>(matches: &ArgMatches<'a>) -> Result<ObjectWords<'a>, &'static str> {
+    match matches.get_str("target") {
+        Some(target) => Ok(ObjectWords {
+            target,
+            timeout: timeout_of(matches)?,
+            little: matches.get_flag("little"),
+        }),
+        None => Err("--target is wanted"),
+    }
+}
