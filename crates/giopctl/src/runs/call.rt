@@ -70,7 +70,7 @@ fn asked_in(rt: &HostRuntime, words: &CallWords<'_>, interface: &[u8]) -> Result
         Err(failure) => failure,
     };
     match offers(rt, interface, words.file) {
-        Ok(true) if is_missing(&failure) => Ok(Asked::Words),
+        Ok(offered) if offered && is_missing(&failure) => Ok(Asked::Words),
         Ok(_) => Err(report::answer(rt, words.file, Err(failure))),
         Err(memory) => Err(report::answer(rt, words.file, Err(memory))),
     }
