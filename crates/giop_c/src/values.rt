@@ -45,8 +45,9 @@ pub fn read_values(
     }
 }
 
-// The octets of values of parameters in a form. Refused as Unfit where they are not as many as the
-// parameters or one isn't of its description, and else as NoMemory where it is out of memory.
+// The octets of values of parameters in a form. Refused as Unfit, only where they are not as many
+// as the parameters or one isn't of its description, or as NoMemory where it is out of memory,
+// which may stand in place of Unfit.
 fn write_values(
     alloc: Global,
     parameters: &[Parameter],
