@@ -20,9 +20,9 @@ use std::alloc::Global;
 
 /// The values of parameters that octets are in a form, with nothing behind them.
 ///
-/// Refused as `Values`, by the first of them that is refused in reading order, or as Trailing at the
-/// first octet that is left; of JSON as `Json`. Out of memory is either's NoMemory, and may stand in
-/// place of any.
+/// Refused as `Values`, by the first of them that is refused in reading order, or as Trailing at
+/// the first octet that is left; of JSON as `Json`. Out of memory is either's NoMemory, and may
+/// stand in place of any.
 pub fn read_values(
     alloc: Global,
     parameters: &[Parameter],
@@ -71,9 +71,9 @@ fn write_values(
     }
 }
 
-/// Copies values of parameters in a form to the front of a buffer, and writes how many octets they
-/// are. It answers OK; SMALL, where the buffer has no room for them; NO_MEMORY; or FAULT, where they
-/// are no values of the parameters.
+/// Copies values of parameters in a form to the front of a buffer, and writes how many octets
+/// they are. It answers OK; SMALL, where the buffer has no room for them; NO_MEMORY; or FAULT,
+/// where they are no values of the parameters.
 pub fn copy_values(
     alloc: Global,
     parameters: &[Parameter],
