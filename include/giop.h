@@ -7,9 +7,8 @@
  * Handles. A handle is a struct that you declare and pass by its address. Begin with {0}, as
  * GIOP_FRAMER_CLOSED is, or with all octets zero: such a handle holds nothing, and each call answers
  * GIOP_CLOSED. The library owns what a handle points to. Don't copy a handle, don't write to it, and don't
- * pass NULL for one; two calls at one handle must not overlap. A handle stays on the thread that opened it; a
- * framer's may go to another, where a lock, the start or the end of a thread, or a sequentially consistent
- * atomic stands between its calls.
+ * pass NULL for one; two calls at one handle must not overlap. A handle may go to another thread, where a lock,
+ * the start or the end of a thread, or a sequentially consistent atomic stands between its calls.
  *
  * Statuses. Each function says below which of these it answers, and it answers no other.
  */
@@ -70,12 +69,14 @@ typedef struct giop_fault {
     uint32_t number; /* what is wrong, GIOP_BAD_MAGIC to GIOP_MEMORY_RAN_OUT */
 } giop_fault;
 
-/* What is wrong with a head: the number of a giop_fault that giop_request_head writes. */
+/* What is wrong with a head or a profile: the number of a giop_fault that giop_request_head, giop_reply_head or
+ * giop_iiop_profile writes. */
 #define GIOP_CDR_SHORT 1u        /* the octets end before the field does */
 #define GIOP_CDR_BAD_BOOLEAN 2u  /* a boolean is neither 0 nor 1 */
 #define GIOP_CDR_BAD_STRING 3u   /* a string has no null at its end, or one within */
 #define GIOP_CDR_BAD_COUNT 4u    /* a count is above what the octets can hold */
-#define GIOP_CDR_BAD_LABEL 5u    /* the response flags or the addressing disposition is none of its values */
+#define GIOP_CDR_BAD_LABEL 5u    /* the response flags, the addressing disposition, a reply status or the major
+                                  * number of a profile is none of its values */
 #define GIOP_CDR_BAD_ORDER 6u    /* a byte order is neither 0 nor 1 */
 #define GIOP_CDR_BOUND_PASSED 7u /* a string or a sequence is longer than its bound */
 #define GIOP_CDR_TRAILING 8u     /* octets stand behind the end */
@@ -89,6 +90,14 @@ typedef struct giop_request {
     uint8_t flags;    /* the response flags: 0 for no reply, 1 for one without a body, 3 for a reply */
     uint8_t target;   /* the addressing disposition: 0 a key, 1 a profile, 2 a reference */
 } giop_request;
+
+/* What the head of a Reply says (9.4.3). */
+typedef struct giop_reply {
+    size_t body;     /* where the body stands, from the first octet of the message's header */
+    size_t contexts; /* how many service contexts it has */
+    uint32_t id;     /* the id of the request that is answered */
+    uint32_t status; /* the reply status, GIOP_NO_EXCEPTION to GIOP_NEEDS_ADDRESSING_MODE */
+} giop_reply;
 
 /* A framer: it takes the octets of a stream in pieces of any size, and gives its messages. */
 typedef struct giop_framer {
@@ -137,6 +146,14 @@ uint32_t giop_framer_rest(giop_framer *framer, size_t *rest);
 uint32_t giop_request_head(const giop_message *message, const uint8_t *payload, size_t size,
                            giop_request *request, uint8_t *operation, size_t operation_room,
                            uint8_t *key, size_t key_room, giop_fault *fault);
+
+/* Reads the head of a Reply out of its payload. message is the header that giop_framer_next wrote, whose kind
+ * is GIOP_REPLY and whose more is 0; payload is its payload, of at most 2^62 octets. It takes no handle and no
+ * memory. Answers GIOP_OK: *reply is written; or GIOP_FAULT: the head is refused, and *fault says why and where,
+ * by the GIOP_CDR_ numbers: a status that the version hasn't is GIOP_CDR_BAD_LABEL. Each is written with its
+ * own status alone. payload may be NULL where size is 0. */
+uint32_t giop_reply_head(const giop_message *message, const uint8_t *payload, size_t size,
+                         giop_reply *reply, giop_fault *fault);
 
 /* Frees what the handle holds, which holds nothing then. A second call does nothing. */
 void giop_framer_free(giop_framer *framer);
@@ -209,6 +226,67 @@ typedef struct giop_end_fault {
 #define GIOP_CALL_UNFIT 7u              /* what is to be sent has no place in a message, or doesn't answer */
 #define GIOP_CALL_UNKNOWN_OPERATION 8u  /* the interface has no such operation */
 #define GIOP_CALL_NOTHING_TO_SEND 9u    /* no piece of a message is left to be sent */
+
+/* ---- references ----
+ *
+ * How an object is reached (7.6). These calls take no handle. A text has no null at its end; each buffer may be
+ * NULL where its room is 0, and so may what is read where its size is 0. No two of the arguments overlap.
+ */
+
+/* How an object is reached over IIOP (9.7.2), but for the octets of its host and its key. */
+typedef struct giop_profile {
+    size_t host;       /* the number of octets of the host's name or address */
+    size_t key;        /* the number of octets of the object's key */
+    size_t components; /* how many components it has */
+    uint16_t port;     /* the TCP port */
+    uint8_t minor;     /* the minor number of the version of IIOP; the major number is 1 */
+} giop_profile;
+
+/* Copies the octets of the profile at an index of a reference, the first at 0, and writes its tag, which is 0
+ * for IIOP, and their number. The reference is given as its text (7.6.9): IOR: and hexadecimal digits. Answers
+ *   GIOP_OK;
+ *   GIOP_SMALL: the buffer has fewer octets than *octets, and none was copied;
+ *   GIOP_WAITS: the reference has no such profile, and nothing is written;
+ *   GIOP_FAULT: the text is refused, and *fault says why, as TEXT or REFERENCE;
+ *   GIOP_NO_MEMORY: *fault has the number 8.
+ * *fault is written with the last two alone, and nothing else then. The octets of a profile of tag 0 are what
+ * giop_iiop_profile reads, and what giop_client_call takes as the data of an IIOP profile. */
+uint32_t giop_reference_profile(const uint8_t *text, size_t size, size_t index, uint32_t *tag,
+                                uint8_t *buffer, size_t room, size_t *octets, giop_end_fault *fault);
+
+/* Reads the octets of an IIOP profile, of at most 2^62, and copies its host and its key to the fronts of two
+ * buffers. Answers
+ *   GIOP_OK: *profile is written, and both are copied;
+ *   GIOP_SMALL: *profile is written, one of the buffers has fewer octets than it says, and neither is changed;
+ *   GIOP_FAULT: they are refused, and *fault says why, by the GIOP_CDR_ numbers, and where, from the first of
+ *     them on;
+ *   GIOP_NO_MEMORY: nothing is written.
+ * *fault is written with GIOP_FAULT alone. */
+uint32_t giop_iiop_profile(const uint8_t *octets, size_t size, giop_profile *profile,
+                           uint8_t *host, size_t host_room, uint8_t *key, size_t key_room, giop_fault *fault);
+
+/* What is wrong with a corbaloc: the number of a giop_fault that giop_corbaloc_reference writes. Its place is
+ * counted from the first octet of the text. */
+#define GIOP_CORBALOC_BAD_PREFIX 1u   /* the text doesn't begin with corbaloc: */
+#define GIOP_CORBALOC_BAD_PROTOCOL 2u /* an address begins neither with : nor with iiop: */
+#define GIOP_CORBALOC_BAD_HOST 3u     /* a host has no octet, or one that is no letter, digit, -, _ or . */
+#define GIOP_CORBALOC_BAD_PORT 4u     /* a port isn't 1 to 5 digits, or is above 65535 */
+#define GIOP_CORBALOC_BAD_VERSION 5u  /* a version isn't two numbers of 1 to 3 digits with a . between them, or
+                                       * its major number isn't 1, or its minor number is above 255 */
+#define GIOP_CORBALOC_BAD_ESCAPE 6u   /* a % in the key without two hexadecimal digits behind it */
+#define GIOP_CORBALOC_BAD_CHAR 7u     /* an octet of the key that has to be escaped */
+#define GIOP_CORBALOC_MEMORY 8u       /* memory ran out */
+#define GIOP_CORBALOC_TOO_LONG 9u     /* it is a corbaloc whose host or key no profile can hold */
+
+/* Copies the reference of a corbaloc (7.6.10.1) as a text of IOR: and hexadecimal digits: no type id, and an
+ * IIOP profile for each address. Writes the text's size. Answers
+ *   GIOP_OK;
+ *   GIOP_SMALL: the buffer has fewer octets than *octets, and none was copied;
+ *   GIOP_FAULT: the text is refused, and *fault says why and where, by the GIOP_CORBALOC_ numbers;
+ *   GIOP_NO_MEMORY.
+ * With the last two nothing else is written; *fault is written with GIOP_FAULT, and may be with GIOP_NO_MEMORY. */
+uint32_t giop_corbaloc_reference(const uint8_t *text, size_t size, uint8_t *buffer, size_t room, size_t *octets,
+                                 giop_fault *fault);
 
 /* ---- values ----
  *

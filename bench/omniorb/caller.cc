@@ -1,5 +1,5 @@
 // Calls `add` of the object that its first word names, so many times over one connection by so many
-// threads, and prints how many calls that is a second.
+// threads, and prints how many calls that is a second. With a fourth word it calls `ping` instead.
 #include "demo.hh"
 #include <chrono>
 #include <cstdlib>
@@ -15,13 +15,15 @@ int main(int argc, char **argv) {
   CORBA::Object_var found = orb->string_to_object(argv[1]);
   Demo::Calc_var calc = Demo::Calc::_unchecked_narrow(found);
   int calls = std::atoi(argv[2]), threads = std::atoi(argv[3]);
+  bool pings = argc > 4;
   calc->ping();
   auto began = std::chrono::steady_clock::now();
   std::vector<std::thread> callers;
   for (int k = 0; k < threads; k++)
     callers.emplace_back([&] {
       for (int n = 0; n < calls / threads; n++)
-        if (calc->add(2, n) != n + 2) std::abort();
+        if (pings) calc->ping();
+        else if (calc->add(2, n) != n + 2) std::abort();
     });
   for (std::thread &caller : callers) caller.join();
   std::chrono::duration<double> took = std::chrono::steady_clock::now() - began;

@@ -8,11 +8,14 @@ from messages import HEADS, messages
 from references import BadText, corbaloc_of, iiop_profile, octets_of_hex, reference_of, text_of
 from server import heard
 from text import escaped, hexed, quoted, unescaped
+from tracing import traced
 
 
-def foretold(words, file, other):
-    """What a command line prints, and its exit status; of it, FILE is a file of the first octets
-    and OTHER one of the second, an interface or a description."""
+def foretold(words, file, other, server=None):
+    """What a command line prints, and its exit status; of it, FILE is a file of the first octets,
+    OTHER one of the second, an interface or a description, and SERVER one of the third."""
+    if words[0] == 'trace':
+        return printed(*traced(interface_of(other), file, server, '--json' in words))
     if words[0] == 'dump':
         return dump_json(file) if '--json' in words else dump(file)
     if words[0] == 'check':

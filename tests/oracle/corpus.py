@@ -6,6 +6,7 @@ from dataclasses import dataclass
 
 import commands
 import random_edges
+import random_sessions
 import random_texts
 import random_types
 from forms import json_form
@@ -15,14 +16,15 @@ from random_streams import Peer, message
 
 @dataclass
 class Case:
-    """A command line of giopctl, where FILE and OTHER stand for files of these octets."""
+    """A command line of giopctl, where FILE, OTHER and SERVER stand for files of these octets."""
     words: list
     file: bytes
     other: bytes = None  # of an interface or a description
+    server: bytes = None  # what a server sent
 
     def foretold(self):
         """What is to be printed, and the exit status."""
-        return commands.foretold(self.words, self.file, self.other)
+        return commands.foretold(self.words, self.file, self.other, self.server)
 
 
 def dump(file):
@@ -152,6 +154,29 @@ def check_interface(rng):
     return check(text, stream)
 
 
+# Both directions of a connection
+
+def trace(rng, session):
+    """In text or as JSON, and now and then of the client alone."""
+    form, client, server = session
+    words = ['trace', '--interface', 'OTHER', 'FILE', *['--json'] * rng.randrange(2)]
+    if rng.random() < 0.1:
+        return Case(words, client, compact(form))
+    return Case([*words, 'SERVER'], client, compact(form), server)
+
+
+def trace_lawful(rng):
+    return trace(rng, random_sessions.session(rng, False))
+
+
+def trace_wrong(rng):
+    return trace(rng, random_sessions.session(rng, True))
+
+
+def trace_damaged(rng):
+    return trace(rng, random_sessions.session(rng, True, True))
+
+
 # References and corbalocs
 
 def ended(rng, text):
@@ -277,6 +302,7 @@ def decode_damaged(rng):
 RECIPES = {
     dump_lawful: 1500, dump_replies: 1500, dump_damaged: 1500, dump_header: 1500, dump_cut: 1500,
     dump_json: 3000,
+    trace_lawful: 1000, trace_wrong: 1000, trace_damaged: 1000,
     check_lawful: 2500, check_wrong: 2000, check_damaged: 1000, check_acts: 2500, check_cut: 1000,
     check_interface: 2000, check_json: 3000, ior: 1500, ior_damaged: 500, corbaloc: 1500, corbaloc_damaged: 500,
     reference_json: 2000,

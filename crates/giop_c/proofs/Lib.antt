@@ -1,5 +1,6 @@
 pub mod AtLemmas
 pub mod Crossing
+pub mod EndsCrossing
 pub mod HandleRows
 pub mod ValueLoops
 pub mod ValuesFit

@@ -1,4 +1,4 @@
--- The head of a Request, as C sees it, and what the call writes that reads it.
+-- The heads of a Request and of a Reply, as C sees them, and what the calls write that read them.
 use Rattle.std.specs.Prelude.{◌≡◌, ℕ, ◌<◌, ◌≤◌, ◌==◌, ◌⊎◌, List, [], ◌++◌, Result, Ok, Err, drop, length, if◌then◌else◌}
 use Rattle.giop_cdr.specs.declared.fault.CdrFault.{CdrFault}
 use Rattle.giop_cdr.specs.declared.order.Order.{Order}
@@ -6,11 +6,13 @@ use Rattle.giop_cdr.specs.declared.order.Order.TheVariants.{Big, Little}
 use Rattle.giop_cdr.specs.Faults.{cdr_kind_number}
 use Rattle.giop_msg.specs.declared.target.Target.TheVariants.{Key, Profile, Reference}
 use Rattle.giop_msg.specs.declared.version.Version.{Version}
+use Rattle.giop_msg.specs.ReplyHead.{AnyReplyHead}
 use Rattle.giop_msg.specs.RequestHead.{Head}
 use Rattle.giop_msg.specs.Target.{AnyTarget, key_of}
 use Rattle.giop_msg.specs.Version.{version_of}
 use Rattle.giop_c.specs.declared.records.Fault.{Fault}
 use Rattle.giop_c.specs.declared.records.Message.{Message}
+use Rattle.giop_c.specs.declared.records.Reply.{Reply}
 use Rattle.giop_c.specs.declared.records.Request.{Request}
 use Rattle.giop_c.specs.Calls.{ok, fault, small}
 
@@ -58,3 +60,19 @@ Reads (Ok head) r r' operation operation' key key' f f' status =
     × Copied head.0.operation (key_of head.0.target) operation operation' key key' status
 Reads (Err e) r r' operation operation' key key' f f' status =
     (status ≡ fault) × (r' ≡ r) × (f' ≡ c_cdr_fault e) × (operation' ≡ operation) × (key' ≡ key)
+
+-- a Reply's head whose body stands at this offset
+abbrev pub c_reply : AnyReplyHead → ℕ → Reply
+c_reply head body = record {
+  body = body;
+  contexts = length head.contexts;
+  id = head.id;
+  status = head.status;
+}
+
+-- what a Reply's head or its first fault leads to
+abbrev pub ReadsReply : Result (AnyReplyHead × ℕ) CdrFault → Reply → Reply → Fault → Fault → ℕ
+    → Type 0
+ReadsReply (Ok head) r r' f f' status =
+    (status ≡ ok) × (r' ≡ c_reply head.0 head.1) × (f' ≡ f)
+ReadsReply (Err e) r r' f f' status = (status ≡ fault) × (r' ≡ r) × (f' ≡ c_cdr_fault e)

@@ -8,5 +8,6 @@ pub mod Heads
 pub mod Interfaces
 pub mod JsonValues
 pub mod Records
+pub mod References
 pub mod Server
 pub mod Values

@@ -13,3 +13,4 @@ pub use asking::CallHead;
 pub use caller::Caller;
 pub use client_handle::ClientHandle;
 pub use entries::ClientRow;
+pub use replies::copy_reference;

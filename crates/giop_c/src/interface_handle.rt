@@ -90,6 +90,9 @@ impl InterfaceHandle {
     }
 }
 
+// What it holds may go to another thread: see proofs/EndsCrossing.antt.
+unsafe impl Send for InterfaceHandle {}
+
 impl Drop for InterfaceHandle {
     fn drop(self) {
         let _held = self.into_box();

@@ -1,5 +1,5 @@
-//! The framer of giop_msg, the head of a Request, interfaces and both ends of giop_session for
-//! C, C++ and Rust: a handle each, and one exported function for each call.
+//! The framer of giop_msg, the heads of a Request and a Reply, references, interfaces and both ends
+//! of giop_session for C, C++ and Rust: a handle each, and one exported function for each call.
 #![tactic(auto)]
 
 mod act_fault;
@@ -16,6 +16,8 @@ mod json_values;
 mod parameters;
 mod reader;
 mod records;
+mod reference_calls;
+mod reply_calls;
 mod request_calls;
 mod server;
 mod shared;
@@ -30,6 +32,6 @@ pub use end_records::{EndFault, EndLimits, SendForm};
 pub use framer_handle::{FramerHandle, Opaque};
 pub use interface_handle::InterfaceHandle;
 pub use reader::Reader;
-pub use records::{Fault, Message, Request, TextFault};
+pub use records::{Fault, Message, Profile, Reply, Request, TextFault};
 pub use server::{Served, ServerHandle, ServerRow};
 pub use shared::Shared;

@@ -117,6 +117,36 @@ pub struct Request {
     pub target: u8,
 }
 
+/// What the head of a Reply says, as C sees it: `giop_reply`.
+#[repr(C)]
+#[derive(Clone, Copy, Debug, PartialEq, Eq)]
+pub struct Reply {
+    /// Where the body stands, from the first octet of the message's header.
+    pub body: usize,
+    /// The number of service contexts.
+    pub contexts: usize,
+    /// The id of the request that is answered.
+    pub id: u32,
+    /// The reply status, 0 to 5.
+    pub status: u32,
+}
+
+/// How an object is reached over IIOP, as C sees it: `giop_profile`.
+#[repr(C)]
+#[derive(Clone, Copy, Debug, PartialEq, Eq)]
+pub struct Profile {
+    /// The number of octets of the host's name.
+    pub host: usize,
+    /// The number of octets of the object's key.
+    pub key: usize,
+    /// The number of components.
+    pub components: usize,
+    /// The TCP port.
+    pub port: u16,
+    /// The minor number of the version of IIOP.
+    pub minor: u8,
+}
+
 /// Why a text of JSON is refused, as C sees it: `giop_text_fault`.
 #[repr(C)]
 #[derive(Clone, Copy, Debug, PartialEq, Eq)]

@@ -1,11 +1,12 @@
 //! The exported function that reads the head of a Request, out of the caller's octets. It takes no
 //! handle and no memory.
-ghost use Rattle.std.specs.Prelude.{◌≡◌, ◌≤◌, ◌^◌, ◌++◌, drop, length};
+ghost use Rattle.std.specs.Prelude.{◌≡◌, ◌≤◌, ◌^◌, length};
 ghost use Rattle.giop_msg.specs.Joined.{body_place, head_of_joined};
 ghost use Rattle.giop_msg.specs.RequestHead.{request_head};
 ghost use Rattle.giop_msg.specs.Target.{key_of};
 ghost use Rattle.giop_c.specs.Heads.{Copied, Reads, c_order, c_request, c_version};
 
+use crate::copying::fill;
 use crate::records::{Fault, Message, Request};
 use crate::status::{FAULT, OK, SMALL};
 use giop_cdr::{Order, SliceOctets};
@@ -36,7 +37,7 @@ pub extern "C" fn giop_request_head(
     match RequestHead::view(&joined, version_of(message), order_of(message)) {
         Ok((head, body)) => {
             *request = written(&head, body);
-            copies(
+            copy_both(
                 head.operation.as_slice(),
                 key_of(&head.target),
                 operation,
@@ -78,8 +79,9 @@ fn key_of<'a>(target: &TargetAt<'_, SliceOctets<'a>>) -> &'a [u8]
     }
 }
 
-// Copies both, or neither where one has no room.
-fn copies(name: &[u8], id: &[u8], operation: &mut [u8], key: &mut [u8]) -> u32
+/// Copies two lists of octets, each to the front of its buffer. It answers OK; or SMALL, where one of
+/// the buffers has no room, and copies neither.
+pub fn copy_both(name: &[u8], id: &[u8], operation: &mut [u8], key: &mut [u8]) -> u32
     ensures { Copied name.now id.now operation.old operation.new key.old key.new result }
 {
     if operation.len() < name.len() || key.len() < id.len() {
@@ -90,16 +92,8 @@ fn copies(name: &[u8], id: &[u8], operation: &mut [u8], key: &mut [u8]) -> u32
     OK
 }
 
-// Copies octets to the front of a buffer that has room for them.
-fn fill(octets: &[u8], buffer: &mut [u8])
-    requires { length octets.now ≤ length buffer.old }
-    ensures { buffer.new ≡ octets.now ++ drop (length octets.now) buffer.old }
-{
-    buffer[..octets.len()].copy_from_slice(octets);
-}
-
-// The version of a message's header.
-fn version_of(message: &Message) -> Version
+/// The version of a message's header.
+pub fn version_of(message: &Message) -> Version
     ensures { result ≡ c_version message.now }
 {
     match message.minor {
@@ -109,8 +103,8 @@ fn version_of(message: &Message) -> Version
     }
 }
 
-// The byte order of a message's header.
-fn order_of(message: &Message) -> Order
+/// The byte order of a message's header.
+pub fn order_of(message: &Message) -> Order
     ensures { result ≡ c_order message.now }
 {
     if message.little_endian == 0 {

@@ -7,8 +7,6 @@ mod files;
 mod places;
 mod report;
 mod runs;
-#[cfg(test)]
-mod tests;
 
 use cli::Task;
 use giop_commands::status::Status;

@@ -205,7 +205,7 @@ extern "C" {
 /// calls by their request ids, and says what is to be written.
 ///
 /// Values cross in the form that you say, a [`ValueForm`]: as CDR octets or as JSON.
-/// It stays on its thread: it is neither `Send` nor `Sync`, since neither is proved of it.
+/// It may go to another thread: that it is `Send` is proved of the handle. It isn't `Sync`.
 ///
 /// ```
 /// use giop::{Call, Client, ClientKind, Form, Interface, Limits, ValueForm};
@@ -470,6 +470,10 @@ impl Client {
         count
     }
 }
+
+// SAFETY: crates/giop_c proves that the handle may go to another thread, and each call takes it by `&mut` or this
+// type by `&`, which isn't `Sync`, so that no two overlap.
+unsafe impl Send for Client {}
 
 impl Drop for Client {
     fn drop(&mut self) {

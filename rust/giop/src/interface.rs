@@ -57,7 +57,7 @@ impl error::Error for InterfaceError {}
 
 /// What the operations of an object take and give.
 ///
-/// It stays on its thread: it is neither `Send` nor `Sync`, since neither is proved of it.
+/// It may go to another thread: that it is `Send` is proved of the handle. It isn't `Sync`.
 pub struct Interface {
     pub(crate) handle: Handle,
 }
@@ -111,6 +111,10 @@ impl Interface {
         copied(call).map_err(|status| error_of(status, fault))
     }
 }
+
+// SAFETY: crates/giop_c proves that the handle may go to another thread, and each call takes it by `&mut` or this
+// type by `&`, which isn't `Sync`, so that no two overlap.
+unsafe impl Send for Interface {}
 
 impl Drop for Interface {
     fn drop(&mut self) {

@@ -19,12 +19,14 @@
 mod client;
 mod end;
 mod interface;
+mod reference;
 mod server;
 mod values;
 
 pub use client::{Call, Client, ClientEntry, ClientKind, Target};
 pub use end::{EndError, EndFault, Form, Limits};
 pub use interface::{Interface, InterfaceError};
+pub use reference::{corbaloc_reference, reference_profile, CorbalocError, IiopProfile, ProfileError, TaggedProfile};
 pub use server::{Awaits, CallKind, Entry, RequestFault, Server};
 pub use values::{ValueForm, Values};
 
@@ -73,6 +75,13 @@ extern "C" {
     fn giop_framer_payload(framer: *mut Handle, buffer: *mut u8, room: usize, size: *mut usize) -> u32;
     fn giop_framer_rest(framer: *mut Handle, rest: *mut usize) -> u32;
     fn giop_framer_free(framer: *mut Handle);
+    fn giop_reply_head(
+        message: *const Head,
+        payload: *const u8,
+        size: usize,
+        reply: *mut ReplyHead,
+        fault: *mut CFault,
+    ) -> u32;
     fn giop_request_head(
         message: *const Head,
         payload: *const u8,
@@ -164,6 +173,21 @@ impl fmt::Display for HeadFault {
 }
 
 impl error::Error for HeadFault {}
+
+/// What the head of a Reply says (9.4.3).
+#[repr(C)]
+#[derive(Clone, Copy, Debug, PartialEq, Eq)]
+pub struct ReplyHead {
+    /// Where the body stands, from the first octet of the message's header.
+    pub body: usize,
+    /// How many service contexts it has.
+    pub contexts: usize,
+    /// The id of the request that is answered.
+    pub id: u32,
+    /// The reply status: 0 NO_EXCEPTION, 1 USER_EXCEPTION, 2 SYSTEM_EXCEPTION, 3 LOCATION_FORWARD; and in 1.2 alone
+    /// 4 LOCATION_FORWARD_PERM, 5 NEEDS_ADDRESSING_MODE.
+    pub status: u32,
+}
 
 /// What the head of a Request says (9.4.2).
 #[derive(Clone, Debug, PartialEq, Eq)]
@@ -311,6 +335,26 @@ impl<'a> Message<'a> {
         key.truncate(head.key);
         let key = (head.target == 0).then_some(key);
         Some(Ok(RequestHead { id: head.id, flags: head.flags, operation, key, body: head.body }))
+    }
+
+    /// The head of a Reply that no Fragment continues; `None` of another message.
+    ///
+    /// # Errors
+    /// Where and why the head is refused.
+    pub fn reply_head(&self) -> Option<Result<ReplyHead, HeadFault>> {
+        if self.kind() != Kind::Reply || self.has_more() {
+            return None;
+        }
+        let mut fault = CFault { at: 0, number: 0 };
+        let mut head = ReplyHead { body: 0, contexts: 0, id: 0, status: 0 };
+        // SAFETY: the slice has the length that is said, and nothing overlaps it.
+        let status = unsafe {
+            giop_reply_head(&self.head, self.payload.as_ptr(), self.payload.len(), &mut head, &mut fault)
+        };
+        Some(match status {
+            OK => Ok(head),
+            _ => Err(HeadFault { at: fault.at, number: fault.number }),
+        })
     }
 }
 

@@ -172,7 +172,7 @@ extern "C" {
 /// calls by their request ids, and says what is to be written.
 ///
 /// Values cross in the form that you say, a [`ValueForm`]: as CDR octets or as JSON.
-/// It stays on its thread: it is neither `Send` nor `Sync`, since neither is proved of it.
+/// It may go to another thread: that it is `Send` is proved of the handle. It isn't `Sync`.
 ///
 /// ```
 /// use giop::{Awaits, Form, Interface, Limits, Server, ValueForm};
@@ -471,6 +471,10 @@ impl Server {
         rest
     }
 }
+
+// SAFETY: crates/giop_c proves that the handle may go to another thread, and each call takes it by `&mut` or this
+// type by `&`, which isn't `Sync`, so that no two overlap.
+unsafe impl Send for Server {}
 
 impl Drop for Server {
     fn drop(&mut self) {

@@ -90,6 +90,9 @@ impl ClientHandle {
     }
 }
 
+// What it holds may go to another thread: see proofs/EndsCrossing.antt.
+unsafe impl Send for ClientHandle {}
+
 impl Drop for ClientHandle {
     fn drop(self) {
         let _held = self.into_box();

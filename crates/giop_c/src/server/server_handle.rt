@@ -90,6 +90,9 @@ impl ServerHandle {
     }
 }
 
+// What it holds may go to another thread: see proofs/EndsCrossing.antt.
+unsafe impl Send for ServerHandle {}
+
 impl Drop for ServerHandle {
     fn drop(self) {
         let _held = self.into_box();

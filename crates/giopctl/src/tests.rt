@@ -1,3 +1,0 @@
-//! What no clause says: the words that are taken.
-
-mod words;
