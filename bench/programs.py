@@ -6,6 +6,7 @@ import subprocess
 TOP = pathlib.Path(__file__).resolve().parents[1]
 OUT = TOP / 'bench' / 'out'
 GIOPCTL = TOP / 'crates' / 'giopctl' / 'out' / 'giopctl'
+INTERFACE = TOP / 'examples' / 'calculator.json'
 # A processor whose core is shared runs at two speeds: so many rounds meet the faster of them.
 ROUNDS = 15
 

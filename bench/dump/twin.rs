@@ -1,4 +1,5 @@
-// What `giopctl dump FILE` prints, in plain Rust, for bench/dump/run to compare with.
+// What `giopctl dump FILE` prints, in plain Rust, for bench/dump/run to compare with; with `--interface` in front
+// of the file what `giopctl dump --interface examples/calculator.json FILE` prints of unfragmented messages.
 use std::fmt;
 use std::io::{self, BufWriter, Write};
 use std::process::ExitCode;
@@ -21,6 +22,27 @@ const LOCATE_REQUEST: u8 = 3;
 const LOCATE_REPLY: u8 = 4;
 const CLOSE_CONNECTION: u8 = 5;
 const MESSAGE_ERROR: u8 = 6;
+
+#[derive(Clone, Copy)]
+enum Desc {
+    Long,
+    Text,
+    Longs,
+}
+
+enum Value<'a> {
+    Long(i32),
+    Text(&'a [u8]),
+    Longs(Vec<i32>),
+}
+
+// Each operation of the interface, by name, with its ins.
+const INTERFACE: [(&[u8], &[Desc]); 4] = [
+    (b"add", &[Desc::Long, Desc::Long]),
+    (b"list", &[Desc::Longs]),
+    (b"ping", &[]),
+    (b"tell", &[Desc::Text]),
+];
 
 struct Fault(u32, &'static str, usize);
 
@@ -194,6 +216,36 @@ impl<'a> Reader<'a> {
         self.octets.len().saturating_sub(self.at.next_multiple_of(align))
     }
 
+    fn value(&mut self, desc: Desc) -> Result<Value<'a>, Refused> {
+        Ok(match desc {
+            Desc::Long => Value::Long(self.ulong()? as i32),
+            Desc::Text => Value::Text(self.string()?),
+            Desc::Longs => {
+                let (count, _) = self.count()?;
+                let mut all = Vec::new();
+                for _ in 0..count {
+                    all.push(self.ulong()? as i32);
+                }
+                Value::Longs(all)
+            }
+        })
+    }
+
+    // The values of a body, behind which nothing stands.
+    fn values(&mut self, minor: u8, descs: &[Desc]) -> Result<Vec<Value<'a>>, Refused> {
+        if minor == 2 && !descs.is_empty() {
+            self.at = self.at.next_multiple_of(8);
+        }
+        let mut values = Vec::new();
+        for desc in descs {
+            values.push(self.value(*desc)?);
+        }
+        if self.at < self.octets.len() {
+            return Err(Fault(8, "Trailing", self.at));
+        }
+        Ok(values)
+    }
+
     // Three octets of any value.
     fn reserved(&mut self) -> Result<(), Refused> {
         for _ in 0..3 {
@@ -283,16 +335,71 @@ impl fmt::Display for Target<'_> {
     }
 }
 
-// The second line of a message, where its kind has one.
-fn second(octets: &[u8], header: &Header, out: &mut impl Write) -> io::Result<()> {
+impl fmt::Display for Value<'_> {
+    fn fmt(&self, f: &mut fmt::Formatter) -> fmt::Result {
+        match self {
+            Value::Long(number) => write!(f, "{number}"),
+            Value::Text(octets) => write!(f, "\"{}\"", Quoted(octets)),
+            Value::Longs(numbers) => write!(f, "[{}]", Listed(numbers)),
+        }
+    }
+}
+
+// The octets of a text of JSON, each as the character of its number.
+struct Quoted<'a>(&'a [u8]);
+
+impl fmt::Display for Quoted<'_> {
+    fn fmt(&self, f: &mut fmt::Formatter) -> fmt::Result {
+        self.0.iter().try_for_each(|octet| match octet {
+            b'"' | b'\\' => write!(f, "\\{}", *octet as char),
+            b'\n' => f.write_str("\\n"),
+            b'\r' => f.write_str("\\r"),
+            b'\t' => f.write_str("\\t"),
+            0x08 => f.write_str("\\b"),
+            0x0C => f.write_str("\\f"),
+            0..0x20 => write!(f, "\\u{octet:04x}"),
+            _ => write!(f, "{}", *octet as char),
+        })
+    }
+}
+
+// Items with commas between them.
+struct Listed<'a, T>(&'a [T]);
+
+impl<T: fmt::Display> fmt::Display for Listed<'_, T> {
+    fn fmt(&self, f: &mut fmt::Formatter) -> fmt::Result {
+        for (i, item) in self.0.iter().enumerate() {
+            if i > 0 {
+                f.write_str(",")?;
+            }
+            write!(f, "{item}")?;
+        }
+        Ok(())
+    }
+}
+
+// The third line of a Request, from its body on.
+fn third(reader: &mut Reader, minor: u8, operation: &[u8], out: &mut impl Write) -> io::Result<()> {
+    let Ok(found) = INTERFACE.binary_search_by(|it| it.0.cmp(operation)) else {
+        return writeln!(out, "  undecoded operation");
+    };
+    match reader.values(minor, INTERFACE[found].1) {
+        Ok(values) => writeln!(out, "  ins [{}]", Listed(&values)),
+        Err(Fault(number, name, at)) => writeln!(out, "  undecoded body {number} {name} at {at}"),
+    }
+}
+
+// The second line of a message, where its kind has one, and the third where bodies are read.
+fn second(octets: &[u8], header: &Header, bodies: bool, out: &mut impl Write) -> io::Result<()> {
     let Header { minor, kind, little, .. } = *header;
     let reader = &mut Reader { octets, at: 12, little };
     let refused = match kind {
         REQUEST => match request(reader, minor) {
             Ok(Request { flags, target, operation, contexts, body }) => {
-                let operation = Escaped(operation);
-                write!(out, "  flags {flags} {target} operation {operation}")?;
-                return writeln!(out, " contexts {contexts} body {body}");
+                let shown = Escaped(operation);
+                write!(out, "  flags {flags} {target} operation {shown}")?;
+                writeln!(out, " contexts {contexts} body {body}")?;
+                return if bodies { third(reader, minor, operation, out) } else { Ok(()) };
             }
             Err(fault) => fault,
         },
@@ -341,7 +448,7 @@ impl fmt::Display for Escaped<'_> {
     }
 }
 
-fn dump(octets: &[u8], out: &mut impl Write) -> io::Result<bool> {
+fn dump(octets: &[u8], bodies: bool, out: &mut impl Write) -> io::Result<bool> {
     let mut at = 0;
     loop {
         let rest = &octets[at..];
@@ -373,7 +480,7 @@ fn dump(octets: &[u8], out: &mut impl Write) -> io::Result<bool> {
         }
         writeln!(out)?;
         if !header.more {
-            second(message, &header, out)?;
+            second(message, &header, bodies, out)?;
         }
         at += end;
     }
@@ -382,10 +489,11 @@ fn dump(octets: &[u8], out: &mut impl Write) -> io::Result<bool> {
 }
 
 fn main() -> io::Result<ExitCode> {
-    let file = std::env::args().nth(1).expect("usage: twin FILE");
+    let mut words: Vec<String> = std::env::args().skip(1).collect();
+    let file = words.pop().expect("usage: twin [--interface] FILE");
     let octets = std::fs::read(file)?;
     let mut out = BufWriter::new(io::stdout().lock());
-    let whole = dump(&octets, &mut out)?;
+    let whole = dump(&octets, words == ["--interface"], &mut out)?;
     out.flush()?;
     Ok(ExitCode::from(if whole { 0 } else { 1 }))
 }
