@@ -17,7 +17,7 @@ ASKS, ANSWERS = ('Request', 'LocateRequest'), ('Reply', 'LocateReply')
 class Flow:
     """What came of one call: its messages, each as far as its pieces came, and whether the client
     gave it up."""
-    asked: Message = None
+    asked: Message = None  # nothing, where an answer came that no one asked for
     answer: Message = None
     cancelled: bool = False
 
@@ -37,6 +37,7 @@ class Trace:
             self.hear_client(message)
             while waiting and not self.waits(waiting[0]):
                 self.hear_server(waiting.pop(0))
+        # Only here an answer may begin a call that no one asked for: before, it waits.
         for message in waiting:
             self.hear_server(message)
         for call in sorted(self.open):
@@ -49,7 +50,7 @@ class Trace:
         if message.kind not in ANSWERS or call is None:
             return False
         flow = self.open.get(call)
-        return not flow or flow.answer is not None or flow.asked is None or flow.asked.more
+        return not flow or flow.asked.more or flow.answer is not None
 
     def hear_client(self, message):
         call = id_of(message)
@@ -69,9 +70,10 @@ class Trace:
             self.tell(call, Flow(asked=message), '')
 
     def cancel(self, call, flow):
+        """It has no line of its own. A call whose request isn't whole is over by it."""
         if flow:
             flow.cancelled = True
-            if not flow.asked or flow.asked.more:
+            if flow.asked.more:
                 del self.open[call]
                 self.tell(call, flow, '')
 
