@@ -19,6 +19,7 @@ use Rattle.giop_types.specs.JsonForms.JsonText.{text_of}
 use Rattle.giop_commands.specs.declared.serve.answers.AnswerGiven.{AnswerGiven}
 use Rattle.giop_commands.specs.declared.serve.answers.AnswerGiven.TheVariants.{Ok as result, User}
 use Rattle.giop_commands.specs.CallForms.{octets_in, values_in}
+use Rattle.giop_commands.specs.GeneralForms.{general_by}
 use Rattle.giop_msg.specs.Messages.Reply.{exception_of}
 use Rattle.giop_msg.specs.Messages.Request.{operation_of}
 
@@ -40,11 +41,12 @@ raised_in interface id d = option_and_then (λ octets. option_and_then
     (λ members. raised octets members (exception_of interface octets))
     (get (codes "members") d)) (octets_in id)
 
--- what an operation is answered: a result alone, or an exception's id and members
+-- what an operation is answered: a result alone, an exception's id and members, or what any
+-- operation may be
 abbrev pub given_by : Interface → Operation → Data → Option (Option AnswerGiven)
 given_by interface operation d =
     by_key (get (codes "ok") d) (λ outs. in_object 1 (λ x. result_in operation outs) d)
-    (by_key (get (codes "user") d) (λ id. in_object 2 (raised_in interface id) d) None)
+    (by_key (get (codes "user") d) (λ id. in_object 2 (raised_in interface id) d) (general_by d))
 
 -- what an operation is answered, by the member of its name
 abbrev pub given_under : Interface → List ℕ → Data → Operation → Option (Option AnswerGiven)

@@ -7,8 +7,11 @@ ghost use Rattle.giop_types.specs.JsonForms.FromJson.{Shows};
 ghost use Rattle.giop_types.specs.JsonForms.JsonText.{text_of};
 ghost use Rattle.giop_commands.specs.AnswerForms.{answered, answers_in, are_fit, given_by, given_in, given_under, is_fit, raised, raised_in, result_in};
 
+use crate::serve::general::general_of;
 use crate::session::json::{is_object_of, octets_of, values_of};
 use giop_cdr::OctetList;
+use giop_ior::Ior;
+use giop_msg::Completion;
 use giop_types::{FormFault, Interface, Operation, Parameters, ValueList, parse_json};
 use serde_json::Value as Json;
 use std::alloc::{AllocError, Global};
@@ -25,6 +28,19 @@ pub enum AnswerGiven {
         /// The members of the exception, in their order.
         members: ValueList,
     },
+    /// A system exception.
+    System {
+        /// The repository id of the exception.
+        id: OctetList,
+        /// The minor code.
+        minor: u32,
+        /// Whether the operation was carried out.
+        completion: Completion,
+    },
+    /// Where the object is, for this call.
+    Forward(Ior),
+    /// Where the object is from now on.
+    ForwardPerm(Ior),
 }
 
 /// What the operations of an interface are answered, each but the oneway ones.
@@ -57,15 +73,19 @@ impl Answers {
 }
 
 /// The answers that a JSON text gives: an object with a member for each operation of the interface
-/// that isn't oneway, and no other. A member is `{"ok":[VALUE,..]}` with the operation's outs, or
-/// `{"user":ID,"members":[VALUE,..]}` with an exception of the interface and its members.
+/// that isn't oneway, and no other. A member is `{"ok":[VALUE,..]}` with the operation's outs,
+/// `{"user":ID,"members":[VALUE,..]}` with an exception of the interface and its members,
+/// `{"system":ID,"minor":N,"completion":N}`, of which the last two may be left out, or
+/// `{"forward":TEXT}` or `{"forward_perm":TEXT}` with the text of a reference or a corbaloc.
 ///
 /// Refused as the first of these that holds; in place of any it may be NoMemory, where it is out of
 /// memory:
 ///
 /// - BadJson, where the text is no JSON.
 /// - BadShape, where it, or a part of it, has another form, or an exception isn't in the interface.
-/// - Unfit, where a value doesn't fit, or there are more or fewer values than outs or members.
+/// - Unfit, where a value doesn't fit, or there are more or fewer values than outs or members; where
+///   a minor code is no unsigned long, a completion is above 2, or octets spell no reference of a
+///   corbaloc.
 pub fn answers_from_json(
     alloc: Global,
     interface: &Interface,
@@ -165,10 +185,13 @@ fn given_of(
         }
         return result_of(alloc, operation, outs);
     }
-    match json.get("user") {
-        Some(id) if is_object_of(2, json) => exception_of(alloc, interface, id, json),
-        _ => Err(FormFault::BadShape),
+    if let Some(id) = json.get("user") {
+        if !is_object_of(2, json) {
+            return Err(FormFault::BadShape);
+        }
+        return exception_of(alloc, interface, id, json);
     }
+    general_of(alloc, json)
 }
 
 // A result, by the list of its outs.

@@ -8,6 +8,16 @@ use giop_where::{NoPlace, Part, Place, Role, Step, fault_code};
 use serde_json::{Value as Json, json};
 use std::alloc::{AllocError, Global};
 
+// The parts of an answer that any operation may have, in the order of their keys: what each is, and
+// the description of a value.
+const GENERAL_PARTS: [(&str, Role, &str); 5] = [
+    ("completion", Role::Completion, ""),
+    ("forward", Role::Forward, ""),
+    ("forward_perm", Role::Forward, ""),
+    ("minor", Role::Value, "ulong"),
+    ("system", Role::Value, "string"),
+];
+
 /// Where the texts of an interface and of calls of it, which are refused with this fault, have it.
 pub fn of_calls(alloc: Global, interface: &[u8], calls: &[u8], fault: FormFault) -> Option<Place> {
     let (Ok(offered), Ok(calls)) = (parse_json(alloc, interface), parse_json(alloc, calls)) else {
@@ -263,7 +273,7 @@ fn answer_refusal(
     }
 }
 
-// Where a refused answer has the fault: at a value, at the id of its exception, or as a whole.
+// Where a refused answer has the fault: at a part of it, or as a whole.
 fn refused_answer(
     alloc: Global,
     offered: &Json,
@@ -276,7 +286,21 @@ fn refused_answer(
         let outs = operation.get("outs").unwrap_or(&none);
         return arguments_place(alloc, "ok", outs, values, answer, Role::Answer, number);
     }
-    let (Some(id), Some(values)) = (answer.get("user"), answer.get("members")) else {
+    match answer.get("user") {
+        Some(id) => raised_place(alloc, offered, id, answer, number),
+        None => general_place(alloc, answer, number),
+    }
+}
+
+// Where an answer by an exception of this id has the fault: at the id, at a value, or as a whole.
+fn raised_place(
+    alloc: Global,
+    offered: &Json,
+    id: &Json,
+    answer: &Json,
+    number: u8,
+) -> Result<Place, NoPlace> {
+    let Some(values) = answer.get("members") else {
         return whole(alloc, Role::Answer, answer, number);
     };
     match exception_of(offered, id) {
@@ -296,6 +320,36 @@ fn refused_answer(
             Ok(place.under(key(alloc, "user")?)?)
         }
     }
+}
+
+// Where an answer that any operation may have has the fault: at the first of its parts that is
+// refused with it in the smallest answer that holds it, or as a whole.
+fn general_place(alloc: Global, answer: &Json, number: u8) -> Result<Place, NoPlace> {
+    for (name, role, desc) in GENERAL_PARTS {
+        if let Some(json) = answer.get(name) {
+            if general_refusal(alloc, name, json)? == number {
+                let beside = Json::try_from_str(alloc, desc)?;
+                let part = Part {
+                    role,
+                    beside: &beside,
+                    json,
+                };
+                let place = Place::find(alloc, part, number)?;
+                return Ok(place.under(key(alloc, name)?)?);
+            }
+        }
+    }
+    whole(alloc, Role::Answer, answer, number)
+}
+
+// The number of the fault of a part of such an answer, in the smallest answer that holds it.
+fn general_refusal(alloc: Global, name: &str, json: &Json) -> Result<u8, AllocError> {
+    let answer = match name {
+        "completion" | "minor" => json!(in alloc; {"system": "", (name): json})?,
+        _ => json!(in alloc; {(name): json})?,
+    };
+    let none = json!(in alloc; {})?;
+    answer_refusal(alloc, &none, "", &none, &answer)
 }
 
 // The members of the exception of this id, as JSON, where the interface has it.
