@@ -18,7 +18,8 @@ def some_calls(rng, interface):
 
 
 def some_answers(rng, interface):
-    """A result, an exception or a forward for each operation that isn't oneway."""
+    """A result, an exception or a forward for each operation that isn't oneway, or for some of them,
+    and a default."""
     exceptions = list(interface.get('exceptions', {}).items())
     answers = {}
     for name, operation in interface['operations'].items():
@@ -31,6 +32,9 @@ def some_answers(rng, interface):
             answers[name] = {'user': told, 'members': some_values(rng, members)}
         else:
             answers[name] = {'ok': some_values(rng, operation.get('outs', []))}
+    if rng.random() < 0.3:
+        answers = {name: answer for name, answer in answers.items() if rng.random() < 0.5}
+        answers['*'] = general_answer(rng)
     return answers
 
 

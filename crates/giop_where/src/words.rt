@@ -72,7 +72,9 @@ fn wanted(role: Role) -> &'static str {
         Role::Calls => "a list of calls",
         Role::Call => "an object of id, operation and ins, with a value for each of the ins,",
         Role::Offered => "the name of an operation of the interface",
-        Role::Answers => "an answer for each operation that isn't oneway, and for no other,",
+        Role::Answers => {
+            "an answer for each operation that isn't oneway, or * for those left out, and no other,"
+        }
         Role::Answer => ANSWER,
         Role::Raised => "the id of an exception of the interface",
         Role::Completion => "a whole number from 0 to 2",

@@ -69,7 +69,8 @@ fn system_members(json: &Json) -> usize
     count
 }
 
-// The minor code of a system exception, 0 where it is left out; `None` where it is no unsigned long.
+// The minor code of a system exception, 0 where it is left out; `None` where it is no unsigned
+// long.
 fn minor_of(alloc: Global, json: &Json) -> Result<Option<u32>, FormFault>
     ensures { Shows (λ minor. minor) result (minor_in (get (codes "minor") (view json.now))) }
 {

@@ -218,11 +218,62 @@ fn answers_place(
         return whole(alloc, Role::Answers, answers, number);
     };
     for (name, answer) in object.iter() {
-        if let Some(place) = answer_place(alloc, offered, name.as_str(), answer, number)? {
+        if let Some(place) = member_place(alloc, offered, answers, name.as_str(), answer, number)? {
             return Ok(place.under(Step::Key(name.clone()?))?);
         }
     }
     whole(alloc, Role::Answers, answers, number)
+}
+
+// Where the member of a name has the fault, if the answer there is refused with it.
+fn member_place(
+    alloc: Global,
+    offered: &Json,
+    answers: &Json,
+    name: &str,
+    answer: &Json,
+    number: u8,
+) -> Result<Option<Place>, NoPlace> {
+    let none = json!(in alloc; {})?;
+    let operations = offered.get("operations").unwrap_or(&none);
+    match operations.get(name) {
+        Some(operation) => answer_place(alloc, offered, name, operation, answer, number),
+        None if name == "*" => default_place(alloc, offered, operations, answers, answer, number),
+        None => {
+            let name = Json::try_from_str(alloc, name)?;
+            Ok(Some(whole(alloc, Role::Offered, &name, number)?))
+        }
+    }
+}
+
+// Where a default has the fault: beside the first operation without an answer of its own beside
+// which it is refused, or else by its form alone.
+fn default_place(
+    alloc: Global,
+    offered: &Json,
+    operations: &Json,
+    answers: &Json,
+    answer: &Json,
+    number: u8,
+) -> Result<Option<Place>, NoPlace> {
+    if let Some(operations) = operations.as_object() {
+        for (name, operation) in operations.iter() {
+            let oneway = operation.get("oneway").and_then(Json::as_bool);
+            if oneway == Some(true) || answers.get(name.as_str()).is_some() {
+                continue;
+            }
+            let (name, operation) = (name.as_str(), operation);
+            let place = answer_place(alloc, offered, name, operation, answer, number)?;
+            if place.is_some() {
+                return Ok(place);
+            }
+        }
+    }
+    if number != fault_code(FormFault::BadShape) {
+        return Ok(None);
+    }
+    let none = json!(in alloc; {})?;
+    answer_place(alloc, offered, "", &none, answer, number)
 }
 
 // Where an answer has the fault, if it alone is refused with it.
@@ -230,17 +281,10 @@ fn answer_place(
     alloc: Global,
     offered: &Json,
     name: &str,
+    operation: &Json,
     answer: &Json,
     number: u8,
 ) -> Result<Option<Place>, NoPlace> {
-    let operation = match offered.get("operations") {
-        Some(operations) => operations.get(name),
-        None => None,
-    };
-    let Some(operation) = operation else {
-        let name = Json::try_from_str(alloc, name)?;
-        return Ok(Some(whole(alloc, Role::Offered, &name, number)?));
-    };
     if answer_refusal(alloc, offered, name, operation, answer)? != number {
         return Ok(None);
     }
