@@ -16,7 +16,7 @@ MESSAGE_ERROR = message('MessageError', 2, False, b'')
 
 @dataclass
 class Answer:
-    """A result or a user exception: its status, and the body's types and values."""
+    """A result, an exception or a forward: its status, and the body's types and values."""
     status: int
     kinds: list
     values: list

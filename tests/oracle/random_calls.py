@@ -9,6 +9,7 @@ from loose import damaged
 from random_streams import message
 
 EXCEPTION = b'IDL:omg.org/CORBA/NO_IMPLEMENT:1.0'
+CORBALOCS = ('corbaloc::h', 'corbaloc::1.2@h:1,iiop:1.1@h2/k%00%25')
 
 
 def some_calls(rng, interface):
@@ -17,18 +18,39 @@ def some_calls(rng, interface):
 
 
 def some_answers(rng, interface):
-    """A result or an exception for each operation that isn't oneway."""
+    """A result, an exception or a forward for each operation that isn't oneway, or for some of them,
+    and a default."""
     exceptions = list(interface.get('exceptions', {}).items())
     answers = {}
     for name, operation in interface['operations'].items():
         if operation.get('oneway'):
             continue
-        if exceptions and rng.random() < 0.5:
+        if rng.random() < 0.3:
+            answers[name] = general_answer(rng)
+        elif exceptions and rng.random() < 0.5:
             told, members = rng.choice(exceptions)
             answers[name] = {'user': told, 'members': some_values(rng, members)}
         else:
             answers[name] = {'ok': some_values(rng, operation.get('outs', []))}
+    if rng.random() < 0.3:
+        answers = {name: answer for name, answer in answers.items() if rng.random() < 0.5}
+        answers['*'] = general_answer(rng)
     return answers
+
+
+def general_answer(rng):
+    """What any operation may be answered: a system exception, or a forward; not one for good, which
+    is of 1.2 alone."""
+    if rng.random() < 0.4:
+        return {'forward': json_form(REFERENCE, random_types.reference(rng))}
+    if rng.random() < 0.2:
+        return {'forward': rng.choice(CORBALOCS)}
+    answer = {'system': EXCEPTION.decode()}
+    if rng.random() < 0.5:
+        answer['minor'] = rng.choice((0, 7, 2 ** 32 - 1))
+    if rng.random() < 0.5:
+        answer['completion'] = rng.randrange(3)
+    return answer
 
 
 def some_values(rng, members):

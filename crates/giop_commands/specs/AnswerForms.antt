@@ -1,9 +1,9 @@
 -- The JSON of answers (docs/FORMATS.md, "Calls and answers"). A part may be of another form, or of
 -- the right one and then fit or not: it is `None`, `Some None`, or what fits.
-use Rattle.std.specs.Prelude.{ℕ, codes, Bool, true, false, ◌&&◌, not, if◌then◌else◌, count_by}
+use Rattle.std.specs.Prelude.{ℕ, ◌+◌, codes, Bool, true, false, ◌&&◌, not, if◌then◌else◌, count_by}
 use Rattle.std.specs.Prelude.{List, [], ◌∷◌, Vec, Option, Some, None, option_map, option_and_then}
 use Rattle.std.specs.Prelude.{is_some, Result, Ok, Err}
-use Rattle.std.specs.BTreeMap.{values}
+use Rattle.std.specs.Option.{option_or}
 use Rattle.std.specs.declared.alloc.Global.{Global}
 use Rattle.serde_json.specs.Data.{Data}
 use Rattle.serde_json.specs.Find.{get}
@@ -12,6 +12,7 @@ use Rattle.giop_types.specs.declared.json.form_fault.FormFault.TheVariants.{BadJ
 use Rattle.giop_types.specs.declared.json.form_fault.FormFault.TheVariants.{Unfit}
 use Rattle.giop_types.specs.declared.json.interface.Interface.{Interface}
 use Rattle.giop_types.specs.declared.json.interface.Operation.{Operation}
+use Rattle.giop_types.specs.declared.json.parameters.Parameter.{Parameter}
 use Rattle.giop_types.specs.declared.json.parameters.Parameters.{Parameters}
 use Rattle.giop_types.specs.JsonForms.DescFromJson.{by_key, json_in}
 use Rattle.giop_types.specs.JsonForms.FromJson.{in_object}
@@ -19,14 +20,15 @@ use Rattle.giop_types.specs.JsonForms.JsonText.{text_of}
 use Rattle.giop_commands.specs.declared.serve.answers.AnswerGiven.{AnswerGiven}
 use Rattle.giop_commands.specs.declared.serve.answers.AnswerGiven.TheVariants.{Ok as result, User}
 use Rattle.giop_commands.specs.CallForms.{octets_in, values_in}
+use Rattle.giop_commands.specs.GeneralForms.{general_by}
 use Rattle.giop_msg.specs.Messages.Reply.{exception_of}
 use Rattle.giop_msg.specs.Messages.Request.{operation_of}
 
 -- ---- what is given for one operation
 
--- a result, by its outs
-abbrev pub result_in : Operation → Data → Option (Option AnswerGiven)
-result_in operation outs = option_map (option_map result) (values_in operation.outs.list.items outs)
+-- a result, by the outs
+abbrev pub result_in : List Parameter → Data → Option (Option AnswerGiven)
+result_in outs d = option_map (option_map result) (values_in outs d)
 
 -- an exception that the interface has, by its id and its members
 abbrev pub raised : List ℕ → Data → Option Parameters → Option (Option AnswerGiven)
@@ -40,22 +42,29 @@ raised_in interface id d = option_and_then (λ octets. option_and_then
     (λ members. raised octets members (exception_of interface octets))
     (get (codes "members") d)) (octets_in id)
 
--- what an operation is answered: a result alone, or an exception's id and members
-abbrev pub given_by : Interface → Operation → Data → Option (Option AnswerGiven)
-given_by interface operation d =
-    by_key (get (codes "ok") d) (λ outs. in_object 1 (λ x. result_in operation outs) d)
-    (by_key (get (codes "user") d) (λ id. in_object 2 (raised_in interface id) d) None)
+-- what an operation with these outs is answered: a result alone, an exception's id and members, or
+-- what any operation may be
+abbrev pub given_by : Interface → List Parameter → Data → Option (Option AnswerGiven)
+given_by interface outs d =
+    by_key (get (codes "ok") d) (λ values. in_object 1 (λ x. result_in outs values) d)
+    (by_key (get (codes "user") d) (λ id. in_object 2 (raised_in interface id) d) (general_by d))
 
--- what an operation is answered, by the member of its name
+-- the answer to those operations that have none of their own
+abbrev pub default_in : Data → Option Data
+default_in d = get (codes "*") d
+
+-- what an operation is answered, by the member of its name, else by the default
 abbrev pub given_under : Interface → List ℕ → Data → Operation → Option (Option AnswerGiven)
 given_under interface name d operation =
-    option_and_then (given_by interface operation) (get (text_of name) d)
+    option_and_then (given_by interface operation.outs.list.items)
+    (option_or (get (text_of name) d) (default_in d))
 
--- what is given for an operation of this name: nothing where the interface hasn't it, no member
--- stands there, or what stands there is no answer to it
+-- what is given for an operation of this name: nothing where it is oneway or the interface hasn't
+-- it, no member stands for it, or what stands there is no answer to it
 abbrev pub given_in : Interface → Data → List ℕ → Option AnswerGiven
 given_in interface answers name = option_and_then
-    (λ operation. option_and_then (λ given. given) (given_under interface name answers operation))
+    (λ operation. if operation.oneway then None
+    else option_and_then (λ given. given) (given_under interface name answers operation))
     (operation_of interface name)
 
 -- ---- the answers to all operations
@@ -73,14 +82,39 @@ are_fit interface d (e ∷ es) = option_and_then
     (λ one. option_map (λ more. one && more) (are_fit interface d es))
     (is_fit interface d e.0.items e.1)
 
--- how many operations are answered: those that aren't oneway
-abbrev pub answered : Interface → ℕ
-answered interface = count_by (λ operation. not operation.oneway) (values interface.operations)
+-- whether an operation has an answer of its own, which no oneway one has
+abbrev pub has_own : Data → List ℕ → Operation → Bool
+has_own d name operation = not operation.oneway && is_some (get (text_of name) d)
+
+-- how many do
+abbrev pub own_count : Interface → Data → ℕ
+own_count interface d = count_by (λ e. has_own d e.0.items e.1) interface.operations.entries
+
+-- whether an operation that was looked up is answered: it is there, and not oneway
+abbrev pub is_answered : Option Operation → Bool
+is_answered (Some operation) = not operation.oneway
+is_answered None = false
+
+-- how many members are a default: that of its key, unless this names an operation that is answered
+abbrev pub default_count : Interface → Data → ℕ
+default_count interface d =
+    if is_some (default_in d) && not (is_answered (operation_of interface (codes "*"))) then 1
+    else 0
+
+-- how many members answers have
+abbrev pub member_count : Interface → Data → ℕ
+member_count interface d = own_count interface d + default_count interface d
+
+-- whether a default has the form of an answer, be it used or not
+abbrev pub default_formed : Interface → Option Data → Option Bool
+default_formed interface None = Some true
+default_formed interface (Some d) = option_map (λ given. true) (given_by interface [] d)
 
 -- whether all that is given fits, in an object that answers no other operation
 abbrev pub all_fit : Interface → Data → Option Bool
-all_fit interface d =
-    in_object (answered interface) (λ x. are_fit interface x interface.operations.entries) d
+all_fit interface d = in_object (member_count interface d)
+    (λ x. option_and_then (λ formed. are_fit interface x interface.operations.entries)
+    (default_formed interface (default_in x))) d
 
 -- a text that answers the operations
 abbrev pub if_fit : Data → Option Bool → Result Data FormFault

@@ -6,7 +6,7 @@ use Rattle.giop_types.specs.declared.json.interface.Interface.{Interface}
 use Rattle.giop_msg.specs.declared.messages.completion.Completion.TheVariants.{No}
 use Rattle.giop_msg.specs.declared.messages.reply.Reply.{Reply as AnyReply}
 use Rattle.giop_msg.specs.declared.messages.reply_body.ReplyBody.{ReplyBody}
-use Rattle.giop_msg.specs.declared.messages.reply_body.ReplyBody.TheVariants.{NoException, UserException, SystemException, NeedsAddressing}
+use Rattle.giop_msg.specs.declared.messages.reply_body.ReplyBody.TheVariants.{NoException, UserException, SystemException, Forward, ForwardPerm, NeedsAddressing}
 use Rattle.giop_msg.specs.declared.messages.request.Request.{Request}
 use Rattle.giop_msg.specs.declared.messages.request_fault.RequestFault.{RequestFault}
 use Rattle.giop_msg.specs.declared.messages.request_fault.RequestFault.TheVariants.{Header, Operation, Body}
@@ -19,7 +19,8 @@ use Rattle.giop_calls.specs.declared.server.entry.ServerEntry.{ServerEntry}
 use Rattle.giop_calls.specs.declared.server.entry.ServerEntry.TheVariants.{Asked, Undecoded, LocateAsked}
 use Rattle.giop_calls.specs.declared.server.undecoded.UndecodedCall.{UndecodedCall}
 use Rattle.giop_commands.specs.declared.serve.answers.AnswerGiven.{AnswerGiven}
-use Rattle.giop_commands.specs.declared.serve.answers.AnswerGiven.TheVariants.{Ok as ok, User}
+use Rattle.giop_commands.specs.declared.serve.answers.AnswerGiven.TheVariants as given
+use Rattle.giop_commands.specs.declared.serve.answers.AnswerGiven.TheVariants.{Ok as ok, User, System}
 use Rattle.giop_commands.specs.declared.serve.answering.Answer.{Answer}
 use Rattle.giop_commands.specs.declared.serve.answering.Answer.TheVariants.{Given, NoObject, BadOperation, Marshal, Addressing}
 use Rattle.giop_commands.specs.declared.serve.answering.Due.{Due}
@@ -67,11 +68,14 @@ abbrev pub result_for : Bool → ReplyBody → ReplyBody
 result_for true (NoException outs) = NoException []
 result_for quiet body = body
 
--- what is given for an operation: a result or an exception; a result without values where nothing
--- is, as for a oneway operation
+-- what is given for an operation: a result, an exception or a forward; a result without values
+-- where nothing is, as for a oneway operation
 abbrev pub given_body : Option AnswerGiven → ReplyBody
 given_body (Some (ok outs)) = NoException outs
 given_body (Some (User id members)) = UserException id members
+given_body (Some (System id minor completion)) = SystemException id minor completion
+given_body (Some (given.Forward ior)) = Forward ior
+given_body (Some (given.ForwardPerm ior)) = ForwardPerm ior
 given_body None = NoException []
 
 -- what is given for the operation of a Request, by the answers to the operations of an interface

@@ -15,6 +15,7 @@ pub mod Steps
 pub mod Acts
 pub mod Turns
 pub mod CallForms
+pub mod GeneralForms
 pub mod AnswerForms
 pub mod Answering
 pub mod Calling

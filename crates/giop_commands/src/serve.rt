@@ -17,6 +17,7 @@ ghost use Rattle.giop_commands.specs.Table.{server_entry_line};
 
 pub mod answering;
 pub mod answers;
+pub mod general;
 pub mod given;
 pub mod reference;
 pub mod streaming;

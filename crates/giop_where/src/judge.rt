@@ -40,7 +40,9 @@ pub fn refusal_of(alloc: Global, part: Part<'_>) -> Result<u8, NoPlace>
         | Role::Offered
         | Role::Answers
         | Role::Answer
-        | Role::Raised => Ok(0),
+        | Role::Raised
+        | Role::Completion
+        | Role::Forward => Ok(0),
         Role::Value => value_refusal(alloc, part.beside, part.json),
         Role::Interface
         | Role::Operations

@@ -58,6 +58,10 @@ pub enum Role {
     Answer,
     /// The id of an exception of the interface.
     Raised,
+    /// The completion of a system exception.
+    Completion,
+    /// Where an object is instead.
+    Forward,
     /// A part of what is judged whole.
     Nothing,
 }

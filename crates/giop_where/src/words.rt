@@ -10,6 +10,10 @@ const SHOWN: usize = 60;
 // `fault_code` of a description that is nested too deep.
 const TOO_DEEP: u8 = 14;
 
+// What is wanted of an answer.
+const ANSWER: &str =
+    "an object of ok, user and members, system, forward or forward_perm, with a value for each,";
+
 /// What is wanted of a part that is refused with a fault of this number, and what stands there.
 pub fn words_of(alloc: Global, part: Part<'_>, number: u8) -> Result<String, AllocError> {
     let shown = shown_of(alloc, part.json)?;
@@ -68,9 +72,13 @@ fn wanted(role: Role) -> &'static str {
         Role::Calls => "a list of calls",
         Role::Call => "an object of id, operation and ins, with a value for each of the ins,",
         Role::Offered => "the name of an operation of the interface",
-        Role::Answers => "an answer for each operation that isn't oneway, and for no other,",
-        Role::Answer => "an object of ok, or of user and members, with a value for each,",
+        Role::Answers => {
+            "an answer for each operation that isn't oneway, or * for those left out, and no other,"
+        }
+        Role::Answer => ANSWER,
         Role::Raised => "the id of an exception of the interface",
+        Role::Completion => "a whole number from 0 to 2",
+        Role::Forward => "the text of a reference, IOR: and hexadecimal digits, or a corbaloc,",
         _ => "another form",
     }
 }

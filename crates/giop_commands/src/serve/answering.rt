@@ -198,6 +198,19 @@ fn given_body(alloc: Global, given: Option<AnswerGiven>) -> ReplyBody
     match given {
         Some(AnswerGiven::Ok(outs)) => ReplyBody::NoException(outs),
         Some(AnswerGiven::User { id, members }) => ReplyBody::UserException { id, members },
+        Some(
+            AnswerGiven::System {
+                id,
+                minor,
+                completion,
+            },
+        ) => ReplyBody::SystemException {
+            id,
+            minor,
+            completion,
+        },
+        Some(AnswerGiven::Forward(ior)) => ReplyBody::Forward(ior),
+        Some(AnswerGiven::ForwardPerm(ior)) => ReplyBody::ForwardPerm(ior),
         None => ReplyBody::NoException(ValueList::new(alloc)),
     }
 }

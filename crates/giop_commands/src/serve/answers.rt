@@ -1,15 +1,19 @@
 //! The answers that a file gives `serve`, in JSON (docs/FORMATS.md, "Calls and answers"). Their
 //! form is `answers_in` in specs/AnswerForms.antt: change both.
-ghost use Rattle.std.specs.Prelude.{◌≡◌, ◌⊎◌, IfOk, IfErr, string_bytes};
+ghost use Rattle.std.specs.Prelude.{◌≡◌, ◌⊎◌, codes, IfOk, IfErr, string_bytes};
+ghost use Rattle.serde_json.specs.Find.{get};
 ghost use Rattle.serde_json.specs.View.{view};
 ghost use Rattle.giop_types.specs.declared.json.form_fault.FormFault.TheVariants.{NoMemory};
 ghost use Rattle.giop_types.specs.JsonForms.FromJson.{Shows};
 ghost use Rattle.giop_types.specs.JsonForms.JsonText.{text_of};
-ghost use Rattle.giop_commands.specs.AnswerForms.{answered, answers_in, are_fit, given_by, given_in, given_under, is_fit, raised, raised_in, result_in};
+ghost use Rattle.giop_commands.specs.AnswerForms.{answers_in, are_fit, default_count, default_formed, given_by, given_in, given_under, has_own, is_fit, member_count, own_count, raised, raised_in, result_in};
 
+use crate::serve::general::general_of;
 use crate::session::json::{is_object_of, octets_of, values_of};
 use giop_cdr::OctetList;
-use giop_types::{FormFault, Interface, Operation, Parameters, ValueList, parse_json};
+use giop_ior::Ior;
+use giop_msg::Completion;
+use giop_types::{FormFault, Interface, Operation, Parameter, Parameters, ValueList, parse_json};
 use serde_json::Value as Json;
 use std::alloc::{AllocError, Global};
 
@@ -25,12 +29,25 @@ pub enum AnswerGiven {
         /// The members of the exception, in their order.
         members: ValueList,
     },
+    /// A system exception.
+    System {
+        /// The repository id of the exception.
+        id: OctetList,
+        /// The minor code.
+        minor: u32,
+        /// Whether the operation was carried out.
+        completion: Completion,
+    },
+    /// Where the object is, for this call.
+    Forward(Ior),
+    /// Where the object is from now on.
+    ForwardPerm(Ior),
 }
 
 /// What the operations of an interface are answered, each but the oneway ones.
 #[derive(Debug, Drop)]
 pub struct Answers {
-    /// An object with a member for each of them.
+    /// An object with a member for each of them, or with one under `*` for those without their own.
     pub json: Json,
 }
 
@@ -45,8 +62,9 @@ impl Answers {
     ) -> Result<Option<AnswerGiven>, AllocError>
         ensures { IfOk result (λ given. given ≡ given_in interface.now (view self.now.json) name.now) }
     {
-        let Some(operation) = interface.operation(name) else {
-            return Ok(None);
+        let operation = match interface.operation(name) {
+            Some(operation) if !operation.oneway => operation,
+            _ => return Ok(None),
         };
         match given_under(alloc, interface, name, &self.json, operation) {
             Ok(given) => Ok(given),
@@ -57,15 +75,22 @@ impl Answers {
 }
 
 /// The answers that a JSON text gives: an object with a member for each operation of the interface
-/// that isn't oneway, and no other. A member is `{"ok":[VALUE,..]}` with the operation's outs, or
-/// `{"user":ID,"members":[VALUE,..]}` with an exception of the interface and its members.
+/// that isn't oneway, and no other. A member `*` stands for each of these that has none of its own.
+/// A member is one of these:
+///
+/// - `{"ok":[VALUE,..]}`, with the operation's outs.
+/// - `{"user":ID,"members":[VALUE,..]}`, with an exception of the interface and its members.
+/// - `{"system":ID,"minor":N,"completion":N}`; `minor` and `completion` may be left out.
+/// - `{"forward":TEXT}` or `{"forward_perm":TEXT}`, with the text of a reference or a corbaloc.
 ///
 /// Refused as the first of these that holds; in place of any it may be NoMemory, where it is out of
 /// memory:
 ///
 /// - BadJson, where the text is no JSON.
 /// - BadShape, where it, or a part of it, has another form, or an exception isn't in the interface.
-/// - Unfit, where a value doesn't fit, or there are more or fewer values than outs or members.
+/// - Unfit, where a value doesn't fit, or there are more or fewer values than outs or members, or a
+///   minor code is no unsigned long, a completion is above 2, or octets spell no reference of a
+///   corbaloc.
 pub fn answers_from_json(
     alloc: Global,
     interface: &Interface,
@@ -77,9 +102,10 @@ pub fn answers_from_json(
         (λ e. (e ≡ NoMemory) ⊎ (answers_in interface.now text.now ≡ Err e)) }
 {
     let json = parse_json(alloc, text)?;
-    if !is_object_of(answered(interface), &json) {
+    if !is_object_of(member_count(alloc, interface, &json)?, &json) {
         return Err(FormFault::BadShape);
     }
+    default_formed(alloc, interface, &json)?;
     if are_fit(alloc, interface, &json)? {
         Ok(Answers { json })
     } else {
@@ -87,17 +113,64 @@ pub fn answers_from_json(
     }
 }
 
-// How many operations are answered: those that aren't oneway.
-fn answered(interface: &Interface) -> usize
-    ensures { result ≡ answered interface.now }
+// How many members answers have.
+fn member_count(alloc: Global, interface: &Interface, json: &Json) -> Result<usize, AllocError>
+    ensures { IfOk result (λ count. count ≡ member_count interface.now (view json.now)) }
+{
+    let own = own_count(alloc, interface, json)?;
+    match own.checked_add(default_count(interface, json)) {
+        Some(count) => Ok(count),
+        None => Err(AllocError),
+    }
+}
+
+// How many operations have an answer of their own.
+fn own_count(alloc: Global, interface: &Interface, json: &Json) -> Result<usize, AllocError>
+    ensures { IfOk result (λ count. count ≡ own_count interface.now (view json.now)) }
 {
     let mut count: usize = 0;
-    for operation in interface.operations().values() {
-        if !operation.oneway {
+    for (name, operation) in interface.operations().iter() {
+        if has_own(alloc, json, name.as_slice(), operation)? {
             count += 1;
         }
     }
-    count
+    Ok(count)
+}
+
+fn has_own(
+    alloc: Global,
+    json: &Json,
+    name: &[u8],
+    operation: &Operation,
+) -> Result<bool, AllocError>
+    ensures { IfOk result (λ own. own ≡ has_own (view json.now) name.now operation.now) }
+{
+    let key = text_of(alloc, name)?;
+    Ok(!operation.oneway && json.get(key.as_str()).is_some())
+}
+
+// How many members are a default: the one under `*`, unless an operation of that name is answered.
+fn default_count(interface: &Interface, json: &Json) -> usize
+    ensures { result ≡ default_count interface.now (view json.now) }
+{
+    if json.get("*").is_none() {
+        return 0;
+    }
+    match interface.operation(b"*") {
+        Some(operation) if !operation.oneway => 0,
+        _ => 1,
+    }
+}
+
+// Sees that a default has the form of an answer, whether it is used or not.
+fn default_formed(alloc: Global, interface: &Interface, json: &Json) -> Result<bool, FormFault>
+    ensures { Shows (λ formed. formed) result
+        (default_formed interface.now (get (codes "*") (view json.now))) }
+{
+    if let Some(given) = json.get("*") {
+        given_of(alloc, interface, &[], given)?;
+    }
+    Ok(true)
 }
 
 // Whether what is given for each operation fits.
@@ -131,7 +204,7 @@ fn is_fit(
     Ok(given.is_some())
 }
 
-// What an operation is answered, by the member of its name.
+// What an operation is answered, by the member of its name, else by the default.
 fn given_under(
     alloc: Global,
     interface: &Interface,
@@ -142,44 +215,52 @@ fn given_under(
     ensures { Shows (λ given. given) result
         (given_under interface.now name.now (view json.now) operation.now) }
 {
+    let outs = operation.outs.as_slice();
     let key = text_of(alloc, name)?;
-    match json.get(key.as_str()) {
-        Some(json) => given_of(alloc, interface, operation, json),
+    if let Some(own) = json.get(key.as_str()) {
+        return given_of(alloc, interface, outs, own);
+    }
+    match json.get("*") {
+        Some(given) => given_of(alloc, interface, outs, given),
         None => Err(FormFault::BadShape),
     }
 }
 
-// What an operation is answered; `None` where the form is right, and a value doesn't fit.
+// What an operation with these outs is answered; `None` where the form is right, and a value
+// doesn't fit.
 fn given_of(
     alloc: Global,
     interface: &Interface,
-    operation: &Operation,
+    outs: &[Parameter],
     json: &Json,
 ) -> Result<Option<AnswerGiven>, FormFault>
     ensures { Shows (λ given. given) result
-        (given_by interface.now operation.now (view json.now)) }
+        (given_by interface.now outs.now (view json.now)) }
 {
-    if let Some(outs) = json.get("ok") {
+    if let Some(values) = json.get("ok") {
         if !is_object_of(1, json) {
             return Err(FormFault::BadShape);
         }
-        return result_of(alloc, operation, outs);
+        return result_of(alloc, outs, values);
     }
-    match json.get("user") {
-        Some(id) if is_object_of(2, json) => exception_of(alloc, interface, id, json),
-        _ => Err(FormFault::BadShape),
+    if let Some(id) = json.get("user") {
+        if !is_object_of(2, json) {
+            return Err(FormFault::BadShape);
+        }
+        return exception_of(alloc, interface, id, json);
     }
+    general_of(alloc, json)
 }
 
 // A result, by the list of its outs.
 fn result_of(
     alloc: Global,
-    operation: &Operation,
-    outs: &Json,
+    outs: &[Parameter],
+    values: &Json,
 ) -> Result<Option<AnswerGiven>, FormFault>
-    ensures { Shows (λ given. given) result (result_in operation.now (view outs.now)) }
+    ensures { Shows (λ given. given) result (result_in outs.now (view values.now)) }
 {
-    match values_of(alloc, operation.outs.as_slice(), outs)? {
+    match values_of(alloc, outs, values)? {
         Some(outs) => Ok(Some(AnswerGiven::Ok(outs))),
         None => Ok(None),
     }

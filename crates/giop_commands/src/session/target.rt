@@ -56,7 +56,8 @@ pub fn target_of(alloc: Global, text: &[u8]) -> Result<Targeted, Failure>
     }
 }
 
-fn is_reference(text: &[u8]) -> bool
+/// Whether a text is that of a reference: it begins with `IOR:`, in any case.
+pub fn is_reference(text: &[u8]) -> bool
     ensures { result ≡ is_reference text.now }
 {
     text.len() >= 4 && text[..4].eq_ignore_ascii_case(b"IOR:")

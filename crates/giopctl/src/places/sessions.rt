@@ -8,6 +8,16 @@ use giop_where::{NoPlace, Part, Place, Role, Step, fault_code};
 use serde_json::{Value as Json, json};
 use std::alloc::{AllocError, Global};
 
+// The parts of an answer that any operation may have, in the order of their keys: what each is, and
+// the description of a value.
+const GENERAL_PARTS: [(&str, Role, &str); 5] = [
+    ("completion", Role::Completion, ""),
+    ("forward", Role::Forward, ""),
+    ("forward_perm", Role::Forward, ""),
+    ("minor", Role::Value, "ulong"),
+    ("system", Role::Value, "string"),
+];
+
 /// Where the texts of an interface and of calls of it, which are refused with this fault, have it.
 pub fn of_calls(alloc: Global, interface: &[u8], calls: &[u8], fault: FormFault) -> Option<Place> {
     let (Ok(offered), Ok(calls)) = (parse_json(alloc, interface), parse_json(alloc, calls)) else {
@@ -208,11 +218,62 @@ fn answers_place(
         return whole(alloc, Role::Answers, answers, number);
     };
     for (name, answer) in object.iter() {
-        if let Some(place) = answer_place(alloc, offered, name.as_str(), answer, number)? {
+        if let Some(place) = member_place(alloc, offered, answers, name.as_str(), answer, number)? {
             return Ok(place.under(Step::Key(name.clone()?))?);
         }
     }
     whole(alloc, Role::Answers, answers, number)
+}
+
+// Where the member of a name has the fault, if the answer there is refused with it.
+fn member_place(
+    alloc: Global,
+    offered: &Json,
+    answers: &Json,
+    name: &str,
+    answer: &Json,
+    number: u8,
+) -> Result<Option<Place>, NoPlace> {
+    let none = json!(in alloc; {})?;
+    let operations = offered.get("operations").unwrap_or(&none);
+    match operations.get(name) {
+        Some(operation) => answer_place(alloc, offered, name, operation, answer, number),
+        None if name == "*" => default_place(alloc, offered, operations, answers, answer, number),
+        None => {
+            let name = Json::try_from_str(alloc, name)?;
+            Ok(Some(whole(alloc, Role::Offered, &name, number)?))
+        }
+    }
+}
+
+// Where a default has the fault: beside the first operation without an answer of its own beside
+// which it is refused, or else by its form alone.
+fn default_place(
+    alloc: Global,
+    offered: &Json,
+    operations: &Json,
+    answers: &Json,
+    answer: &Json,
+    number: u8,
+) -> Result<Option<Place>, NoPlace> {
+    if let Some(operations) = operations.as_object() {
+        for (name, operation) in operations.iter() {
+            let oneway = operation.get("oneway").and_then(Json::as_bool);
+            if oneway == Some(true) || answers.get(name.as_str()).is_some() {
+                continue;
+            }
+            let (name, operation) = (name.as_str(), operation);
+            let place = answer_place(alloc, offered, name, operation, answer, number)?;
+            if place.is_some() {
+                return Ok(place);
+            }
+        }
+    }
+    if number != fault_code(FormFault::BadShape) {
+        return Ok(None);
+    }
+    let none = json!(in alloc; {})?;
+    answer_place(alloc, offered, "", &none, answer, number)
 }
 
 // Where an answer has the fault, if it alone is refused with it.
@@ -220,17 +281,10 @@ fn answer_place(
     alloc: Global,
     offered: &Json,
     name: &str,
+    operation: &Json,
     answer: &Json,
     number: u8,
 ) -> Result<Option<Place>, NoPlace> {
-    let operation = match offered.get("operations") {
-        Some(operations) => operations.get(name),
-        None => None,
-    };
-    let Some(operation) = operation else {
-        let name = Json::try_from_str(alloc, name)?;
-        return Ok(Some(whole(alloc, Role::Offered, &name, number)?));
-    };
     if answer_refusal(alloc, offered, name, operation, answer)? != number {
         return Ok(None);
     }
@@ -263,7 +317,7 @@ fn answer_refusal(
     }
 }
 
-// Where a refused answer has the fault: at a value, at the id of its exception, or as a whole.
+// Where a refused answer has the fault: at a part of it, or as a whole.
 fn refused_answer(
     alloc: Global,
     offered: &Json,
@@ -276,7 +330,21 @@ fn refused_answer(
         let outs = operation.get("outs").unwrap_or(&none);
         return arguments_place(alloc, "ok", outs, values, answer, Role::Answer, number);
     }
-    let (Some(id), Some(values)) = (answer.get("user"), answer.get("members")) else {
+    match answer.get("user") {
+        Some(id) => raised_place(alloc, offered, id, answer, number),
+        None => general_place(alloc, answer, number),
+    }
+}
+
+// Where an answer by an exception of this id has the fault: at the id, at a value, or as a whole.
+fn raised_place(
+    alloc: Global,
+    offered: &Json,
+    id: &Json,
+    answer: &Json,
+    number: u8,
+) -> Result<Place, NoPlace> {
+    let Some(values) = answer.get("members") else {
         return whole(alloc, Role::Answer, answer, number);
     };
     match exception_of(offered, id) {
@@ -296,6 +364,36 @@ fn refused_answer(
             Ok(place.under(key(alloc, "user")?)?)
         }
     }
+}
+
+// Where an answer that any operation may have has the fault: at the first of its parts that is
+// refused with it in the smallest answer that holds it, or as a whole.
+fn general_place(alloc: Global, answer: &Json, number: u8) -> Result<Place, NoPlace> {
+    for (name, role, desc) in GENERAL_PARTS {
+        if let Some(json) = answer.get(name) {
+            if general_refusal(alloc, name, json)? == number {
+                let beside = Json::try_from_str(alloc, desc)?;
+                let part = Part {
+                    role,
+                    beside: &beside,
+                    json,
+                };
+                let place = Place::find(alloc, part, number)?;
+                return Ok(place.under(key(alloc, name)?)?);
+            }
+        }
+    }
+    whole(alloc, Role::Answer, answer, number)
+}
+
+// The number of the fault of a part of such an answer, in the smallest answer that holds it.
+fn general_refusal(alloc: Global, name: &str, json: &Json) -> Result<u8, AllocError> {
+    let answer = match name {
+        "completion" | "minor" => json!(in alloc; {"system": "", (name): json})?,
+        _ => json!(in alloc; {(name): json})?,
+    };
+    let none = json!(in alloc; {})?;
+    answer_refusal(alloc, &none, "", &none, &answer)
 }
 
 // The members of the exception of this id, as JSON, where the interface has it.
