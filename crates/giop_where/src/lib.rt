@@ -22,4 +22,5 @@ pub use no_place::NoPlace;
 pub use part::Part;
 pub use place::Place;
 pub use role::Role;
+pub use shallow::is_shallow;
 pub use step::Step;

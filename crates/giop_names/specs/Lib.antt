@@ -1,0 +1,4 @@
+pub mod Scopes
+pub mod Plain
+pub mod Beside
+pub mod Interface

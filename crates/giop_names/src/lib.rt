@@ -1,0 +1,13 @@
+//! Interface files in which types have names (docs/FORMATS.md): the plain form of such a file, in
+//! which each name stands no more, but what it stands for. `Interface::from_json` of giop_types
+//! reads that.
+#![tactic(auto)]
+
+mod beside;
+mod interface;
+mod naming;
+mod rewriting;
+mod room;
+mod scope;
+
+pub use interface::{interface_id, plain_interface};

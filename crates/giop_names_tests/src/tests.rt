@@ -1,0 +1,3 @@
+mod ids;
+mod plain;
+mod refused;
