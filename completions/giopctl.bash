@@ -29,10 +29,10 @@ _giopctl() {
                 'giopctl convert corbaloc:-'*) words='--json -h --help' ;;
                 'giopctl convert encode:-'*) words='--desc --little -h --help' ;;
                 'giopctl convert decode:-'*) words='--desc --little -h --help' ;;
-                'giopctl call:-'*) words='--target --interface --stream --timeout --piece --little --message-limit --calls-limit --gathered-limit -h --help' ;;
-                'giopctl locate:'*) words='--target --timeout --little -h --help' ;;
-                'giopctl ping:'*) words='--target --timeout --little -h --help' ;;
-                'giopctl serve:'*) words='--port --interface --answers --key --key-text --ior-file --type-id --connections --stream --piece --little --message-limit --calls-limit --gathered-limit -h --help' ;;
+                'giopctl call:-'*) words='--target --interface --json --stream --timeout --piece --little --message-limit --calls-limit --gathered-limit -h --help' ;;
+                'giopctl locate:'*) words='--target --timeout --json --little -h --help' ;;
+                'giopctl ping:'*) words='--target --timeout --json --little -h --help' ;;
+                'giopctl serve:'*) words='--port --interface --answers --key --key-text --ior-file --type-id --connections --json --stream --piece --little --message-limit --calls-limit --gathered-limit -h --help' ;;
                 'giopctl:'*) words='dump check trace convert call locate ping serve help' ;;
                 'giopctl convert:'*) words='ior corbaloc encode decode help' ;;
                 'giopctl help:'*) words='dump check trace convert call locate ping serve' ;;

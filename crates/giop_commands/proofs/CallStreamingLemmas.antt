@@ -15,6 +15,7 @@ use Rattle.giop_session.specs.Calls.CallTable.{Held}
 use Rattle.giop_session.specs.Pumping.{Between, between}
 use Rattle.giop_commands.specs.declared.call.calls.CallLine.{CallLine}
 use Rattle.giop_commands.specs.declared.failure.Failure.{Failure}
+use Rattle.giop_commands.specs.declared.form.LineForm.{LineForm}
 use Rattle.giop_commands.specs.declared.session.ending.Ending.{Ending}
 use Rattle.giop_commands.specs.Acts.{Outbox}
 use Rattle.giop_commands.specs.Calling.{Asked, ClientCalls}
@@ -22,7 +23,7 @@ use Rattle.giop_commands.specs.CallStreaming.{CallsNext, Course, CourseEnds, Mak
 use Rattle.giop_commands.specs.Endings.{CallsStreamEnd, Ends}
 use Rattle.giop_commands.specs.Sessions.{Wire, told}
 use Rattle.giop_commands.specs.Streaming.{over_text}
-use Rattle.giop_commands.specs.Table.{client_entry_line}
+use Rattle.giop_commands.specs.Table.{client_entry_in}
 use Rattle.giop_commands.specs.Turns.{most_turns}
 use Rattle.giop_commands.proofs.DumpLemmas.{Appends-append}
 use Rattle.giop_commands.proofs.StepLemmas.{Before, Counted}
@@ -76,13 +77,13 @@ opened_by old new input output same =
 
 -- ---- the course of a stream
 
-module _ (asked : Asked) where
+module _ (asked : Asked) (lines : LineForm) where
   -- calls, a turn, and what is told behind it
   pub course_told : (s mid t : Between ClientCalls) (box : Outbox ClientCalls) (old new : Option (List ℕ)) (left rest : List CallLine) (well all : Bool)
       → is_done left s.state.calls ≡ false → CallsNext asked s.state.fault left rest (box_of s) None box
       → Turns asked.interface (with_box s box) true mid
-      → Appends old new (over_text is_closed (client_entry_line asked.interface) mid.state.calls.table) → t ≡ opened mid
-      → all ≡ (well && all_over_well mid.state.calls.table) → TurnTells asked (course s old left well) (course t new rest all)
+      → Appends old new (over_text is_closed (client_entry_in lines asked.interface) mid.state.calls.table) → t ≡ opened mid
+      → all ≡ (well && all_over_well mid.state.calls.table) → TurnTells asked lines (course s old left well) (course t new rest all)
   course_told s mid t box old new left rest well all pending calls turn tells taken is = record {
     pending = pending;
     box = box;
@@ -96,24 +97,24 @@ module _ (asked : Asked) where
 
   -- how it ends
   pub ends_done : (s : Between ClientCalls) (text : Option (List ℕ)) (left : List CallLine) (well : Bool) → is_done left s.state.calls ≡ true
-      → CourseEnds asked (course s text left well) None (course s text left well)
+      → CourseEnds asked lines (course s text left well) None (course s text left well)
   ends_done s text left well done = inl (record { done = done; same = refl })
 
   pub ends_off : (s t : Between ClientCalls) (box : Outbox ClientCalls) (text : Option (List ℕ)) (left rest : List CallLine) (well : Bool)
       → is_done left s.state.calls ≡ false → CallsNext asked s.state.fault left rest (box_of s) None box
-      → Turns asked.interface (with_box s box) false t → CourseEnds asked (course s text left well) None (course t text rest well)
+      → Turns asked.interface (with_box s box) false t → CourseEnds asked lines (course s text left well) None (course t text rest well)
   ends_off s t box text left rest well pending calls turn =
       inr (record { pending = pending; box = box; calls = calls; turn = turn; text = refl; well = refl })
 
   pub ends_refused : (s : Between ClientCalls) (box : Outbox ClientCalls) (text : Option (List ℕ)) (left rest : List CallLine) (well : Bool)
       (why : SessionFault) → is_done left s.state.calls ≡ false → CallsNext asked s.state.fault left rest (box_of s) (Some why) box
-      → CourseEnds asked (course s text left well) (Some why) (course (with_box s box) text rest well)
+      → CourseEnds asked lines (course s text left well) (Some why) (course (with_box s box) text rest well)
   ends_refused s box text left rest well why pending calls =
       record { pending = pending; box = box; calls = calls; end = refl; text = refl; well = refl }
 
   -- behind so many turns
-  pub streamed : (n : ℕ) (s mid t : Course) (refused : Option SessionFault) → Counted (λ turn s t. TurnTells asked s t) n s mid → n < most_turns
-      → CourseEnds asked mid refused t → Streams asked s refused t
+  pub streamed : (n : ℕ) (s mid t : Course) (refused : Option SessionFault) → Counted (λ turn s t. TurnTells asked lines s t) n s mid → n < most_turns
+      → CourseEnds asked lines mid refused t → Streams asked lines s refused t
   streamed n s mid t refused before few ends = record {
     turns = before.steps;
     few = subst (λ k. k < most_turns) (sym before.count) few;
@@ -125,11 +126,11 @@ module _ (asked : Asked) where
   -- the whole of it
   pub is_streamed : (before after : Wire) (old text new : Option (List ℕ)) (refused : Option SessionFault) (outgoing : List ℕ) (unread : Unread)
       (still : ClientCalls) (fault : Option SessionFault) (left : List CallLine) (well : Bool) (r : Result Ending Failure)
-      → Streams asked (course (new_client asked.limits before.input before.output) old asked.calls true) refused
+      → Streams asked lines (course (new_client asked.limits before.input before.output) old asked.calls true) refused
       (course (between after.input after.output outgoing unread still fault) text left well)
-      → OnOk r (Appends text new (left_text asked.interface still left (told refused fault)))
+      → OnOk r (Appends text new (left_text lines asked.interface still left (told refused fault)))
       → IfOk r (λ ending. ending.status ≡ stream_status refused fault (all_done well still left))
-      → IfOk r (Ends is_closed (told refused fault) still.table unread) → IfOk r (CallsStreamEnd asked before after old new)
+      → IfOk r (Ends is_closed (told refused fault) still.table unread) → IfOk r (CallsStreamEnd asked lines before after old new)
   is_streamed before after old text new refused outgoing unread still fault left well (Err failure) streams last is ends = tt
   is_streamed before after old text new refused outgoing unread still fault left well (Ok ending) streams last is ends = record {
     streamed = record {
@@ -149,9 +150,9 @@ module _ (asked : Asked) where
   }
 
 -- the lines of calls that weren't made, in two parts
-pub unsent_on : (front back all : List CallLine) (old mid new : Option (List ℕ)) (r : Result (Unit {0}) Failure) → front ++ back ≡ all
-    → Appends old mid (unsent_text front) → OnOk r (Appends mid new (unsent_text back)) → OnOk r (Appends old new (unsent_text all))
-unsent_on front back all old mid new (Err failure) is first next = tt
-unsent_on front back all old mid new (Ok done) is first next =
-    subst (λ l. Appends old new (unsent_text l)) is
+pub unsent_on : (lines : LineForm) (front back all : List CallLine) (old mid new : Option (List ℕ)) (r : Result (Unit {0}) Failure) → front ++ back ≡ all
+    → Appends old mid (unsent_text lines front) → OnOk r (Appends mid new (unsent_text lines back)) → OnOk r (Appends old new (unsent_text lines all))
+unsent_on lines front back all old mid new (Err failure) is first next = tt
+unsent_on lines front back all old mid new (Ok done) is first next =
+    subst (λ l. Appends old new (unsent_text lines l)) is
     (subst (λ text. Appends old new text) (sym (flat_map-append _ front back)) (Appends-append old mid new _ _ first next))

@@ -21,9 +21,10 @@ use Rattle.giop_commands.specs.declared.status.Status.{Status}
 use Rattle.giop_commands.specs.declared.status.Status.TheVariants.{Done, Refused, LimitPassed, Usage, InputOutput, Memory}
 use Rattle.giop_commands.specs.declared.form.LineForm.{LineForm}
 use Rattle.giop_commands.specs.declared.form.LineForm.TheVariants.{Text}
-use Rattle.giop_commands.specs.Check.{Checks, ChecksKnown, HeardKnown, Hears, IsChecked, last_in, last_status, nothing_read, server_entry_in, server_hears, strict_status}
+use Rattle.giop_commands.specs.Check.{Checks, ChecksKnown, HeardKnown, Hears, IsChecked, last_status, nothing_read, server_hears, strict_status}
+use Rattle.giop_commands.specs.SessionLines.{last_in}
 use Rattle.giop_commands.specs.Dump.{ended}
-use Rattle.giop_commands.specs.Table.{table_text}
+use Rattle.giop_commands.specs.Table.{server_entry_in, table_text}
 use Rattle.giop_commands.proofs.DumpLemmas.{Appends-append, nothing_left}
 
 -- where nothing is unread, no message stands at the front, and no fault

@@ -6,24 +6,25 @@ use Rattle.giop_msg.specs.Stream.{Unread}
 use Rattle.giop_session.specs.declared.session_fault.SessionFault.{SessionFault}
 use Rattle.giop_session.specs.Pumping.{between}
 use Rattle.giop_commands.specs.declared.failure.Failure.{Failure}
+use Rattle.giop_commands.specs.declared.form.LineForm.{LineForm}
 use Rattle.giop_commands.specs.declared.session.ending.Ending.{Ending}
 use Rattle.giop_commands.specs.Acts.{Outbox}
 use Rattle.giop_commands.specs.Calling.{Asked, ClientCalls, Talks, begun, new_box}
 use Rattle.giop_commands.specs.Endings.{Ends}
 use Rattle.giop_commands.specs.Locating.{Locates, LocatesEnd, locate_status}
 use Rattle.giop_commands.specs.Sessions.{Wire, session_text, told}
-use Rattle.giop_commands.specs.Table.{client_entry_line}
+use Rattle.giop_commands.specs.Table.{client_entry_in}
 
 -- the LocateRequest of a client's end, its table and its fault
-pub located : (asked : Asked) (before after : Wire) (old new : Option (List ℕ)) (refused : Option SessionFault) (box : Outbox ClientCalls)
+pub located : (asked : Asked) (lines : LineForm) (before after : Wire) (old new : Option (List ℕ)) (refused : Option SessionFault) (box : Outbox ClientCalls)
     (outgoing : List ℕ) (unread : Unread) (left : ClientCalls) (fault : Option SessionFault) (r : Result Ending Failure)
     → Locates asked None (new_box asked.limits) refused box
     → Talks asked.interface refused (begun asked.limits before.input before.output box) (between after.input after.output outgoing unread left fault)
-    → OnOk r (Appends old new (session_text (client_entry_line asked.interface) left.table (told refused fault)))
+    → OnOk r (Appends old new (session_text lines (client_entry_in lines asked.interface) left.table (told refused fault)))
     → IfOk r (λ ending. ending.status ≡ locate_status refused fault left.table)
-    → IfOk r (Ends is_closed (told refused fault) left.table unread) → IfOk r (LocatesEnd asked before after old new)
-located asked before after old new refused box outgoing unread left fault (Err failure) locates talks text is ends = tt
-located asked before after old new refused box outgoing unread left fault (Ok ending) locates talks text is ends = record {
+    → IfOk r (Ends is_closed (told refused fault) left.table unread) → IfOk r (LocatesEnd asked lines before after old new)
+located asked lines before after old new refused box outgoing unread left fault (Err failure) locates talks text is ends = tt
+located asked lines before after old new refused box outgoing unread left fault (Ok ending) locates talks text is ends = record {
   refused = refused;
   box = box;
   locates = locates;

@@ -9,6 +9,8 @@ use Rattle.giop_session.specs.declared.session_fault.SessionFault.{SessionFault}
 use Rattle.giop_session.specs.Pumping.{Between, between}
 use Rattle.giop_types.specs.declared.json.interface.Interface.{Interface}
 use Rattle.giop_commands.specs.declared.failure.Failure.{Failure}
+use Rattle.giop_commands.specs.declared.form.LineForm.{LineForm}
+use Rattle.giop_commands.specs.declared.form.LineForm.TheVariants.{Text}
 use Rattle.giop_commands.specs.declared.session.ending.Ending.{Ending}
 use Rattle.giop_commands.specs.declared.status.Status.{Status}
 use Rattle.giop_commands.specs.declared.status.Status.TheVariants.{Done, Refused, LimitPassed, Usage, InputOutput, Memory}
@@ -16,22 +18,22 @@ use Rattle.giop_commands.specs.Acts.{Outbox}
 use Rattle.giop_commands.specs.Calling.{Asked, CallsAll, ClientCalls, Converses, ConversesIf, Talks, are_over, begun, client_hears, new_box}
 use Rattle.giop_commands.specs.Dump.{ended}
 use Rattle.giop_commands.specs.Endings.{CallsEnd, Ends, ServesEnd}
-use Rattle.giop_commands.specs.Sessions.{Calls, IsCalled, IsServed, Serves, Wire, call_status, connection_line, serve_status, session_text, told}
+use Rattle.giop_commands.specs.Sessions.{Calls, IsCalled, IsServed, Serves, Wire, call_status, connection_in, serve_status, session_text, told}
 use Rattle.giop_commands.specs.Serving as serving
 use Rattle.giop_commands.specs.Serving.{Served, ServerCalls, new_server}
 use Rattle.giop_commands.specs.Turns.{Waits}
-use Rattle.giop_commands.specs.Table.{client_entry_line, server_entry_line}
+use Rattle.giop_commands.specs.Table.{client_entry_in, server_entry_in}
 
 -- the calls of a client's end, its table and its fault
-pub called : (asked : Asked) (before after : Wire) (old new : Option (List ℕ)) (refused : Option SessionFault) (box : Outbox ClientCalls) (outgoing : List ℕ)
+pub called : (asked : Asked) (lines : LineForm) (before after : Wire) (old new : Option (List ℕ)) (refused : Option SessionFault) (box : Outbox ClientCalls) (outgoing : List ℕ)
     (unread : Unread) (left : ClientCalls) (fault : Option SessionFault) (r : Result Ending Failure)
     → CallsAll asked None (new_box asked.limits) refused box
     → Talks asked.interface refused (begun asked.limits before.input before.output box) (between after.input after.output outgoing unread left fault)
-    → OnOk r (Appends old new (session_text (client_entry_line asked.interface) left.table (told refused fault)))
+    → OnOk r (Appends old new (session_text lines (client_entry_in lines asked.interface) left.table (told refused fault)))
     → IfOk r (λ ending. ending.status ≡ call_status refused fault left.table)
-    → IfOk r (Ends client.is_closed (told refused fault) left.table unread) → IfOk r (CallsEnd asked before after old new)
-called asked before after old new refused box outgoing unread left fault (Err failure) calls talks text is ends = tt
-called asked before after old new refused box outgoing unread left fault (Ok ending) calls talks text is ends = record {
+    → IfOk r (Ends client.is_closed (told refused fault) left.table unread) → IfOk r (CallsEnd asked lines before after old new)
+called asked lines before after old new refused box outgoing unread left fault (Err failure) calls talks text is ends = tt
+called asked lines before after old new refused box outgoing unread left fault (Ok ending) calls talks text is ends = record {
   called = record {
     refused = refused;
     box = box;
@@ -48,7 +50,7 @@ called asked before after old new refused box outgoing unread left fault (Ok end
 }
 
 -- by its status
-calls_by : (asked : Asked) (before after : Wire) (old new : Option (List ℕ)) (status : Status) → IsCalled asked before after old new status
+calls_by : (asked : Asked) (before after : Wire) (old new : Option (List ℕ)) (status : Status) → IsCalled asked Text before after old new status
     → Calls asked before after old new status
 calls_by asked before after old new Done is = is
 calls_by asked before after old new Refused is = is
@@ -58,19 +60,19 @@ calls_by asked before after old new InputOutput is = tt
 calls_by asked before after old new Memory is = tt
 
 -- the same of an ending
-pub calls_told : (asked : Asked) (before after : Wire) (old new : Option (List ℕ)) (ending : Ending) → CallsEnd asked before after old new ending
+pub calls_told : (asked : Asked) (before after : Wire) (old new : Option (List ℕ)) (ending : Ending) → CallsEnd asked Text before after old new ending
     → Calls asked before after old new ending.status
 calls_told asked before after old new ending end = calls_by asked before after old new ending.status end.called
 
 -- the connection of a server's end: its number, its table and its fault
-pub served : (number : ℕ) (it : Served) (before after : Wire) (old new : Option (List ℕ)) (refused : Option SessionFault) (outgoing : List ℕ)
+pub served : (number : ℕ) (it : Served) (lines : LineForm) (before after : Wire) (old new : Option (List ℕ)) (refused : Option SessionFault) (outgoing : List ℕ)
     (unread : Unread) (left : ServerCalls) (fault : Option SessionFault) (r : Result Ending Failure)
     → serving.Converses it it.limits (new_server it.limits before.input before.output) refused (between after.input after.output outgoing unread left fault)
-    → OnOk r (Appends old new (ended (connection_line number) ++ session_text (server_entry_line it.interface) left.table (told refused fault)))
+    → OnOk r (Appends old new (ended (connection_in lines number) ++ session_text lines (server_entry_in lines it.interface) left.table (told refused fault)))
     → IfOk r (λ ending. ending.status ≡ serve_status (told refused fault))
-    → IfOk r (Ends server.is_closed (told refused fault) left.table unread) → IfOk r (ServesEnd number it before after old new)
-served number it before after old new refused outgoing unread left fault (Err failure) talks text is ends = tt
-served number it before after old new refused outgoing unread left fault (Ok ending) talks text is ends = record {
+    → IfOk r (Ends server.is_closed (told refused fault) left.table unread) → IfOk r (ServesEnd number it lines before after old new)
+served number it lines before after old new refused outgoing unread left fault (Err failure) talks text is ends = tt
+served number it lines before after old new refused outgoing unread left fault (Ok ending) talks text is ends = record {
   served = record {
     refused = refused;
     outgoing = outgoing;
@@ -86,7 +88,7 @@ served number it before after old new refused outgoing unread left fault (Ok end
 
 -- by its status
 serves_by : (number : ℕ) (it : Served) (before after : Wire) (old new : Option (List ℕ)) (status : Status)
-    → IsServed number it before after old new status → Serves number it before after old new status
+    → IsServed number it Text before after old new status → Serves number it before after old new status
 serves_by number it before after old new Done is = is
 serves_by number it before after old new Refused is = is
 serves_by number it before after old new (LimitPassed limit) is = is
@@ -96,7 +98,7 @@ serves_by number it before after old new Memory is = tt
 
 -- the same of an ending
 pub serves_told : (number : ℕ) (it : Served) (before after : Wire) (old new : Option (List ℕ)) (ending : Ending)
-    → ServesEnd number it before after old new ending → Serves number it before after old new ending.status
+    → ServesEnd number it Text before after old new ending → Serves number it before after old new ending.status
 serves_told number it before after old new ending end = serves_by number it before after old new ending.status end.served
 
 -- a client's turns, where its calls aren't over at first

@@ -1,8 +1,7 @@
 -- What `call --stream` does at its end: calls are made as there is room for them, and after each
 -- turn those that are over are told and taken out (CORBA 3.3 Part 2, 9.4.2).
-use Rattle.std.specs.Prelude.{◌≡◌, ◌⊎◌, ℕ, nat_lt, ◌<◌, ◌==◌, ◌&&◌, Bool, true, false, List, [], ◌∷◌, ◌++◌, length, Option, Some, None, Result, Ok, if◌then◌else◌, codes}
+use Rattle.std.specs.Prelude.{◌≡◌, ◌⊎◌, ℕ, nat_lt, ◌<◌, ◌==◌, ◌&&◌, Bool, true, false, List, [], ◌∷◌, ◌++◌, length, Option, Some, None, Result, Ok, if◌then◌else◌}
 use Rattle.std.specs.FinMap as finite
-use Rattle.std.specs.Fmt.{decimal}
 use Rattle.std.specs.List.{flat_map, list_all}
 use Rattle.std.specs.Io.KnownBytes.{Appends}
 use Rattle.giop_ids.specs.ById.{ById}
@@ -16,19 +15,23 @@ use Rattle.giop_session.specs.declared.session_fault.SessionFault.{SessionFault}
 use Rattle.giop_session.specs.Calls.Begun.{no_calls}
 use Rattle.giop_session.specs.Calls.Sending.{entry_of}
 use Rattle.giop_session.specs.Pumping.{Between, between}
+use Rattle.giop_lines.specs.SessionJson.{unsent_json}
+use Rattle.giop_lines.specs.TableLines.{unsent_line}
 use Rattle.giop_commands.specs.declared.call.calls.CallLine.{CallLine}
 use Rattle.giop_commands.specs.declared.failure.Failure.{Failure}
+use Rattle.giop_commands.specs.declared.form.LineForm.{LineForm}
 use Rattle.giop_commands.specs.declared.status.Status.{Status}
 use Rattle.giop_commands.specs.declared.status.Status.TheVariants.{Done}
 use Rattle.giop_commands.specs.Acts.{Outbox, outbox}
 use Rattle.giop_commands.specs.Calling.{Asked, CallsOne, CallsSent, ClientCalls, are_over, client_hears, entry_at}
 use Rattle.giop_commands.specs.Check.{nothing_read}
 use Rattle.giop_commands.specs.Dump.{ended}
+use Rattle.giop_commands.specs.Forms.{line_in}
 use Rattle.giop_commands.specs.Sessions.{Wire, all_well, fault_text, is_well, told, unwell_status}
 use Rattle.giop_commands.specs.Status.{broken_status}
 use Rattle.giop_commands.specs.Steps.{AndThen, Each}
 use Rattle.giop_commands.specs.Streaming.{ended_at, over_text, without_over}
-use Rattle.giop_commands.specs.Table.{client_entry_line, table_text}
+use Rattle.giop_commands.specs.Table.{client_entry_in, table_text}
 use Rattle.giop_commands.specs.Turns.{GoesOn, WritesOut, most_turns}
 
 -- ---- calls are made as there is room
@@ -152,7 +155,8 @@ course end text left well = record { end = end; text = text; left = left; well =
 abbrev pub is_done : List CallLine → ClientCalls → Bool
 is_done left calls = (length left == 0) && (length (finite.keys calls.table) == 0)
 
-module _ (asked : Asked) where
+-- a session that is told in a form
+module _ (asked : Asked) (lines : LineForm) where
   -- calls are made, a turn is taken, and the calls that are over are told and taken out
   pub record TurnTells (s t : Course) : Type 0 where
     pub pending : is_done s.left s.end.state.calls ≡ false
@@ -161,7 +165,7 @@ module _ (asked : Asked) where
     pub mid : Between ClientCalls
     pub turn : Turns asked.interface (with_box s.end box) true mid
     pub tells : Appends s.text t.text
-        (over_text is_closed (client_entry_line asked.interface) mid.state.calls.table)
+        (over_text is_closed (client_entry_in lines asked.interface) mid.state.calls.table)
     pub taken : t.end ≡ opened mid
     pub well : t.well ≡ (s.well && all_over_well mid.state.calls.table)
 
@@ -202,18 +206,20 @@ module _ (asked : Asked) where
 
 -- ---- what is told at the end
 
--- the line of a call that wasn't made: ID Unsent
-abbrev pub unsent_line : CallLine → List ℕ
-unsent_line call = decimal call.id ++ codes " Unsent"
+-- the line of a call that wasn't made, in a form
+abbrev pub unsent_in : LineForm → CallLine → List ℕ
+unsent_in lines call = line_in lines (unsent_line call.id) (unsent_json call.id)
 
 -- a line for each of them
-abbrev pub unsent_text : List CallLine → List ℕ
-unsent_text calls = flat_map (λ call. ended (unsent_line call)) calls
+abbrev pub unsent_text : LineForm → List CallLine → List ℕ
+unsent_text lines calls = flat_map (λ call. ended (unsent_in lines call)) calls
 
 -- what is left: the calls that are open, those that weren't made, and the fault
-abbrev pub left_text : Interface → ClientCalls → List CallLine → Option SessionFault → List ℕ
-left_text interface calls left fault =
-    table_text (client_entry_line interface) calls.table ++ (unsent_text left ++ fault_text fault)
+abbrev pub left_text : LineForm → Interface → ClientCalls → List CallLine → Option SessionFault
+    → List ℕ
+left_text lines interface calls left fault =
+    table_text (client_entry_in lines interface) calls.table
+    ++ (unsent_text lines left ++ fault_text lines fault)
 
 -- whether all went well: those that were told, and those that are left, and none is unsent
 abbrev pub all_done : Bool → ClientCalls → List CallLine → Bool
@@ -229,10 +235,10 @@ abbrev pub new_client : Limits → Option (List ℕ) → Option (List ℕ) → B
 new_client limits input output =
     between input output [] (nothing_read limits) (no_calls (record {}) limits) None
 
--- these calls were made at a new client's end; what is printed is each call when it is over, and
--- then what is left
-pub record IsStreamed (asked : Asked) (before after : Wire) (old new : Option (List ℕ))
-    (status : Status) : Type 0 where
+-- these calls were made at a new client's end; what is printed in a form is each call when it is
+-- over, and then what is left
+pub record IsStreamed (asked : Asked) (lines : LineForm) (before after : Wire)
+    (old new : Option (List ℕ)) (status : Status) : Type 0 where
   pub refused : Option SessionFault
   pub outgoing : List ℕ
   pub unread : Unread
@@ -242,9 +248,9 @@ pub record IsStreamed (asked : Asked) (before after : Wire) (old new : Option (L
   pub left : List CallLine
   pub well : Bool
   pub streams :
-      Streams asked
+      Streams asked lines
       (course (new_client asked.limits before.input before.output) old asked.calls true)
       refused
       (course (between after.input after.output outgoing unread still fault) text left well)
-  pub last : Appends text new (left_text asked.interface still left (told refused fault))
+  pub last : Appends text new (left_text lines asked.interface still left (told refused fault))
   pub is : status ≡ stream_status refused fault (all_done well still left)

@@ -27,18 +27,13 @@ use Rattle.giop_session.specs.Hearing.ServerHears.{server_befalls, server_breaks
 use Rattle.giop_commands.specs.declared.status.Status.{Status}
 use Rattle.giop_commands.specs.declared.status.Status.TheVariants.{Done, Refused, InputOutput, Memory}
 use Rattle.giop_lines.specs.declared.refusal.RefusalLine.TheVariants.{Form}
-use Rattle.giop_lines.specs.TableJson.{server_json}
-use Rattle.giop_lines.specs.TableLines.{server_line}
 use Rattle.giop_commands.specs.declared.form.LineForm.{LineForm}
 use Rattle.giop_commands.specs.declared.form.LineForm.TheVariants.{Text}
-use Rattle.giop_commands.specs.Bodies.{ins_text}
-use Rattle.giop_commands.specs.CheckJson.{session_fault_json}
 use Rattle.giop_commands.specs.Dump.{ended}
-use Rattle.giop_commands.specs.DumpHeads.{rest_in}
-use Rattle.giop_commands.specs.Forms.{line_in, refused_in}
-use Rattle.giop_commands.specs.SessionLines.{session_fault_line}
+use Rattle.giop_commands.specs.Forms.{refused_in}
+use Rattle.giop_commands.specs.SessionLines.{last_in}
 use Rattle.giop_commands.specs.Status.{broken_status}
-use Rattle.giop_commands.specs.Table.{table_text}
+use Rattle.giop_commands.specs.Table.{server_entry_in, table_text}
 
 -- the status of a session that ended with a fault: an orderly end is none of its own
 abbrev pub fault_status : SessionFault → Status
@@ -104,20 +99,6 @@ default_limits = record { calls = 1024; message = 1048576; gathered = 8388608 }
 -- nothing is read, by an end with these limits
 abbrev pub nothing_read : Limits → Unread
 nothing_read limits = record { limit = limits.message; octets = [] }
-
--- the line of what is stored for an id at a server of an interface, in a form
-abbrev pub server_entry_in : LineForm → Interface → ℕ → ServerEntry → List ℕ
-server_entry_in form interface id entry =
-    line_in form (server_line id entry (ins_text interface entry))
-    (server_json id entry (ins_text interface entry))
-
--- the last line, in a form: why the session ended, or how many octets are unread
-abbrev pub session_fault_in : LineForm → SessionFault → List ℕ
-session_fault_in form why = line_in form (session_fault_line why) (session_fault_json why)
-
-abbrev pub last_in : LineForm → Option SessionFault → ℕ → List ℕ
-last_in form (Some why) unread = session_fault_in form why
-last_in form None unread = rest_in form unread
 
 -- the text of a server's end: its table, and the last line
 abbrev pub end_text : Interface → LineForm → Held ServerRule ServerEntry → Option SessionFault → ℕ

@@ -10,6 +10,7 @@ use Rattle.giop_msg.specs.Stream.{Unread}
 use Rattle.giop_session.specs.declared.calls.slot.Slot.{Slot}
 use Rattle.giop_session.specs.declared.session_fault.SessionFault.{SessionFault}
 use Rattle.giop_commands.specs.declared.failure.Failure.{Failure}
+use Rattle.giop_commands.specs.declared.form.LineForm.{LineForm}
 use Rattle.giop_commands.specs.declared.session.ending.Ending.{Ending}
 use Rattle.giop_commands.specs.declared.status.Status.{Status}
 use Rattle.giop_commands.specs.CallStreaming as calling
@@ -45,34 +46,34 @@ abbrev pub ending_status : Result Ending Failure → Status
 ending_status (Ok ending) = ending.status
 ending_status (Err failure) = failure_status failure
 
--- what `call` did, and how it ended
-pub record CallsEnd (asked : Asked) (before after : Wire) (old new : Option (List ℕ))
-    (ending : Ending) : Type 0 where
-  pub called : IsCalled asked before after old new ending.status
+-- what `call` did, told in a form, and how it ended
+pub record CallsEnd (asked : Asked) (lines : LineForm) (before after : Wire)
+    (old new : Option (List ℕ)) (ending : Ending) : Type 0 where
+  pub called : IsCalled asked lines before after old new ending.status
   pub ends :
       Ends client.is_closed (told called.refused called.fault) called.left.table called.unread
       ending
 
 -- the same of `call --stream`
-pub record CallsStreamEnd (asked : Asked) (before after : Wire) (old new : Option (List ℕ))
-    (ending : Ending) : Type 0 where
-  pub streamed : calling.IsStreamed asked before after old new ending.status
+pub record CallsStreamEnd (asked : Asked) (lines : LineForm) (before after : Wire)
+    (old new : Option (List ℕ)) (ending : Ending) : Type 0 where
+  pub streamed : calling.IsStreamed asked lines before after old new ending.status
   pub ends :
       Ends client.is_closed (told streamed.refused streamed.fault) streamed.still.table
       streamed.unread ending
 
--- what `serve` did with a connection, and how it ended
-pub record ServesEnd (number : ℕ) (it : Served) (before after : Wire) (old new : Option (List ℕ))
-    (ending : Ending) : Type 0 where
-  pub served : IsServed number it before after old new ending.status
+-- what `serve` did with a connection, told in a form, and how it ended
+pub record ServesEnd (number : ℕ) (it : Served) (lines : LineForm) (before after : Wire)
+    (old new : Option (List ℕ)) (ending : Ending) : Type 0 where
+  pub served : IsServed number it lines before after old new ending.status
   pub ends :
       Ends server.is_closed (told served.refused served.fault) served.left.table served.unread
       ending
 
 -- the same of `serve --stream`
-pub record ServesStreamEnd (number : ℕ) (it : Served) (before after : Wire)
+pub record ServesStreamEnd (number : ℕ) (it : Served) (lines : LineForm) (before after : Wire)
     (old new : Option (List ℕ)) (ending : Ending) : Type 0 where
-  pub streamed : serving.IsStreamed number it before after old new ending.status
+  pub streamed : serving.IsStreamed number it lines before after old new ending.status
   pub ends :
       Ends server.is_closed (told streamed.refused streamed.fault) streamed.left.table
       streamed.unread ending

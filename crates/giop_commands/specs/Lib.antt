@@ -5,10 +5,10 @@ pub mod DumpHeads
 pub mod Joining
 pub mod DumpBodies
 pub mod Convert
+pub mod CheckJson
 pub mod SessionLines
 pub mod Bodies
 pub mod Table
-pub mod CheckJson
 pub mod Check
 pub mod Trace
 pub mod Steps

@@ -18,6 +18,7 @@ use Rattle.giop_session.specs.Calls.CallTable.{rules_of}
 use Rattle.giop_session.specs.Calls.Sending.{entry_of}
 use Rattle.giop_session.specs.Hearing.Heard.{in_call}
 use Rattle.giop_session.specs.Pumping.{between}
+use Rattle.giop_commands.specs.declared.form.LineForm.{LineForm}
 use Rattle.giop_commands.specs.declared.session.ending.Ending.{Ending}
 use Rattle.giop_commands.specs.declared.status.Status.{Status}
 use Rattle.giop_commands.specs.declared.status.Status.TheVariants.{Done}
@@ -27,7 +28,7 @@ use Rattle.giop_commands.specs.Endings.{Ends}
 use Rattle.giop_commands.specs.Sessions.{Wire, session_text, told, unwell_status}
 use Rattle.giop_commands.specs.Status.{broken_status}
 use Rattle.giop_commands.specs.Steps.{AndThen}
-use Rattle.giop_commands.specs.Table.{client_entry_line}
+use Rattle.giop_commands.specs.Table.{client_entry_in}
 
 -- the LocateRequest of the object of a key, under the id 1
 abbrev pub locate_of : List ℕ → Version → AnyLocateRequest
@@ -59,9 +60,9 @@ locate_status None fault table =
 locate_status (Some why) fault table = broken_status why
 
 -- the object of a key was asked for at a new client's end, which then talked over the wire; and
--- what is printed of it is its line, the fault, and this status
-pub record LocatesEnd (asked : Asked) (before after : Wire) (old new : Option (List ℕ))
-    (ending : Ending) : Type 0 where
+-- what is printed of it in a form is its line, the fault, and this status
+pub record LocatesEnd (asked : Asked) (lines : LineForm) (before after : Wire)
+    (old new : Option (List ℕ)) (ending : Ending) : Type 0 where
   pub refused : Option SessionFault
   pub box : Outbox ClientCalls
   pub locates : Locates asked None (new_box asked.limits) refused box
@@ -73,6 +74,6 @@ pub record LocatesEnd (asked : Asked) (before after : Wire) (old new : Option (L
       Talks asked.interface refused (begun asked.limits before.input before.output box)
       (between after.input after.output outgoing unread left fault)
   pub text : Appends old new
-      (session_text (client_entry_line asked.interface) left.table (told refused fault))
+      (session_text lines (client_entry_in lines asked.interface) left.table (told refused fault))
   pub is : ending.status ≡ locate_status refused fault left.table
   pub ends : Ends is_closed (told refused fault) left.table unread ending

@@ -1,11 +1,15 @@
--- The lines that say how a session ended, without their newlines.
+-- The lines that say how a session ended, without their newlines. As JSON they are CheckJson.antt.
 use Rattle.std.specs.Prelude.{ℕ, List, ◌++◌, Option, Some, None, codes}
 use Rattle.std.specs.Fmt.{decimal}
 use Rattle.giop_msg.specs.Fault.{wire_kind_number, wire_fault_text}
 use Rattle.giop_calls.specs.Faults.{fault_number, fault_name}
 use Rattle.giop_session.specs.declared.session_fault.SessionFault.{SessionFault}
 use Rattle.giop_session.specs.declared.session_fault.SessionFault.TheVariants.{Wire, Call, WrongDirection, TooManyCalls, GatherFull, PeerError, Closed, NoMemory, StillOpen, NoId}
-use Rattle.giop_lines.specs.Lines.{cdr_fault_text, rest_line}
+use Rattle.giop_lines.specs.Lines.{cdr_fault_text}
+use Rattle.giop_commands.specs.declared.form.LineForm.{LineForm}
+use Rattle.giop_commands.specs.CheckJson.{session_fault_json}
+use Rattle.giop_commands.specs.DumpHeads.{rest_in}
+use Rattle.giop_commands.specs.Forms.{line_in}
 
 -- why an end failed: fault NUMBER NAME, behind which the fault of a header, of a call or
 -- of a request id stands with its own number and name
@@ -24,7 +28,11 @@ session_fault_line NoMemory = codes "fault 8 NoMemory"
 session_fault_line StillOpen = codes "fault 9 StillOpen"
 session_fault_line (NoId e) = codes "fault 10 NoId " ++ cdr_fault_text e
 
--- the last line: the fault, or how many octets are unread
-abbrev pub last_line : Option SessionFault → ℕ → List ℕ
-last_line (Some why) unread = session_fault_line why
-last_line None unread = rest_line unread
+-- the same in a form
+abbrev pub session_fault_in : LineForm → SessionFault → List ℕ
+session_fault_in form why = line_in form (session_fault_line why) (session_fault_json why)
+
+-- the last line, in a form: why the session ended, or how many octets are unread
+abbrev pub last_in : LineForm → Option SessionFault → ℕ → List ℕ
+last_in form (Some why) unread = session_fault_in form why
+last_in form None unread = rest_in form unread

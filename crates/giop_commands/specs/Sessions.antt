@@ -1,6 +1,5 @@
 -- What `call` and `serve` print of a session, and the status that it ends with.
-use Rattle.std.specs.Prelude.{◌≡◌, ℕ, ◌==◌, Bool, true, false, List, [], ◌++◌, Option, Some, None, ⊤, if◌then◌else◌, codes}
-use Rattle.std.specs.Fmt.{decimal}
+use Rattle.std.specs.Prelude.{◌≡◌, ℕ, ◌==◌, Bool, true, false, List, [], ◌++◌, Option, Some, None, ⊤, if◌then◌else◌}
 use Rattle.std.specs.FinMap as finite
 use Rattle.std.specs.List.{list_all}
 use Rattle.std.specs.Io.KnownBytes.{Appends}
@@ -15,33 +14,38 @@ use Rattle.giop_session.specs.declared.session_fault.SessionFault.{SessionFault}
 use Rattle.giop_session.specs.declared.calls.slot.Slot.{Slot}
 use Rattle.giop_session.specs.Pumping.{between}
 use Rattle.giop_session.specs.Calls.Sending.{entry_of}
+use Rattle.giop_lines.specs.SessionJson.{connection_json}
+use Rattle.giop_lines.specs.TableLines.{connection_line}
+use Rattle.giop_commands.specs.declared.form.LineForm.{LineForm}
+use Rattle.giop_commands.specs.declared.form.LineForm.TheVariants.{Text}
 use Rattle.giop_commands.specs.declared.status.Status.{Status}
 use Rattle.giop_commands.specs.declared.status.Status.TheVariants.{Done, Refused, InputOutput, Memory}
 use Rattle.giop_commands.specs.Acts.{Outbox}
 use Rattle.giop_commands.specs.Calling.{Asked, CallsAll, ClientCalls, Talks, begun, new_box}
 use Rattle.giop_commands.specs.Check.{fault_status}
 use Rattle.giop_commands.specs.Dump.{ended}
+use Rattle.giop_commands.specs.Forms.{line_in}
 use Rattle.giop_commands.specs.Serving as serving
 use Rattle.giop_commands.specs.Serving.{Served, ServerCalls, new_server}
-use Rattle.giop_commands.specs.SessionLines.{session_fault_line}
+use Rattle.giop_commands.specs.SessionLines.{session_fault_in}
 use Rattle.giop_commands.specs.Status.{broken_status}
-use Rattle.giop_commands.specs.Table.{client_entry_line, server_entry_line, table_text}
+use Rattle.giop_commands.specs.Table.{client_entry_in, server_entry_in, table_text}
 
 -- ---- what is printed
 
--- the line of the fault that ended a session, where one did
-abbrev pub fault_text : Option SessionFault → List ℕ
-fault_text (Some why) = ended (session_fault_line why)
-fault_text None = []
+-- the line of the fault that ended a session, where one did, in a form
+abbrev pub fault_text : LineForm → Option SessionFault → List ℕ
+fault_text lines (Some why) = ended (session_fault_in lines why)
+fault_text lines None = []
 
 -- the table of an end, and the fault that ended its session
-abbrev pub session_text : {E : Type 0} → (ℕ → E → List ℕ) → ById (Slot E) → Option SessionFault
-    → List ℕ
-session_text line table fault = table_text line table ++ fault_text fault
+abbrev pub session_text : {E : Type 0} → LineForm → (ℕ → E → List ℕ) → ById (Slot E)
+    → Option SessionFault → List ℕ
+session_text lines line table fault = table_text line table ++ fault_text lines fault
 
--- which connection it is, counted from 1: connection NUMBER
-abbrev pub connection_line : ℕ → List ℕ
-connection_line number = codes "connection " ++ decimal number
+-- which connection it is, counted from 1, in a form
+abbrev pub connection_in : LineForm → ℕ → List ℕ
+connection_in lines number = line_in lines (connection_line number) (connection_json number)
 
 -- ---- the calls of a client
 
@@ -87,9 +91,9 @@ abbrev pub wire : Option (List ℕ) → Option (List ℕ) → Wire
 wire input output = record { input = input; output = output }
 
 -- these calls were made at a new client's end, which then talked over the wire; and what is printed
--- of them is the table that its calls are left with, its fault, and this status
-pub record IsCalled (asked : Asked) (before after : Wire) (old new : Option (List ℕ))
-    (status : Status) : Type 0 where
+-- of them in a form is the table that its calls are left with, its fault, and this status
+pub record IsCalled (asked : Asked) (lines : LineForm) (before after : Wire)
+    (old new : Option (List ℕ)) (status : Status) : Type 0 where
   pub refused : Option SessionFault
   pub box : Outbox ClientCalls
   pub calls : CallsAll asked None (new_box asked.limits) refused box
@@ -101,14 +105,14 @@ pub record IsCalled (asked : Asked) (before after : Wire) (old new : Option (Lis
       Talks asked.interface refused (begun asked.limits before.input before.output box)
       (between after.input after.output outgoing unread left fault)
   pub text : Appends old new
-      (session_text (client_entry_line asked.interface) left.table (told refused fault))
+      (session_text lines (client_entry_in lines asked.interface) left.table (told refused fault))
   pub is : status ≡ call_status refused fault left.table
 
--- what `call` did, by the status that the calls end with
+-- what `call` did, told as text, by the status that the calls end with
 abbrev pub Calls : Asked → Wire → Wire → Option (List ℕ) → Option (List ℕ) → Status → Type 0
 Calls asked before after old new InputOutput = ⊤
 Calls asked before after old new Memory = ⊤
-Calls asked before after old new status = IsCalled asked before after old new status
+Calls asked before after old new status = IsCalled asked Text before after old new status
 
 -- ---- the connection of a server
 
@@ -118,9 +122,9 @@ serve_status (Some why) = fault_status why
 serve_status None = Done
 
 -- a connection of this number was served by a new server's end, which talked over the wire; and
--- what is printed of it is its number, the table that its calls are left with, its fault, and this
--- status
-pub record IsServed (number : ℕ) (served : Served) (before after : Wire)
+-- what is printed of it in a form is its number, the table that its calls are left with, its fault,
+-- and this status
+pub record IsServed (number : ℕ) (served : Served) (lines : LineForm) (before after : Wire)
     (old new : Option (List ℕ)) (status : Status) : Type 0 where
   pub refused : Option SessionFault
   pub outgoing : List ℕ
@@ -130,13 +134,14 @@ pub record IsServed (number : ℕ) (served : Served) (before after : Wire)
   pub talks :
       serving.Converses served served.limits (new_server served.limits before.input before.output) refused
       (between after.input after.output outgoing unread left fault)
-  pub text : Appends old new (ended (connection_line number)
-      ++ session_text (server_entry_line served.interface) left.table (told refused fault))
+  pub text : Appends old new (ended (connection_in lines number)
+      ++ session_text lines (server_entry_in lines served.interface) left.table
+      (told refused fault))
   pub is : status ≡ serve_status (told refused fault)
 
--- what `serve` did, by the status that the connection ends with
+-- what `serve` did, told as text, by the status that the connection ends with
 abbrev pub Serves : ℕ → Served → Wire → Wire → Option (List ℕ) → Option (List ℕ) → Status → Type 0
 Serves number served before after old new InputOutput = ⊤
 Serves number served before after old new Memory = ⊤
 Serves number served before after old new status =
-    IsServed number served before after old new status
+    IsServed number served Text before after old new status

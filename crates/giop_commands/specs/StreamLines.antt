@@ -1,30 +1,39 @@
 -- The lines of calls that are told as soon as they are over, without their newlines.
-use Rattle.std.specs.Prelude.{ℕ, List, [], ◌++◌, codes}
-use Rattle.std.specs.Fmt.{decimal}
+use Rattle.std.specs.Prelude.{ℕ, List, []}
 use Rattle.giop_msg.specs.declared.messages.reply_body.ReplyBody.{ReplyBody}
-use Rattle.giop_msg.specs.declared.messages.request.Request.{Request}
 use Rattle.giop_types.specs.declared.json.interface.Interface.{Interface}
 use Rattle.giop_calls.specs.declared.server.entry.ServerEntry.{ServerEntry}
 use Rattle.giop_calls.specs.declared.server.entry.ServerEntry.TheVariants as server
 use Rattle.giop_calls.specs.declared.server.question.Question.{Question}
 use Rattle.giop_calls.specs.declared.server.question.Question.TheVariants as question
+use Rattle.giop_lines.specs.SessionJson.{answered_json}
+use Rattle.giop_lines.specs.TableLines.{answered_line}
+use Rattle.giop_commands.specs.declared.form.LineForm.{LineForm}
 use Rattle.giop_commands.specs.Bodies.{brought_by, request_ins}
-use Rattle.giop_commands.specs.Table.{server_entry_line}
-use Rattle.giop_lines.specs.TableLines.{asked_text, reply_text, request_fault_text}
+use Rattle.giop_commands.specs.Forms.{line_in}
+use Rattle.giop_commands.specs.Table.{server_entry_in}
 
--- a call that a server answered: ID Asked OPERATION INS Answered REPLY, or ID Undecoded FAULT
--- Answered REPLY
-abbrev pub answered_line : Interface → ℕ → Question → ReplyBody → List ℕ
-answered_line interface id (question.Request request) body =
-    decimal id ++ (codes " Asked " ++ (asked_text request (request_ins interface request) ++
-    (codes " Answered " ++ reply_text body (brought_by interface request body))))
-answered_line interface id (question.Undecoded fault) body =
-    decimal id ++ (codes " Undecoded " ++ (request_fault_text fault ++
-    (codes " Answered " ++ reply_text body [])))
+-- the ins of what was asked, and what a Reply to it brings; none, where it couldn't be decoded
+abbrev pub question_ins : Interface → Question → List ℕ
+question_ins interface (question.Request request) = request_ins interface request
+question_ins interface (question.Undecoded fault) = []
 
--- the line of what is stored for an id at a server of an interface: of an answered Request what was
--- asked and what was answered, else as in its table
-abbrev pub server_told_line : Interface → ℕ → ServerEntry → List ℕ
-server_told_line interface id (server.Answered asked reply left) =
-    answered_line interface id asked reply.body
-server_told_line interface id entry = server_entry_line interface id entry
+abbrev pub question_brought : Interface → Question → ReplyBody → List ℕ
+question_brought interface (question.Request request) body = brought_by interface request body
+question_brought interface (question.Undecoded fault) body = []
+
+-- a call that a server answered, in a form
+abbrev pub answered_in : LineForm → Interface → ℕ → Question → ReplyBody → List ℕ
+answered_in lines interface id asked body =
+    line_in lines
+    (answered_line id asked (question_ins interface asked) body
+    (question_brought interface asked body))
+    (answered_json id asked (question_ins interface asked) body
+    (question_brought interface asked body))
+
+-- the line of what is stored for an id at a server of an interface, in a form: of an answered Request
+-- what was asked and what was answered, else as in its table
+abbrev pub server_told_in : LineForm → Interface → ℕ → ServerEntry → List ℕ
+server_told_in lines interface id (server.Answered asked reply left) =
+    answered_in lines interface id asked reply.body
+server_told_in lines interface id entry = server_entry_in lines interface id entry

@@ -12,13 +12,14 @@ use Rattle.giop_session.specs.declared.session_fault.SessionFault.{SessionFault}
 use Rattle.giop_session.specs.Calls.Sending.{entry_of}
 use Rattle.giop_session.specs.Pumping.{Between, between}
 use Rattle.giop_calls.specs.ServerTable.{is_closed}
+use Rattle.giop_commands.specs.declared.form.LineForm.{LineForm}
 use Rattle.giop_commands.specs.declared.status.Status.{Status}
 use Rattle.giop_commands.specs.Dump.{ended}
-use Rattle.giop_commands.specs.SessionLines.{last_line}
+use Rattle.giop_commands.specs.SessionLines.{last_in}
 use Rattle.giop_commands.specs.Serving.{ServeEnds, Served, ServerCalls, TurnAnswers, new_server}
-use Rattle.giop_commands.specs.Sessions.{Wire, connection_line, serve_status, told}
+use Rattle.giop_commands.specs.Sessions.{Wire, connection_in, serve_status, told}
 use Rattle.giop_commands.specs.Steps.{Each}
-use Rattle.giop_commands.specs.StreamLines.{server_told_line}
+use Rattle.giop_commands.specs.StreamLines.{server_told_in}
 use Rattle.giop_commands.specs.Table.{table_text, text_at}
 use Rattle.giop_commands.specs.Turns.{most_turns}
 
@@ -71,14 +72,14 @@ shown end text = record { end = end; text = text }
 abbrev pub opened : Between ServerCalls → Between ServerCalls
 opened s = between s.input s.output s.outgoing s.state.unread (still_open s.state.calls) s.state.fault
 
-module _ (served : Served) (limits : Limits) where
+module _ (served : Served) (limits : Limits) (lines : LineForm) where
   -- behind a turn and its answers, the calls that are over are told and taken out
   pub record TurnTells (s t : Shown) : Type 0 where
     pub mid : Between ServerCalls
     pub answers : TurnAnswers served limits s.end None mid
     pub tells :
         Appends s.text t.text
-        (over_text is_closed (server_told_line served.interface) mid.state.calls.table)
+        (over_text is_closed (server_told_in lines served.interface) mid.state.calls.table)
     pub left : t.end ≡ opened mid
 
   -- so it goes, turn by turn, up to one that ends the session, or behind which an answer is refused
@@ -91,17 +92,17 @@ module _ (served : Served) (limits : Limits) where
     pub text : t.text ≡ mid.text
 
 -- what is told at the end: what is left, and the last line
-abbrev pub left_text : Served → ServerCalls → Option SessionFault → Unread → List ℕ
-left_text served left fault unread =
-    table_text (server_told_line served.interface) left.table
-    ++ ended (last_line fault (length unread.octets))
+abbrev pub left_text : Served → LineForm → ServerCalls → Option SessionFault → Unread → List ℕ
+left_text served lines left fault unread =
+    table_text (server_told_in lines served.interface) left.table
+    ++ ended (last_in lines fault (length unread.octets))
 
--- a connection of this number was served by a new server's end: what is printed is its number, each
--- call when it is over, and then what is left, and the last line
-pub record IsStreamed (number : ℕ) (served : Served) (before after : Wire)
+-- a connection of this number was served by a new server's end: what is printed in a form is its
+-- number, each call when it is over, and then what is left, and the last line
+pub record IsStreamed (number : ℕ) (served : Served) (lines : LineForm) (before after : Wire)
     (old new : Option (List ℕ)) (status : Status) : Type 0 where
   pub named : Option (List ℕ)
-  pub name : Appends old named (ended (connection_line number))
+  pub name : Appends old named (ended (connection_in lines number))
   pub refused : Option SessionFault
   pub outgoing : List ℕ
   pub unread : Unread
@@ -109,7 +110,8 @@ pub record IsStreamed (number : ℕ) (served : Served) (before after : Wire)
   pub fault : Option SessionFault
   pub text : Option (List ℕ)
   pub streams :
-      Streams served served.limits (shown (new_server served.limits before.input before.output) named)
-      refused (shown (between after.input after.output outgoing unread left fault) text)
-  pub last : Appends text new (left_text served left (told refused fault) unread)
+      Streams served served.limits lines
+      (shown (new_server served.limits before.input before.output) named) refused
+      (shown (between after.input after.output outgoing unread left fault) text)
+  pub last : Appends text new (left_text served lines left (told refused fault) unread)
   pub is : status ≡ serve_status (told refused fault)

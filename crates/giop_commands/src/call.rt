@@ -14,7 +14,7 @@ ghost use Rattle.giop_commands.specs.Check.{default_limits};
 ghost use Rattle.giop_commands.specs.Endings.{CallsEnd, Ends};
 ghost use Rattle.giop_commands.specs.Sessions.{Calls, all_well, call_status, is_well, session_text, told, wire};
 ghost use Rattle.giop_commands.specs.Steps.{Upto};
-ghost use Rattle.giop_commands.specs.Table.{client_entry_line};
+ghost use Rattle.giop_commands.specs.Table.{client_entry_in};
 ghost use Rattle.giop_commands.specs.Turns.{Waits};
 
 pub mod calls;
@@ -27,6 +27,7 @@ pub mod words;
 use crate::call::calls::CallLine;
 use crate::call::given::Calling;
 use crate::failure::Failure;
+use crate::form::LineForm;
 use crate::session::ending::{Ending, ending_of};
 use crate::session::sending::send_all;
 use crate::session::{TURNS, goes_on, told, told_of, write_all_out, write_session};
@@ -84,24 +85,25 @@ pub fn call_session<R: Read, W: Write, O: Write>(
         form,
         limits: Limits::default(),
     };
-    match call_over(alloc, calling, calls, reader, writer, out) {
+    match call_over(alloc, calling, calls, LineForm::Text, reader, writer, out) {
         Ok(ending) => ending.status,
         Err(failure) => failure.status(),
     }
 }
 
-/// Does what `call_session` does, with the limits of `calling`, and tells besides which calls are
-/// open where the input ended. Where something fails, what failed is returned in place of that;
+/// Does what `call_session` does, with the limits of `calling`, told in a form, and tells besides
+/// which calls are open where the input ended. Where something fails, what failed is returned in place of that;
 /// where that is the connection, the table is written before.
 pub fn call_over<R: Read, W: Write, O: Write>(
     alloc: Global,
     calling: Calling<'_>,
     calls: Vec<CallLine>,
+    lines: LineForm,
     reader: &mut R,
     writer: &mut W,
     out: &mut O,
 ) -> Result<Ending, Failure>
-    ensures { IfOk result (CallsEnd (asked_of calling.entry calls.items)
+    ensures { IfOk result (CallsEnd (asked_of calling.entry calls.items) lines
         (wire (R.remaining reader.old) (W.contents writer.old))
         (wire (R.remaining reader.new) (W.contents writer.new))
         (O.contents out.old) (O.contents out.new)) }
@@ -110,10 +112,10 @@ pub fn call_over<R: Read, W: Write, O: Write>(
     let (key, version, form) = (calling.key, calling.version, calling.form);
     let refused = call_all(alloc, &mut end, calls, key, version, form)?;
     match talk(alloc, &mut end, refused, reader, writer) {
-        Ok(()) => tell(alloc, calling.interface, &end, refused, out),
+        Ok(()) => tell(alloc, lines, calling.interface, &end, refused, out),
         Err(Failure::Memory) => Err(Failure::Memory),
         Err(failure) => {
-            write_session(alloc, calling.interface, &end, None, out)?;
+            write_session(alloc, lines, calling.interface, &end, None, out)?;
             out.flush()?;
             Err(failure)
         }
@@ -123,13 +125,14 @@ pub fn call_over<R: Read, W: Write, O: Write>(
 // Writes the table of the calls and the fault of the session, and returns what it came to.
 fn tell<O: Write>(
     alloc: Global,
+    lines: LineForm,
     interface: &Interface,
     end: &ClientEnd<'_>,
     refused: Option<SessionFault>,
     out: &mut O,
 ) -> Result<Ending, Failure>
     ensures text { OnOk result (Appends (O.contents out.old) (O.contents out.new)
-        (session_text (client_entry_line interface.now) end.now.calls.table
+        (session_text lines (client_entry_in lines interface.now) end.now.calls.table
         (told refused end.now.fault))) }
     ensures ok { IfOk result (λ ending. ending.status
         ≡ call_status refused end.now.fault end.now.calls.table) }
@@ -137,7 +140,7 @@ fn tell<O: Write>(
         end.now.framer) }
 {
     let fault = told(refused, end.fault());
-    write_session(alloc, interface, end, fault, out)?;
+    write_session(alloc, lines, interface, end, fault, out)?;
     let status = call_status(alloc, refused, end)?;
     Ok(ending_of(alloc, end, fault, status)?)
 }

@@ -3,23 +3,21 @@ ghost use Rattle.std.specs.Prelude.{◌≡◌, ◌≢◌, [], IfOk, OnOk, Some, 
 ghost use Rattle.std.specs.Io.KnownBytes.{Appends, IsAtEnd};
 ghost use Rattle.giop_session.specs.declared.session_fault.SessionFault.TheVariants.{NoMemory};
 ghost use Rattle.giop_session.specs.Hearing.Heard.{hears_by};
-ghost use Rattle.giop_commands.specs.Check.{AreLimits, Checks, ChecksKnown, HeardKnown, default_limits, fault_status, last_in, last_status, session_fault_in};
+ghost use Rattle.giop_commands.specs.Check.{AreLimits, Checks, ChecksKnown, HeardKnown, default_limits, fault_status, last_status};
 ghost use Rattle.giop_commands.specs.Dump.{ended};
+ghost use Rattle.giop_commands.specs.SessionLines.{last_in, session_fault_in};
 
-pub mod entries;
-pub mod fault_json;
 pub mod strict;
 pub mod text;
 
-use crate::check::entries::write_entries;
-use crate::check::fault_json::SessionFaultJson;
 use crate::check::strict::strictly;
 use crate::dump::BehindFault;
 use crate::dump::messages::write_rest;
 use crate::failure::Failure;
-use crate::form::{LineForm, write_line};
+use crate::form::LineForm;
 use crate::pieces::{PieceBuffer, drain};
-use crate::session::fault_line::SessionFaultLine;
+use crate::session::table::write_table;
+use crate::session::write_session_fault;
 use crate::status::Status;
 use giop_session::{End, Hearing, Limits, ServerEnd, SessionFault};
 use giop_types::Interface;
@@ -80,7 +78,7 @@ pub fn check_stream<R: Read, W: Write>(
 {
     let mut end = ServerEnd::new(alloc, interface, limits);
     hear(alloc, &mut end, reader, behind)?;
-    write_entries(alloc, interface, form, &end, writer)?;
+    write_table(alloc, form, interface, &end, writer)?;
     let status = write_last(form, &end, writer)?;
     strictly(alloc, strict, &end, status)
 }
@@ -147,12 +145,7 @@ fn write_fault<W: Write>(
         (ended (session_fault_in form fault))) }
     ensures ok { IfOk result (λ status. status ≡ fault_status fault) }
 {
-    write_line(
-        form,
-        SessionFaultLine(fault),
-        SessionFaultJson(fault),
-        writer,
-    )?;
+    write_session_fault(form, fault, writer)?;
     Ok(match fault {
         SessionFault::Closed => Status::Done,
         fault => Status::broken_by(fault),

@@ -11,9 +11,9 @@ ghost use Rattle.giop_commands.specs.Check.{default_limits};
 ghost use Rattle.giop_commands.specs.Dump.{ended};
 ghost use Rattle.giop_commands.specs.Endings.{Ends, ServesEnd};
 ghost use Rattle.giop_commands.specs.Serving.{AnswersAll, AnswersOne, Converses, served_of};
-ghost use Rattle.giop_commands.specs.Sessions.{Serves, connection_line, serve_status, session_text, wire};
+ghost use Rattle.giop_commands.specs.Sessions.{Serves, connection_in, serve_status, session_text, wire};
 ghost use Rattle.giop_commands.specs.Steps.{Upto};
-ghost use Rattle.giop_commands.specs.Table.{server_entry_line};
+ghost use Rattle.giop_commands.specs.Table.{server_entry_in};
 
 pub mod answering;
 pub mod answers;
@@ -24,6 +24,7 @@ pub mod streaming;
 pub mod table;
 
 use crate::failure::Failure;
+use crate::form::{LineForm, write_line};
 use crate::serve::answering::{Due, due_to, reply_to};
 use crate::serve::answers::Answers;
 use crate::serve::given::Serving;
@@ -31,6 +32,7 @@ use crate::session::ending::{Ending, ending_of};
 use crate::session::sending::send_all;
 use crate::session::{TURNS, goes_on, told, told_of, write_session};
 use crate::status::Status;
+use giop_lines::{ConnectionJson, ConnectionLine};
 use giop_session::{Form, Limits, ServerEnd, SessionFault};
 use giop_types::Interface;
 use std::alloc::Global;
@@ -81,25 +83,26 @@ pub fn serve_session<R: Read, W: Write, O: Write>(
         form,
         limits: Limits::default(),
     };
-    match serve_over(alloc, number, serving, reader, writer, out) {
+    match serve_over(alloc, number, serving, LineForm::Text, reader, writer, out) {
         Ok(ending) => ending.status,
         Err(failure) => failure.status(),
     }
 }
 
-/// Does what `serve_session` does, with the limits of `serving`, and tells besides which calls are
-/// open where the input ended, and how many octets were read that are no whole message. Where
+/// Does what `serve_session` does, with the limits of `serving`, told in a form, and tells besides
+/// which calls are open where the input ended, and how many octets were read that are no whole message. Where
 /// something fails, what failed is returned in place of that; where that is the connection, its line
 /// and the table are written before.
 pub fn serve_over<R: Read, W: Write, O: Write>(
     alloc: Global,
     number: u32,
     serving: Serving<'_>,
+    lines: LineForm,
     reader: &mut R,
     writer: &mut W,
     out: &mut O,
 ) -> Result<Ending, Failure>
-    ensures { IfOk result (ServesEnd number (served_of serving.entry)
+    ensures { IfOk result (ServesEnd number (served_of serving.entry) lines
         (wire (R.remaining reader.old) (W.contents writer.old))
         (wire (R.remaining reader.new) (W.contents writer.new))
         (O.contents out.old) (O.contents out.new)) }
@@ -109,6 +112,7 @@ pub fn serve_over<R: Read, W: Write, O: Write>(
     match converse(alloc, &mut end, serving, reader, writer) {
         Ok(refused) => tell(
             alloc,
+            lines,
             number,
             interface,
             &end,
@@ -117,8 +121,8 @@ pub fn serve_over<R: Read, W: Write, O: Write>(
         ),
         Err(Failure::Memory) => Err(Failure::Memory),
         Err(failure) => {
-            write_connection(number, out)?;
-            write_session(alloc, interface, &end, None, out)?;
+            write_connection(lines, number, out)?;
+            write_session(alloc, lines, interface, &end, None, out)?;
             out.flush()?;
             Err(failure)
         }
@@ -128,6 +132,7 @@ pub fn serve_over<R: Read, W: Write, O: Write>(
 // Writes the line of a connection, its table and its fault, and returns what it came to.
 fn tell<O: Write>(
     alloc: Global,
+    lines: LineForm,
     number: u32,
     interface: &Interface,
     end: &ServerEnd<'_>,
@@ -135,22 +140,26 @@ fn tell<O: Write>(
     out: &mut O,
 ) -> Result<Ending, Failure>
     ensures text { OnOk result (Appends (O.contents out.old) (O.contents out.new)
-        (ended (connection_line number)
-        ++ session_text (server_entry_line interface.now) end.now.calls.table fault)) }
+        (ended (connection_in lines number)
+        ++ session_text lines (server_entry_in lines interface.now) end.now.calls.table fault)) }
     ensures ok { IfOk result (λ ending. ending.status ≡ serve_status fault) }
     ensures ends { IfOk result (Ends is_closed fault end.now.calls.table end.now.framer) }
 {
-    write_connection(number, out)?;
-    write_session(alloc, interface, end, fault, out)?;
+    write_connection(lines, number, out)?;
+    write_session(alloc, lines, interface, end, fault, out)?;
     Ok(ending_of(alloc, end, fault, serve_status(fault))?)
 }
 
-fn write_connection<W: Write>(number: u32, writer: &mut W) -> Result<(), Failure>
+fn write_connection<W: Write>(lines: LineForm, number: u32, writer: &mut W) -> Result<(), Failure>
     ensures { OnOk result (Appends (W.contents writer.old) (W.contents writer.new)
-        (ended (connection_line number))) }
+        (ended (connection_in lines number))) }
 {
-    writeln!(writer, "connection {number}")?;
-    Ok(())
+    write_line(
+        lines,
+        ConnectionLine(number),
+        ConnectionJson(number),
+        writer,
+    )
 }
 
 fn serve_status(fault: Option<SessionFault>) -> Status

@@ -9,12 +9,15 @@ ghost use Rattle.giop_session.specs.Pumping.{Writes, between};
 ghost use Rattle.giop_session.specs.Calls.SessionFaults.{error_message_of};
 ghost use Rattle.giop_commands.specs.declared.failure.Failure.TheVariants.{Memory};
 ghost use Rattle.giop_commands.specs.Check.{answer_of};
+ghost use Rattle.giop_commands.specs.Dump.{ended};
+ghost use Rattle.giop_commands.specs.SessionLines.{session_fault_in};
 ghost use Rattle.giop_commands.specs.Sessions.{fault_text, session_text, told};
 ghost use Rattle.giop_commands.specs.Turns.{GoesOn, IsOfConnection, peer_octets};
 
 pub mod ahead;
 pub mod bodies;
 pub mod ending;
+pub mod fault_json;
 pub mod fault_line;
 pub mod json;
 pub mod sending;
@@ -23,6 +26,8 @@ pub mod table;
 pub mod target;
 
 use crate::failure::Failure;
+use crate::form::{LineForm, write_line};
+use crate::session::fault_json::SessionFaultJson;
 use crate::session::fault_line::SessionFaultLine;
 use crate::session::table::{Tabled, write_table};
 use giop_session::{End, Hearing, PumpFault, SessionFault, turn, write_out};
@@ -150,31 +155,50 @@ pub fn told(refused: Option<SessionFault>, fault: Option<SessionFault>) -> Optio
 }
 
 /// Writes the table of an end, a line for each of its calls, and the fault that ended its session,
-/// where one did.
+/// where one did, in a form.
 pub fn write_session<R: Tabled, W: Write>(
     alloc: Global,
+    lines: LineForm,
     interface: &Interface,
     end: &End<'_, R>,
     fault: Option<SessionFault>,
     writer: &mut W,
 ) -> Result<(), Failure>
     ensures { OnOk result (Appends (W.contents writer.old) (W.contents writer.new)
-        (session_text (R.line interface.now) end.now.calls.table fault)) }
+        (session_text lines (R.line lines interface.now) end.now.calls.table fault)) }
 {
-    write_table(alloc, interface, end, writer)?;
-    write_fault(fault, writer)
+    write_table(alloc, lines, interface, end, writer)?;
+    write_fault(lines, fault, writer)
 }
 
-/// Writes the line of the fault that ended a session; nothing where none did.
-pub fn write_fault<W: Write>(fault: Option<SessionFault>, writer: &mut W) -> Result<(), Failure>
+/// Writes the line of the fault that ended a session, in a form; nothing where none did.
+pub fn write_fault<W: Write>(
+    lines: LineForm,
+    fault: Option<SessionFault>,
+    writer: &mut W,
+) -> Result<(), Failure>
     ensures { OnOk result (Appends (W.contents writer.old) (W.contents writer.new)
-        (fault_text fault)) }
+        (fault_text lines fault)) }
 {
     match fault {
-        Some(fault) => {
-            writeln!(writer, "{}", SessionFaultLine(fault))?;
-            Ok(())
-        }
+        Some(fault) => write_session_fault(lines, fault, writer),
         None => Ok(()),
     }
+}
+
+/// Writes the line of a fault that ended a session, in a form.
+pub fn write_session_fault<W: Write>(
+    lines: LineForm,
+    fault: SessionFault,
+    writer: &mut W,
+) -> Result<(), Failure>
+    ensures { OnOk result (Appends (W.contents writer.old) (W.contents writer.new)
+        (ended (session_fault_in lines fault))) }
+{
+    write_line(
+        lines,
+        SessionFaultLine(fault),
+        SessionFaultJson(fault),
+        writer,
+    )
 }

@@ -232,10 +232,9 @@ fn tell<W: Write>(
 {
     let told = tracing.observer.hear(direction, brought.message)?;
     let form = tracing.form;
-    let unanswered = if tracing.observer.alone {
-        Unanswered::Untold
-    } else {
-        Unanswered::Oneway
+    let unanswered = match told.id {
+        Some(_) if !tracing.observer.alone => Unanswered::Oneway,
+        _ => still_open(&tracing.observer),
     };
     if let Some(flow) = &told.earlier {
         let open = still_open(&tracing.observer);

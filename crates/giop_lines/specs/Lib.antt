@@ -6,5 +6,6 @@ pub mod TraceLines
 pub mod JsonLines
 pub mod DumpJson
 pub mod TableJson
+pub mod SessionJson
 pub mod ConvertJson
 pub mod BodyLines

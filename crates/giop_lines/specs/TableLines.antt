@@ -11,6 +11,8 @@ use Rattle.giop_msg.specs.declared.messages.request_fault.RequestFault.TheVarian
 use Rattle.giop_msg.specs.Messages.Reply.{status_of}
 use Rattle.giop_calls.specs.declared.server.entry.ServerEntry.{ServerEntry}
 use Rattle.giop_calls.specs.declared.server.entry.ServerEntry.TheVariants as server
+use Rattle.giop_calls.specs.declared.server.question.Question.{Question}
+use Rattle.giop_calls.specs.declared.server.question.Question.TheVariants as question
 use Rattle.giop_calls.specs.declared.client.entry.ClientEntry.{ClientEntry}
 use Rattle.giop_calls.specs.declared.client.entry.ClientEntry.TheVariants as client
 use Rattle.giop_lines.specs.Octets.{escaped_text}
@@ -78,3 +80,23 @@ client_line id (client.Undecoded call e) brought =
     decimal id ++ (codes " Undecoded reply " ++ cdr_fault_text e)
 client_line id (client.OnewaySent request) brought = decimal id ++ codes " OnewaySent"
 client_line id (client.Cancelled late) brought = decimal id ++ codes " Cancelled"
+
+-- a call that wasn't made: ID Unsent
+abbrev pub unsent_line : ℕ → List ℕ
+unsent_line id = decimal id ++ codes " Unsent"
+
+-- what was asked at a server, with the text of the ins of a Request
+abbrev pub question_text : Question → List ℕ → List ℕ
+question_text (question.Request request) ins = codes "Asked " ++ asked_text request ins
+question_text (question.Undecoded e) ins = codes "Undecoded " ++ request_fault_text e
+
+-- a call that a server answered, with the texts of the ins of its Request and of what its Reply
+-- brings: ID QUESTION Answered REPLY
+abbrev pub answered_line : ℕ → Question → List ℕ → ReplyBody → List ℕ → List ℕ
+answered_line id asked ins body brought =
+    decimal id ++ (codes " " ++ (question_text asked ins ++ (codes " Answered " ++
+    reply_text body brought)))
+
+-- which connection it is, counted from 1: connection NUMBER
+abbrev pub connection_line : ℕ → List ℕ
+connection_line number = codes "connection " ++ decimal number

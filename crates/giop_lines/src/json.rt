@@ -1,9 +1,11 @@
 //! The JSON lines. The texts of what several commands tell are specs/JsonLines.antt, those of one
-//! alone specs/DumpJson.antt, TableJson.antt and ConvertJson.antt.
+//! alone specs/DumpJson.antt, TableJson.antt, SessionJson.antt and ConvertJson.antt.
 ghost use Rattle.std.specs.Prelude.{◌≡◌};
 ghost use Rattle.giop_lines.specs.JsonLines.{is_printable};
 
+mod answered;
 mod body;
+mod call;
 mod end;
 mod entry;
 mod head;
@@ -14,7 +16,9 @@ mod target;
 
 use crate::HexText;
 use crate::traced::DirectionText;
+pub use answered::{AnsweredJson, ConnectionJson};
 pub use body::{InsJson, JoinedJson, RequestFaultJson, UndecodedJson, UnjoinedJson};
+pub use call::{ClientEntryJson, OutcomeJson, UnsentJson};
 pub use end::{FaultJson, RestJson};
 pub use entry::{AskedJson, ServerEntryJson};
 use giop_cdr::CdrFault;

@@ -1,10 +1,11 @@
 //! The lines that giopctl writes, without their newlines: of messages, of the entries of calls, of
 //! references and of what a trace tells, in words and as JSON. Each is pinned to a text in
 //! specs/Lines.antt, BodyLines.antt, TableLines.antt, ConvertLines.antt or TraceLines.antt, and
-//! docs/giopctl.md shows it; or, as JSON, in specs/JsonLines.antt, DumpJson.antt, TableJson.antt or
-//! ConvertJson.antt, and docs/FORMATS.md shows it: change all three.
+//! docs/giopctl.md shows it; or, as JSON, in specs/JsonLines.antt, DumpJson.antt, TableJson.antt,
+//! SessionJson.antt or ConvertJson.antt, and docs/FORMATS.md shows it: change all three.
 #![tactic(auto)]
 
+mod answered;
 mod body;
 mod cdr_fault;
 mod client_entry;
@@ -21,16 +22,17 @@ mod server_entry;
 mod target;
 mod traced;
 
+pub use answered::{AnsweredLine, ConnectionLine, UnsentLine};
 pub use body::{InsLine, JoinedLine, UndecodedLine, UnjoinedLine};
 pub use cdr_fault::CdrFaultText;
 pub use client_entry::{ClientEntryLine, CompletionText, ReplyText};
 pub use end::{FaultLine, HeadFaultLine, RestLine};
 pub use json::{
-    AskedJson, CdrFaultJson, CorbalocJson, DirectionEndJson, FaultJson, HeadFaultJson, HexJson,
-    IdJson, IiopJson, InsJson, IorJson, JoinedJson, KeyJson, LocateReplyJson, LocateRequestJson,
-    MessageJson, ProfileJson, RefusalJson, RefusedJson, ReplyJson, RequestFaultJson, RequestJson,
-    RestJson, ServerEntryJson, TargetJson, TextJson, TypeJson, UndecodedJson, UnjoinedJson,
-    WireFaultJson,
+    AnsweredJson, AskedJson, CdrFaultJson, ClientEntryJson, ConnectionJson, CorbalocJson,
+    DirectionEndJson, FaultJson, HeadFaultJson, HexJson, IdJson, IiopJson, InsJson, IorJson,
+    JoinedJson, KeyJson, LocateReplyJson, LocateRequestJson, MessageJson, OutcomeJson, ProfileJson,
+    RefusalJson, RefusedJson, ReplyJson, RequestFaultJson, RequestJson, RestJson, ServerEntryJson,
+    TargetJson, TextJson, TypeJson, UndecodedJson, UnjoinedJson, UnsentJson, WireFaultJson,
 };
 pub use locate::{LocateReplyLine, LocateRequestLine};
 pub use message::MessageLine;

@@ -321,10 +321,10 @@ fn misused(alloc: Global, wrong: &str) -> Result<Error, AllocError> {
 
 fn conversion<'a>(convert: &ArgMatches<'a>) -> Result<Option<Task<'a>>, &'static str> {
     if let Some(ior) = convert.subcommand_matches("ior") {
-        return Ok(converted(ior, Some(ConvertKind::Ior(form_of(ior)))));
+        return Ok(converted(ior, Some(ConvertKind::Ior(lines_of(ior)))));
     }
     if let Some(corbaloc) = convert.subcommand_matches("corbaloc") {
-        let form = form_of(corbaloc);
+        let form = lines_of(corbaloc);
         return Ok(converted(corbaloc, Some(ConvertKind::Corbaloc(form))));
     }
     if let Some(encode) = convert.subcommand_matches("encode") {
@@ -361,7 +361,7 @@ fn dumped<'a>(matches: &ArgMatches<'a>) -> Result<Option<Task<'a>>, &'static str
         file,
         limit,
         gathered,
-        form: form_of(matches),
+        form: lines_of(matches),
     })))
 }
 
@@ -378,7 +378,7 @@ fn checked<'a>(matches: &ArgMatches<'a>) -> Result<Option<Task<'a>>, &'static st
         file,
         limits,
         strict,
-        form: form_of(matches),
+        form: lines_of(matches),
     })))
 }
 
@@ -394,7 +394,7 @@ fn traced<'a>(matches: &ArgMatches<'a>) -> Result<Option<Task<'a>>, &'static str
         apart(interface, server)?;
         apart(client, server)?;
     }
-    let form = form_of(matches);
+    let form = lines_of(matches);
     Ok(Some(Task::Trace(TraceWords {
         interface,
         client,
@@ -405,7 +405,7 @@ fn traced<'a>(matches: &ArgMatches<'a>) -> Result<Option<Task<'a>>, &'static str
 }
 
 // The form of the lines of a command that takes `--json`.
-fn form_of(matches: &ArgMatches<'_>) -> LineForm {
+fn lines_of(matches: &ArgMatches<'_>) -> LineForm {
     match matches.get_flag("json") {
         true => LineForm::Json,
         false => LineForm::Text,

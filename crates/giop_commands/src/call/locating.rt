@@ -9,11 +9,12 @@ ghost use Rattle.giop_commands.specs.Calling.{asked_of};
 ghost use Rattle.giop_commands.specs.Endings.{Ends};
 ghost use Rattle.giop_commands.specs.Locating.{Locates, LocatesEnd, LocatesOne, is_here, locate_of, locate_status};
 ghost use Rattle.giop_commands.specs.Sessions.{session_text, told, wire};
-ghost use Rattle.giop_commands.specs.Table.{client_entry_line};
+ghost use Rattle.giop_commands.specs.Table.{client_entry_in};
 
 use crate::call::given::Calling;
 use crate::call::talk;
 use crate::failure::Failure;
+use crate::form::LineForm;
 use crate::session::ending::{Ending, ending_of};
 use crate::session::sending::send_all;
 use crate::session::{told, told_of, write_session};
@@ -31,7 +32,7 @@ const ID: u32 = 1;
 
 /// Asks where the object of `calling` is, by a new client's end: a LocateRequest under the id 1. What
 /// is put out is written, and answers are read until that one is there or the input ends. Then its
-/// line is written to `out`, and the fault that ended the session, where one did.
+/// line is written to `out` in a form, and the fault that ended the session, where one did.
 ///
 /// It is `Done` where the answer is OBJECT_HERE; `LimitPassed` where a limit kept it from being; else
 /// `Refused`. Where something fails, what failed is returned; where that is the connection, the line
@@ -39,11 +40,12 @@ const ID: u32 = 1;
 pub fn locate_over<R: Read, W: Write, O: Write>(
     alloc: Global,
     calling: Calling<'_>,
+    lines: LineForm,
     reader: &mut R,
     writer: &mut W,
     out: &mut O,
 ) -> Result<Ending, Failure>
-    ensures { IfOk result (LocatesEnd (asked_of calling.entry [])
+    ensures { IfOk result (LocatesEnd (asked_of calling.entry []) lines
         (wire (R.remaining reader.old) (W.contents writer.old))
         (wire (R.remaining reader.new) (W.contents writer.new))
         (O.contents out.old) (O.contents out.new)) }
@@ -51,10 +53,10 @@ pub fn locate_over<R: Read, W: Write, O: Write>(
     let mut end = ClientEnd::new(alloc, calling.interface, calling.limits);
     let refused = locate_all(alloc, &mut end, calling)?;
     match talk(alloc, &mut end, refused, reader, writer) {
-        Ok(()) => tell(alloc, calling.interface, &end, refused, out),
+        Ok(()) => tell(alloc, lines, calling.interface, &end, refused, out),
         Err(Failure::Memory) => Err(Failure::Memory),
         Err(failure) => {
-            write_session(alloc, calling.interface, &end, None, out)?;
+            write_session(alloc, lines, calling.interface, &end, None, out)?;
             out.flush()?;
             Err(failure)
         }
@@ -115,13 +117,14 @@ fn request_of(alloc: Global, key: &[u8], version: Version) -> Result<LocateReque
 // Writes the line of the LocateRequest and the fault of the session, and returns what it came to.
 fn tell<O: Write>(
     alloc: Global,
+    lines: LineForm,
     interface: &Interface,
     end: &ClientEnd<'_>,
     refused: Option<SessionFault>,
     out: &mut O,
 ) -> Result<Ending, Failure>
     ensures text { OnOk result (Appends (O.contents out.old) (O.contents out.new)
-        (session_text (client_entry_line interface.now) end.now.calls.table
+        (session_text lines (client_entry_in lines interface.now) end.now.calls.table
         (told refused end.now.fault))) }
     ensures ok { IfOk result (λ ending. ending.status
         ≡ locate_status refused end.now.fault end.now.calls.table) }
@@ -129,7 +132,7 @@ fn tell<O: Write>(
         end.now.framer) }
 {
     let fault = told(refused, end.fault());
-    write_session(alloc, interface, end, fault, out)?;
+    write_session(alloc, lines, interface, end, fault, out)?;
     Ok(ending_of(alloc, end, fault, locate_status(refused, end))?)
 }
 

@@ -13,12 +13,13 @@ ghost use Rattle.giop_commands.specs.Calling.{asked_of};
 ghost use Rattle.giop_commands.specs.Endings.{CallsStreamEnd, Ends};
 ghost use Rattle.giop_commands.specs.Sessions.{told, wire};
 ghost use Rattle.giop_commands.specs.Streaming.{over_text};
-ghost use Rattle.giop_commands.specs.Table.{client_entry_line};
+ghost use Rattle.giop_commands.specs.Table.{client_entry_in};
 
 use crate::call::calls::CallLine;
 use crate::call::given::Calling;
 use crate::call::{all_well, are_over, call_one, is_well_at};
 use crate::failure::Failure;
+use crate::form::{LineForm, write_line};
 use crate::session::ending::{Ending, ending_of};
 use crate::session::sending::send_all;
 use crate::session::streaming::{Streamed, tell_left, tell_over};
@@ -26,6 +27,7 @@ use crate::session::table::Tabled;
 use crate::session::{TURNS, goes_on, told, write_all_out, write_fault};
 use crate::status::Status;
 use giop_calls::{ClientEntry, ClientRule};
+use giop_lines::{UnsentJson, UnsentLine};
 use giop_session::{ClientEnd, Limits, SessionFault};
 use giop_types::Interface;
 use std::alloc::{AllocError, Global};
@@ -36,9 +38,9 @@ use std::io::{Read, Write};
 const MOST_OUTGOING: usize = 4_096;
 
 impl Streamed for ClientRule {
-    ghost use Rattle.giop_commands.specs.Table.{client_entry_line};
+    ghost use Rattle.giop_commands.specs.Table.{client_entry_in};
 
-    ghost told = { client_entry_line };
+    ghost told = { client_entry_in };
 
     fn is_over(entry: &ClientEntry) -> bool {
         entry.is_closed()
@@ -46,16 +48,17 @@ impl Streamed for ClientRule {
 
     fn write_told<W: Write>(
         alloc: Global,
+        lines: LineForm,
         interface: &Interface,
         id: u32,
         entry: &ClientEntry,
         writer: &mut W,
     ) -> Result<(), Failure> {
-        ClientRule::write_entry(alloc, interface, id, entry, writer)
+        ClientRule::write_entry(alloc, lines, interface, id, entry, writer)
     }
 }
 
-/// Calls as `call_over` does, and tells the calls as they end. A call is made as soon as there is
+/// Calls as `call_over` does, and tells the calls in a form as they end. A call is made as soon as there is
 /// room: fewer calls than the limit are open, none has its id, and little is outgoing. After each
 /// read, each call that is over has its line, in ascending order of the ids, and is taken out. So
 /// any number of calls takes the memory of those that are open. At the end there are the lines of
@@ -70,11 +73,12 @@ pub fn call_stream<R: Read, W: Write, O: Write>(
     alloc: Global,
     calling: Calling<'_>,
     calls: Vec<CallLine>,
+    lines: LineForm,
     reader: &mut R,
     writer: &mut W,
     out: &mut O,
 ) -> Result<Ending, Failure>
-    ensures { IfOk result (CallsStreamEnd (asked_of calling.entry calls.items)
+    ensures { IfOk result (CallsStreamEnd (asked_of calling.entry calls.items) lines
         (wire (R.remaining reader.old) (W.contents writer.old))
         (wire (R.remaining reader.new) (W.contents writer.new))
         (O.contents out.old) (O.contents out.new)) }
@@ -83,11 +87,20 @@ pub fn call_stream<R: Read, W: Write, O: Write>(
     let mut left = VecDeque::from(calls);
     let mut well = true;
     match converse(
-        alloc, &mut end, calling, &mut left, &mut well, reader, writer, out,
+        alloc, &mut end, calling, lines, &mut left, &mut well, reader, writer, out,
     ) {
-        Ok(refused) => tell_end(alloc, calling.interface, &end, &left, well, refused, out),
+        Ok(refused) => tell_end(
+            alloc,
+            lines,
+            calling.interface,
+            &end,
+            &left,
+            well,
+            refused,
+            out,
+        ),
         Err(failure) => {
-            tell_open(alloc, calling.interface, &end, &left, None, out)?;
+            tell_open(alloc, lines, calling.interface, &end, &left, None, out)?;
             Err(failure)
         }
     }
@@ -99,6 +112,7 @@ fn converse<R: Read, W: Write, O: Write>(
     alloc: Global,
     end: &mut ClientEnd<'_>,
     calling: Calling<'_>,
+    lines: LineForm,
     left: &mut VecDeque<CallLine>,
     well: &mut bool,
     reader: &mut R,
@@ -108,7 +122,7 @@ fn converse<R: Read, W: Write, O: Write>(
     requires interface { end.old.interface.now ≡ calling.interface.now }
     requires limits { end.old.limits ≡ calling.limits }
     requires fault { end.old.fault ≡ None }
-    ensures { IfOk result (λ refused. Streams (asked_of calling.entry left.old.items)
+    ensures { IfOk result (λ refused. Streams (asked_of calling.entry left.old.items) lines
         (course (between (R.remaining reader.old) (W.contents writer.old) end.old.outgoing
         end.old.framer end.old.calls end.old.fault) (O.contents out.old) left.old.items well.old)
         refused
@@ -125,7 +139,7 @@ fn converse<R: Read, W: Write, O: Write>(
         if !take_turn(alloc, end, reader, writer)? {
             return Ok(None);
         }
-        *well = tell_turn(alloc, calling.interface, end, *well, out)?;
+        *well = tell_turn(alloc, lines, calling.interface, end, *well, out)?;
     }
     Err(Failure::TurnsSpent)
 }
@@ -279,6 +293,7 @@ fn take_turn<R: Read, W: Write>(
 // Tells the calls that are over and takes them out. Returns whether they and all before went well.
 fn tell_turn<O: Write>(
     alloc: Global,
+    lines: LineForm,
     interface: &Interface,
     end: &mut ClientEnd<'_>,
     well: bool,
@@ -287,11 +302,11 @@ fn tell_turn<O: Write>(
     requires { end.old.fault ≡ None }
     ensures well { IfOk result (λ all. all ≡ (well && all_over_well end.old.calls.table)) }
     ensures text { OnOk result (Appends (O.contents out.old) (O.contents out.new)
-        (over_text is_closed (client_entry_line interface.now) end.old.calls.table)) }
+        (over_text is_closed (client_entry_in lines interface.now) end.old.calls.table)) }
     ensures left { OnOk result (end.new ≡ record end.old { calls = still_open end.old.calls }) }
 {
     let over_well = all_over_well(alloc, end)?;
-    tell_over(alloc, interface, end, out)?;
+    tell_over(alloc, lines, interface, end, out)?;
     Ok(well && over_well)
 }
 
@@ -323,6 +338,7 @@ fn is_over_well(end: &ClientEnd<'_>, id: u32) -> bool
 // Writes what is left, and returns what the session came to.
 fn tell_end<O: Write>(
     alloc: Global,
+    lines: LineForm,
     interface: &Interface,
     end: &ClientEnd<'_>,
     left: &VecDeque<CallLine>,
@@ -331,14 +347,14 @@ fn tell_end<O: Write>(
     out: &mut O,
 ) -> Result<Ending, Failure>
     ensures text { OnOk result (Appends (O.contents out.old) (O.contents out.new)
-        (left_text interface.now end.now.calls left.now.items (told refused end.now.fault))) }
+        (left_text lines interface.now end.now.calls left.now.items (told refused end.now.fault))) }
     ensures ok { IfOk result (λ ending. ending.status ≡ stream_status refused end.now.fault
         (all_done well end.now.calls left.now.items)) }
     ensures ends { IfOk result (Ends is_closed (told refused end.now.fault) end.now.calls.table
         end.now.framer) }
 {
     let fault = told(refused, end.fault());
-    tell_open(alloc, interface, end, left, fault, out)?;
+    tell_open(alloc, lines, interface, end, left, fault, out)?;
     let done = well && all_well(alloc, end)? && left.is_empty();
     let status = stream_status(refused, end.fault(), done);
     Ok(ending_of(alloc, end, fault, status)?)
@@ -347,6 +363,7 @@ fn tell_end<O: Write>(
 // Writes the lines of the calls that are open, those of the calls that weren't made, and the fault.
 fn tell_open<O: Write>(
     alloc: Global,
+    lines: LineForm,
     interface: &Interface,
     end: &ClientEnd<'_>,
     left: &VecDeque<CallLine>,
@@ -354,33 +371,41 @@ fn tell_open<O: Write>(
     out: &mut O,
 ) -> Result<(), Failure>
     ensures { OnOk result (Appends (O.contents out.old) (O.contents out.new)
-        (left_text interface.now end.now.calls left.now.items fault)) }
+        (left_text lines interface.now end.now.calls left.now.items fault)) }
 {
-    tell_left(alloc, interface, end, out)?;
-    tell_unsent(left, out)?;
-    write_fault(fault, out)?;
+    tell_left(alloc, lines, interface, end, out)?;
+    tell_unsent(lines, left, out)?;
+    write_fault(lines, fault, out)?;
     out.flush()?;
     Ok(())
 }
 
 // Writes a line for each call that wasn't made.
 #[tactic(auto, using(crate::proofs::CallStreamingLemmas::unsent_on))]
-fn tell_unsent<O: Write>(left: &VecDeque<CallLine>, out: &mut O) -> Result<(), Failure>
+fn tell_unsent<O: Write>(
+    lines: LineForm,
+    left: &VecDeque<CallLine>,
+    out: &mut O,
+) -> Result<(), Failure>
     ensures { OnOk result (Appends (O.contents out.old) (O.contents out.new)
-        (unsent_text left.now.items)) }
+        (unsent_text lines left.now.items)) }
 {
     let (front, back) = left.as_slices();
-    tell_each_unsent(front, out)?;
-    tell_each_unsent(back, out)
+    tell_each_unsent(lines, front, out)?;
+    tell_each_unsent(lines, back, out)
 }
 
 // Writes a line for each of these calls.
-fn tell_each_unsent<O: Write>(calls: &[CallLine], out: &mut O) -> Result<(), Failure>
+fn tell_each_unsent<O: Write>(
+    lines: LineForm,
+    calls: &[CallLine],
+    out: &mut O,
+) -> Result<(), Failure>
     ensures { OnOk result (Appends (O.contents out.old) (O.contents out.new)
-        (unsent_text calls.now)) }
+        (unsent_text lines calls.now)) }
 {
     for call in calls {
-        writeln!(out, "{} Unsent", call.id)?;
+        write_line(lines, UnsentLine(call.id), UnsentJson(call.id), out)?;
     }
     Ok(())
 }

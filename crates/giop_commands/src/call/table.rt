@@ -1,4 +1,5 @@
-//! The lines of a client's table. Their text is specs/Table.antt and specs/TableLines.antt.
+//! The lines of a client's table, in a form. Their text is specs/Table.antt, of the lines of
+//! giop_lines.
 ghost use Rattle.std.specs.Prelude.{◌≡◌, map, IfOk};
 ghost use Rattle.std.specs.String.{string_bytes};
 ghost use Rattle.giop_types.specs.Values.Views.{value_view};
@@ -7,23 +8,25 @@ ghost use Rattle.giop_msg.specs.Messages.Request.{operation_of};
 ghost use Rattle.giop_commands.specs.Bodies.{brought_by, brought_text, values_text};
 
 use crate::failure::Failure;
+use crate::form::{LineForm, write_line};
 use crate::session::bodies::{forward_text, values_text};
 use crate::session::table::Tabled;
 use giop_calls::{ClientEntry, ClientRule};
 use giop_cdr::OctetList;
-use giop_lines::ClientEntryLine;
+use giop_lines::{ClientEntryJson, ClientEntryLine};
 use giop_msg::{ReplyBody, Request};
 use giop_types::{Interface, Value};
 use std::alloc::{AllocError, Global};
 use std::io::Write;
 
 impl Tabled for ClientRule {
-    ghost use Rattle.giop_commands.specs.Table.{client_entry_line};
+    ghost use Rattle.giop_commands.specs.Table.{client_entry_in};
 
-    ghost line = { client_entry_line };
+    ghost line = { client_entry_in };
 
     fn write_entry<W: Write>(
         alloc: Global,
+        lines: LineForm,
         interface: &Interface,
         id: u32,
         entry: &ClientEntry,
@@ -31,8 +34,11 @@ impl Tabled for ClientRule {
     ) -> Result<(), Failure> {
         let brought = brought_text(alloc, interface, entry)?;
         let brought = brought.as_str();
-        writeln!(writer, "{}", ClientEntryLine { id, entry, brought })?;
-        Ok(())
+        let (text, json) = (
+            ClientEntryLine { id, entry, brought },
+            ClientEntryJson { id, entry, brought },
+        );
+        write_line(lines, text, json, writer)
     }
 }
 

@@ -2,39 +2,40 @@
 //! meaning is specs/Streaming.antt: change both.
 ghost use Rattle.std.specs.Prelude.{◌≡◌, ◌++◌, IfOk, None, OnOk, length};
 ghost use Rattle.std.specs.Io.KnownBytes.{Appends};
+ghost use Rattle.std.specs.String.{string_bytes};
 ghost use Rattle.giop_session.specs.Pumping.{between};
 ghost use Rattle.giop_calls.specs.ServerTable.{is_closed};
 ghost use Rattle.giop_commands.specs.Dump.{ended};
 ghost use Rattle.giop_commands.specs.Endings.{Ends, ServesStreamEnd};
 ghost use Rattle.giop_commands.specs.Serving.{served_of};
-ghost use Rattle.giop_commands.specs.SessionLines.{last_line};
-ghost use Rattle.giop_commands.specs.Sessions.{connection_line, serve_status, wire};
-ghost use Rattle.giop_commands.specs.StreamLines.{answered_line, server_told_line};
+ghost use Rattle.giop_commands.specs.SessionLines.{last_in};
+ghost use Rattle.giop_commands.specs.Sessions.{connection_in, serve_status, wire};
+ghost use Rattle.giop_commands.specs.StreamLines.{answered_in, question_brought, question_ins, server_told_in};
 ghost use Rattle.giop_commands.specs.Streaming.{Streams, shown};
 ghost use Rattle.giop_commands.specs.Table.{table_text};
 
 use crate::call::table::brought_by;
 use crate::failure::Failure;
+use crate::form::{LineForm, write_line};
 use crate::serve::given::Serving;
 use crate::serve::table::request_ins;
 use crate::serve::{answer_all, serve_status, write_connection};
 use crate::session::ending::{Ending, ending_of};
-use crate::session::fault_line::SessionFaultLine;
 use crate::session::streaming::{Streamed, tell_left, tell_over};
 use crate::session::table::Tabled;
-use crate::session::{TURNS, goes_on, told};
+use crate::session::{TURNS, goes_on, told, write_session_fault};
 use giop_calls::{Question, ServerEntry, ServerRule};
-use giop_lines::{AskedText, ReplyText, RequestFaultText, RestLine};
+use giop_lines::{AnsweredJson, AnsweredLine, RestJson, RestLine};
 use giop_msg::ReplyBody;
 use giop_session::{ServerEnd, SessionFault};
 use giop_types::Interface;
-use std::alloc::Global;
+use std::alloc::{AllocError, Global};
 use std::io::{Read, Write};
 
 impl Streamed for ServerRule {
-    ghost use Rattle.giop_commands.specs.StreamLines.{server_told_line};
+    ghost use Rattle.giop_commands.specs.StreamLines.{server_told_in};
 
-    ghost told = { server_told_line };
+    ghost told = { server_told_in };
 
     fn is_over(entry: &ServerEntry) -> bool {
         entry.is_closed()
@@ -42,6 +43,7 @@ impl Streamed for ServerRule {
 
     fn write_told<W: Write>(
         alloc: Global,
+        lines: LineForm,
         interface: &Interface,
         id: u32,
         entry: &ServerEntry,
@@ -49,9 +51,9 @@ impl Streamed for ServerRule {
     ) -> Result<(), Failure> {
         match entry {
             ServerEntry::Answered { asked, reply, .. } => {
-                write_answered(alloc, interface, id, asked, &reply.body, writer)
+                write_answered(alloc, lines, interface, id, asked, &reply.body, writer)
             }
-            _ => ServerRule::write_entry(alloc, interface, id, entry, writer),
+            _ => ServerRule::write_entry(alloc, lines, interface, id, entry, writer),
         }
     }
 }
@@ -59,6 +61,7 @@ impl Streamed for ServerRule {
 // Writes the line of a call that was answered.
 fn write_answered<W: Write>(
     alloc: Global,
+    lines: LineForm,
     interface: &Interface,
     id: u32,
     asked: &Question,
@@ -66,27 +69,60 @@ fn write_answered<W: Write>(
     writer: &mut W,
 ) -> Result<(), Failure>
     ensures { OnOk result (Appends (W.contents writer.old) (W.contents writer.new)
-        (ended (answered_line interface.now id asked.now body.now))) }
+        (ended (answered_in lines interface.now id asked.now body.now))) }
 {
-    match asked {
-        Question::Request(request) => {
-            let ins = request_ins(alloc, interface, request)?;
-            let brought = brought_by(alloc, interface, request, body)?;
-            let asked = AskedText(request, ins.as_str());
-            let reply = ReplyText(body, brought.as_str());
-            writeln!(writer, "{id} Asked {asked} Answered {reply}")?;
-        }
-        Question::Undecoded(fault) => {
-            let fault = RequestFaultText(*fault);
-            let reply = ReplyText(body, "");
-            writeln!(writer, "{id} Undecoded {fault} Answered {reply}")?;
-        }
-    }
-    Ok(())
+    let ins = question_ins(alloc, interface, asked)?;
+    let brought = question_brought(alloc, interface, asked, body)?;
+    let (ins, brought) = (ins.as_str(), brought.as_str());
+    let text = AnsweredLine {
+        id,
+        asked,
+        ins,
+        body,
+        brought,
+    };
+    let json = AnsweredJson {
+        id,
+        asked,
+        ins,
+        body,
+        brought,
+    };
+    write_line(lines, text, json, writer)
 }
 
-/// Serves a connection of this number as `serve_over` does, and tells its calls as they end. The
-/// line of the connection is written at first. After the answers to each read, each call that is
+// The ins of what was asked, as a JSON list; empty where it couldn't be decoded.
+fn question_ins(
+    alloc: Global,
+    interface: &Interface,
+    asked: &Question,
+) -> Result<String, AllocError>
+    ensures { IfOk result (λ text. string_bytes text ≡ question_ins interface.now asked.now) }
+{
+    match asked {
+        Question::Request(request) => request_ins(alloc, interface, request),
+        Question::Undecoded(_) => Ok(String::new(alloc)),
+    }
+}
+
+// What a Reply to what was asked brings, as text; empty where it couldn't be decoded.
+fn question_brought(
+    alloc: Global,
+    interface: &Interface,
+    asked: &Question,
+    body: &ReplyBody,
+) -> Result<String, AllocError>
+    ensures { IfOk result (λ text. string_bytes text
+        ≡ question_brought interface.now asked.now body.now) }
+{
+    match asked {
+        Question::Request(request) => brought_by(alloc, interface, request, body),
+        Question::Undecoded(_) => Ok(String::new(alloc)),
+    }
+}
+
+/// Serves a connection of this number as `serve_over` does, and tells its calls in a form as they
+/// end. The line of the connection is written at first. After the answers to each read, each call that is
 /// over has its line, in ascending order of the ids, and is taken out. So a connection of any number
 /// of calls takes the memory of those that are open. At the end there are the lines of the calls
 /// that are left, and then how many octets are unread, or the fault. `out` is flushed before each
@@ -98,22 +134,30 @@ pub fn stream_over<R: Read, W: Write, O: Write>(
     alloc: Global,
     number: u32,
     serving: Serving<'_>,
+    lines: LineForm,
     reader: &mut R,
     writer: &mut W,
     out: &mut O,
 ) -> Result<Ending, Failure>
-    ensures { IfOk result (ServesStreamEnd number (served_of serving.entry)
+    ensures { IfOk result (ServesStreamEnd number (served_of serving.entry) lines
         (wire (R.remaining reader.old) (W.contents writer.old))
         (wire (R.remaining reader.new) (W.contents writer.new))
         (O.contents out.old) (O.contents out.new)) }
 {
     let interface = serving.interface;
-    tell_begin(number, out)?;
+    tell_begin(lines, number, out)?;
     let mut end = ServerEnd::new(alloc, interface, serving.limits);
-    match converse(alloc, &mut end, serving, reader, writer, out) {
-        Ok(refused) => tell_end(alloc, interface, &end, told(refused, end.fault()), out),
+    match converse(alloc, &mut end, serving, lines, reader, writer, out) {
+        Ok(refused) => tell_end(
+            alloc,
+            lines,
+            interface,
+            &end,
+            told(refused, end.fault()),
+            out,
+        ),
         Err(failure) => {
-            tell_left(alloc, interface, &end, out)?;
+            tell_left(alloc, lines, interface, &end, out)?;
             out.flush()?;
             Err(failure)
         }
@@ -121,11 +165,11 @@ pub fn stream_over<R: Read, W: Write, O: Write>(
 }
 
 // Writes the line of the connection.
-fn tell_begin<O: Write>(number: u32, out: &mut O) -> Result<(), Failure>
+fn tell_begin<O: Write>(lines: LineForm, number: u32, out: &mut O) -> Result<(), Failure>
     ensures { OnOk result (Appends (O.contents out.old) (O.contents out.new)
-        (ended (connection_line number))) }
+        (ended (connection_in lines number))) }
 {
-    write_connection(number, out)?;
+    write_connection(lines, number, out)?;
     out.flush()?;
     Ok(())
 }
@@ -134,36 +178,37 @@ fn tell_begin<O: Write>(number: u32, out: &mut O) -> Result<(), Failure>
 // came to.
 fn tell_end<O: Write>(
     alloc: Global,
+    lines: LineForm,
     interface: &Interface,
     end: &ServerEnd<'_>,
     fault: Option<SessionFault>,
     out: &mut O,
 ) -> Result<Ending, Failure>
     ensures text { OnOk result (Appends (O.contents out.old) (O.contents out.new)
-        (table_text (server_told_line interface.now) end.now.calls.table
-        ++ ended (last_line fault (length end.now.framer.octets)))) }
+        (table_text (server_told_in lines interface.now) end.now.calls.table
+        ++ ended (last_in lines fault (length end.now.framer.octets)))) }
     ensures ok { IfOk result (λ ending. ending.status ≡ serve_status fault) }
     ensures ends { IfOk result (Ends is_closed fault end.now.calls.table end.now.framer) }
 {
-    tell_left(alloc, interface, end, out)?;
-    write_last(fault, end.rest(), out)?;
+    tell_left(alloc, lines, interface, end, out)?;
+    write_last(lines, fault, end.rest(), out)?;
     Ok(ending_of(alloc, end, fault, serve_status(fault))?)
 }
 
 // The last line: the fault, or how many octets are unread.
 fn write_last<W: Write>(
+    lines: LineForm,
     fault: Option<SessionFault>,
     rest: usize,
     writer: &mut W,
 ) -> Result<(), Failure>
     ensures { OnOk result (Appends (W.contents writer.old) (W.contents writer.new)
-        (ended (last_line fault rest))) }
+        (ended (last_in lines fault rest))) }
 {
     match fault {
-        Some(fault) => writeln!(writer, "{}", SessionFaultLine(fault))?,
-        None => writeln!(writer, "{}", RestLine(rest))?,
+        Some(fault) => write_session_fault(lines, fault, writer),
+        None => write_line(lines, RestLine(rest), RestJson(rest), writer),
     }
-    Ok(())
 }
 
 // Takes turns, answers after each, and tells the calls that are over, until the input ends or the
@@ -172,12 +217,13 @@ fn converse<R: Read, W: Write, O: Write>(
     alloc: Global,
     end: &mut ServerEnd<'_>,
     serving: Serving<'_>,
+    lines: LineForm,
     reader: &mut R,
     writer: &mut W,
     out: &mut O,
 ) -> Result<Option<SessionFault>, Failure>
     requires { end.old.interface.now ≡ serving.interface.now }
-    ensures { IfOk result (λ refused. Streams (served_of serving.entry) end.old.limits
+    ensures { IfOk result (λ refused. Streams (served_of serving.entry) end.old.limits lines
         (shown (between (R.remaining reader.old) (W.contents writer.old) end.old.outgoing
         end.old.framer end.old.calls end.old.fault) (O.contents out.old))
         refused
@@ -191,7 +237,7 @@ fn converse<R: Read, W: Write, O: Write>(
         if let Some(fault) = answer_all(alloc, end, serving)? {
             return Ok(Some(fault));
         }
-        tell_over(alloc, serving.interface, end, out)?;
+        tell_over(alloc, lines, serving.interface, end, out)?;
     }
     Err(Failure::TurnsSpent)
 }

@@ -1,25 +1,28 @@
-//! The lines of a server's table. Their text is specs/Table.antt and specs/TableLines.antt.
+//! The lines of a server's table, in a form. Their text is specs/Table.antt, of the lines of
+//! giop_lines.
 ghost use Rattle.std.specs.Prelude.{◌≡◌, IfOk};
 ghost use Rattle.std.specs.String.{string_bytes};
 ghost use Rattle.giop_commands.specs.Bodies.{ins_text, request_ins};
 
 use crate::failure::Failure;
+use crate::form::{LineForm, write_line};
 use crate::session::bodies::values_text;
 use crate::session::table::Tabled;
 use giop_calls::{ServerEntry, ServerRule};
-use giop_lines::ServerEntryLine;
+use giop_lines::{ServerEntryJson, ServerEntryLine};
 use giop_msg::Request;
 use giop_types::Interface;
 use std::alloc::{AllocError, Global};
 use std::io::Write;
 
 impl Tabled for ServerRule {
-    ghost use Rattle.giop_commands.specs.Table.{server_entry_line};
+    ghost use Rattle.giop_commands.specs.Table.{server_entry_in};
 
-    ghost line = { server_entry_line };
+    ghost line = { server_entry_in };
 
     fn write_entry<W: Write>(
         alloc: Global,
+        lines: LineForm,
         interface: &Interface,
         id: u32,
         entry: &ServerEntry,
@@ -27,8 +30,11 @@ impl Tabled for ServerRule {
     ) -> Result<(), Failure> {
         let ins = ins_text(alloc, interface, entry)?;
         let ins = ins.as_str();
-        writeln!(writer, "{}", ServerEntryLine { id, entry, ins })?;
-        Ok(())
+        let (text, json) = (
+            ServerEntryLine { id, entry, ins },
+            ServerEntryJson { id, entry, ins },
+        );
+        write_line(lines, text, json, writer)
     }
 }
 

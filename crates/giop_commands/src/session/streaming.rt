@@ -8,6 +8,7 @@ ghost use Rattle.giop_commands.specs.Streaming.{ended_at, over_at, over_text, wi
 ghost use Rattle.giop_commands.specs.Table.{table_text, text_at};
 
 use crate::failure::Failure;
+use crate::form::LineForm;
 use crate::session::table::Tabled;
 use giop_mux::CallRule;
 use giop_session::{End, Hearing};
@@ -20,37 +21,40 @@ pub trait Streamed: Tabled {
     ghost use Rattle.std.specs.Prelude.{◌≡◌, ℕ, List, OnOk};
     ghost use Rattle.std.specs.Io.KnownBytes.{Appends};
     ghost use Rattle.giop_types.specs.declared.json.interface.Interface.{Interface};
+    ghost use Rattle.giop_commands.specs.declared.form.LineForm.{LineForm};
     ghost use Rattle.giop_commands.specs.Dump.{ended};
 
-    ghost told: { Interface → ℕ → Self.Entry → List ℕ };
+    ghost told: { LineForm → Interface → ℕ → Self.Entry → List ℕ };
 
     /// Whether the call of an entry is over.
     fn is_over(entry: &Self::Entry) -> bool
         ensures { (rule : _) → result ≡ ⟦<Self as CallRule>⟧.closed rule entry.now };
 
-    /// Writes the line of what is stored for an id, with its values by an interface.
+    /// Writes the line of what is stored for an id in a form, with its values by an interface.
     fn write_told<W: Write>(
         alloc: Global,
+        lines: LineForm,
         interface: &Interface,
         id: u32,
         entry: &Self::Entry,
         writer: &mut W,
     ) -> Result<(), Failure>
         ensures { OnOk result (Appends (W.contents writer.old) (W.contents writer.new)
-            (ended (told interface.now id entry.now))) };
+            (ended (told lines interface.now id entry.now))) };
 }
 
-/// Writes the line of each call that is over, in ascending order of the ids, flushes the writer, and
+/// Writes the line of each call that is over in a form, in ascending order of the ids, flushes the writer, and
 /// takes these calls out. Where that fails, no call is taken out.
 pub fn tell_over<R: Streamed, W: Write>(
     alloc: Global,
+    lines: LineForm,
     interface: &Interface,
     end: &mut End<'_, R>,
     writer: &mut W,
 ) -> Result<(), Failure>
     requires { end.old.fault ≡ None }
     ensures text { OnOk result (Appends (W.contents writer.old) (W.contents writer.new)
-        (over_text (R.closed end.old.calls.rule) (R.told interface.now) end.old.calls.table)) }
+        (over_text (R.closed end.old.calls.rule) (R.told lines interface.now) end.old.calls.table)) }
     ensures left { OnOk result (end.new ≡ record end.old {
       calls = record end.old.calls {
         table = without_over (R.closed end.old.calls.rule) (finite.keys end.old.calls.table)
@@ -59,7 +63,7 @@ pub fn tell_over<R: Streamed, W: Write>(
     }) }
 {
     let ids = end.ids(alloc)?;
-    write_over(alloc, interface, end, ids.as_slice(), writer)?;
+    write_over(alloc, lines, interface, end, ids.as_slice(), writer)?;
     writer.flush()?;
     take_over(end, ids.as_slice());
     Ok(())
@@ -68,17 +72,18 @@ pub fn tell_over<R: Streamed, W: Write>(
 // Writes the line of each of these ids whose call is over.
 fn write_over<R: Streamed, W: Write>(
     alloc: Global,
+    lines: LineForm,
     interface: &Interface,
     end: &End<'_, R>,
     ids: &[u32],
     writer: &mut W,
 ) -> Result<(), Failure>
     ensures { OnOk result (Appends (W.contents writer.old) (W.contents writer.new)
-        (flat_map (over_at (R.closed end.now.calls.rule) (R.told interface.now)
+        (flat_map (over_at (R.closed end.now.calls.rule) (R.told lines interface.now)
         end.now.calls.table) ids.now)) }
 {
     for id in ids {
-        write_if_over(alloc, interface, end, *id, writer)?;
+        write_if_over(alloc, lines, interface, end, *id, writer)?;
     }
     Ok(())
 }
@@ -86,16 +91,17 @@ fn write_over<R: Streamed, W: Write>(
 // Writes the line of an id, where its call is over.
 fn write_if_over<R: Streamed, W: Write>(
     alloc: Global,
+    lines: LineForm,
     interface: &Interface,
     end: &End<'_, R>,
     id: u32,
     writer: &mut W,
 ) -> Result<(), Failure>
     ensures { OnOk result (Appends (W.contents writer.old) (W.contents writer.new)
-        (over_at (R.closed end.now.calls.rule) (R.told interface.now) end.now.calls.table id)) }
+        (over_at (R.closed end.now.calls.rule) (R.told lines interface.now) end.now.calls.table id)) }
 {
     if is_over_at(end, id) {
-        write_at(alloc, interface, end, id, writer)
+        write_at(alloc, lines, interface, end, id, writer)
     } else {
         Ok(())
     }
@@ -104,16 +110,17 @@ fn write_if_over<R: Streamed, W: Write>(
 // Writes the line of what is stored for an id, if anything is.
 fn write_at<R: Streamed, W: Write>(
     alloc: Global,
+    lines: LineForm,
     interface: &Interface,
     end: &End<'_, R>,
     id: u32,
     writer: &mut W,
 ) -> Result<(), Failure>
     ensures { OnOk result (Appends (W.contents writer.old) (W.contents writer.new)
-        (text_at (R.told interface.now) end.now.calls.table id)) }
+        (text_at (R.told lines interface.now) end.now.calls.table id)) }
 {
     match end.entry(id) {
-        Some(entry) => R::write_told(alloc, interface, id, entry, writer),
+        Some(entry) => R::write_told(alloc, lines, interface, id, entry, writer),
         None => Ok(()),
     }
 }
@@ -156,19 +163,20 @@ fn take_if_over<R: Streamed>(end: &mut End<'_, R>, id: u32)
     }
 }
 
-/// Writes the line of each id for which something is stored, in ascending order.
+/// Writes the line of each id for which something is stored in a form, in ascending order.
 pub fn tell_left<R: Streamed, W: Write>(
     alloc: Global,
+    lines: LineForm,
     interface: &Interface,
     end: &End<'_, R>,
     writer: &mut W,
 ) -> Result<(), Failure>
     ensures { OnOk result (Appends (W.contents writer.old) (W.contents writer.new)
-        (table_text (R.told interface.now) end.now.calls.table)) }
+        (table_text (R.told lines interface.now) end.now.calls.table)) }
 {
     let ids = end.ids(alloc)?;
     for id in &ids {
-        write_at(alloc, interface, end, *id, writer)?;
+        write_at(alloc, lines, interface, end, *id, writer)?;
     }
     Ok(())
 }

@@ -1,10 +1,11 @@
-//! The table of the calls of an end, a line for each. Its text is `table_text` in specs/Table.antt:
-//! change both.
+//! The table of the calls of an end, a line for each, in a form. Its text is `table_text` in
+//! specs/Table.antt: change both.
 ghost use Rattle.std.specs.Prelude.{◌≡◌, OnOk};
 ghost use Rattle.std.specs.Io.KnownBytes.{Appends};
 ghost use Rattle.giop_commands.specs.Table.{table_text};
 
 use crate::failure::Failure;
+use crate::form::LineForm;
 use giop_mux::CallRule;
 use giop_session::{End, Hearing};
 use giop_types::Interface;
@@ -16,36 +17,39 @@ pub trait Tabled: Hearing {
     ghost use Rattle.std.specs.Prelude.{ℕ, List, OnOk};
     ghost use Rattle.std.specs.Io.KnownBytes.{Appends};
     ghost use Rattle.giop_types.specs.declared.json.interface.Interface.{Interface};
+    ghost use Rattle.giop_commands.specs.declared.form.LineForm.{LineForm};
     ghost use Rattle.giop_commands.specs.Dump.{ended};
 
-    ghost line: { Interface → ℕ → Self.Entry → List ℕ };
+    ghost line: { LineForm → Interface → ℕ → Self.Entry → List ℕ };
 
-    /// Writes the line of what is stored for an id, with its values by an interface.
+    /// Writes the line of what is stored for an id in a form, with its values by an interface.
     fn write_entry<W: Write>(
         alloc: Global,
+        lines: LineForm,
         interface: &Interface,
         id: u32,
         entry: &Self::Entry,
         writer: &mut W,
     ) -> Result<(), Failure>
         ensures { OnOk result (Appends (W.contents writer.old) (W.contents writer.new)
-            (ended (line interface.now id entry.now))) };
+            (ended (line lines interface.now id entry.now))) };
 }
 
 /// Writes the table of an end: a line for each id for which something is stored, ascending.
 pub fn write_table<R: Tabled, W: Write>(
     alloc: Global,
+    lines: LineForm,
     interface: &Interface,
     end: &End<'_, R>,
     writer: &mut W,
 ) -> Result<(), Failure>
     ensures { OnOk result (Appends (W.contents writer.old) (W.contents writer.new)
-        (table_text (R.line interface.now) end.now.calls.table)) }
+        (table_text (R.line lines interface.now) end.now.calls.table)) }
 {
     let ids = end.ids(alloc)?;
     for id in &ids {
         if let Some(entry) = end.entry(*id) {
-            R::write_entry(alloc, interface, *id, entry, writer)?;
+            R::write_entry(alloc, lines, interface, *id, entry, writer)?;
         }
     }
     Ok(())

@@ -2,7 +2,9 @@
 //! docs/giopctl.md and tests/program too.
 
 use crate::cli::session_words::{little, target, timeout, timeout_of};
+use crate::cli::{json, lines_of};
 use clap::{ArgMatches, Command};
+use giop_commands::LineForm;
 use std::alloc::{AllocError, Global};
 
 /// What `locate` and `ping` are asked for.
@@ -15,6 +17,8 @@ pub struct ObjectWords<'a> {
     pub timeout: Option<u32>,
     /// Whether the message is sent little-endian.
     pub little: bool,
+    /// The form of the lines.
+    pub lines: LineForm,
 }
 
 const PING_HELP: &str = "\
@@ -23,6 +27,7 @@ what that came to, as giopctl call does:
   1 Done 0 [false]      the object is there
   1 Done 0 [true]       it isn't
   1 Done 2 ID MINOR COMPLETION   a system exception, such as OBJECT_NOT_EXIST
+With --json the line is {\"id\":1,\"what\":WHAT,..}, as by giopctl call.
 Standard error tells how long it took from the beginning of the connection on, in microseconds.
 
 Exit statuses:
@@ -33,7 +38,7 @@ Exit statuses:
   4  out of memory
 
 Example:
-  giopctl ping --timeout 5 --target corbaloc::1.2@127.0.0.1:2810/k";
+  giopctl ping --timeout 5 --json --target corbaloc::1.2@127.0.0.1:2810/k";
 
 const LOCATE_HELP: &str = "\
 It sends a LocateRequest, the message by which a client asks where an object is, and shows the answer:
@@ -43,6 +48,8 @@ It sends a LocateRequest, the message by which a client asks where an object is,
                         server wants the object addressed in another way
   1 Waiting             no answer came
 The last line is the fault that ended the session, where there is one.
+With --json the lines are {\"id\":1,\"what\":\"located\",\"status\":STATUS}, {\"id\":1,\"what\":\"waiting\"}
+and {\"fault\":{..}}.
 
 Exit statuses:
   0  the object is here
@@ -78,6 +85,7 @@ fn asking<'a>(
         .after_help(help)
         .arg(target(alloc))?
         .arg(timeout(alloc))?
+        .arg(json(alloc))?
         .arg(little(alloc))
 }
 
@@ -88,6 +96,7 @@ pub fn object_words<'a>(matches: &ArgMatches<'a>) -> Result<ObjectWords<'a>, &'s
             target,
             timeout: timeout_of(matches)?,
             little: matches.get_flag("little"),
+            lines: lines_of(matches),
         }),
         None => Err("--target is wanted"),
     }

@@ -5,10 +5,12 @@ ghost use Rattle.giop_session.specs.Acts.Form.{IsForm};
 ghost use Rattle.giop_commands.specs.Check.{AreLimits};
 
 use crate::cli::limit_words::{limited, limits_of};
+use crate::cli::{json, lines_of};
 use crate::files::apart;
 use clap::builder::ValueParser;
 use clap::{Arg, ArgAction, ArgGroup, ArgMatches, Command};
 use giop_cdr::Order;
+use giop_commands::LineForm;
 use giop_commands::serve::given::{KeyWord, Telling};
 use giop_session::{Form, Limits};
 use std::alloc::{AllocError, Global};
@@ -28,6 +30,8 @@ pub struct CallWords<'a> {
     pub values: Vec<&'a str>,
     /// When the calls are told.
     pub telling: Telling,
+    /// The form of their lines.
+    pub lines: LineForm,
     /// For how many seconds nothing may come or go, 1 to 86,400; any number where it is `None`.
     pub timeout: Option<u32>,
     /// How Requests are sent.
@@ -57,6 +61,8 @@ pub struct ServeWords<'a> {
     pub connections: u32,
     /// When the calls are told.
     pub telling: Telling,
+    /// The form of their lines.
+    pub lines: LineForm,
     /// How Replies are sent.
     pub form: Form,
     /// What the end of each connection holds at most.
@@ -90,6 +96,9 @@ With --stream a call is made as soon as there is room for it, each call is shown
 over, and then it is forgotten, so that a connection may have any number of calls. At the end the
 calls that are still open have their lines, and those that weren't made:
   Unsent                nothing of it was sent
+With --json each call is {\"id\":ID,\"what\":WHAT,..}, in which WHAT is result, user_exception,
+system_exception, forward, forward_perm, needs_addressing, oneway, undecoded, sending, waiting,
+gathering or unsent; the fault is {\"fault\":{..}}.
 Where the server hangs up while calls are open, standard error says how many. With --timeout the
 connection is given up where nothing comes or goes for so many seconds, and each call has its line.
 
@@ -103,7 +112,9 @@ Exit statuses:
 Examples, each while the example of giopctl serve --help runs:
   giopctl call --target corbaloc::1.2@127.0.0.1:2810/k --interface examples/calculator.json \
 examples/calls.json
-  giopctl call --target corbaloc::1.2@127.0.0.1:2810/k --interface examples/calculator.json add 2 5";
+  giopctl call --target corbaloc::1.2@127.0.0.1:2810/k --interface examples/calculator.json add 2 5
+  giopctl call --json --target corbaloc::1.2@127.0.0.1:2810/k \
+--interface examples/calculator.json add 2 5";
 
 const SERVE_HELP: &str = "\
 It listens at 127.0.0.1 alone, and serves one connection after the other. The file of the answers is
@@ -123,6 +134,9 @@ so that a connection may have any number of calls. Of a Request that is answered
   Asked OPERATION INS Answered REPLY, or Undecoded FAULT Answered REPLY
 with what giopctl call shows behind Done as REPLY. The calls that are still open have their lines at
 the end, and the last line is rest N, the octets that are no whole message, or the fault.
+With --json the number is {\"connection\":K} and each call {\"id\":ID,\"what\":WHAT,..}, in which WHAT
+is answered, locate_answered, or as by check; a fault is {\"fault\":{..}}. With --stream answered has
+\"asked\" and \"outcome\", as by trace, and the octets that are left are {\"rest\":N}.
 Where a client hangs up within a message or a call in pieces, standard error says so.
 With --ior-file the object's reference is written to a file before the port is told; giopctl call takes
 it by --target @FILE.
@@ -134,9 +148,11 @@ Exit statuses, of which the greatest of all connections is taken:
   3  reading, writing, listening or the connection failed
   4  out of memory
 
-Example:
+Examples:
   giopctl serve --port 2810 --interface examples/calculator.json --answers examples/answers.json \
---key 6b";
+--key 6b
+  giopctl serve --json --stream --port 2810 --interface examples/calculator.json \
+--answers examples/answers.json --key 6b";
 
 /// The command `call`.
 pub fn call<'a>(alloc: Global) -> Result<Command<'a>, AllocError> {
@@ -152,6 +168,7 @@ pub fn call<'a>(alloc: Global) -> Result<Command<'a>, AllocError> {
         .after_help(CALL_HELP)
         .arg(target(alloc))?
         .arg(interface(alloc))?
+        .arg(json(alloc))?
         .arg(stream(alloc))?
         .arg(timeout(alloc))?;
     sent(alloc, command)?.arg(file)?.arg(values)
@@ -199,6 +216,7 @@ pub fn serve<'a>(alloc: Global) -> Result<Command<'a>, AllocError> {
         .arg(ior_file)?
         .arg(type_id)?
         .arg(connections)?
+        .arg(json(alloc))?
         .arg(stream(alloc))?;
     sent(alloc, command)
 }
@@ -307,6 +325,7 @@ pub fn call_words<'a>(
         file,
         values,
         telling: telling_of(matches),
+        lines: lines_of(matches),
         timeout: timeout_of(matches)?,
         form,
         limits,
@@ -347,6 +366,7 @@ pub fn serve_words<'a>(matches: &ArgMatches<'a>) -> Result<ServeWords<'a>, &'sta
         type_id: matches.get_str("type-id").unwrap_or(""),
         connections,
         telling: telling_of(matches),
+        lines: lines_of(matches),
         form,
         limits,
     })

@@ -32,8 +32,8 @@ fn called(rt: &HostRuntime, words: CallWords) -> Result<Status, Status> {
     let target = target_text(rt, words.target)?;
     let offered = read(rt, words.interface)?;
     let asked = asked_in(rt, &words, offered.as_slice())?;
-    let endpoint = endpoint_of(rt, words.target, target.as_slice())?;
-    let interface = interface_of(rt, words.interface, offered.as_slice())?;
+    let endpoint = endpoint_of(rt, words.lines, words.target, target.as_slice())?;
+    let interface = interface_of(rt, words.lines, words.interface, offered.as_slice())?;
     let calls = match asked {
         Asked::File(text) => calls_in_file(rt, &words, offered.as_slice(), &interface, &text)?,
         Asked::Words => calls_in_words(rt, &words, offered.as_slice(), &interface)?,
@@ -105,7 +105,7 @@ fn calls_in_file(
         Ok(calls) => Ok(calls),
         Err(fault) => {
             let at = of_calls(rt.alloc(), offered, text, fault);
-            Err(refused_form(rt, words.file, text, fault, at))
+            Err(refused_form(rt, words.lines, words.file, text, fault, at))
         }
     }
 }
@@ -126,7 +126,7 @@ fn calls_in_words(
         Ok(calls) => Ok(calls),
         Err(fault) => {
             let at = of_words(rt.alloc(), offered, name, values, fault);
-            Err(refused_words(rt, name, values, fault, at))
+            Err(refused_words(rt, words.lines, name, values, fault, at))
         }
     }
 }
@@ -142,9 +142,10 @@ fn call_at(
     let mut out = BufWriter::with_capacity(rt.alloc(), OUTPUT_BUFFER, io::writer(rt))?;
     let (mut reader, mut writer) = (&link, &link);
     let (reader, writer) = (&mut reader, &mut writer);
+    let (alloc, lines) = (rt.alloc(), words.lines);
     let ending = match words.telling {
-        Telling::AtTheEnd => call_over(rt.alloc(), calling, calls, reader, writer, &mut out)?,
-        Telling::WhenOver => call_stream(rt.alloc(), calling, calls, reader, writer, &mut out)?,
+        Telling::AtTheEnd => call_over(alloc, calling, calls, lines, reader, writer, &mut out)?,
+        Telling::WhenOver => call_stream(alloc, calling, calls, lines, reader, writer, &mut out)?,
     };
     out.flush()?;
     Ok(ending)

@@ -53,7 +53,7 @@ pub fn ping(rt: &HostRuntime, words: ObjectWords) -> Status {
 
 fn asked(rt: &HostRuntime, words: ObjectWords, question: Question) -> Result<Status, Status> {
     let text = target_text(rt, words.target)?;
-    let endpoint = endpoint_of(rt, words.target, text.as_slice())?;
+    let endpoint = endpoint_of(rt, words.lines, words.target, text.as_slice())?;
     let peer = peer_of(rt, words.target, &endpoint)?;
     let began = Instant::now(rt);
     let ended = ask(rt, &endpoint, words, question);
@@ -97,9 +97,10 @@ fn ask(
     let mut out = BufWriter::with_capacity(rt.alloc(), OUTPUT_BUFFER, io::writer(rt))?;
     let (mut reader, mut writer) = (&link, &link);
     let (reader, writer) = (&mut reader, &mut writer);
+    let (alloc, lines) = (rt.alloc(), words.lines);
     let ended = match question {
-        Question::Where => locate_over(rt.alloc(), calling, reader, writer, &mut out)?,
-        Question::IsThere => call_over(rt.alloc(), calling, calls, reader, writer, &mut out)?,
+        Question::Where => locate_over(alloc, calling, lines, reader, writer, &mut out)?,
+        Question::IsThere => call_over(alloc, calling, calls, lines, reader, writer, &mut out)?,
     };
     out.flush()?;
     Ok(ended)

@@ -6,7 +6,7 @@ use crate::runs::session::{linked, read, refused};
 use giop_commands::convert::unended;
 use giop_commands::failure::Failure;
 use giop_commands::status::Status;
-use giop_commands::{Endpoint, Targeted, target_of};
+use giop_commands::{Endpoint, LineForm, Targeted, target_of};
 use giop_lines::EscapedText;
 use std::io::ErrorKind;
 use std::net::{TcpStream, ToSocketAddrs};
@@ -26,11 +26,16 @@ pub fn target_text(rt: &HostRuntime, target: &str) -> Result<Vec<u8>, Status> {
     }
 }
 
-/// The object of a target's text. Where the text is refused, its line is written.
-pub fn endpoint_of(rt: &HostRuntime, target: &str, text: &[u8]) -> Result<Endpoint, Status> {
+/// The object of a target's text. Where the text is refused, its line is written in a form.
+pub fn endpoint_of(
+    rt: &HostRuntime,
+    lines: LineForm,
+    target: &str,
+    text: &[u8],
+) -> Result<Endpoint, Status> {
     match target_of(rt.alloc(), text) {
         Ok(Targeted::At(endpoint)) => Ok(endpoint),
-        Ok(Targeted::Refused(line)) => Err(refused(rt, line)),
+        Ok(Targeted::Refused(line)) => Err(refused(rt, lines, line)),
         Err(failure) => Err(report::answer(rt, target, Err(failure))),
     }
 }

@@ -34,12 +34,13 @@ fn served(rt: &HostRuntime, words: ServeWords) -> Result<Status, Status> {
     let offered = read(rt, words.interface)?;
     let answers = read(rt, words.answers)?;
     let key = key_of(rt, words.key)?;
-    let interface = interface_of(rt, words.interface, offered.as_slice())?;
+    let interface = interface_of(rt, words.lines, words.interface, offered.as_slice())?;
     let answers = match answers_from_json(rt.alloc(), &interface, answers.as_slice()) {
         Ok(answers) => answers,
         Err(fault) => {
             let at = of_answers(rt.alloc(), offered.as_slice(), answers.as_slice(), fault);
-            return Err(refused_form(rt, words.answers, answers.as_slice(), fault, at));
+            let (lines, text) = (words.lines, answers.as_slice());
+            return Err(refused_form(rt, lines, words.answers, text, fault, at));
         }
     };
     let serving = Serving {
@@ -120,7 +121,7 @@ fn serve_each(
 ) -> Status {
     let mut status = Status::Done;
     for served in 0..words.connections {
-        status = status.or_greater(serve_next(rt, listener, served + 1, words.telling, serving));
+        status = status.or_greater(serve_next(rt, listener, served + 1, words, serving));
     }
     status
 }
@@ -130,7 +131,7 @@ fn serve_next(
     rt: &HostRuntime,
     listener: &TcpListener,
     number: u32,
-    telling: Telling,
+    words: &ServeWords<'_>,
     serving: &Serving<'_>,
 ) -> Status {
     let (stream, peer) = match listener.accept() {
@@ -138,7 +139,7 @@ fn serve_next(
         Err(error) => return report::answer(rt, HERE, Err(Failure::connection(error))),
     };
     let _ = eprintln!(rt; "giopctl: connection {number} from {peer}");
-    let answered = serve_stream(rt, stream, number, telling, serving);
+    let answered = serve_stream(rt, stream, number, words, serving);
     match format!(in rt.alloc(); "connection {number}") {
         Ok(name) => report::served(rt, name.as_str(), answered),
         Err(_) => report::served(rt, HERE, answered),
@@ -149,16 +150,21 @@ fn serve_stream(
     rt: &HostRuntime,
     stream: TcpStream,
     number: u32,
-    telling: Telling,
+    words: &ServeWords<'_>,
     serving: &Serving<'_>,
 ) -> Result<Ending, Failure> {
     let link = linked(rt, stream, None)?;
     let (mut reader, mut writer) = (&link, &link);
     let mut out = BufWriter::with_capacity(rt.alloc(), OUTPUT_BUFFER, io::writer(rt))?;
     let (reader, writer) = (&mut reader, &mut writer);
-    let ending = match telling {
-        Telling::AtTheEnd => serve_over(rt.alloc(), number, *serving, reader, writer, &mut out)?,
-        Telling::WhenOver => stream_over(rt.alloc(), number, *serving, reader, writer, &mut out)?,
+    let (alloc, lines) = (rt.alloc(), words.lines);
+    let ending = match words.telling {
+        Telling::AtTheEnd => {
+            serve_over(alloc, number, *serving, lines, reader, writer, &mut out)?
+        }
+        Telling::WhenOver => {
+            stream_over(alloc, number, *serving, lines, reader, writer, &mut out)?
+        }
     };
     out.flush()?;
     Ok(ending)

@@ -5,7 +5,7 @@ use crate::runs::link::Link;
 use crate::{files, report};
 use giop_commands::failure::Failure;
 use giop_commands::status::Status;
-use giop_commands::{form_refusal, refuse};
+use giop_commands::{LineForm, form_refusal, refuse_in};
 use giop_lines::RefusalLine;
 use giop_types::{FormFault, Interface};
 use giop_where::Place;
@@ -22,12 +22,17 @@ pub fn read(rt: &HostRuntime, file: &str) -> Result<Vec<u8>, Status> {
 }
 
 /// The interface that a file's text is, or the status where it is refused, which is reported.
-pub fn interface_of(rt: &HostRuntime, file: &str, text: &[u8]) -> Result<Interface, Status> {
+pub fn interface_of(
+    rt: &HostRuntime,
+    lines: LineForm,
+    file: &str,
+    text: &[u8],
+) -> Result<Interface, Status> {
     match Interface::from_json(rt.alloc(), text) {
         Ok(interface) => Ok(interface),
         Err(fault) => {
             report::interface(rt, rt.alloc(), file, text);
-            Err(refused_line(rt, file, form_refusal(fault)))
+            Err(refused_line(rt, lines, file, form_refusal(fault)))
         }
     }
 }
@@ -35,18 +40,20 @@ pub fn interface_of(rt: &HostRuntime, file: &str, text: &[u8]) -> Result<Interfa
 /// Reports that the text of a file of calls or answers is refused, and where it is at fault.
 pub fn refused_form(
     rt: &HostRuntime,
+    lines: LineForm,
     file: &str,
     text: &[u8],
     fault: FormFault,
     at: Option<Place>,
 ) -> Status {
     report::form(rt, rt.alloc(), file, text, fault, at);
-    refused_line(rt, file, form_refusal(fault))
+    refused_line(rt, lines, file, form_refusal(fault))
 }
 
 /// Reports that a call by words is refused, and where it is at fault.
 pub fn refused_words(
     rt: &HostRuntime,
+    lines: LineForm,
     name: &str,
     values: &[&str],
     fault: FormFault,
@@ -56,25 +63,30 @@ pub fn refused_words(
         FormFault::BadJson => report::words(rt, rt.alloc(), values),
         _ => report::form(rt, rt.alloc(), name, name.as_bytes(), fault, at),
     }
-    refused_line(rt, name, form_refusal(fault))
+    refused_line(rt, lines, name, form_refusal(fault))
 }
 
 /// Writes the line of a refusal to the standard output.
-pub fn refused(rt: &HostRuntime, line: RefusalLine) -> Status {
-    refused_line(rt, "-", Ok(line))
+pub fn refused(rt: &HostRuntime, lines: LineForm, line: RefusalLine) -> Status {
+    refused_line(rt, lines, "-", Ok(line))
 }
 
-fn refused_line(rt: &HostRuntime, file: &str, line: Result<RefusalLine, Failure>) -> Status {
+fn refused_line(
+    rt: &HostRuntime,
+    lines: LineForm,
+    file: &str,
+    line: Result<RefusalLine, Failure>,
+) -> Status {
     let answered = match line {
-        Ok(line) => written(rt, line),
+        Ok(line) => written(rt, lines, line),
         Err(failure) => Err(failure),
     };
     report::answer(rt, file, answered)
 }
 
-fn written(rt: &HostRuntime, line: RefusalLine) -> Result<Status, Failure> {
+fn written(rt: &HostRuntime, lines: LineForm, line: RefusalLine) -> Result<Status, Failure> {
     let mut writer = BufWriter::with_capacity(rt.alloc(), OUTPUT_BUFFER, io::writer(rt))?;
-    let status = refuse(line, &mut writer)?;
+    let status = refuse_in(lines, line, &mut writer)?;
     writer.flush()?;
     Ok(status)
 }

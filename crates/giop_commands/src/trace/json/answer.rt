@@ -4,9 +4,9 @@ use crate::call::table::brought_by;
 use crate::failure::Failure;
 use crate::trace::answered::Answered;
 use crate::trace::json::{write_message, write_null};
-use giop_cdr::{CdrFault, OctetList};
-use giop_lines::{CdrFaultJson, CompletionText, HexJson, HexText, TextJson};
-use giop_msg::{Completion, Msg, ReplyBody, Request};
+use giop_cdr::CdrFault;
+use giop_lines::{CdrFaultJson, HexJson, OutcomeJson, TextJson};
+use giop_msg::{Msg, ReplyBody, Request};
 use giop_types::Interface;
 use std::alloc::Global;
 use std::io::Write;
@@ -34,7 +34,7 @@ pub fn write_answer_json<W: Write>(
     }
 }
 
-// What a Reply says, and what it brought.
+// What a Reply says, and what it brought; null where that isn't known without its Request.
 fn write_body<W: Write>(
     alloc: Global,
     interface: &Interface,
@@ -42,70 +42,19 @@ fn write_body<W: Write>(
     body: &ReplyBody,
     writer: &mut W,
 ) -> Result<(), Failure> {
-    if let ReplyBody::SystemException {
-        id,
-        minor,
-        completion,
-    } = body
-    {
-        return write_system_exception(id, *minor, *completion, writer);
+    if let ReplyBody::SystemException { .. } = body {
+        return write_outcome(body, "", writer);
     }
     let Some(request) = request else {
         return write_null(writer);
     };
     let brought = brought_by(alloc, interface, request, body)?;
-    write_brought(body, brought.as_str(), writer)
+    write_outcome(body, brought.as_str(), writer)
 }
 
-fn write_system_exception<W: Write>(
-    id: &OctetList,
-    minor: u32,
-    completion: Completion,
-    writer: &mut W,
-) -> Result<(), Failure> {
-    let id = TextJson(id.as_slice());
-    let octets = minor.to_be_bytes();
-    let hex = HexText(&octets);
-    let completion = CompletionText(completion);
-    write!(
-        writer,
-        "{{\"what\":\"system_exception\",\"exception\":{id},\"minor\":{minor},\
-         \"minor_hex\":\"0x{hex}\",\"completion\":{completion}}}"
-    )?;
-    Ok(())
-}
-
-// A Reply that is no system exception: what it brought is values as a JSON list, or the text of a
-// reference.
-fn write_brought<W: Write>(body: &ReplyBody, brought: &str, writer: &mut W) -> Result<(), Failure> {
-    match body {
-        ReplyBody::NoException(_) => write!(writer, "{{\"what\":\"result\",\"outs\":{brought}}}")?,
-        ReplyBody::UserException { id, .. } => {
-            let id = TextJson(id.as_slice());
-            write!(
-                writer,
-                "{{\"what\":\"user_exception\",\"exception\":{id},\"members\":{brought}}}"
-            )?
-        }
-        ReplyBody::SystemException { .. } => {}
-        ReplyBody::Forward(_) => {
-            write!(
-                writer,
-                "{{\"what\":\"forward\",\"reference\":\"{brought}\"}}"
-            )?
-        }
-        ReplyBody::ForwardPerm(_) => {
-            write!(
-                writer,
-                "{{\"what\":\"forward_perm\",\"reference\":\"{brought}\"}}"
-            )?
-        }
-        ReplyBody::NeedsAddressing(disposition) => write!(
-            writer,
-            "{{\"what\":\"needs_addressing\",\"disposition\":{}}}",
-            *disposition
-        )?,
-    }
+// An object of what a Reply says, with its values as a JSON list or the text of its reference.
+fn write_outcome<W: Write>(body: &ReplyBody, brought: &str, writer: &mut W) -> Result<(), Failure> {
+    write!(writer, "{{\"what\":{}}}", OutcomeJson(body, brought))?;
     Ok(())
 }
 

@@ -5,7 +5,7 @@ use Rattle.giop_commands.proofs.call.streaming.call_stream.Goals as goal
 
 pub returns-in-Ok : goal.returns-in-Ok
 returns-in-Ok g c =
-    is_streamed (asked_of c.args.calling c.args.calls.items)
+    is_streamed (asked_of c.args.calling c.args.calls.items) c.args.lines
     (wire (g.R.Read.remaining c.args.reader.now) (g.W.Write.contents c.args.writer.now))
     (wire (g.R.Read.remaining c.converse.new.reader) (g.W.Write.contents c.converse.new.writer)) (g.O.Write.contents c.args.out.now)
     (g.O.Write.contents c.converse.new.out) (g.O.Write.contents c.tell_end.new.out) c.in-Ok.refused c.converse.new.end.outgoing

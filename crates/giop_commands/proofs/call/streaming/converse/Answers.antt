@@ -13,9 +13,9 @@ pub returns-then-branch : goal.returns-then-branch
 returns-then-branch g c =
     let s = between (g.R.Read.remaining c.turns.reader) (g.W.Write.contents c.turns.writer) c.turns.end.outgoing c.turns.end.framer c.turns.end.calls
     c.turns.end.fault in
-    streamed (asked_of c.args.calling c.args.left.now.items) c.turns.done _ (course s (g.O.Write.contents c.turns.out) c.turns.left.items c.turns.well) _
+    streamed (asked_of c.args.calling c.args.left.now.items) c.args.lines c.turns.done _ (course s (g.O.Write.contents c.turns.out) c.turns.left.items c.turns.well) _
     None c.turns.invariant.streamed c.turns-test.true
-    (ends_done (asked_of c.args.calling c.args.left.now.items) s (g.O.Write.contents c.turns.out) c.turns.left.items c.turns.well
+    (ends_done (asked_of c.args.calling c.args.left.now.items) c.args.lines s (g.O.Write.contents c.turns.out) c.turns.left.items c.turns.well
     (sym c.in_ok-is_done.ensures ∙ c.if-branch.true))
 
 pub returns-in-Some : goal.returns-in-Some
@@ -24,10 +24,10 @@ returns-in-Some g c =
     let fault = same_fault c.turns.end c.call_next.new.end c.call_next.ensures.others in
     let s = between (g.R.Read.remaining c.turns.reader) (g.W.Write.contents c.turns.writer) c.turns.end.outgoing c.turns.end.framer c.turns.end.calls
     c.turns.end.fault in
-    streamed (asked_of c.args.calling c.args.left.now.items) c.turns.done _ (course s (g.O.Write.contents c.turns.out) c.turns.left.items c.turns.well) _
+    streamed (asked_of c.args.calling c.args.left.now.items) c.args.lines c.turns.done _ (course s (g.O.Write.contents c.turns.out) c.turns.left.items c.turns.well) _
     (Some c.in-Some.fault) c.turns.invariant.streamed c.turns-test.true
     (rw (unread, fault)
-    (ends_refused (asked_of c.args.calling c.args.left.now.items) s (outbox c.call_next.new.end.calls c.call_next.new.end.outgoing)
+    (ends_refused (asked_of c.args.calling c.args.left.now.items) c.args.lines s (outbox c.call_next.new.end.calls c.call_next.new.end.outgoing)
     (g.O.Write.contents c.turns.out) c.turns.left.items c.call_next.new.left.items c.turns.well c.in-Some.fault
     (sym c.in_ok-is_done.ensures ∙ c.if-branch.false) (rw c.in-Some.is at (c.in_ok-fault.ensures.calls c.args.left.now.items))))
 
@@ -39,9 +39,9 @@ returns-then-not-branch g c =
     ∙ turned_interface c.args.end.now c.turns.end c.turns.invariant.others ∙ c.requires.interface in
     let s = between (g.R.Read.remaining c.turns.reader) (g.W.Write.contents c.turns.writer) c.turns.end.outgoing c.turns.end.framer c.turns.end.calls
     c.turns.end.fault in
-    streamed (asked_of c.args.calling c.args.left.now.items) c.turns.done _ (course s (g.O.Write.contents c.turns.out) c.turns.left.items c.turns.well) _
+    streamed (asked_of c.args.calling c.args.left.now.items) c.args.lines c.turns.done _ (course s (g.O.Write.contents c.turns.out) c.turns.left.items c.turns.well) _
     None c.turns.invariant.streamed c.turns-test.true
-    (ends_off (asked_of c.args.calling c.args.left.now.items) s _ (outbox c.call_next.new.end.calls c.call_next.new.end.outgoing)
+    (ends_off (asked_of c.args.calling c.args.left.now.items) c.args.lines s _ (outbox c.call_next.new.end.calls c.call_next.new.end.outgoing)
     (g.O.Write.contents c.turns.out) c.turns.left.items c.call_next.new.left.items c.turns.well
     (sym c.in_ok-is_done.ensures ∙ c.if-branch.false) (rw c.in_default.is at (c.in_ok-fault.ensures.calls c.args.left.now.items))
     (rw (c.if-not-branch.true, interface, unread, fault) at c.in_ok-take_turn.ensures.turns))
@@ -58,7 +58,7 @@ turns-preserved g c =
     c.take_turn.new.end.framer c.take_turn.new.end.calls c.take_turn.new.end.fault in
     record {
       streamed = counted_more _ c.turns.done _ (course s (g.O.Write.contents c.turns.out) c.turns.left.items c.turns.well) _ c.turns.invariant.streamed
-          (course_told (asked_of c.args.calling c.args.left.now.items) s mid _ (outbox c.call_next.new.end.calls c.call_next.new.end.outgoing)
+          (course_told (asked_of c.args.calling c.args.left.now.items) c.args.lines s mid _ (outbox c.call_next.new.end.calls c.call_next.new.end.outgoing)
           (g.O.Write.contents c.turns.out) _ c.turns.left.items c.call_next.new.left.items c.turns.well _
           (sym c.in_ok-is_done.ensures ∙ c.if-branch.false) (rw c.in_default.is at (c.in_ok-fault.ensures.calls c.args.left.now.items))
           (rw (c.if-not-branch.false, interface, unread, fault) at c.in_ok-take_turn.ensures.turns) c.in_ok-well.ensures.text

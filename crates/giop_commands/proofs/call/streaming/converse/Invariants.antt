@@ -8,7 +8,7 @@ use Rattle.giop_commands.proofs.call.streaming.converse.Given as goal
 abbrev pub invariant-turns : goal.invariant-turns
 invariant-turns g l = record {
   streamed :
-      Counted (λ turn s t. TurnTells (asked_of l.calling l.fn.left.items) s t) l.done
+      Counted (λ turn s t. TurnTells (asked_of l.calling l.fn.left.items) l.lines s t) l.done
       (course
       (between (g.R.Read.remaining l.fn.reader) (g.W.Write.contents l.fn.writer) l.fn.end.outgoing l.fn.end.framer l.fn.end.calls l.fn.end.fault)
       (g.O.Write.contents l.fn.out) l.fn.left.items l.fn.well)

@@ -8,7 +8,7 @@ use Rattle.giop_commands.proofs.serve.streaming.converse.Given as goal
 abbrev pub invariant-turns : goal.invariant-turns
 invariant-turns g l = record {
   streamed :
-      Counted (λ turn s t. TurnTells (served_of l.serving) l.fn.end.limits s t) l.done
+      Counted (λ turn s t. TurnTells (served_of l.serving) l.fn.end.limits l.lines s t) l.done
       (shown
       (between (g.R.Read.remaining l.fn.reader) (g.W.Write.contents l.fn.writer) l.fn.end.outgoing l.fn.end.framer l.fn.end.calls l.fn.end.fault)
       (g.O.Write.contents l.fn.out))

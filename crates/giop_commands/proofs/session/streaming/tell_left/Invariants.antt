@@ -7,4 +7,4 @@ use Rattle.giop_commands.proofs.session.streaming.tell_left.Given as goal
 abbrev pub invariant-loop-id : goal.invariant-loop-id
 invariant-loop-id g l =
     Appends (g.W.Write.contents l.fn.writer) (g.W.Write.contents l.writer)
-    (flat_map (text_at (g.R.Streamed.told l.interface) l.end.calls.table) (take l.id-index l.id-items))
+    (flat_map (text_at (g.R.Streamed.told l.lines l.interface) l.end.calls.table) (take l.id-index l.id-items))

@@ -7,4 +7,4 @@ use Rattle.giop_commands.proofs.session.streaming.write_over.Given as goal
 abbrev pub invariant-loop-id : goal.invariant-loop-id
 invariant-loop-id g l =
     Appends (g.W.Write.contents l.fn.writer) (g.W.Write.contents l.writer)
-    (flat_map (over_at (g.R.CallRule.closed l.end.calls.rule) (g.R.Streamed.told l.interface) l.end.calls.table) (take l.id-index l.ids))
+    (flat_map (over_at (g.R.CallRule.closed l.end.calls.rule) (g.R.Streamed.told l.lines l.interface) l.end.calls.table) (take l.id-index l.ids))
