@@ -12,8 +12,10 @@ use crate::records::{Fault, Profile};
 use crate::request_calls::copy_both;
 use crate::status::{FAULT, NO_MEMORY};
 use giop_cdr::{CdrKind, EncodeFault, OctetList};
-use giop_ior::{Corbaloc, CorbalocFault, CorbalocKind, IiopProfile, TaggedProfile};
-use giop_ior::{corbaloc_from_text, iiop_view, ior_from_text};
+use giop_ior::{
+    Corbaloc, CorbalocFault, CorbalocKind, IiopProfile, TaggedProfile, corbaloc_from_text,
+    iiop_view, ior_from_text,
+};
 use std::alloc::Global;
 
 /// Copies the octets of the profile at an index of a reference, the first at 0, and writes its tag.
