@@ -242,6 +242,23 @@ typedef struct giop_profile {
     uint8_t minor;     /* the minor number of the version of IIOP; the major number is 1 */
 } giop_profile;
 
+/* Copies the type id (7.6.2) of a reference, without a null, and writes its size; it may be empty. The reference is
+ * given as its text. Answers GIOP_OK; GIOP_SMALL: the buffer has fewer octets than *octets, and none was copied;
+ * GIOP_FAULT or GIOP_NO_MEMORY, and writes *fault, as giop_reference_profile. */
+uint32_t giop_reference_type_id(const uint8_t *text, size_t size, uint8_t *buffer, size_t room, size_t *octets,
+                                giop_end_fault *fault);
+
+/* Copies the octets that the text of a reference says: those of its hexadecimal digits, of which the first is the
+ * byte order. Writes how many they are. Answers as giop_reference_type_id. */
+uint32_t giop_reference_octets(const uint8_t *text, size_t size, uint8_t *buffer, size_t room, size_t *octets,
+                               giop_end_fault *fault);
+
+/* Copies the text that says the octets of a reference, which are given from the byte order on: IOR: and lower-case
+ * hexadecimal digits. Writes its size to *text_size. Answers as giop_reference_type_id; GIOP_FAULT: the octets are no
+ * reference, as REFERENCE. */
+uint32_t giop_reference_text(const uint8_t *octets, size_t size, uint8_t *buffer, size_t room, size_t *text_size,
+                             giop_end_fault *fault);
+
 /* Copies the octets of the profile at an index of a reference, the first at 0, and writes its tag, which is 0
  * for IIOP, and their number. The reference is given as its text (7.6.9): IOR: and hexadecimal digits. Answers
  *   GIOP_OK;
@@ -265,6 +282,27 @@ uint32_t giop_reference_profile(const uint8_t *text, size_t size, size_t index, 
 uint32_t giop_iiop_profile(const uint8_t *octets, size_t size, giop_profile *profile,
                            uint8_t *host, size_t host_room, uint8_t *key, size_t key_room, giop_fault *fault);
 
+/* Copies the octets of an IIOP profile (9.7.2): of version 1 and this minor number, 2 for most, by which an object is
+ * reached at this host, at this TCP port, under this key; without components, in big endian. Writes how many they are.
+ * Answers
+ *   GIOP_OK: they are copied, and giop_iiop_profile reads these parts of them;
+ *   GIOP_SMALL: the buffer has fewer octets than *octets, and none was copied;
+ *   GIOP_FAULT: the host has a null or 2^32 - 1 octets or more, or the key has 2^32 or more; nothing is written;
+ *   GIOP_NO_MEMORY: nothing is written. */
+uint32_t giop_iiop_octets(uint8_t minor, const uint8_t *host, size_t host_size, uint16_t port,
+                          const uint8_t *key, size_t key_size, uint8_t *buffer, size_t room, size_t *octets);
+
+/* Copies the text (7.6.9) of a reference: of this type id, such as IDL:Calculator:1.0 or none, and with one profile,
+ * which is that of giop_iiop_octets. Writes the text's size. Answers
+ *   GIOP_OK: it is copied; giop_reference_type_id reads the type id of it, and giop_reference_profile the profile;
+ *   GIOP_SMALL: the buffer has fewer octets than *octets, and none was copied;
+ *   GIOP_FAULT: the type id or the host has a null or 2^32 - 1 octets or more, or the key or the profile has 2^32 or
+ *     more; nothing is written;
+ *   GIOP_NO_MEMORY: nothing is written. */
+uint32_t giop_iiop_reference(const uint8_t *type_id, size_t type_id_size, uint8_t minor,
+                             const uint8_t *host, size_t host_size, uint16_t port,
+                             const uint8_t *key, size_t key_size, uint8_t *buffer, size_t room, size_t *octets);
+
 /* What is wrong with a corbaloc: the number of a giop_fault that giop_corbaloc_reference writes. Its place is
  * counted from the first octet of the text. */
 #define GIOP_CORBALOC_BAD_PREFIX 1u   /* the text doesn't begin with corbaloc: */
@@ -276,7 +314,7 @@ uint32_t giop_iiop_profile(const uint8_t *octets, size_t size, giop_profile *pro
 #define GIOP_CORBALOC_BAD_ESCAPE 6u   /* a % in the key without two hexadecimal digits behind it */
 #define GIOP_CORBALOC_BAD_CHAR 7u     /* an octet of the key that has to be escaped */
 #define GIOP_CORBALOC_MEMORY 8u       /* memory ran out */
-#define GIOP_CORBALOC_TOO_LONG 9u     /* it is a corbaloc whose host or key no profile can hold */
+#define GIOP_CORBALOC_TOO_LONG 9u     /* it is a corbaloc that is too long for a profile or for a reference */
 
 /* Copies the reference of a corbaloc (7.6.10.1) as a text of IOR: and hexadecimal digits: no type id, and an
  * IIOP profile for each address. Writes the text's size. Answers
@@ -287,6 +325,19 @@ uint32_t giop_iiop_profile(const uint8_t *octets, size_t size, giop_profile *pro
  * With the last two nothing else is written; *fault is written with GIOP_FAULT, and may be with GIOP_NO_MEMORY. */
 uint32_t giop_corbaloc_reference(const uint8_t *text, size_t size, uint8_t *buffer, size_t room, size_t *octets,
                                  giop_fault *fault);
+
+/* Copies the corbaloc (7.6.10.1) that says where the object of a reference is: an address in full for each IIOP profile
+ * that can be read, in their order, and their key. The reference is given as its text; its type id, its components and
+ * its other profiles aren't said. Writes the text's size. Answers
+ *   GIOP_OK;
+ *   GIOP_SMALL: the buffer has fewer octets than *octets, and none was copied;
+ *   GIOP_WAITS: no corbaloc says it, and nothing is written: there is no such profile, or two have different keys, or
+ *     a host is empty or has an octet that is no letter, digit, -, _ or .;
+ *   GIOP_FAULT: the text is refused, and *fault says why, as TEXT or REFERENCE;
+ *   GIOP_NO_MEMORY.
+ * With the last two nothing else is written; *fault is written with GIOP_FAULT, and may be with GIOP_NO_MEMORY. */
+uint32_t giop_reference_corbaloc(const uint8_t *text, size_t size, uint8_t *buffer, size_t room, size_t *octets,
+                                 giop_end_fault *fault);
 
 /* ---- values ----
  *

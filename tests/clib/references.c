@@ -1,4 +1,5 @@
-/* The calls of libgiop over the caller's octets alone: the head of a Reply, references, corbalocs and profiles.
+/* The calls of libgiop over the caller's octets alone: the head of a Reply, references, corbalocs and profiles,
+ * read and made.
  * Octets are worked by hand from CORBA 3.3 Part 2, 7.6, 9.4.3 and 9.7.2. */
 #include "check.h"
 
@@ -119,10 +120,112 @@ static void a_corbaloc_is_a_reference(void) {
     }
 }
 
+/* What omniNames of omniORB 4.2.5 printed, started with -ORBendPointPublish
+ * giop:tcp:printer.example:2809,giop:tcp:printer2.example:2810. */
+static const char PRINTED[] =
+    "IOR:010000002b00000049444c3a6f6d672e6f72672f436f734e616d696e672f4e616d696e67436f6e746578744578743a312e3000000100000000"
+    "0000009800000001010200100000007072696e7465722e6578616d706c6500f90a00000b0000004e616d6553657276696365000400000000000000"
+    "080000000100000000545441010000001c00000001000000010001000100000001000105090101000100000009010100030000001c000000010000"
+    "00110000007072696e746572322e6578616d706c650000fa0a035454410800000019c9096b0100733a";
+static const char TYPE_ID[] = "IDL:omg.org/CosNaming/NamingContextExt:1.0";
+/* A reference of the type id I, with PROFILE alone. */
+static const char MADE[] = "IOR:000000000000000249000000" "000000010000000000000018"
+                           "0001020000000002" "68000af9000000016b00000000000000";
+
+/* The call answers OK and copies exactly these octets; it has no room in a buffer of one octet less. */
+#define COPIES(call, wanted, wanted_size)                                                         \
+    do {                                                                                          \
+        uint8_t *buffer = copy;                                                                   \
+        size_t room = (wanted_size), size = 77;                                                   \
+        memset(copy, 0xEE, sizeof copy);                                                          \
+        CHECK((call) == GIOP_OK && size == (wanted_size));                                        \
+        CHECK(memcmp(copy, (wanted), (wanted_size)) == 0 && copy[(wanted_size)] == 0xEE);         \
+        memset(copy, 0xEE, sizeof copy);                                                          \
+        size = 77;                                                                                \
+        room--;                                                                                   \
+        CHECK((call) == GIOP_SMALL && size == (wanted_size) && copy[0] == 0xEE);                  \
+    } while (0)
+
+static uint8_t copy[1024];
+
+static void a_profile_and_a_reference_are_made(void) {
+    static const uint8_t early[20] = {0, 1, 0, 0, 0, 0, 0, 2, 'h', 0, 0xFF, 0xFF, 0, 0, 0, 4, 0, 1, 0xFE, 0xFF};
+    uint8_t octets[64];
+    size_t size = 77;
+    COPIES(giop_iiop_octets(2, OCTETS("h"), 1, 2809, OCTETS("k"), 1, buffer, room, &size), PROFILE, 24);
+    /* in 1.0 there is no room for components */
+    COPIES(giop_iiop_octets(0, OCTETS("h"), 1, 65535, early + 16, 4, buffer, room, &size), early, 20);
+    COPIES(giop_iiop_reference(OCTETS("I"), 1, 2, OCTETS("h"), 1, 2809, OCTETS("k"), 1, buffer, room, &size), MADE,
+           strlen(MADE));
+    COPIES(giop_iiop_reference(NULL, 0, 2, OCTETS("h"), 1, 2809, OCTETS("k"), 1, buffer, room, &size), TEXT,
+           strlen(TEXT));
+    /* a null in the host, or in the type id */
+    CHECK(giop_iiop_octets(2, OCTETS("h"), 2, 2809, OCTETS("k"), 1, octets, 64, &size) == GIOP_FAULT && size == 77);
+    CHECK(giop_iiop_reference(OCTETS("I"), 2, 2, OCTETS("h"), 1, 2809, OCTETS("k"), 1, octets, 64, &size) == GIOP_FAULT);
+    CHECK(giop_iiop_reference(OCTETS("I"), 1, 2, OCTETS("h"), 2, 2809, OCTETS("k"), 1, octets, 64, &size) == GIOP_FAULT
+          && size == 77);
+    /* a null in the key is one octet of it; neither a host nor a key is asked for */
+    CHECK(giop_iiop_octets(2, NULL, 0, 0, OCTETS("k"), 2, octets, 64, &size) == GIOP_OK && size == 24);
+}
+
+static void a_reference_has_a_type_id_and_octets(void) {
+    static const uint8_t said[16] = {0, 0, 0, 0, 0, 0, 0, 1, 0, 0, 0, 0, 0, 0, 0, 0};
+    static const char nil[] = "IOR:00000000000000010000000000000000";
+    giop_end_fault fault = {77, 77, 77, 77};
+    size_t size = 77;
+    COPIES(giop_reference_type_id(OCTETS(PRINTED), strlen(PRINTED), buffer, room, &size, &fault), TYPE_ID,
+           strlen(TYPE_ID));
+    COPIES(giop_reference_octets(OCTETS(nil), strlen(nil), buffer, room, &size, &fault), said, 16);
+    COPIES(giop_reference_text(said, 16, buffer, room, &size, &fault), nil, strlen(nil));
+    CHECK(giop_reference_type_id(OCTETS(nil), strlen(nil), NULL, 0, &size, &fault) == GIOP_OK && size == 0);
+    CHECK(fault.number == 77);
+    /* no prefix; a byte order of 2, at 0; octets that end within the count of the type id, at 4 */
+    size = 77;
+    CHECK(giop_reference_type_id(OCTETS("ior"), 3, copy, 64, &size, &fault) == GIOP_FAULT);
+    CHECK(fault.number == GIOP_END_TEXT && fault.part == 1);
+    CHECK(giop_reference_octets(OCTETS("IOR:02"), 6, copy, 64, &size, &fault) == GIOP_FAULT);
+    CHECK(fault.at == 0 && fault.number == GIOP_END_REFERENCE && fault.part == GIOP_CDR_BAD_ORDER);
+    CHECK(giop_reference_text(said, 6, copy, 64, &size, &fault) == GIOP_FAULT);
+    CHECK(fault.at == 4 && fault.number == GIOP_END_REFERENCE && fault.part == GIOP_CDR_SHORT && size == 77);
+}
+
+static void a_reference_is_said_as_a_corbaloc(void) {
+    static const char said[] = "corbaloc:iiop:1.2@printer.example:2809/NameService";
+    /* two profiles of k, 1.0 at h:1 and 1.2 at g:2, with one of tag 7 between them */
+    static const char two[] = "IOR:000000000000000100000000" "00000003"
+                              "0000000000000011" "0001000000000002" "680000010000000" "16b000000"
+                              "0000000700000002" "cafe0000"
+                              "0000000000000018" "0001020000000002" "6700000200000001" "6b00000000000000";
+    static const char addresses[] = "corbaloc:iiop:1.0@h:1,iiop:1.2@g:2/k";
+    /* no corbaloc says it: the nil reference; a host that is empty; a second key, l in place of k */
+    static const char nil[] = "IOR:00000000000000010000000000000000";
+    static const char bare[] = "IOR:000000000000000100000000" "00000001"
+                               "0000000000000011" "0001000000000001" "0000000100000001" "6b";
+    char keys[sizeof two];
+    giop_end_fault fault = {77, 77, 77, 77};
+    giop_fault wrong = {77, 77};
+    size_t size = 77;
+    COPIES(giop_reference_corbaloc(OCTETS(PRINTED), strlen(PRINTED), buffer, room, &size, &fault), said, strlen(said));
+    COPIES(giop_reference_corbaloc(OCTETS(two), strlen(two), buffer, room, &size, &fault), addresses,
+           strlen(addresses));
+    COPIES(giop_corbaloc_reference(OCTETS("corbaloc:iiop:1.2@h:2809/k"), 26, buffer, room, &size, &wrong), TEXT,
+           strlen(TEXT));
+    COPIES(giop_reference_corbaloc(OCTETS(TEXT), strlen(TEXT), buffer, room, &size, &fault), "corbaloc:iiop:1.2@h:2809/k",
+           26);
+    memcpy(keys, two, sizeof two);
+    keys[strlen(two) - 15] = 'c';
+    CHECK(giop_reference_corbaloc(OCTETS(keys), strlen(keys), copy, 99, &size, &fault) == GIOP_WAITS);
+    CHECK(giop_reference_corbaloc(OCTETS(nil), strlen(nil), copy, 99, &size, &fault) == GIOP_WAITS);
+    CHECK(giop_reference_corbaloc(OCTETS(bare), strlen(bare), copy, 99, &size, &fault) == GIOP_WAITS && size == 77);
+    CHECK(fault.number == 77);
+    CHECK(giop_reference_corbaloc(OCTETS("corbaloc::h"), 11, copy, 99, &size, &fault) == GIOP_FAULT);
+    CHECK(fault.number == GIOP_END_TEXT && fault.part == 1 && size == 77);
+}
+
 /* Each allocation is refused in turn: the call says so, and nothing is left behind. */
 static void refused_memory_writes_nothing(void) {
     long before = blocks;
-    for (long grant = 0; grant < 16; grant++) {
+    for (long grant = 0; grant < 24; grant++) {
         giop_end_fault wrong = {77, 77, 77, 77};
         giop_fault fault = {77, 77};
         giop_profile profile = {77, 77, 77, 77, 77};
@@ -140,6 +243,33 @@ static void refused_memory_writes_nothing(void) {
         size = 77;
         status = giop_corbaloc_reference(OCTETS(CORBALOC), strlen(CORBALOC), octets, 128, &size, &fault);
         CHECK(status == GIOP_OK ? size == strlen(TEXT) : status == GIOP_NO_MEMORY && size == 77);
+        left = grant;
+        size = 77;
+        status = giop_iiop_octets(2, OCTETS("h"), 1, 2809, OCTETS("k"), 1, octets, 128, &size);
+        CHECK(status == GIOP_OK ? size == 24 : status == GIOP_NO_MEMORY && size == 77);
+        /* a refusal asks for no memory */
+        left = 0;
+        CHECK(giop_iiop_octets(2, OCTETS("h"), 2, 2809, OCTETS("k"), 1, octets, 128, &size) == GIOP_FAULT);
+        left = grant;
+        size = 77;
+        status = giop_iiop_reference(OCTETS("I"), 1, 2, OCTETS("h"), 1, 2809, OCTETS("k"), 1, octets, 128, &size);
+        CHECK(status == GIOP_OK ? size == strlen(MADE) : status == GIOP_NO_MEMORY && size == 77);
+        left = grant;
+        size = 77;
+        status = giop_reference_type_id(OCTETS(MADE), strlen(MADE), octets, 128, &size, &wrong);
+        CHECK(status == GIOP_OK ? size == 1 : status == GIOP_NO_MEMORY && size == 77);
+        left = grant;
+        size = 77;
+        status = giop_reference_octets(OCTETS(MADE), strlen(MADE), octets, 128, &size, &wrong);
+        CHECK(status == GIOP_OK ? size == 48 : status == GIOP_NO_MEMORY && size == 77);
+        left = grant;
+        size = 77;
+        status = giop_reference_text(PROFILE, 0, octets, 128, &size, &wrong);
+        CHECK((status == GIOP_FAULT && wrong.number == GIOP_END_REFERENCE)
+              || (status == GIOP_NO_MEMORY && wrong.number == GIOP_END_NO_MEMORY));
+        left = grant;
+        status = giop_reference_corbaloc(OCTETS(MADE), strlen(MADE), octets, 128, &size, &wrong);
+        CHECK(status == GIOP_OK ? size == 26 : status == GIOP_NO_MEMORY && size == 77);
         left = -1;
     }
     CHECK(blocks == before);
@@ -150,6 +280,9 @@ int main(void) {
     a_reference_has_profiles();
     a_profile_has_a_host_and_a_key();
     a_corbaloc_is_a_reference();
+    a_profile_and_a_reference_are_made();
+    a_reference_has_a_type_id_and_octets();
+    a_reference_is_said_as_a_corbaloc();
     refused_memory_writes_nothing();
     printf("%d passed, %d failed\n", passed, failed);
     return failed != 0;

@@ -1,4 +1,5 @@
 pub mod AtLemmas
+pub mod CorbalocLemmas
 pub mod Crossing
 pub mod EndsCrossing
 pub mod HandleRows

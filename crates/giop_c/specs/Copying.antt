@@ -1,6 +1,6 @@
 -- What is copied into the caller's buffers.
-use Rattle.std.specs.Prelude.{◌≡◌, ◌⊎◌, ℕ, ◌≤◌, ◌<◌, ◌++◌, List, Option, Some, None, drop, length, take}
-use Rattle.giop_c.specs.Calls.{ok, small, waits}
+use Rattle.std.specs.Prelude.{◌≡◌, ◌⊎◌, ℕ, ◌≤◌, ◌<◌, ◌++◌, Bool, true, false, List, Option, Some, None, drop, length, take}
+use Rattle.giop_c.specs.Calls.{ok, no_memory, fault, small, waits}
 
 -- the first items of a list are copied to the front of a buffer, as many as it has room for, and the
 -- number of all is told
@@ -19,3 +19,11 @@ CopiesOctets (Some octets) buffer buffer' size size' status =
     × (((status ≡ ok) × (length octets ≤ length buffer)
     × (buffer' ≡ octets ++ drop (length octets) buffer))
     ⊎ ((status ≡ small) × (length buffer < length octets) × (buffer' ≡ buffer)))
+
+-- octets of which this is true are copied, where a value has any, or memory ran out; else they are
+-- refused
+abbrev pub CopiesWhere : Bool → Type 0 → List ℕ → List ℕ → List ℕ → ℕ → ℕ → ℕ → Type 0
+CopiesWhere fits Is octets buffer buffer' size size' status =
+    ((fits ≡ true) × Is × CopiesOctets (Some octets) buffer buffer' size size' status)
+    ⊎ ((fits ≡ true) × (status ≡ no_memory) × ((buffer' ≡ buffer) × (size' ≡ size)))
+    ⊎ ((fits ≡ false) × (status ≡ fault) × ((buffer' ≡ buffer) × (size' ≡ size)))

@@ -3,10 +3,12 @@ pub mod Calls
 pub mod Client
 pub mod Contexts
 pub mod Copying
+pub mod Corbalocs
 pub mod EndRecords
 pub mod Heads
 pub mod Interfaces
 pub mod JsonValues
+pub mod MadeReferences
 pub mod Records
 pub mod References
 pub mod Server

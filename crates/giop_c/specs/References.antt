@@ -34,16 +34,26 @@ CopiesProfile None tag tag' buffer buffer' size size' status =
 CopiesProfile (Some profile) tag tag' buffer buffer' size size' status =
     (tag' ≡ profile.tag) × CopiesOctets (Some profile.octets) buffer buffer' size size' status
 
--- the text is no reference, or memory ran out, and C is told so; or the profile at this index of the
--- reference that it is is copied
+-- the text is no reference, or memory ran out, and C is told so and nothing else is written; or this
+-- is done with the reference that it is
+abbrev pub OfReference : List ℕ → EndFault → EndFault → ℕ → Type 0 → (Reference → Type 0) → Type 0
+OfReference octets f f' status kept does =
+    ((e : IorTextFault) × ((ior_text_of ior_layout.read octets ≡ Err e) ⊎ (e ≡ text.NoMemory))
+    × IsToldAct (Err (refused.Reference e)) f f' status × kept)
+    ⊎ ((ior : Reference) × (ior_text_of ior_layout.read octets ≡ Ok ior) × (f' ≡ f) × does ior)
+
+-- the profile at this index of the reference that a text is is copied
 abbrev pub ReadsProfile : List ℕ → ℕ → ℕ → ℕ → List ℕ → List ℕ → ℕ → ℕ → EndFault → EndFault → ℕ
     → Type 0
 ReadsProfile octets index tag tag' buffer buffer' size size' f f' status =
-    ((e : IorTextFault) × ((ior_text_of ior_layout.read octets ≡ Err e) ⊎ (e ≡ text.NoMemory))
-    × IsToldAct (Err (refused.Reference e)) f f' status
-    × ((tag' ≡ tag) × (buffer' ≡ buffer) × (size' ≡ size)))
-    ⊎ ((ior : Reference) × (ior_text_of ior_layout.read octets ≡ Ok ior) × (f' ≡ f)
-    × CopiesProfile (slice_get ior.profiles index) tag tag' buffer buffer' size size' status)
+    OfReference octets f f' status ((tag' ≡ tag) × (buffer' ≡ buffer) × (size' ≡ size))
+    (λ ior. CopiesProfile (slice_get ior.profiles index) tag tag' buffer buffer' size size' status)
+
+-- the type id of the reference that a text is is copied
+abbrev pub ReadsTypeId : List ℕ → List ℕ → List ℕ → ℕ → ℕ → EndFault → EndFault → ℕ → Type 0
+ReadsTypeId octets buffer buffer' size size' f f' status =
+    OfReference octets f f' status ((buffer' ≡ buffer) × (size' ≡ size))
+    (λ ior. CopiesOctets (Some ior.type_id) buffer buffer' size size' status)
 
 -- ---- the octets of an IIOP profile (9.7.2)
 
@@ -87,14 +97,16 @@ corbaloc_status _ = fault
 abbrev pub too_long : Fault
 too_long = record { at = 0; number = 9 }
 
--- the text of a corbaloc's reference is copied; or it has none, since it is too long for a profile
+-- the text of a corbaloc's reference is copied, or memory ran out; or it has none, since it is too
+-- long for a profile or for a reference
 abbrev pub WritesCorbaloc : Corbaloc → List ℕ → List ℕ → ℕ → ℕ → Fault → Fault → ℕ → Type 0
 WritesCorbaloc c buffer buffer' size size' f f' status =
-    ((are_profiles c ≡ true) × (f' ≡ f)
+    ((are_profiles c ≡ true) × (ior_layout.fits (ior_of c) ≡ true) × (f' ≡ f)
     × CopiesReference (Some (ior_of c)) buffer buffer' size size' status)
-    ⊎ ((are_profiles c ≡ false) × (status ≡ fault) × (f' ≡ too_long)
-    × (buffer' ≡ buffer) × (size' ≡ size))
-    ⊎ ((status ≡ no_memory) × (f' ≡ f) × (buffer' ≡ buffer) × (size' ≡ size))
+    ⊎ ((are_profiles c ≡ true) × (status ≡ no_memory) × (f' ≡ f)
+    × ((buffer' ≡ buffer) × (size' ≡ size)))
+    ⊎ (((are_profiles c ≡ false) ⊎ (ior_layout.fits (ior_of c) ≡ false)) × (status ≡ fault)
+    × (f' ≡ too_long) × ((buffer' ≡ buffer) × (size' ≡ size)))
 
 -- the text is no corbaloc, and the fault told, or memory ran out; or the reference's text is copied of
 -- the corbaloc that it is, where it has one

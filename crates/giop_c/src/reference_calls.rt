@@ -141,12 +141,12 @@ fn copy_corbaloc(
         fault.old fault.new result }
 {
     match corbaloc.to_ior(alloc) {
-        Ok(ior) => copy_reference(alloc, Some(&ior), buffer, size),
-        Err(EncodeFault::Unfit) => {
+        Ok(ior) if ior.is_writable() => copy_reference(alloc, Some(&ior), buffer, size),
+        Err(EncodeFault::NoMemory) => NO_MEMORY,
+        _ => {
             *fault = Fault { at: 0, number: 9 };
             FAULT
         }
-        Err(EncodeFault::NoMemory) => NO_MEMORY,
     }
 }
 

@@ -26,7 +26,8 @@ mod values;
 pub use client::{Call, Client, ClientEntry, ClientKind, Target};
 pub use end::{EndError, EndFault, Form, Limits};
 pub use interface::{Interface, InterfaceError};
-pub use reference::{corbaloc_reference, reference_profile, CorbalocError, IiopProfile, ProfileError, TaggedProfile};
+pub use reference::{corbaloc_reference, reference_corbaloc, reference_octets, reference_profile, reference_text};
+pub use reference::{reference_type_id, CorbalocError, IiopParts, IiopProfile, PartsError, ProfileError, TaggedProfile};
 pub use server::{Awaits, CallKind, Entry, RequestFault, Server};
 pub use values::{ValueForm, Values};
 

@@ -9,6 +9,19 @@
 //! assert_eq!((iiop.host.as_slice(), iiop.port, iiop.key.as_slice()), (&b"h"[..], 2809, &b"k"[..]));
 //! # Ok::<(), Box<dyn std::error::Error>>(())
 //! ```
+//!
+//! And the way back:
+//!
+//! ```
+//! use giop::{reference_corbaloc, reference_octets, reference_text, reference_type_id, IiopParts};
+//!
+//! let parts = IiopParts { minor: 2, host: b"h", port: 2809, key: b"k" };
+//! let text = parts.reference(b"IDL:Calculator:1.0")?;
+//! assert_eq!(reference_type_id(&text)?, b"IDL:Calculator:1.0");
+//! assert_eq!(reference_text(&reference_octets(&text)?)?, text);
+//! assert_eq!(reference_corbaloc(&text)?.as_deref(), Some(&b"corbaloc:iiop:1.2@h:2809/k"[..]));
+//! # Ok::<(), Box<dyn std::error::Error>>(())
+//! ```
 use crate::end::{copied, error_of};
 use crate::{CFault, EndError, EndFault, HeadFault, NO_MEMORY, OK};
 use std::error;
@@ -52,6 +65,62 @@ extern "C" {
         octets: *mut usize,
         fault: *mut CFault,
     ) -> u32;
+    fn giop_reference_type_id(
+        text: *const u8,
+        size: usize,
+        buffer: *mut u8,
+        room: usize,
+        octets: *mut usize,
+        fault: *mut EndFault,
+    ) -> u32;
+    fn giop_reference_octets(
+        text: *const u8,
+        size: usize,
+        buffer: *mut u8,
+        room: usize,
+        octets: *mut usize,
+        fault: *mut EndFault,
+    ) -> u32;
+    fn giop_reference_text(
+        octets: *const u8,
+        size: usize,
+        buffer: *mut u8,
+        room: usize,
+        text_size: *mut usize,
+        fault: *mut EndFault,
+    ) -> u32;
+    fn giop_reference_corbaloc(
+        text: *const u8,
+        size: usize,
+        buffer: *mut u8,
+        room: usize,
+        octets: *mut usize,
+        fault: *mut EndFault,
+    ) -> u32;
+    fn giop_iiop_octets(
+        minor: u8,
+        host: *const u8,
+        host_size: usize,
+        port: u16,
+        key: *const u8,
+        key_size: usize,
+        buffer: *mut u8,
+        room: usize,
+        octets: *mut usize,
+    ) -> u32;
+    fn giop_iiop_reference(
+        type_id: *const u8,
+        type_id_size: usize,
+        minor: u8,
+        host: *const u8,
+        host_size: usize,
+        port: u16,
+        key: *const u8,
+        key_size: usize,
+        buffer: *mut u8,
+        room: usize,
+        octets: *mut usize,
+    ) -> u32;
 }
 
 /// One way to reach an object (7.6.2): its octets mean what the tag says.
@@ -80,6 +149,54 @@ pub fn reference_profile(text: &[u8], index: usize) -> Result<Option<TaggedProfi
         Ok(octets) => Ok(octets.map(|octets| TaggedProfile { tag, octets })),
         Err(status) => Err(error_of(status, fault)),
     }
+}
+
+// A call of this form: octets in, a copy of octets out.
+type ReferenceCall =
+    unsafe extern "C" fn(*const u8, usize, *mut u8, usize, *mut usize, *mut EndFault) -> u32;
+
+// What such a call copies; `None` where it answers that there is none.
+fn called(call: ReferenceCall, given: &[u8]) -> Result<Option<Vec<u8>>, EndError> {
+    let mut fault = EndFault::default();
+    let copy = copied(|buffer, room, size| {
+        // SAFETY: each buffer has the length that is said, and none overlaps another.
+        unsafe { call(given.as_ptr(), given.len(), buffer, room, size, &mut fault) }
+    });
+    copy.map_err(|status| error_of(status, fault))
+}
+
+/// The type id (7.6.2) of the reference that a text is, which may be empty.
+///
+/// # Errors
+/// Why the text is refused, as TEXT or REFERENCE; or `NoMemory`.
+pub fn reference_type_id(text: &[u8]) -> Result<Vec<u8>, EndError> {
+    Ok(called(giop_reference_type_id, text)?.unwrap_or_default())
+}
+
+/// The octets that the text of a reference says, of which the first is the byte order.
+///
+/// # Errors
+/// Why the text is refused, as TEXT or REFERENCE; or `NoMemory`.
+pub fn reference_octets(text: &[u8]) -> Result<Vec<u8>, EndError> {
+    Ok(called(giop_reference_octets, text)?.unwrap_or_default())
+}
+
+/// The text that says the octets of a reference, of which the first is the byte order.
+///
+/// # Errors
+/// Why the octets are refused, as REFERENCE; or `NoMemory`.
+pub fn reference_text(octets: &[u8]) -> Result<Vec<u8>, EndError> {
+    Ok(called(giop_reference_text, octets)?.unwrap_or_default())
+}
+
+/// The corbaloc (7.6.10.1) that says where the object of a reference is: an address for each IIOP profile that can be
+/// read, and their key. `None` where none says it: there is no such profile, two have different keys, or a host has an
+/// octet that none may have.
+///
+/// # Errors
+/// Why the text of the reference is refused, as TEXT or REFERENCE; or `NoMemory`.
+pub fn reference_corbaloc(text: &[u8]) -> Result<Option<Vec<u8>>, EndError> {
+    called(giop_reference_corbaloc, text)
 }
 
 /// How an object is reached over IIOP (9.7.2).
@@ -150,6 +267,90 @@ impl IiopProfile {
             NO_MEMORY => Err(ProfileError::NoMemory),
             _ => Err(ProfileError::Fault(HeadFault { at: fault.at, number: fault.number })),
         }
+    }
+}
+
+/// Why a profile or a reference can't be made of its parts.
+#[derive(Clone, Copy, Debug, PartialEq, Eq)]
+pub enum PartsError {
+    /// Memory ran out.
+    NoMemory,
+    /// A null is in the type id or the host, or a part is too long for its count.
+    Unfit,
+}
+
+impl fmt::Display for PartsError {
+    fn fmt(&self, f: &mut fmt::Formatter<'_>) -> fmt::Result {
+        f.write_str(match self {
+            PartsError::NoMemory => "out of memory",
+            PartsError::Unfit => "a null in a part, or a part that is too long",
+        })
+    }
+}
+
+impl error::Error for PartsError {}
+
+/// Where an object is reached over IIOP, and by which key: of this profiles and references are made.
+#[derive(Clone, Copy, Debug, PartialEq, Eq)]
+pub struct IiopParts<'a> {
+    /// The minor number of the version of IIOP; the major number is 1.
+    pub minor: u8,
+    /// The host's name or address.
+    pub host: &'a [u8],
+    /// The TCP port.
+    pub port: u16,
+    /// The object's key.
+    pub key: &'a [u8],
+}
+
+impl IiopParts<'_> {
+    /// The octets of the profile of these, without components.
+    ///
+    /// # Errors
+    /// `Unfit`; or `NoMemory`.
+    pub fn octets(&self) -> Result<Vec<u8>, PartsError> {
+        let IiopParts { minor, host, port, key } = *self;
+        made(|buffer, room, size| {
+            // SAFETY: each buffer has the length that is said, and none overlaps another.
+            unsafe {
+                giop_iiop_octets(minor, host.as_ptr(), host.len(), port, key.as_ptr(), key.len(), buffer, room, size)
+            }
+        })
+    }
+
+    /// The text of the reference of this type id, which may be empty, with the profile of these alone.
+    ///
+    /// # Errors
+    /// `Unfit`; or `NoMemory`.
+    pub fn reference(&self, type_id: &[u8]) -> Result<Vec<u8>, PartsError> {
+        let IiopParts { minor, host, port, key } = *self;
+        made(|buffer, room, size| {
+            // SAFETY: each buffer has the length that is said, and none overlaps another.
+            unsafe {
+                giop_iiop_reference(
+                    type_id.as_ptr(),
+                    type_id.len(),
+                    minor,
+                    host.as_ptr(),
+                    host.len(),
+                    port,
+                    key.as_ptr(),
+                    key.len(),
+                    buffer,
+                    room,
+                    size,
+                )
+            }
+        })
+    }
+}
+
+// What a call copies that makes something of its parts.
+fn made(call: impl FnMut(*mut u8, usize, *mut usize) -> u32) -> Result<Vec<u8>, PartsError> {
+    match copied(call) {
+        Ok(octets) => Ok(octets.unwrap_or_default()),
+        Err(NO_MEMORY) => Err(PartsError::NoMemory),
+        Err(_) => Err(PartsError::Unfit),
     }
 }
 

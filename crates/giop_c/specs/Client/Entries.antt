@@ -1,9 +1,9 @@
 -- What is stored for the id of a call at a client, as C sees it.
-use Rattle.std.specs.Prelude.{◌≡◌, ◌⊎◌, ℕ, ℤ, pos, if◌then◌else◌, true, false, Option, Some, None, List, length}
+use Rattle.std.specs.Prelude.{◌≡◌, ℕ, ℤ, pos, if◌then◌else◌, Option, Some, None, Ok, List, length}
 use Rattle.giop_cdr.specs.Faults.{cdr_kind_number}
 use Rattle.giop_types.specs.declared.json.interface.Interface.{Interface}
 use Rattle.giop_types.specs.declared.json.parameters.Parameter.{Parameter}
-use Rattle.giop_types.specs.IorText.{text_written}
+use Rattle.giop_types.specs.IorText.{ior_text_of, text_written}
 use Rattle.giop_ior.specs.declared.references.service_context.ServiceContext.{ServiceContext}
 use Rattle.giop_ior.specs.Ior.{Reference, ior_layout}
 use Rattle.giop_msg.specs.declared.messages.reply.Reply.{Reply}
@@ -15,9 +15,8 @@ use Rattle.giop_calls.specs.declared.client.entry.ClientEntry.TheVariants.{Sendi
 use Rattle.giop_calls.specs.ClientTable.{is_closed, left_of, outcome}
 use Rattle.giop_c.specs.declared.client.entries.ClientRow.{ClientRow}
 use Rattle.giop_c.specs.declared.value_form.ValueForm.{ValueForm}
-use Rattle.giop_c.specs.Calls.{no_memory, fault}
 use Rattle.giop_c.specs.Contexts.{count_in}
-use Rattle.giop_c.specs.Copying.{CopiesOctets}
+use Rattle.giop_c.specs.Copying.{CopiesOctets, CopiesWhere}
 use Rattle.giop_c.specs.EndRecords.{outcome_number}
 use Rattle.giop_c.specs.Values.{CopiesValues}
 
@@ -155,11 +154,11 @@ CopiesMembers interface (Some (UserException id members)) form =
     CopiesValues (listed (exception_of interface id)) members form
 CopiesMembers interface _ form = CopiesOctets None
 
--- the text of a reference is copied, where there is one that octets spell; or memory ran out
+-- the text of a reference is copied, where there is one that octets spell, and is read as the
+-- reference again; or memory ran out
 abbrev pub CopiesReference : Option Reference → List ℕ → List ℕ → ℕ → ℕ → ℕ → Type 0
 CopiesReference None = CopiesOctets None
-CopiesReference (Some ior) = λ buffer buffer' size size' status.
-    ((ior_layout.fits ior ≡ true)
-    × CopiesOctets (Some (text_written ior_layout.written ior)) buffer buffer' size size' status)
-    ⊎ (((status ≡ no_memory) ⊎ ((status ≡ fault) × (ior_layout.fits ior ≡ false)))
-    × (buffer' ≡ buffer) × (size' ≡ size))
+CopiesReference (Some ior) =
+    CopiesWhere (ior_layout.fits ior)
+    (ior_text_of ior_layout.read (text_written ior_layout.written ior) ≡ Ok ior)
+    (text_written ior_layout.written ior)
