@@ -1,3 +1,4 @@
 pub mod Orders
 pub mod Loops
 pub mod NameLemmas
+pub mod OldLemmas

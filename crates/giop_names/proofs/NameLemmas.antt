@@ -1,7 +1,5 @@
 -- Objects of one key.
 use Rattle.std.proofs.Common.{◌≡◌, ℕ, List, length, ◌==◌, Some, refl}
-use Rattle.serde_json.specs.Data.{Members}
-use Rattle.serde_json.specs.Events.{members_len}
 use Rattle.serde_json.specs.Find.{as_object}
 use Rattle.serde_json.specs.View.{view, members_view}
 use Rattle.serde_json.specs.declared.value.Value.{Value as Json}

@@ -1,7 +1,7 @@
 -- What an interface file says beside the plain form (docs/FORMATS.md).
-use Rattle.std.specs.Prelude.{ℕ, codes, Bool, true, false, ◌&&◌, List}
+use Rattle.std.specs.Prelude.{codes, Bool, true, false, ◌&&◌}
 use Rattle.std.specs.Prelude.{Option, Some, None, option_and_then, is_some}
-use Rattle.serde_json.specs.Data.{Data, array, object, string, Items, item, no_items}
+use Rattle.serde_json.specs.Data.{Data, array, object, Items, item, no_items}
 use Rattle.serde_json.specs.Data.{Members, member, no_members}
 use Rattle.serde_json.specs.Find.{get, as_str, as_object}
 

@@ -1,5 +1,5 @@
 -- The plain form of an interface file, and the interface's own id (docs/FORMATS.md).
-use Rattle.std.specs.Prelude.{ℕ, codes, Bool, if◌then◌else◌, List, Option, Some, None}
+use Rattle.std.specs.Prelude.{ℕ, codes, if◌then◌else◌, List, Option, Some, None}
 use Rattle.std.specs.Prelude.{option_and_then, unwrap_or, Result, Ok, Err}
 use Rattle.serde_json.specs.Data.{Data, null}
 use Rattle.serde_json.specs.Find.{get, as_str}

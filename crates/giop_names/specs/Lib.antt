@@ -2,3 +2,4 @@ pub mod Scopes
 pub mod Plain
 pub mod Beside
 pub mod Interface
+pub mod Old

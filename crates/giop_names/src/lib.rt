@@ -5,6 +5,7 @@
 
 mod beside;
 mod interface;
+pub mod laws;
 mod naming;
 mod rewriting;
 mod room;
