@@ -165,7 +165,7 @@ pub fn interface(rt: &impl Eprint, alloc: Global, file: &str, text: &InterfaceTe
     let Err(fault) = Interface::from_json(alloc, text.as_slice()) else {
         return;
     };
-    if !text.is_plain() && fault != FormFault::BadJson {
+    if !text.is_plain() && fault != FormFault::BadJson && fault != FormFault::NoMemory {
         let _ = eprintln!(rt;
             "giopctl: {file}: id, comment, types, raises, or the name of a type, not as it should be"
         );
@@ -173,18 +173,16 @@ pub fn interface(rt: &impl Eprint, alloc: Global, file: &str, text: &InterfaceTe
     }
     let other = "JSON, but not in the form of an interface";
     said(rt, alloc, file, text.given(), fault, other);
-    place(rt, file, places::of_interface(alloc, text, fault));
+    let at = places::of_interface(alloc, text, fault);
+    place(rt, file, fault, at);
 }
 
 /// Prints what is wrong with the text of a description, and where, as far as that is known.
 pub fn description(rt: &impl Eprint, alloc: Global, file: &str, text: &[u8], fault: FormFault) {
     let other = "JSON, but not in the form of a description";
     said(rt, alloc, file, text, fault, other);
-    place(
-        rt,
-        file,
-        places::of_file(alloc, Role::Description, text, fault),
-    );
+    let at = places::of_file(alloc, Role::Description, text, fault);
+    place(rt, file, fault, at);
 }
 
 /// Prints what is wrong with the text of a value, and where.
@@ -201,7 +199,7 @@ pub fn value(
     if fault == FormFault::Unfit {
         let _ = eprintln!(rt; "giopctl: {file}: a value that doesn't fit its description");
     }
-    place(rt, file, at);
+    place(rt, file, fault, at);
 }
 
 /// Prints what is wrong with the text of calls or answers, and where, as far as that is known.
@@ -220,7 +218,7 @@ pub fn form(
             "giopctl: {file}: a value, or their number, doesn't fit the interface"
         );
     }
-    place(rt, file, at);
+    place(rt, file, fault, at);
 }
 
 /// Prints which of some words are no JSON, and where they cease to be.
@@ -263,10 +261,13 @@ fn said(rt: &impl Eprint, alloc: Global, file: &str, text: &[u8], fault: FormFau
     };
 }
 
-// Prints where a file is at fault, where that is known.
-fn place(rt: &impl Eprint, file: &str, place: Option<Place>) {
-    if let Some(place) = place {
-        let _ = eprintln!(rt; "giopctl: {file}: at {place}");
+// Prints where a file is at fault, where that is known; where memory is wanting, no part is.
+fn place(rt: &impl Eprint, file: &str, fault: FormFault, place: Option<Place>) {
+    match place {
+        Some(place) if fault != FormFault::NoMemory => {
+            let _ = eprintln!(rt; "giopctl: {file}: at {place}");
+        }
+        _ => {}
     }
 }
 
