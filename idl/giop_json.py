@@ -4,6 +4,8 @@
 
 -Wbinterface=NAME  takes this interface (Calc or Bank::Account) where the file has several
 -Wball             writes each interface into a file, Bank.Account.json, of this folder
+-Wbtypes           writes the names of structs, unions and enums in place of their descriptions,
+                   and the interface's id and what each operation raises beside
 -Wbskip            leaves out operations that can't be said, and names them on standard error
 -Wbcalls           prints a skeleton of calls in place of the interface
 -Wbanswers         prints a skeleton of answers in place of the interface
@@ -28,7 +30,7 @@ REFUSED_TYPES = {
 }
 # Begins with an underscore, as no name of IDL does once its escape is dropped.
 RESULT = "_result"
-OPTIONS = ["all", "skip", "calls", "answers"]
+OPTIONS = ["all", "types", "skip", "calls", "answers"]
 NIL = "IOR:00000000000000010000000000000000"
 OF_EVERY_OBJECT = {
     "_is_a": {"ins": [["logical_type_id", "string"]], "outs": [[RESULT, "boolean"]]},
@@ -44,10 +46,11 @@ class Refused(Exception):
 
 
 class Types:
-    """Descriptions of types; that of a declaration is made once."""
+    """Descriptions of types; that of a declaration is made once, and named where that is asked."""
 
-    def __init__(self):
-        self.made = {}
+    def __init__(self, with_names):
+        self.with_names = with_names
+        self.made, self.named = {}, {}
         self.open = set()
         self.last_member = None
 
@@ -88,6 +91,9 @@ class Types:
                 self.made[name] = self.declaration(decl, name, where)
             finally:
                 self.open.discard(name)
+        if self.with_names and isinstance(decl, (idlast.Enum, idlast.Struct, idlast.Union)):
+            self.named[name] = self.made[name]
+            return {"type": name}
         return self.made[name]
 
     def reference(self, decl, name, where):
@@ -209,6 +215,8 @@ class Operations:
         made = {key: value for key, value in (("ins", ins), ("outs", outs)) if value}
         if decl.oneway():
             made["oneway"] = True
+        if raised and self.types.with_names:
+            made["raises"] = list(raised)
         self.operations[decl.identifier()] = made
         self.exceptions.update(raised)
 
@@ -262,13 +270,18 @@ def interfaces(decls):
 
 def convert(decl, options):
     """What is asked for of one interface."""
-    made = Operations(Types(), "skip" in options)
+    skeleton = "calls" in options or "answers" in options
+    made = Operations(Types("types" in options and not skeleton), "skip" in options)
     made.interface(decl)
     made.operations.update(OF_EVERY_OBJECT)
     whole = {"operations": made.operations, "exceptions": made.exceptions}
     if "calls" in options:
         return calls(whole)
-    return answers(whole) if "answers" in options else whole
+    if "answers" in options:
+        return answers(whole)
+    if "types" in options:
+        return {"id": decl.repoId(), "types": made.types.named, **whole}
+    return whole
 
 
 def chosen(found, options):

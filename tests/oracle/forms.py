@@ -9,6 +9,7 @@ from dataclasses import dataclass
 from descriptions import (Array, Boolean, Char, Enum, Number, Octets, REFERENCE, Sequence, String,
                           Struct, Union, all_differ, is_sound)
 from json_text import BadJson, compact, json_of
+from names import NotPlain, plain
 from references import BadText, reference_of, text_of
 
 FAULTS = ('BadJson', 'BadShape', 'BadDesc', 'Unfit')
@@ -281,6 +282,10 @@ def interface_of(octets):
 
 
 def interface_form(json):
+    try:
+        json = plain(json)
+    except NotPlain as fault:
+        raise FormFault('BadShape') from fault
     keys_of(json, ['operations'], ['exceptions'])
     operations, exceptions = json['operations'], json.get('exceptions', {})
     demand(isinstance(operations, dict) and isinstance(exceptions, dict))

@@ -1,6 +1,7 @@
 //! The files that a command reads; `-` is the standard input.
 ghost use Rattle.std.specs.Prelude.{◌≡◌, ◌≢◌, IfErr, OnOk, codes};
 
+use crate::interface_text::InterfaceText;
 use giop_commands::BehindFault;
 use giop_commands::failure::Failure;
 use std::io::Read;
@@ -31,6 +32,11 @@ pub fn read(rt: &HostRuntime, file: &str) -> Result<Vec<u8>, Failure> {
         Ok(_) => Ok(octets),
         Err(error) => Err(Failure::input(error)),
     }
+}
+
+/// The text of an interface's file.
+pub fn read_interface(rt: &HostRuntime, file: &str) -> Result<InterfaceText, Failure> {
+    InterfaceText::new(rt.alloc(), read(rt, file)?)
 }
 
 /// A file to be read piece by piece. A regular one is read to its end even behind a fault; a pipe

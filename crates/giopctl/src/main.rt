@@ -4,6 +4,7 @@
 
 mod cli;
 mod files;
+mod interface_text;
 mod places;
 mod report;
 mod runs;

@@ -1,8 +1,11 @@
 //! Where a refused file of an interface, a description or a value is at fault, as giop_where tells
 //! it. Nothing is told where that isn't known, as when it is out of memory.
 
+mod names;
 pub mod sessions;
 
+use crate::interface_text::InterfaceText;
+use crate::places::names::path_in_file;
 use giop_types::{FormFault, parse_json};
 use giop_where::{Part, Place, Role, fault_code};
 use serde_json::Value as Json;
@@ -12,6 +15,18 @@ use std::alloc::Global;
 pub fn of_file(alloc: Global, role: Role, text: &[u8], fault: FormFault) -> Option<Place> {
     match parse_json(alloc, text) {
         Ok(json) => found(alloc, role, &json, &json, fault_code(fault)),
+        Err(_) => None,
+    }
+}
+
+/// The first fault of this kind in the text of an interface's file, where it has a plain form.
+pub fn of_interface(alloc: Global, text: &InterfaceText, fault: FormFault) -> Option<Place> {
+    let mut place = of_file(alloc, Role::Interface, text.as_slice(), fault)?;
+    match parse_json(alloc, text.given()) {
+        Ok(file) => {
+            place.path = path_in_file(alloc, &file, place.path).ok()?;
+            Some(place)
+        }
         Err(_) => None,
     }
 }

@@ -9,6 +9,7 @@ ghost use Rattle.giopctl.specs.Usage.{usage_status};
 mod counted;
 mod open_calls;
 
+use crate::interface_text::InterfaceText;
 use crate::places;
 use crate::report::counted::Counted;
 use crate::report::open_calls::OpenCalls;
@@ -160,17 +161,19 @@ fn above(limit: Limit) -> &'static str {
 
 /// Prints what is wrong with the text of an interface, and where, as far as that is known; nothing
 /// where it is an interface.
-pub fn interface(rt: &impl Eprint, alloc: Global, file: &str, text: &[u8]) {
-    let Err(fault) = Interface::from_json(alloc, text) else {
+pub fn interface(rt: &impl Eprint, alloc: Global, file: &str, text: &InterfaceText) {
+    let Err(fault) = Interface::from_json(alloc, text.as_slice()) else {
         return;
     };
+    if !text.is_plain() && fault != FormFault::BadJson {
+        let _ = eprintln!(rt;
+            "giopctl: {file}: id, comment, types, raises, or the name of a type, not as it should be"
+        );
+        return;
+    }
     let other = "JSON, but not in the form of an interface";
-    said(rt, alloc, file, text, fault, other);
-    place(
-        rt,
-        file,
-        places::of_file(alloc, Role::Interface, text, fault),
-    );
+    said(rt, alloc, file, text.given(), fault, other);
+    place(rt, file, places::of_interface(alloc, text, fault));
 }
 
 /// Prints what is wrong with the text of a description, and where, as far as that is known.

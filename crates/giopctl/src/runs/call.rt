@@ -5,7 +5,7 @@ use crate::cli::CallWords;
 use crate::files::OUTPUT_BUFFER;
 use crate::places::sessions::{each_json, of_calls, of_words};
 use crate::runs::reach::{connected, endpoint_of, peer_of, target_text};
-use crate::runs::session::{interface_of, read, refused_form, refused_words};
+use crate::runs::session::{interface_of, read, read_interface, refused_form, refused_words};
 use crate::{files, report};
 use giop_commands::call::calls::{CallLine, calls_from_json};
 use giop_commands::call::streaming::call_stream;
@@ -30,10 +30,10 @@ pub fn call(rt: &HostRuntime, words: CallWords) -> Status {
 
 fn called(rt: &HostRuntime, words: CallWords) -> Result<Status, Status> {
     let target = target_text(rt, words.target)?;
-    let offered = read(rt, words.interface)?;
+    let offered = read_interface(rt, words.interface)?;
     let asked = asked_in(rt, &words, offered.as_slice())?;
     let endpoint = endpoint_of(rt, words.target, target.as_slice())?;
-    let interface = interface_of(rt, words.interface, offered.as_slice())?;
+    let interface = interface_of(rt, words.interface, &offered)?;
     let calls = match asked {
         Asked::File(text) => calls_in_file(rt, &words, offered.as_slice(), &interface, &text)?,
         Asked::Words => calls_in_words(rt, &words, offered.as_slice(), &interface)?,

@@ -11,13 +11,13 @@ use std::io::{BufWriter, Read, Write};
 
 /// Reads the file of the interface, then checks the other one piece by piece.
 pub fn check(rt: &HostRuntime, words: CheckWords) -> Status {
-    let text = match files::read(rt, words.interface) {
+    let text = match files::read_interface(rt, words.interface) {
         Ok(text) => text,
         Err(failure) => return report::answer(rt, words.interface, Err(failure)),
     };
     let answered = checked(rt, text.as_slice(), words);
     if let Ok(Status::Refused) = &answered {
-        report::interface(rt, rt.alloc(), words.interface, text.as_slice());
+        report::interface(rt, rt.alloc(), words.interface, &text);
     }
     report::answer(rt, words.file, answered)
 }

@@ -16,13 +16,13 @@ pub fn dump(rt: &HostRuntime, words: DumpWords) -> Status {
     let Some(interface) = words.interface else {
         return report::answer(rt, words.file, dumped(rt, None, words));
     };
-    let text = match files::read(rt, interface) {
+    let text = match files::read_interface(rt, interface) {
         Ok(text) => text,
         Err(failure) => return report::answer(rt, interface, Err(failure)),
     };
     let answered = dumped(rt, Some(text.as_slice()), words);
     if let Ok(Status::Refused) = &answered {
-        report::interface(rt, rt.alloc(), interface, text.as_slice());
+        report::interface(rt, rt.alloc(), interface, &text);
     }
     report::answer(rt, words.file, answered)
 }

@@ -5,7 +5,7 @@ use crate::cli::ServeWords;
 use crate::files::OUTPUT_BUFFER;
 use crate::places::sessions::of_answers;
 use crate::report;
-use crate::runs::session::{interface_of, linked, read, refused_form};
+use crate::runs::session::{interface_of, linked, read, read_interface, refused_form};
 use giop_commands::failure::Failure;
 use giop_commands::serve::answers::answers_from_json;
 use giop_commands::serve::given::{KeyWord, Telling};
@@ -31,10 +31,10 @@ pub fn serve(rt: &HostRuntime, words: ServeWords) -> Status {
 }
 
 fn served(rt: &HostRuntime, words: ServeWords) -> Result<Status, Status> {
-    let offered = read(rt, words.interface)?;
+    let offered = read_interface(rt, words.interface)?;
     let answers = read(rt, words.answers)?;
     let key = key_of(rt, words.key)?;
-    let interface = interface_of(rt, words.interface, offered.as_slice())?;
+    let interface = interface_of(rt, words.interface, &offered)?;
     let answers = match answers_from_json(rt.alloc(), &interface, answers.as_slice()) {
         Ok(answers) => answers,
         Err(fault) => {

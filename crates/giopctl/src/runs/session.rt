@@ -1,6 +1,7 @@
 //! The files that `call` and `serve` read, how they are refused, and the connection.
 
 use crate::files::OUTPUT_BUFFER;
+use crate::interface_text::InterfaceText;
 use crate::runs::link::Link;
 use crate::{files, report};
 use giop_commands::failure::Failure;
@@ -21,9 +22,21 @@ pub fn read(rt: &HostRuntime, file: &str) -> Result<Vec<u8>, Status> {
     }
 }
 
+/// The text of an interface's file, or the status where it can't be read, which is reported.
+pub fn read_interface(rt: &HostRuntime, file: &str) -> Result<InterfaceText, Status> {
+    match files::read_interface(rt, file) {
+        Ok(text) => Ok(text),
+        Err(failure) => Err(report::answer(rt, file, Err(failure))),
+    }
+}
+
 /// The interface that a file's text is, or the status where it is refused, which is reported.
-pub fn interface_of(rt: &HostRuntime, file: &str, text: &[u8]) -> Result<Interface, Status> {
-    match Interface::from_json(rt.alloc(), text) {
+pub fn interface_of(
+    rt: &HostRuntime,
+    file: &str,
+    text: &InterfaceText,
+) -> Result<Interface, Status> {
+    match Interface::from_json(rt.alloc(), text.as_slice()) {
         Ok(interface) => Ok(interface),
         Err(fault) => {
             report::interface(rt, rt.alloc(), file, text);

@@ -3,6 +3,7 @@
 
 use crate::cli::TraceWords;
 use crate::files::OUTPUT_BUFFER;
+use crate::interface_text::InterfaceText;
 use crate::{files, report};
 use giop_commands::failure::Failure;
 use giop_commands::status::Status;
@@ -16,15 +17,15 @@ const EITHER: &str = "CLIENT or SERVER";
 /// Reads the file of the interface, then traces the others piece by piece. A file that can't be
 /// opened is named; nothing is written then.
 pub fn trace(rt: &HostRuntime, words: TraceWords) -> Status {
-    let text = match files::read(rt, words.interface) {
+    let text = match files::read_interface(rt, words.interface) {
         Ok(text) => text,
         Err(failure) => return report::answer(rt, words.interface, Err(failure)),
     };
     if words.client == "-" {
-        return by_client(rt, text.as_slice(), words, &mut rt.reader());
+        return by_client(rt, &text, words, &mut rt.reader());
     }
     match files::opened(rt, words.client) {
-        Ok((mut client, _)) => by_client(rt, text.as_slice(), words, &mut client),
+        Ok((mut client, _)) => by_client(rt, &text, words, &mut client),
         Err(failure) => report::answer(rt, words.client, Err(failure)),
     }
 }
@@ -32,22 +33,43 @@ pub fn trace(rt: &HostRuntime, words: TraceWords) -> Status {
 // Traces what a client sent, and what the server did where that is given.
 fn by_client<C: Read>(
     rt: &HostRuntime,
-    interface: &[u8],
+    interface: &InterfaceText,
     words: TraceWords,
     client: &mut C,
 ) -> Status {
     let Some(server) = words.server else {
         let mut nothing = [0u8; 0].as_slice();
-        let answered = traced(rt, interface, words, Heard::Client, client, &mut nothing);
+        let answered = traced(
+            rt,
+            interface.as_slice(),
+            words,
+            Heard::Client,
+            client,
+            &mut nothing,
+        );
         return reported(rt, interface, words, words.client, answered);
     };
     if server == "-" {
-        let answered = traced(rt, interface, words, Heard::Both, client, &mut rt.reader());
+        let answered = traced(
+            rt,
+            interface.as_slice(),
+            words,
+            Heard::Both,
+            client,
+            &mut rt.reader(),
+        );
         return reported(rt, interface, words, EITHER, answered);
     }
     match files::opened(rt, server) {
         Ok((mut file, _)) => {
-            let answered = traced(rt, interface, words, Heard::Both, client, &mut file);
+            let answered = traced(
+                rt,
+                interface.as_slice(),
+                words,
+                Heard::Both,
+                client,
+                &mut file,
+            );
             reported(rt, interface, words, EITHER, answered)
         }
         Err(failure) => report::answer(rt, server, Err(failure)),
@@ -57,7 +79,7 @@ fn by_client<C: Read>(
 // Says what is wrong with an interface that is refused, or names what failed.
 fn reported(
     rt: &HostRuntime,
-    interface: &[u8],
+    interface: &InterfaceText,
     words: TraceWords,
     input: &str,
     answered: Result<Status, Failure>,
