@@ -2,13 +2,14 @@
 docs/FORMATS.md. Each command answers both: (text, status)."""
 import json
 
+from bodies import Joiner, PieceFault, body_of
 from cdr import Fault, Reader, Writer
 from forms import FormFault, description_of, interface_of, value_of, value_text
 from messages import HEADS, messages
 from references import BadText, corbaloc_of, iiop_profile, octets_of_hex, reference_of, text_of
 from server import heard
 from text import escaped, hexed, quoted, unescaped
-from tracing import traced
+from tracing import Raw, traced
 
 
 def foretold(words, file, other, server=None):
@@ -17,7 +18,7 @@ def foretold(words, file, other, server=None):
     if words[0] == 'trace':
         return printed(*traced(interface_of(other), file, server, '--json' in words))
     if words[0] == 'dump':
-        return dump_json(file) if '--json' in words else dump(file)
+        return dump_json(file, other) if '--json' in words else dump(file, other)
     if words[0] == 'check':
         return check_json(other, file) if '--json' in words else check(other, file)
     if '--json' in words:
@@ -31,9 +32,15 @@ def printed(lines, status):
 
 # dump
 
-def dump(stream):
+def dump(stream, interface=None):
+    """Of a stream, and perhaps of an interface's text, by which bodies are told."""
+    try:
+        bodies = Bodies(interface)
+    except FormFault as fault:
+        return printed([f'fault {fault}'], 1)
     found, at, fault = messages(stream)
-    lines = [line for offset, message in found for line in message_lines(offset, message)]
+    lines = [line for offset, message in found
+             for line in (*message_lines(offset, message), *bodies.lines(message))]
     if fault:
         return printed([*lines, f'{at} fault {fault}'], 1)
     left = len(stream) - at
@@ -47,6 +54,57 @@ def message_lines(offset, message):
            + f' size {len(message.octets)}' + id_text(message))
     if message.kind in HEADS and not message.more:
         yield '  ' + head_text(message)
+
+
+class Bodies:
+    """What is told besides by an interface's text, where there is one."""
+
+    def __init__(self, interface):
+        self.interface = None if interface is None else interface_of(interface)
+        self.joiner = Joiner()
+
+    def lines(self, message):
+        """The lines behind those of a message."""
+        if not self.interface:
+            return
+        try:
+            joined = self.joiner.joined(message)
+        except PieceFault as fault:
+            yield f'  unjoined {fault}'
+            return
+        if joined:
+            yield f'  joined Request size {len(joined.octets)}'
+            yield '  ' + head_text(joined)
+        if joined or is_whole_request(message):
+            yield from self.body_line(joined or message)
+
+    def body_line(self, message):
+        for name, told in body_of(self.interface, message).items():
+            yield f'  {name} body {told}' if isinstance(told, Fault) else f'  {name} {told}'
+
+    def members(self, message):
+        """The members behind those of a message."""
+        if not self.interface:
+            return {}
+        try:
+            joined = self.joiner.joined(message)
+        except PieceFault as fault:
+            return {'unjoined': named(str(fault))}
+        if joined:
+            return {'joined': {'message': 'Request', 'size': len(joined.octets),
+                               'head': head_members(joined), **self.body_members(joined)}}
+        return self.body_members(message) if is_whole_request(message) else {}
+
+    def body_members(self, message):
+        made = body_of(self.interface, message)
+        if 'ins' in made:
+            return {'ins': Raw(made['ins'])}
+        return {name: {'part': 'operation'} if told == 'operation'
+                else {'part': 'body', 'fault': fault_members(told)} for name, told in made.items()}
+
+
+def is_whole_request(message):
+    return message.kind == 'Request' and not message.more
 
 
 def id_text(message):
@@ -79,10 +137,15 @@ def target_text(target):
 
 # dump --json
 
-def dump_json(stream):
+def dump_json(stream, interface=None):
     """As docs/FORMATS.md, "Lines of dump", has it."""
+    try:
+        bodies = Bodies(interface)
+    except FormFault as fault:
+        return printed([compact({'refused': named(str(fault))})], 1)
     found, at, fault = messages(stream)
-    lines = [compact(message_members(offset, message)) for offset, message in found]
+    lines = [compact({**message_members(offset, message), **bodies.members(message)})
+             for offset, message in found]
     if fault:
         return printed([*lines, compact({'at': at, 'fault': fault_members(fault)})], 1)
     left = len(stream) - at
@@ -91,6 +154,8 @@ def dump_json(stream):
 
 def compact(value):
     """JSON without blanks, in which octets are a text."""
+    if isinstance(value, Raw):
+        return str(value)
     if isinstance(value, dict):
         return '{' + ','.join(f'"{name}":{compact(member)}' for name, member in value.items()) + '}'
     if isinstance(value, list):

@@ -6,6 +6,7 @@ from dataclasses import dataclass
 
 import commands
 import random_edges
+import random_names
 import random_sessions
 import random_texts
 import random_types
@@ -31,6 +32,10 @@ def dump(file):
     return Case(['dump', 'FILE'], file)
 
 
+def dump_by(interface, file):
+    return Case(['dump', '--interface', 'OTHER', 'FILE'], file, interface)
+
+
 def as_json(case):
     """The same case, told as JSON."""
     return Case([case.words[0], '--json', *case.words[1:]], case.file, case.other)
@@ -48,7 +53,7 @@ def compact(form):
 
 def some_stream(rng, errs):
     """An interface, and what a client sends: perhaps a message that ends it, perhaps cut short."""
-    interface = random_types.interface(rng)
+    interface = random_names.interface(rng)
     peer = Peer(rng, interface, errs)
     made = peer.session()
     if rng.random() < 0.3:
@@ -109,7 +114,7 @@ def dump_cut(rng):
 
 
 def a_cut_message(rng):
-    interface = random_types.interface(rng)
+    interface = random_names.interface(rng)
     peer, (minor, little) = Peer(rng, interface, False), (rng.randrange(3), rng.random() < 0.5)
     kind, payload = peer.some_message(7, minor, little)
     return interface, message(kind, minor, little, payload[:rng.randrange(4, len(payload) + 1)])
@@ -118,8 +123,17 @@ def a_cut_message(rng):
 def check_json(rng):
     """Any of the above, as JSON."""
     recipe = rng.choice((check_lawful, check_wrong, check_damaged, check_acts, check_cut,
-                         check_interface))
+                         check_interface, check_names))
     return as_json(recipe(rng))
+
+
+def dump_bodies(rng):
+    """What `check` is given, told by `dump`, as text or as JSON."""
+    recipe = rng.choice((check_lawful, check_wrong, check_damaged, check_acts, check_cut,
+                         check_interface, check_names))
+    case = recipe(rng)
+    made = dump_by(case.other, case.file)
+    return as_json(made) if rng.random() < 0.4 else made
 
 
 def check_table(number):
@@ -128,6 +142,16 @@ def check_table(number):
 
 def check_gatherer(number):
     return check(compact(random_edges.ACTS), random_edges.full_gatherer(number))
+
+
+def dump_gatherer(number):
+    case = dump_by(compact(random_edges.ACTS), random_edges.full_gatherer(number))
+    return as_json(case) if number % 2 else case
+
+
+def check_limit(number):
+    """An interface whose names stand for as much as they may, or for more."""
+    return check(compact(random_names.at_limit(number)), random_edges.request(1))
 
 
 def dump_json(rng):
@@ -152,6 +176,12 @@ def check_interface(rng):
     else:
         text = random_texts.broken_text(rng, random_texts.json_text(rng, interface))
     return check(text, stream)
+
+
+def check_names(rng):
+    """An interface in which something of its names is spoilt, and a stream of it as it was."""
+    interface, stream = some_stream(rng, False)
+    return check(random_texts.json_text(rng, random_names.spoilt_file(rng, interface)), stream)
 
 
 # Both directions of a connection
@@ -298,19 +328,21 @@ def decode_damaged(rng):
     return conversion(rng, 'decode', digits, compact(description))
 
 
-# How many of each kind there are; each case of the last three is told by its number
+# How many of each kind there are; each case of the last five is told by its number
 RECIPES = {
     dump_lawful: 1500, dump_replies: 1500, dump_damaged: 1500, dump_header: 1500, dump_cut: 1500,
     dump_json: 3000,
     trace_lawful: 1000, trace_wrong: 1000, trace_damaged: 1000,
     check_lawful: 2500, check_wrong: 2000, check_damaged: 1000, check_acts: 2500, check_cut: 1000,
-    check_interface: 2000, check_json: 3000, ior: 1500, ior_damaged: 500, corbaloc: 1500, corbaloc_damaged: 500,
+    check_interface: 2000, check_names: 2000, check_json: 3000, dump_bodies: 2000,
+    ior: 1500, ior_damaged: 500, corbaloc: 1500, corbaloc_damaged: 500,
     reference_json: 2000,
     encode: 1000, encode_spoilt: 1500, encode_bounds: 700, encode_description: 1500,
     decode: 1000, decode_bounds: 700, decode_damaged: 1500,
     dump_large: random_edges.LARGE, check_table: random_edges.FULL_TABLES,
-    check_gatherer: random_edges.FULL_GATHERERS}
-LISTED = (dump_large, check_table, check_gatherer)
+    check_gatherer: random_edges.FULL_GATHERERS, dump_gatherer: random_edges.FULL_GATHERERS,
+    check_limit: random_names.LIMITS}
+LISTED = (dump_large, check_table, check_gatherer, dump_gatherer, check_limit)
 KINDS = {recipe.__name__: recipe for recipe in RECIPES}
 
 

@@ -1,7 +1,7 @@
 """Both directions of a connection at random: what a client sends, and replies to it in any order."""
 import json
 
-import random_types
+import random_names
 from answering import located
 from cdr import Fault
 from client import Form
@@ -30,7 +30,7 @@ def has_id(message):
 
 
 def any_session(rng, errs):
-    form = random_types.interface(rng)
+    form = random_names.interface(rng)
     peer, interface = Peer(rng, form, errs), interface_of(json.dumps(form).encode())
     asked = peer.session()
     if errs and rng.random() < 0.3:
