@@ -22,6 +22,7 @@ ghost use Rattle.giop_session.specs.Calls.SessionFaults.{error_message_of};
 mod answering;
 mod calling;
 mod detached;
+mod parts;
 mod writing;
 
 use crate::acts::outgoing::Outgoing;
@@ -32,11 +33,11 @@ use crate::limits::Limits;
 use crate::session_fault::SessionFault;
 pub use detached::Detached;
 use giop_calls::{ClientRule, ServerRule};
-use giop_cdr::{OctetList, Order};
 use giop_frag::Gather;
-use giop_msg::{Framer, Kind, Msg, Version};
+use giop_msg::Framer;
 use giop_mux::CallRule;
 use giop_types::Interface;
+use parts::{close, error_message, feed, take};
 use std::alloc::{AllocError, Global};
 pub use writing::write_out;
 
@@ -135,20 +136,14 @@ impl<'a, R: Hearing> End<'a, R> {
           fault = self.new.fault;
         } }
     {
-        if let Some(fault) = self.fault {
-            return Err(fault);
-        }
-        if let Err(fault) = hear_all(
+        feed(
             self.alloc,
             self.interface,
             &mut self.framer,
             &mut self.calls,
+            &mut self.fault,
             octets,
-        ) {
-            self.fault = Some(fault);
-            return Err(fault);
-        }
-        Ok(())
+        )
     }
 
     /// The entry that is stored for the id, if one is. It takes no memory.
@@ -196,21 +191,7 @@ impl<'a, R: Hearing> End<'a, R> {
         ensures want { self.old.fault ≡ None → IfErr result (λ why. why ≡ NoMemory) }
         ensures kept { OnErr result (self.new ≡ self.old) }
     {
-        if let Some(fault) = self.fault {
-            return Err(fault);
-        }
-        let message = Msg {
-            version: Version::V12,
-            order: Order::Big,
-            more: false,
-            kind: Kind::CloseConnection,
-            payload: OctetList::new(self.alloc),
-        };
-        if self.outgoing.put(&message).is_err() {
-            return Err(SessionFault::NoMemory);
-        }
-        self.fault = Some(SessionFault::Closed);
-        Ok(())
+        close(self.alloc, &mut self.outgoing, &mut self.fault)
     }
 
     /// How many octets are unread: those of a message that isn't whole, and at a failed end those
@@ -254,13 +235,7 @@ impl<'a, R: Hearing> End<'a, R> {
     pub fn error_message(&self) -> Option<[u8; 12]>
         ensures { result ≡ error_message_of self.now.fault }
     {
-        match self.fault? {
-            SessionFault::Wire(_)
-            | SessionFault::Call { .. }
-            | SessionFault::WrongDirection
-            | SessionFault::NoId(_) => Some(*b"GIOP\x01\x02\x00\x06\x00\x00\x00\x00"),
-            _ => None,
-        }
+        error_message(self.fault)
     }
 
     /// Takes out what is stored for the id, where its call is over, and returns the entry; `None`
@@ -285,50 +260,6 @@ impl<'a, R: Hearing> End<'a, R> {
             (finite.get self.old.calls.table id) ≡ Some false)) }
         ensures kept { IfErr result (λ why. self.new ≡ self.old) }
     {
-        if let Some(fault) = self.fault {
-            return Err(fault);
-        }
-        match self.calls.take(id) {
-            Ok(slot) => Ok(slot.map(|slot| slot.entry)),
-            Err(_) => Err(SessionFault::StillOpen),
-        }
+        take(&mut self.calls, self.fault, id)
     }
-}
-
-// Hears each message that is whole in the unread octets and these behind them.
-fn hear_all<R: Hearing>(
-    alloc: Global,
-    interface: &Interface,
-    framer: &mut Framer,
-    calls: &mut CallTable<R>,
-    octets: &[u8],
-) -> Result<(), SessionFault>
-    ensures { Fed (hears_by R.next R.closed R.gathering R.in_call R.breaks
-        (R.befalls interface.now)) (with_octets framer.old octets.now) calls.old result framer.new
-        calls.new }
-{
-    framer.feed(octets)?;
-    while let Some(message) = framer.next()? {
-        hear(alloc, interface, framer, calls, message)?;
-    }
-    Ok(())
-}
-
-// Hears a message. Its memory then serves the next one.
-#[inline(always)]
-fn hear<R: Hearing>(
-    alloc: Global,
-    interface: &Interface,
-    framer: &mut Framer,
-    calls: &mut CallTable<R>,
-    message: Msg,
-) -> Result<(), SessionFault>
-    requires { length message.payload ≤ 2 ^ 62 }
-    ensures hears { hears_by R.next R.closed R.gathering R.in_call R.breaks
-        (R.befalls interface.now) message calls.old result calls.new }
-    ensures framer { framer.new ≡ framer.old }
-{
-    R::hear(alloc, interface, calls, &message)?;
-    framer.reuse(message);
-    Ok(())
 }

@@ -1,17 +1,38 @@
 //! An end apart from its interface. It borrows nothing, so it can lie in a struct beside its
-//! interface, as in a handle of C; it is attached to the interface for each call.
-ghost use Rattle.std.specs.Prelude.{◌≡◌, ◌≤◌, ◌^◌, [], None};
+//! interface, as in a handle of C. Its acts are those of the end; the ones that need the interface
+//! are given it. What a server's program answers is detached/answering.rt, what a client's asks
+//! detached/calling.rt.
+ghost use Rattle.std.specs.Prelude.{◌≡◌, ◌≤◌, ◌^◌, ◌+◌, ◌/◌, ◌++◌, [], drop, false, None, Some, Err, Ok, length, option_copied, IfErr, IfOk, OnErr, OnOk};
+ghost use Rattle.std.specs.FinMap as finite;
+ghost use Rattle.std.specs.Option.{option_map};
+ghost use Rattle.giop_cdr.specs.declared.order.Order.TheVariants.{Big};
+ghost use Rattle.giop_frag.specs.Gathered.{blocks_of};
+ghost use Rattle.giop_ids.specs.ById.{put};
+ghost use Rattle.giop_ids.specs.Runs.{Does};
+ghost use Rattle.giop_msg.specs.Msg.{message_octets};
+ghost use Rattle.giop_session.specs.declared.session_fault.SessionFault.TheVariants.{Closed, NoMemory, StillOpen};
 ghost use Rattle.giop_session.specs.Calls.Begun.{no_calls};
+ghost use Rattle.giop_session.specs.Calls.CallTable.{Gives, IsTaken, rules_of};
+ghost use Rattle.giop_session.specs.Hearing.Feeding.{Fed, standing, with_octets};
+ghost use Rattle.giop_session.specs.Hearing.Heard.{hears_by};
+ghost use Rattle.giop_session.specs.Calls.Sending.{entry_of};
+ghost use Rattle.giop_session.specs.Acts.Sent.{close_connection};
+ghost use Rattle.giop_session.specs.Calls.SessionFaults.{error_message_of};
+
+mod answering;
+mod calling;
 
 use crate::acts::outgoing::Outgoing;
 use crate::calls::call_table::CallTable;
 use crate::end::End;
+use crate::end::parts::{close, error_message, feed, take};
 use crate::hearing::Hearing;
 use crate::limits::Limits;
 use crate::session_fault::SessionFault;
 use giop_msg::Framer;
+use giop_mux::CallRule;
 use giop_types::Interface;
-use std::alloc::Global;
+use std::alloc::{AllocError, Global};
 
 /// All of an end but its interface.
 ///
@@ -67,6 +88,120 @@ impl<R: Hearing> Detached<R> {
             fault: self.fault,
             alloc: self.alloc,
         }
+    }
+
+    /// Takes in octets of the peer, as `End::feed` of the end over this interface.
+    pub fn feed(&mut self, interface: &Interface, octets: &[u8]) -> Result<(), SessionFault>
+        ensures failed { (why : _) → self.old.fault ≡ Some why
+            → (result ≡ Err why) × (self.new ≡ self.old) }
+        ensures fed { self.old.fault ≡ None
+            → Fed (hears_by R.next R.closed R.gathering R.in_call R.breaks
+            (R.befalls interface.now))
+            (with_octets self.old.framer octets.now) self.old.calls result
+            self.new.framer self.new.calls }
+        ensures stands { self.old.fault ≡ None → self.new.fault ≡ standing result }
+        ensures others { self.new ≡ record self.old {
+          framer = self.new.framer;
+          calls = self.new.calls;
+          fault = self.new.fault;
+        } }
+    {
+        feed(
+            self.alloc,
+            interface,
+            &mut self.framer,
+            &mut self.calls,
+            &mut self.fault,
+            octets,
+        )
+    }
+
+    /// The entry that is stored for the id, if one is. It takes no memory.
+    pub fn entry(&self, id: u32) -> Option<&R::Entry>
+        ensures { option_copied result ≡ entry_of (finite.get self.now.calls.table id) }
+    {
+        self.calls.slot(id).map(|slot| &slot.entry)
+    }
+
+    /// The ids for which something is stored, ascending. `alloc` gives the memory of the list.
+    pub fn ids(&self, alloc: Global) -> Result<Vec<u32>, AllocError>
+        ensures { IfOk result (λ ids. ids.items ≡ finite.keys self.now.calls.table) }
+    {
+        self.calls.ids(alloc)
+    }
+
+    /// The octets that the end has put out and its program has still to write. It takes no memory.
+    pub fn outgoing(&self) -> &[u8]
+        ensures { result.now ≡ self.now.outgoing }
+    {
+        self.outgoing.as_slice()
+    }
+
+    /// The first `n` of the outgoing octets are written: they are outgoing no longer. It takes no
+    /// memory.
+    pub fn wrote(&mut self, n: usize)
+        requires { n ≤ length self.old.outgoing }
+        ensures { self.new ≡ record self.old { outgoing = drop n self.old.outgoing } }
+    {
+        self.outgoing.wrote(n);
+    }
+
+    /// Closes the connection, as `End::close`.
+    pub fn close(&mut self) -> Result<(), SessionFault>
+        ensures failed { (why : _) → self.old.fault ≡ Some why → result ≡ Err why }
+        ensures ok { OnOk result ((self.old.fault ≡ None) × (self.new ≡ record self.old {
+          outgoing = self.old.outgoing ++ message_octets (close_connection Big);
+          fault = Some Closed;
+        })) }
+        ensures want { self.old.fault ≡ None → IfErr result (λ why. why ≡ NoMemory) }
+        ensures kept { OnErr result (self.new ≡ self.old) }
+    {
+        close(self.alloc, &mut self.outgoing, &mut self.fault)
+    }
+
+    /// How many octets are unread, as `End::rest`. It takes no memory.
+    pub fn rest(&self) -> usize
+        ensures { result ≡ length self.now.framer.octets }
+    {
+        self.framer.rest()
+    }
+
+    /// How many blocks of 512 octets the end has taken for pieces, as `End::blocks`. It takes no
+    /// memory.
+    pub fn blocks(&self) -> usize
+        ensures least { blocks_of self.now.calls.gathered ≤ result }
+        ensures within { result ≤ self.now.calls.room / 512 + self.now.calls.calls }
+    {
+        self.calls.blocks()
+    }
+
+    /// The MessageError that the fault of the end asks for, as `End::error_message`. It takes no
+    /// memory.
+    pub fn error_message(&self) -> Option<[u8; 12]>
+        ensures { result ≡ error_message_of self.now.fault }
+    {
+        error_message(self.fault)
+    }
+
+    /// Takes out what is stored for the id, as `End::take`. It takes no memory.
+    pub fn take(&mut self, id: u32) -> Result<Option<R::Entry>, SessionFault>
+        ensures failed { (why : _) → self.old.fault ≡ Some why → result ≡ Err why }
+        ensures value { IfOk result (λ taken. (taken ≡ entry_of (finite.get self.old.calls.table id))
+            × (self.new ≡ record self.old {
+              calls = record self.old.calls {
+                table = put self.old.calls.table id None;
+              };
+            })) }
+        ensures does { IfOk result (λ taken. Does (rules_of (R.next self.old.calls.rule)
+            (R.closed self.old.calls.rule) R.gathering) self.old.calls
+            (record { id = id; what = IsTaken })
+            (Ok (Gives (finite.get self.old.calls.table id))) self.new.calls) }
+        ensures open { self.old.fault ≡ None → IfErr result (λ why. (why ≡ StillOpen)
+            × (option_map (λ slot. R.closed self.old.calls.rule slot.entry)
+            (finite.get self.old.calls.table id) ≡ Some false)) }
+        ensures kept { IfErr result (λ why. self.new ≡ self.old) }
+    {
+        take(&mut self.calls, self.fault, id)
     }
 }
 
