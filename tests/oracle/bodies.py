@@ -28,8 +28,8 @@ class Joiner:
         self.begun = {}
 
     def joined(self, message):
-        """The Request that is whole by its last Fragment, or None. It raises what keeps a piece from
-        being joined, and what was gathered under its id is dropped then."""
+        """The Request that is whole by its last Fragment, or None. It raises what keeps a piece
+        from being joined, and what was gathered under its id is dropped then."""
         call = id_of(message)
         if message.kind != 'Fragment':
             self.begun.pop(call, None)

@@ -1,5 +1,5 @@
-"""Interface files in which types have names (docs/FORMATS.md, "Names of types"), and the plain form of
-one, in which nothing has a name.
+"""Interface files in which types have names (docs/FORMATS.md, "Names of types"), and the plain form
+of one, in which nothing has a name.
 
 What is wrong with such a file is told as BadShape, whichever rule it breaks.
 """

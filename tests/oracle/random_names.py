@@ -98,8 +98,8 @@ def spoilt_file(rng, form):
 
 
 def some_part(rng, form):
-    """A part somewhere below the operations, the exceptions or the types: what holds it, and the key
-    there."""
+    """A part somewhere below the operations, the exceptions or the types: what holds it, and the
+    key there."""
     found = [place for key in ('operations', 'exceptions', 'types') if key in form
              for place in places(form[key])]
     return rng.choice(found) if found else (form, 'operations')
@@ -191,8 +191,8 @@ def missing(rng, form):
 # Limits: each file by its number
 
 def at_limit(number):
-    """What names stand for takes all the room that there is, or one more; names and parts are nested
-    as deep as they may, or one deeper; or the plain form is."""
+    """What names stand for takes all the room that there is, or one more; names and parts are
+    nested as deep as they may, or one deeper; or the plain form is."""
     more = number % 2
     types = (full(more), deep_names(more), deep_names(more, 3), deep_plain(more))[number // 2]
     return {'operations': {'ping': {}, 'add': {'ins': [['a', {'type': 'T0'}]]}}, 'types': types}
@@ -219,9 +219,9 @@ def full(more):
 
 
 def deep_names(more, within=0):
-    """T0 stands for T1, and so on to an octet, or to an object and two lists within one another. The file is the first level, the operations, one of
-    them, its ins, a pair, and the parameter's type the next five; what each name stands for is one
-    more."""
+    """T0 stands for T1, and so on to an octet, or to an object and two lists within one another.
+    The file is the first level, the operations, one of them, its ins, a pair, and the parameter's
+    type the next five; what each name stands for is one more."""
     count = LEVELS - 7 - within + more
     types = {f'T{number}': {'type': f'T{number + 1}'} for number in range(count)}
     return {**types, f'T{count}': {'struct': [['a', 'octet']]} if within else 'octet'}
