@@ -21,6 +21,7 @@ use Rattle.giop_commands.specs.declared.serve.answers.AnswerGiven.{AnswerGiven}
 use Rattle.giop_commands.specs.declared.serve.answers.AnswerGiven.TheVariants.{Ok as result, User}
 use Rattle.giop_commands.specs.CallForms.{octets_in, values_in}
 use Rattle.giop_commands.specs.GeneralForms.{general_by}
+use Rattle.giop_commands.specs.IsA.{is_a_in}
 use Rattle.giop_msg.specs.Messages.Reply.{exception_of}
 use Rattle.giop_msg.specs.Messages.Request.{operation_of}
 
@@ -42,12 +43,13 @@ raised_in interface id d = option_and_then (λ octets. option_and_then
     (λ members. raised octets members (exception_of interface octets))
     (get (codes "members") d)) (octets_in id)
 
--- what an operation with these outs is answered: a result alone, an exception's id and members, or
--- what any operation may be
+-- what an operation with these outs is answered: a result alone, an exception's id and members, what
+-- `_is_a` is, or what any operation may be
 abbrev pub given_by : Interface → List Parameter → Data → Option (Option AnswerGiven)
 given_by interface outs d =
     by_key (get (codes "ok") d) (λ values. in_object 1 (λ x. result_in outs values) d)
-    (by_key (get (codes "user") d) (λ id. in_object 2 (raised_in interface id) d) (general_by d))
+    (by_key (get (codes "user") d) (λ id. in_object 2 (raised_in interface id) d)
+    (by_key (get (codes "is_a") d) (λ id. is_a_in outs id d) (general_by d)))
 
 -- the answer to those operations that have none of their own
 abbrev pub default_in : Data → Option Data

@@ -3,6 +3,7 @@ use Rattle.std.specs.Prelude.{◌≡◌, ℕ, pos, ◌==◌, Bool, true, false, 
 use Rattle.std.specs.Cmp.Lexicographic.{pointwise}
 use Rattle.serde_json.specs.Data.{Data}
 use Rattle.giop_types.specs.declared.json.interface.Interface.{Interface}
+use Rattle.giop_types.specs.Values.Tree.{Tree}
 use Rattle.giop_msg.specs.declared.messages.completion.Completion.TheVariants.{No}
 use Rattle.giop_msg.specs.declared.messages.reply.Reply.{Reply as AnyReply}
 use Rattle.giop_msg.specs.declared.messages.reply_body.ReplyBody.{ReplyBody}
@@ -20,12 +21,13 @@ use Rattle.giop_calls.specs.declared.server.entry.ServerEntry.TheVariants.{Asked
 use Rattle.giop_calls.specs.declared.server.undecoded.UndecodedCall.{UndecodedCall}
 use Rattle.giop_commands.specs.declared.serve.answers.AnswerGiven.{AnswerGiven}
 use Rattle.giop_commands.specs.declared.serve.answers.AnswerGiven.TheVariants as given
-use Rattle.giop_commands.specs.declared.serve.answers.AnswerGiven.TheVariants.{Ok as ok, User, System}
+use Rattle.giop_commands.specs.declared.serve.answers.AnswerGiven.TheVariants.{Ok as ok, User, System, IsA}
 use Rattle.giop_commands.specs.declared.serve.answering.Answer.{Answer}
 use Rattle.giop_commands.specs.declared.serve.answering.Answer.TheVariants.{Given, NoObject, BadOperation, Marshal, Addressing}
 use Rattle.giop_commands.specs.declared.serve.answering.Due.{Due}
 use Rattle.giop_commands.specs.declared.serve.answering.Due.TheVariants.{Nothing, Locate, Reply}
 use Rattle.giop_commands.specs.AnswerForms.{given_in}
+use Rattle.giop_commands.specs.IsA.{is_a_body}
 
 -- whether a target is the object of a key
 abbrev pub is_object : List ℕ → AnyTarget → Bool
@@ -68,15 +70,21 @@ abbrev pub result_for : Bool → ReplyBody → ReplyBody
 result_for true (NoException outs) = NoException []
 result_for quiet body = body
 
--- what is given for an operation: a result, an exception or a forward; a result without values
--- where nothing is, as for a oneway operation
-abbrev pub given_body : Option AnswerGiven → ReplyBody
-given_body (Some (ok outs)) = NoException outs
-given_body (Some (User id members)) = UserException id members
-given_body (Some (System id minor completion)) = SystemException id minor completion
-given_body (Some (given.Forward ior)) = Forward ior
-given_body (Some (given.ForwardPerm ior)) = ForwardPerm ior
-given_body None = NoException []
+-- what is given for an operation with these ins: a result, an exception or a forward; a result
+-- without values where nothing is, as for a oneway operation
+abbrev pub given_body : List Tree → Option AnswerGiven → ReplyBody
+given_body ins (Some (ok outs)) = NoException outs
+given_body ins (Some (User id members)) = UserException id members
+given_body ins (Some (System id minor completion)) = SystemException id minor completion
+given_body ins (Some (IsA id)) = is_a_body id ins
+given_body ins (Some (given.Forward ior)) = Forward ior
+given_body ins (Some (given.ForwardPerm ior)) = ForwardPerm ior
+given_body ins None = NoException []
+
+-- the ins of a Request that is answered
+abbrev pub asked_ins : ServerEntry → List Tree
+asked_ins (Asked request) = request.body
+asked_ins _ = []
 
 -- what is given for the operation of a Request, by the answers to the operations of an interface
 abbrev pub given_to : Interface → Data → ServerEntry → Option AnswerGiven
@@ -89,7 +97,7 @@ not_done id = SystemException id 0 No
 
 abbrev pub body_of : Interface → Data → ServerEntry → Answer → ReplyBody
 body_of interface answers entry (Given quiet) =
-    result_for quiet (given_body (given_to interface answers entry))
+    result_for quiet (given_body (asked_ins entry) (given_to interface answers entry))
 body_of interface answers entry NoObject =
     not_done (codes "IDL:omg.org/CORBA/OBJECT_NOT_EXIST:1.0")
 body_of interface answers entry BadOperation =

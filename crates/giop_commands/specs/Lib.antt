@@ -16,6 +16,7 @@ pub mod Acts
 pub mod Turns
 pub mod CallForms
 pub mod GeneralForms
+pub mod IsA
 pub mod AnswerForms
 pub mod Answering
 pub mod Calling

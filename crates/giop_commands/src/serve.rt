@@ -19,6 +19,7 @@ pub mod answering;
 pub mod answers;
 pub mod general;
 pub mod given;
+pub mod is_a;
 pub mod reference;
 pub mod streaming;
 pub mod table;

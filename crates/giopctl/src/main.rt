@@ -5,6 +5,7 @@
 mod cli;
 mod files;
 mod interface_text;
+mod object_operations;
 mod places;
 mod report;
 mod runs;

@@ -1,15 +1,17 @@
 //! What `serve` answers to what is stored for an id. Its meaning is `due_to` and `reply_of` in
 //! specs/Answering.antt: change both.
-ghost use Rattle.std.specs.Prelude.{◌≡◌, IfOk};
+ghost use Rattle.std.specs.Prelude.{◌≡◌, map, IfOk};
 ghost use Rattle.serde_json.specs.View.{view};
-ghost use Rattle.giop_commands.specs.Answering.{answer_to, due_to, due_to_undecoded, fault_answer, given_body, given_to, is_object, not_done, reply_of, result_for};
+ghost use Rattle.giop_types.specs.Values.Views.{value_view};
+ghost use Rattle.giop_commands.specs.Answering.{answer_to, asked_ins, due_to, due_to_undecoded, fault_answer, given_body, given_to, is_object, not_done, reply_of, result_for};
 
 use crate::failure::Failure;
 use crate::serve::answers::{AnswerGiven, Answers};
+use crate::serve::is_a::is_a_body;
 use giop_calls::{CallKind, ServerEntry};
 use giop_cdr::OctetList;
 use giop_msg::{Completion, Reply, ReplyBody, RequestFault, ServiceContexts, Target, Version};
-use giop_types::{Interface, ValueList};
+use giop_types::{Interface, Value, ValueList};
 use std::alloc::{AllocError, Global};
 
 /// What is answered to a Request.
@@ -180,22 +182,26 @@ fn given(
     answers: &Answers,
     entry: &ServerEntry,
 ) -> Result<ReplyBody, AllocError>
-    ensures { IfOk result (λ body. body
-        ≡ given_body (given_to interface.now (view answers.now.json) entry.now)) }
+    ensures { IfOk result (λ body. body ≡ given_body (asked_ins entry.now)
+        (given_to interface.now (view answers.now.json) entry.now)) }
 {
-    let given = match entry {
+    match entry {
         ServerEntry::Asked { request } => {
-            answers.given(alloc, interface, request.head.operation.as_slice())?
+            let given = answers.given(alloc, interface, request.head.operation.as_slice())?;
+            given_body(alloc, request.body.as_slice(), given)
         }
-        _ => None,
-    };
-    Ok(given_body(alloc, given))
+        _ => given_body(alloc, &[], None),
+    }
 }
 
-fn given_body(alloc: Global, given: Option<AnswerGiven>) -> ReplyBody
-    ensures { result ≡ given_body given }
+fn given_body(
+    alloc: Global,
+    ins: &[Value],
+    given: Option<AnswerGiven>,
+) -> Result<ReplyBody, AllocError>
+    ensures { IfOk result (λ body. body ≡ given_body (map value_view ins.now) given) }
 {
-    match given {
+    Ok(match given {
         Some(AnswerGiven::Ok(outs)) => ReplyBody::NoException(outs),
         Some(AnswerGiven::User { id, members }) => ReplyBody::UserException { id, members },
         Some(
@@ -209,8 +215,9 @@ fn given_body(alloc: Global, given: Option<AnswerGiven>) -> ReplyBody
             minor,
             completion,
         },
+        Some(AnswerGiven::IsA(id)) => is_a_body(alloc, id.as_slice(), ins)?,
         Some(AnswerGiven::Forward(ior)) => ReplyBody::Forward(ior),
         Some(AnswerGiven::ForwardPerm(ior)) => ReplyBody::ForwardPerm(ior),
         None => ReplyBody::NoException(ValueList::new(alloc)),
-    }
+    })
 }

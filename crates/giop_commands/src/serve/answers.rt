@@ -9,6 +9,7 @@ ghost use Rattle.giop_types.specs.JsonForms.JsonText.{text_of};
 ghost use Rattle.giop_commands.specs.AnswerForms.{answers_in, are_fit, default_count, default_formed, given_by, given_in, given_under, has_own, is_fit, member_count, own_count, raised, raised_in, result_in};
 
 use crate::serve::general::general_of;
+use crate::serve::is_a::is_a_of;
 use crate::session::json::{is_object_of, octets_of, values_of};
 use giop_cdr::OctetList;
 use giop_ior::Ior;
@@ -38,6 +39,8 @@ pub enum AnswerGiven {
         /// Whether the operation was carried out.
         completion: Completion,
     },
+    /// The result of `_is_a`, of an object whose type has this repository id.
+    IsA(OctetList),
     /// Where the object is, for this call.
     Forward(Ior),
     /// Where the object is from now on.
@@ -80,6 +83,8 @@ impl Answers {
 ///
 /// - `{"ok":[VALUE,..]}`, with the operation's outs.
 /// - `{"user":ID,"members":[VALUE,..]}`, with an exception of the interface and its members.
+/// - `{"is_a":ID}`, with the repository id of the object's type: true where the argument is this id
+///   or that of CORBA::Object.
 /// - `{"system":ID,"minor":N,"completion":N}`; `minor` and `completion` may be left out.
 /// - `{"forward":TEXT}` or `{"forward_perm":TEXT}`, with the text of a reference or a corbaloc.
 ///
@@ -88,9 +93,9 @@ impl Answers {
 ///
 /// - BadJson, where the text is no JSON.
 /// - BadShape, where it, or a part of it, has another form, or an exception isn't in the interface.
-/// - Unfit, where a value doesn't fit, or there are more or fewer values than outs or members, or a
-///   minor code is no unsigned long, a completion is above 2, or octets spell no reference of a
-///   corbaloc.
+/// - Unfit, where a value doesn't fit, or there are more or fewer values than outs or members, or
+///   `is_a` answers an operation whose outs aren't one boolean, a minor code is no unsigned long, a
+///   completion is above 2, or octets spell no reference of a corbaloc.
 pub fn answers_from_json(
     alloc: Global,
     interface: &Interface,
@@ -248,6 +253,9 @@ fn given_of(
             return Err(FormFault::BadShape);
         }
         return exception_of(alloc, interface, id, json);
+    }
+    if let Some(id) = json.get("is_a") {
+        return is_a_of(alloc, outs, id, json);
     }
     general_of(alloc, json)
 }

@@ -55,8 +55,8 @@ pub struct ServeWords<'a> {
     pub key: KeyWord<'a>,
     /// The name of the file that the object's reference is written to, if one is given.
     pub ior_file: Option<&'a str>,
-    /// The type id of that reference; it may be empty.
-    pub type_id: &'a str,
+    /// The object's type id, if one is given; it may be empty.
+    pub type_id: Option<&'a str>,
     /// How many connections are served, 1 to 65,535.
     pub connections: u32,
     /// When the calls are told.
@@ -123,7 +123,8 @@ parameters, or an exception of the interface and its members:
   {\"ping\":{\"ok\":[]},\"add\":{\"ok\":[7]},\"list\":{\"user\":\"IDL:Demo/Bad:1.0\",\"members\":[]}}
 A Request of the object of the key is answered so, one of another object by OBJECT_NOT_EXIST, an
 unknown operation by BAD_OPERATION, and one that can't be decoded by MARSHAL. A LocateRequest is told
-whether its object is here.
+whether its object is here. With --type-id, or by the id of the interface's file, an object answers
+_is_a and _non_existent by itself, where the answers say nothing of them.
 When a connection has ended its number is shown, and then a line for each of its calls, as by check,
 and for those that were answered:
   Answered STATUS       a Request: 0 a result, 1 an exception, 2 a system exception
@@ -138,8 +139,8 @@ With --json the number is {\"connection\":K} and each call {\"id\":ID,\"what\":W
 is answered, locate_answered, or as by check; a fault is {\"fault\":{..}}. With --stream answered has
 \"asked\" and \"outcome\", as by trace, and the octets that are left are {\"rest\":N}.
 Where a client hangs up within a message or a call in pieces, standard error says so.
-With --ior-file the object's reference is written to a file before the port is told; giopctl call takes
-it by --target @FILE.
+With --ior-file the object's reference, with its type id, is written to a file before the port is told;
+giopctl call takes it by --target @FILE.
 
 Exit statuses, of which the greatest of all connections is taken:
   0  the connection ended, or the client closed it
@@ -202,8 +203,7 @@ pub fn serve<'a>(alloc: Global) -> Result<Command<'a>, AllocError> {
     let type_id = Arg::new(alloc, "type-id")
         .long("type-id")
         .value_name("ID")
-        .default_value("")
-        .help("The type id of that reference");
+        .help("The object's type id, in place of the id that the interface has");
     let command = Command::new(alloc, "serve")
         .about("Answers the calls of one object")
         .after_help(SERVE_HELP)
@@ -363,7 +363,7 @@ pub fn serve_words<'a>(matches: &ArgMatches<'a>) -> Result<ServeWords<'a>, &'sta
         answers,
         key: key_of(matches)?,
         ior_file: matches.get_str("ior-file"),
-        type_id: matches.get_str("type-id").unwrap_or(""),
+        type_id: matches.get_str("type-id"),
         connections,
         telling: telling_of(matches),
         lines: lines_of(matches),

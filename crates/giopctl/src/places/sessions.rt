@@ -330,6 +330,12 @@ fn refused_answer(
         let outs = operation.get("outs").unwrap_or(&none);
         return arguments_place(alloc, "ok", outs, values, answer, Role::Answer, number);
     }
+    if let Some(id) = answer.get("is_a") {
+        return match leaf_place(alloc, "is_a", "string", id, number)? {
+            Some(place) => Ok(place),
+            None => whole(alloc, Role::Answer, answer, number),
+        };
+    }
     match answer.get("user") {
         Some(id) => raised_place(alloc, offered, id, answer, number),
         None => general_place(alloc, answer, number),

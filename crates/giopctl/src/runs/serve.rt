@@ -3,6 +3,8 @@
 
 use crate::cli::ServeWords;
 use crate::files::OUTPUT_BUFFER;
+use crate::interface_text::InterfaceText;
+use crate::object_operations::texts_of;
 use crate::places::sessions::of_answers;
 use crate::report;
 use crate::runs::session::{interface_of, linked, read, read_interface, refused_form};
@@ -13,6 +15,9 @@ use giop_commands::serve::reference::reference_text;
 use giop_commands::serve::streaming::stream_over;
 use giop_commands::status::Status;
 use giop_commands::{Ending, Serving, serve_over};
+use giop_names::interface_id;
+use giop_types::{FormFault, Interface};
+use std::alloc::{AllocError, Global};
 use std::io::{BufWriter, Write};
 use std::net::{Ipv4Addr, TcpListener, TcpStream};
 use std::{fs, io};
@@ -34,12 +39,24 @@ fn served(rt: &HostRuntime, words: ServeWords) -> Result<Status, Status> {
     let offered = read_interface(rt, words.interface)?;
     let answers = read(rt, words.answers)?;
     let key = key_of(rt, words.key)?;
-    let interface = interface_of(rt, words.lines, words.interface, &offered)?;
-    let answers = match answers_from_json(rt.alloc(), &interface, answers.as_slice()) {
+    let _ = interface_of(rt, words.lines, words.interface, &offered)?;
+    let type_id = or_memory(rt, words.answers, type_id_of(rt.alloc(), &words, &offered))?;
+    let texts = texts_of(
+        rt.alloc(),
+        offered.as_slice(),
+        type_id.as_slice(),
+        answers.as_slice(),
+    );
+    let texts = or_memory(rt, words.answers, texts)?;
+    let interface = match Interface::from_json(rt.alloc(), texts.interface.as_slice()) {
+        Ok(interface) => interface,
+        Err(_) => return Err(report::answer(rt, words.interface, Err(Failure::Memory))),
+    };
+    let answers = match answers_from_json(rt.alloc(), &interface, texts.answers.as_slice()) {
         Ok(answers) => answers,
         Err(fault) => {
-            let at = of_answers(rt.alloc(), offered.as_slice(), answers.as_slice(), fault);
             let (lines, text) = (words.lines, answers.as_slice());
+            let at = of_answers(rt.alloc(), texts.interface.as_slice(), text, fault);
             return Err(refused_form(rt, lines, words.answers, text, fault, at));
         }
     };
@@ -50,8 +67,45 @@ fn served(rt: &HostRuntime, words: ServeWords) -> Result<Status, Status> {
         form: words.form,
         limits: words.limits,
     };
-    let listener = listening(rt, &words, key.as_slice())?;
+    let listener = listening(rt, &words, type_id.as_slice(), key.as_slice())?;
     Ok(serve_each(rt, &listener, &words, &serving))
+}
+
+// The octets of the object's type id: the one of the words, else the interface's own; none where
+// there is neither.
+fn type_id_of(
+    alloc: Global,
+    words: &ServeWords<'_>,
+    offered: &InterfaceText,
+) -> Result<Vec<u8>, AllocError> {
+    if let Some(type_id) = words.type_id {
+        return Vec::from_slice(alloc, type_id.as_bytes());
+    }
+    match interface_id(alloc, offered.given()) {
+        Ok(Some(id)) => octets_of(alloc, id.as_str()),
+        Err(FormFault::NoMemory) => Err(AllocError),
+        _ => Ok(Vec::new(alloc)),
+    }
+}
+
+// The octets that a text stands for; none where it stands for no string's.
+fn octets_of(alloc: Global, text: &str) -> Result<Vec<u8>, AllocError> {
+    let mut octets = Vec::with_capacity(alloc, text.len())?;
+    for sign in text.chars() {
+        match u8::try_from(u32::from(sign)) {
+            Ok(octet) if octet > 0 => octets.push(octet)?,
+            _ => return Ok(Vec::new(alloc)),
+        }
+    }
+    Ok(octets)
+}
+
+// What was made, or the status where it is out of memory, which is reported.
+fn or_memory<T>(rt: &HostRuntime, file: &str, made: Result<T, AllocError>) -> Result<T, Status> {
+    match made {
+        Ok(made) => Ok(made),
+        Err(_) => Err(report::answer(rt, file, Err(Failure::Memory))),
+    }
 }
 
 // The octets of an object key.
@@ -67,12 +121,17 @@ fn key_of(rt: &HostRuntime, key: KeyWord<'_>) -> Result<Vec<u8>, Status> {
 }
 
 // Listens at a port, or where that is 0 at one that is free, writes the file of the reference of the
-// object of this key, and says which port it is.
-fn listening(rt: &HostRuntime, words: &ServeWords<'_>, key: &[u8]) -> Result<TcpListener, Status> {
+// object of this type and key, and says which port it is.
+fn listening(
+    rt: &HostRuntime,
+    words: &ServeWords<'_>,
+    type_id: &[u8],
+    key: &[u8],
+) -> Result<TcpListener, Status> {
     match bound(rt, words.port) {
         Ok((listener, port)) => {
             if let Some(file) = words.ior_file {
-                write_reference(rt, file, words.type_id, port, key)?;
+                write_reference(rt, file, type_id, port, key)?;
             }
             let _ = eprintln!(rt; "giopctl: listening on {HERE}:{port}");
             Ok(listener)
@@ -89,12 +148,11 @@ fn listening(rt: &HostRuntime, words: &ServeWords<'_>, key: &[u8]) -> Result<Tcp
 fn write_reference(
     rt: &HostRuntime,
     file: &str,
-    type_id: &str,
+    type_id: &[u8],
     port: u16,
     key: &[u8],
 ) -> Result<(), Status> {
-    let (type_id, host) = (type_id.as_bytes(), HERE.as_bytes());
-    let Ok(mut text) = reference_text(rt.alloc(), type_id, host, port, key) else {
+    let Ok(mut text) = reference_text(rt.alloc(), type_id, HERE.as_bytes(), port, key) else {
         return Err(report::answer(rt, file, Err(Failure::Memory)));
     };
     if text.push(b'\n').is_err() {
