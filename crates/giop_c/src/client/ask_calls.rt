@@ -86,7 +86,7 @@ pub extern "C" fn giop_client_cancel(
     let Some(mut caller) = client.take(alloc) else {
         return CLOSED;
     };
-    let answer = caller.cancel(alloc, id, order_of(little_endian));
+    let answer = caller.cancel(id, order_of(little_endian));
     *client = ClientHandle::of(caller);
     told(answer, fault)
 }

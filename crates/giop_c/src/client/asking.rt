@@ -56,7 +56,7 @@ impl Caller {
             return Err(ActFault::Form);
         }
         match self.asked(alloc, id, head, target, operation, value_form, octets) {
-            Ok(request) => of_end(self.send_request(alloc, request, form)),
+            Ok(request) => of_end(self.send_request(request, form)),
             Err(why) => Err(why),
         }
     }
@@ -79,7 +79,7 @@ impl Caller {
             return Err(ActFault::Form);
         }
         match locate_request(alloc, id, head, target) {
-            Ok(request) => of_end(self.send_locate(alloc, request, form)),
+            Ok(request) => of_end(self.send_locate(request, form)),
             Err(_) => Err(ActFault::End(SessionFault::NoMemory)),
         }
     }
@@ -111,35 +111,19 @@ impl Caller {
     }
 
     // Sends a Request in a form.
-    fn send_request(
-        &mut self,
-        alloc: Global,
-        request: Request,
-        form: Form,
-    ) -> Result<(), SessionFault>
+    fn send_request(&mut self, request: Request, form: Form) -> Result<(), SessionFault>
         requires { IsForm form }
         ensures { SendsRequest request form self.old result self.new }
     {
-        let mut end = self.lift(alloc).attach(&self.interface);
-        let answer = end.call(request, form);
-        self.end = end.detach();
-        answer
+        self.end.call(&self.interface, request, form)
     }
 
     // Sends a LocateRequest in a form.
-    fn send_locate(
-        &mut self,
-        alloc: Global,
-        request: LocateRequest,
-        form: Form,
-    ) -> Result<(), SessionFault>
+    fn send_locate(&mut self, request: LocateRequest, form: Form) -> Result<(), SessionFault>
         requires { IsForm form }
         ensures { SendsLocate request form self.old result self.new }
     {
-        let mut end = self.lift(alloc).attach(&self.interface);
-        let answer = end.locate(request, form);
-        self.end = end.detach();
-        answer
+        self.end.locate(request, form)
     }
 }
 

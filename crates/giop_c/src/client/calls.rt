@@ -80,7 +80,7 @@ pub extern "C" fn giop_client_feed(
     let Some(mut caller) = client.take(alloc) else {
         return CLOSED;
     };
-    let answer = caller.feed(alloc, octets);
+    let answer = caller.feed(octets);
     *client = ClientHandle::of(caller);
     told(answer, fault)
 }
@@ -99,10 +99,10 @@ pub extern "C" fn giop_client_outgoing(
         (λ old new. (result ≡ ok) × (new ≡ old)
         × CopiesFront old.end.outgoing buffer.old buffer.new size.new) }
 {
-    let Some(mut caller) = client.take(alloc) else {
+    let Some(caller) = client.take(alloc) else {
         return CLOSED;
     };
-    caller.outgoing(alloc, buffer, size);
+    caller.outgoing(buffer, size);
     *client = ClientHandle::of(caller);
     OK
 }
@@ -117,7 +117,7 @@ pub extern "C" fn giop_client_wrote(alloc: Global, client: &mut ClientHandle, si
     let Some(mut caller) = client.take(alloc) else {
         return CLOSED;
     };
-    let status = caller.wrote(alloc, size);
+    let status = caller.wrote(size);
     *client = ClientHandle::of(caller);
     status
 }
@@ -138,7 +138,7 @@ pub extern "C" fn giop_client_send(
     let Some(mut caller) = client.take(alloc) else {
         return CLOSED;
     };
-    let answer = caller.send(alloc, id);
+    let answer = caller.send(id);
     *client = ClientHandle::of(caller);
     told(answer, fault)
 }
@@ -157,7 +157,7 @@ pub extern "C" fn giop_client_close(
     let Some(mut caller) = client.take(alloc) else {
         return CLOSED;
     };
-    let answer = caller.close(alloc);
+    let answer = caller.close();
     *client = ClientHandle::of(caller);
     told(answer, fault)
 }
@@ -178,7 +178,7 @@ pub extern "C" fn giop_client_take(
     let Some(mut caller) = client.take(alloc) else {
         return CLOSED;
     };
-    let answer = caller.take(alloc, id);
+    let answer = caller.take(id);
     *client = ClientHandle::of(caller);
     told(answer, fault)
 }
@@ -197,10 +197,10 @@ pub extern "C" fn giop_client_error_message(
         (λ old new. (new ≡ old) × CopiesOctets (error_message_of old.end.fault)
         buffer.old buffer.new size.old size.new result) }
 {
-    let Some(mut caller) = client.take(alloc) else {
+    let Some(caller) = client.take(alloc) else {
         return CLOSED;
     };
-    let message = caller.error_message(alloc);
+    let message = caller.error_message();
     *client = ClientHandle::of(caller);
     match &message {
         Some(message) => copy_octets(Some(message), buffer, size),
@@ -218,10 +218,10 @@ pub extern "C" fn giop_client_rest(
     ensures { At client.old.value client.new.value result (rest.new ≡ rest.old)
         (λ old new. (result ≡ ok) × (new ≡ old) × (rest.new ≡ length old.end.framer.octets)) }
 {
-    let Some(mut caller) = client.take(alloc) else {
+    let Some(caller) = client.take(alloc) else {
         return CLOSED;
     };
-    *rest = caller.rest(alloc);
+    *rest = caller.rest();
     *client = ClientHandle::of(caller);
     OK
 }
@@ -242,7 +242,7 @@ pub extern "C" fn giop_client_ids(
         × CopiesFront (finite.keys old.end.calls.table) ids.old ids.new count.new)
         ⊎ ((result ≡ no_memory) × (ids.new ≡ ids.old) × (count.new ≡ count.old)))) }
 {
-    let Some(mut caller) = client.take(alloc) else {
+    let Some(caller) = client.take(alloc) else {
         return CLOSED;
     };
     let done = caller.ids(alloc, ids, count);
@@ -264,10 +264,10 @@ pub extern "C" fn giop_client_blocks(
         (λ old new. (result ≡ ok) × (new ≡ old)
         × (count.new ≤ old.end.calls.room / 512 + old.end.calls.calls)) }
 {
-    let Some(mut caller) = client.take(alloc) else {
+    let Some(caller) = client.take(alloc) else {
         return CLOSED;
     };
-    *count = caller.blocks(alloc);
+    *count = caller.blocks();
     *client = ClientHandle::of(caller);
     OK
 }

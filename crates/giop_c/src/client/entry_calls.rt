@@ -27,10 +27,10 @@ pub extern "C" fn giop_client_entry_of(
         (λ old new. (result ≡ ok) × (new ≡ old)
         × (entry.new ≡ c_client_row (client_entry old.end.calls id))) }
 {
-    let Some(mut caller) = client.take(alloc) else {
+    let Some(caller) = client.take(alloc) else {
         return CLOSED;
     };
-    *entry = caller.row(alloc, id);
+    *entry = caller.row(id);
     *client = ClientHandle::of(caller);
     OK
 }
@@ -53,7 +53,7 @@ pub extern "C" fn giop_client_outs(
         × CopiesOuts (arc_value old.interface) (client_entry old.end.calls id)
         (c_value_form value_form) buffer.old buffer.new size.old size.new result) }
 {
-    let Some(mut caller) = client.take(alloc) else {
+    let Some(caller) = client.take(alloc) else {
         return CLOSED;
     };
     let status = caller.outs(alloc, id, value_form_of(value_form), buffer, size);
@@ -77,10 +77,10 @@ pub extern "C" fn giop_client_exception(
         × CopiesOctets (exception_in (body_of (client_entry old.end.calls id)))
         buffer.old buffer.new size.old size.new result) }
 {
-    let Some(mut caller) = client.take(alloc) else {
+    let Some(caller) = client.take(alloc) else {
         return CLOSED;
     };
-    let status = caller.exception(alloc, id, buffer, size);
+    let status = caller.exception(id, buffer, size);
     *client = ClientHandle::of(caller);
     status
 }
@@ -102,7 +102,7 @@ pub extern "C" fn giop_client_members(
         × CopiesMembers (arc_value old.interface) (body_of (client_entry old.end.calls id))
         (c_value_form value_form) buffer.old buffer.new size.old size.new result) }
 {
-    let Some(mut caller) = client.take(alloc) else {
+    let Some(caller) = client.take(alloc) else {
         return CLOSED;
     };
     let status = caller.members(alloc, id, value_form_of(value_form), buffer, size);
@@ -129,10 +129,10 @@ pub extern "C" fn giop_client_context(
         × CopiesContext (context_at index (contexts_of (client_entry old.end.calls id)))
         service.old service.new buffer.old buffer.new size.old size.new result) }
 {
-    let Some(mut caller) = client.take(alloc) else {
+    let Some(caller) = client.take(alloc) else {
         return CLOSED;
     };
-    let status = caller.context(alloc, id, index, service, buffer, size);
+    let status = caller.context(id, index, service, buffer, size);
     *client = ClientHandle::of(caller);
     status
 }
@@ -154,7 +154,7 @@ pub extern "C" fn giop_client_forward(
         × CopiesReference (forward_in (body_of (client_entry old.end.calls id)))
         buffer.old buffer.new size.old size.new result) }
 {
-    let Some(mut caller) = client.take(alloc) else {
+    let Some(caller) = client.take(alloc) else {
         return CLOSED;
     };
     let status = caller.forward(alloc, id, buffer, size);

@@ -139,7 +139,7 @@ pub extern "C" fn giop_server_answer_locate(
     let Some(mut served) = server.take(alloc) else {
         return CLOSED;
     };
-    let answer = served.answer_locate(alloc, id, here != 0, order_of(little_endian));
+    let answer = served.answer_locate(id, here != 0, order_of(little_endian));
     *server = ServerHandle::of(served);
     told(answer, fault)
 }

@@ -120,22 +120,18 @@ impl Served {
 
     // The outs of the Request under an id that octets are; none, where no Request is known.
     fn outs(
-        &mut self,
+        &self,
         alloc: Global,
         id: u32,
         value_form: ValueForm,
         octets: &[u8],
     ) -> Result<ValueList, ActFault>
         requires { length octets.now ≤ 2 ^ 62 }
-        ensures read { IsReadAs (values_in (outs_for (arc_value self.old.interface)
-            (request_of (server_entry self.old.end.calls id))) value_form octets.now) result }
-        ensures kept { self.new ≡ self.old }
+        ensures { IsReadAs (values_in (outs_for (arc_value self.now.interface)
+            (request_of (server_entry self.now.end.calls id))) value_form octets.now) result }
     {
-        let end = self.lift(alloc).attach(&self.interface);
-        let parameters = outs_for(&self.interface, request_of(end.entry(id)));
-        let outs = read_values(alloc, parameters, value_form, octets);
-        self.end = end.detach();
-        outs
+        let parameters = outs_for(&self.interface, request_of(self.end.entry(id)));
+        read_values(alloc, parameters, value_form, octets)
     }
 
     // Answers the call of an id by an exception of this id and these members.
@@ -172,16 +168,13 @@ impl Served {
         requires { IsForm form }
         ensures { Replies id body form self.old result self.new }
     {
-        let mut end = self.lift(alloc).attach(&self.interface);
         let reply = Reply {
-            version: version_asked(end.entry(id)),
+            version: version_asked(self.end.entry(id)),
             id,
             contexts: ServiceContexts::new(alloc),
             body,
         };
-        let answer = end.answer(reply, form);
-        self.end = end.detach();
-        answer
+        self.end.answer(&self.interface, reply, form)
     }
 }
 

@@ -80,7 +80,7 @@ pub extern "C" fn giop_server_feed(
     let Some(mut served) = server.take(alloc) else {
         return CLOSED;
     };
-    let answer = served.feed(alloc, octets);
+    let answer = served.feed(octets);
     *server = ServerHandle::of(served);
     told(answer, fault)
 }
@@ -99,10 +99,10 @@ pub extern "C" fn giop_server_outgoing(
         (λ old new. (result ≡ ok) × (new ≡ old)
         × CopiesFront old.end.outgoing buffer.old buffer.new size.new) }
 {
-    let Some(mut served) = server.take(alloc) else {
+    let Some(served) = server.take(alloc) else {
         return CLOSED;
     };
-    served.outgoing(alloc, buffer, size);
+    served.outgoing(buffer, size);
     *server = ServerHandle::of(served);
     OK
 }
@@ -117,7 +117,7 @@ pub extern "C" fn giop_server_wrote(alloc: Global, server: &mut ServerHandle, si
     let Some(mut served) = server.take(alloc) else {
         return CLOSED;
     };
-    let status = served.wrote(alloc, size);
+    let status = served.wrote(size);
     *server = ServerHandle::of(served);
     status
 }
@@ -138,7 +138,7 @@ pub extern "C" fn giop_server_send(
     let Some(mut served) = server.take(alloc) else {
         return CLOSED;
     };
-    let answer = served.send(alloc, id);
+    let answer = served.send(id);
     *server = ServerHandle::of(served);
     told(answer, fault)
 }
@@ -157,7 +157,7 @@ pub extern "C" fn giop_server_close(
     let Some(mut served) = server.take(alloc) else {
         return CLOSED;
     };
-    let answer = served.close(alloc);
+    let answer = served.close();
     *server = ServerHandle::of(served);
     told(answer, fault)
 }
@@ -178,7 +178,7 @@ pub extern "C" fn giop_server_take(
     let Some(mut served) = server.take(alloc) else {
         return CLOSED;
     };
-    let answer = served.take(alloc, id);
+    let answer = served.take(id);
     *server = ServerHandle::of(served);
     told(answer, fault)
 }
@@ -197,10 +197,10 @@ pub extern "C" fn giop_server_error_message(
         (λ old new. (new ≡ old) × CopiesOctets (error_message_of old.end.fault)
         buffer.old buffer.new size.old size.new result) }
 {
-    let Some(mut served) = server.take(alloc) else {
+    let Some(served) = server.take(alloc) else {
         return CLOSED;
     };
-    let message = served.error_message(alloc);
+    let message = served.error_message();
     *server = ServerHandle::of(served);
     match &message {
         Some(message) => copy_octets(Some(message), buffer, size),
@@ -218,10 +218,10 @@ pub extern "C" fn giop_server_rest(
     ensures { At server.old.value server.new.value result (rest.new ≡ rest.old)
         (λ old new. (result ≡ ok) × (new ≡ old) × (rest.new ≡ length old.end.framer.octets)) }
 {
-    let Some(mut served) = server.take(alloc) else {
+    let Some(served) = server.take(alloc) else {
         return CLOSED;
     };
-    *rest = served.rest(alloc);
+    *rest = served.rest();
     *server = ServerHandle::of(served);
     OK
 }
@@ -242,7 +242,7 @@ pub extern "C" fn giop_server_ids(
         × CopiesFront (finite.keys old.end.calls.table) ids.old ids.new count.new)
         ⊎ ((result ≡ no_memory) × (ids.new ≡ ids.old) × (count.new ≡ count.old)))) }
 {
-    let Some(mut served) = server.take(alloc) else {
+    let Some(served) = server.take(alloc) else {
         return CLOSED;
     };
     let done = served.ids(alloc, ids, count);

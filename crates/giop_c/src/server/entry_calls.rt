@@ -26,10 +26,10 @@ pub extern "C" fn giop_server_entry_of(
         (λ old new. (result ≡ ok) × (new ≡ old)
         × (entry.new ≡ c_server_row (server_entry old.end.calls id))) }
 {
-    let Some(mut served) = server.take(alloc) else {
+    let Some(served) = server.take(alloc) else {
         return CLOSED;
     };
-    *entry = served.row(alloc, id);
+    *entry = served.row(id);
     *server = ServerHandle::of(served);
     OK
 }
@@ -51,10 +51,10 @@ pub extern "C" fn giop_server_operation(
         × CopiesOctets (operation_in (request_of (server_entry old.end.calls id)))
         buffer.old buffer.new size.old size.new result) }
 {
-    let Some(mut served) = server.take(alloc) else {
+    let Some(served) = server.take(alloc) else {
         return CLOSED;
     };
-    let status = served.operation(alloc, id, buffer, size);
+    let status = served.operation(id, buffer, size);
     *server = ServerHandle::of(served);
     status
 }
@@ -76,10 +76,10 @@ pub extern "C" fn giop_server_key(
         × CopiesOctets (key_in (target_of (server_entry old.end.calls id)))
         buffer.old buffer.new size.old size.new result) }
 {
-    let Some(mut served) = server.take(alloc) else {
+    let Some(served) = server.take(alloc) else {
         return CLOSED;
     };
-    let status = served.key(alloc, id, buffer, size);
+    let status = served.key(id, buffer, size);
     *server = ServerHandle::of(served);
     status
 }
@@ -104,10 +104,10 @@ pub extern "C" fn giop_server_context(
         (contexts_in (request_of (server_entry old.end.calls id))))
         service.old service.new buffer.old buffer.new size.old size.new result) }
 {
-    let Some(mut served) = server.take(alloc) else {
+    let Some(served) = server.take(alloc) else {
         return CLOSED;
     };
-    let status = served.context(alloc, id, index, service, buffer, size);
+    let status = served.context(id, index, service, buffer, size);
     *server = ServerHandle::of(served);
     status
 }
@@ -130,7 +130,7 @@ pub extern "C" fn giop_server_ins(
         × CopiesIns (arc_value old.interface) (request_of (server_entry old.end.calls id))
         (c_value_form value_form) buffer.old buffer.new size.old size.new result) }
 {
-    let Some(mut served) = server.take(alloc) else {
+    let Some(served) = server.take(alloc) else {
         return CLOSED;
     };
     let status = served.ins(alloc, id, value_form_of(value_form), buffer, size);

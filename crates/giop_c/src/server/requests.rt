@@ -21,36 +21,27 @@ use std::alloc::Global;
 impl Served {
     /// Copies the operation of the Request under an id. It answers OK; SMALL, where the buffer has
     /// no room for it; or WAITS, where no Request is known. It takes no memory.
-    pub fn operation(&mut self, alloc: Global, id: u32, buffer: &mut [u8], size: &mut usize) -> u32
+    pub fn operation(&self, id: u32, buffer: &mut [u8], size: &mut usize) -> u32
         ensures copies { CopiesOctets
-            (operation_in (request_of (server_entry self.old.end.calls id)))
+            (operation_in (request_of (server_entry self.now.end.calls id)))
             buffer.old buffer.new size.old size.new result }
-        ensures kept { self.new ≡ self.old }
     {
-        let end = self.lift(alloc).attach(&self.interface);
-        let status = copy_octets(operation_in(request_of(end.entry(id))), buffer, size);
-        self.end = end.detach();
-        status
+        copy_octets(operation_in(request_of(self.end.entry(id))), buffer, size)
     }
 
     /// Copies the key of the object of the Request or the LocateRequest under an id, as `operation`.
-    pub fn key(&mut self, alloc: Global, id: u32, buffer: &mut [u8], size: &mut usize) -> u32
-        ensures copies { CopiesOctets (key_in (target_of (server_entry self.old.end.calls id)))
+    pub fn key(&self, id: u32, buffer: &mut [u8], size: &mut usize) -> u32
+        ensures copies { CopiesOctets (key_in (target_of (server_entry self.now.end.calls id)))
             buffer.old buffer.new size.old size.new result }
-        ensures kept { self.new ≡ self.old }
     {
-        let end = self.lift(alloc).attach(&self.interface);
-        let status = copy_octets(key_in(target_of(end.entry(id))), buffer, size);
-        self.end = end.detach();
-        status
+        copy_octets(key_in(target_of(self.end.entry(id))), buffer, size)
     }
 
     /// Writes the id of a service context of the Request under an id, the first at index 0, and
     /// copies its octets. It answers as `operation`; WAITS also where there are no more. It takes no
     /// memory.
     pub fn context(
-        &mut self,
-        alloc: Global,
+        &self,
         id: u32,
         index: usize,
         service: &mut u32,
@@ -58,37 +49,29 @@ impl Served {
         size: &mut usize,
     ) -> u32
         ensures copies { CopiesContext (context_at index
-            (contexts_in (request_of (server_entry self.old.end.calls id))))
+            (contexts_in (request_of (server_entry self.now.end.calls id))))
             service.old service.new buffer.old buffer.new size.old size.new result }
-        ensures kept { self.new ≡ self.old }
     {
-        let end = self.lift(alloc).attach(&self.interface);
-        let context = context_at(contexts_in(request_of(end.entry(id))), index);
-        let status = copy_context(context, service, buffer, size);
-        self.end = end.detach();
-        status
+        let context = context_at(contexts_in(request_of(self.end.entry(id))), index);
+        copy_context(context, service, buffer, size)
     }
 
     /// Copies the ins of the Request under an id in a form. It answers as `operation`; or NO_MEMORY;
     /// or FAULT, where the values aren't of their descriptions.
     pub fn ins(
-        &mut self,
+        &self,
         alloc: Global,
         id: u32,
         form: ValueForm,
         buffer: &mut [u8],
         size: &mut usize,
     ) -> u32
-        ensures copies { CopiesIns (arc_value self.old.interface)
-            (request_of (server_entry self.old.end.calls id)) form
+        ensures copies { CopiesIns (arc_value self.now.interface)
+            (request_of (server_entry self.now.end.calls id)) form
             buffer.old buffer.new size.old size.new result }
-        ensures kept { self.new ≡ self.old }
     {
-        let end = self.lift(alloc).attach(&self.interface);
-        let request = request_of(end.entry(id));
-        let status = copy_ins(alloc, &self.interface, request, form, buffer, size);
-        self.end = end.detach();
-        status
+        let request = request_of(self.end.entry(id));
+        copy_ins(alloc, &self.interface, request, form, buffer, size)
     }
 }
 
