@@ -9,6 +9,7 @@ pub mod JsonObjects
 pub mod JsonBack
 pub mod ReferenceLemmas
 pub mod JsonFloatLemmas
+pub mod ValuesTextLemmas
 pub mod ViewedPlain
 pub mod ReferenceBack
 pub mod ParseLemmas

@@ -2,6 +2,7 @@
 pub mod JsonText
 pub mod NumberText
 pub mod ToJson
+pub mod ValuesText
 pub mod FormFault
 pub mod FromJson
 pub mod DescFromJson

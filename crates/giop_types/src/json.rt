@@ -1,6 +1,7 @@
 //! Values, descriptions and interfaces as JSON. The forms are in specs/JsonForms, and for users on
 //! the page docs/FORMATS.md: change them together.
 
+mod appending;
 mod desc_json;
 pub mod form_fault;
 mod from_json;
@@ -17,6 +18,7 @@ mod reference;
 mod texts;
 mod to_json;
 
+pub use appending::values_to_text;
 pub use desc_json::desc_from_json;
 pub use from_json::value_from_json;
 pub use parse::parse as parse_json;

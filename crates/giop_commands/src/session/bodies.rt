@@ -1,31 +1,13 @@
-//! What the bodies of messages hold, as the text of a table's lines. The texts are
-//! specs/Bodies.antt: change both.
-ghost use Rattle.std.specs.Prelude.{◌≡◌, ◌≤◌, map, IfOk};
+//! The reference that a Reply forwards to, as the text of a table's lines: `forward_text` of
+//! specs/Bodies.antt. Change both.
+ghost use Rattle.std.specs.Prelude.{◌≡◌, IfOk};
 ghost use Rattle.std.specs.String.{string_bytes};
-ghost use Rattle.serde_json.specs.View.{view};
-ghost use Rattle.giop_types.specs.Descriptions.CheckedShape.{checked_shape};
-ghost use Rattle.giop_types.specs.Values.Views.{value_view};
-ghost use Rattle.giop_commands.specs.Bodies.{forward_text, value_data, values_data, values_text};
+ghost use Rattle.giop_commands.specs.Bodies.{forward_text};
 
 use giop_cdr::EncodeFault;
 use giop_ior::{Ior, ior_to_text};
-use giop_types::{CheckedDesc, FormFault, Parameter, Value, value_to_json};
 use percent_encoding::ascii_str;
-use serde_json::Value as Json;
 use std::alloc::{AllocError, Global};
-
-/// Values as a JSON list, each by the description of its parameter.
-pub fn values_text(
-    alloc: Global,
-    parameters: &[Parameter],
-    values: &[Value],
-) -> Result<String, AllocError>
-    ensures { IfOk result (λ text. string_bytes text
-        ≡ values_text parameters.now (map value_view values.now)) }
-{
-    let list = values_json(alloc, parameters, values)?;
-    Ok(list.to_string(alloc)?)
-}
 
 /// The text of the reference that a Reply forwards to.
 pub fn forward_text(alloc: Global, ior: &Ior) -> Result<String, AllocError>
@@ -35,33 +17,5 @@ pub fn forward_text(alloc: Global, ior: &Ior) -> Result<String, AllocError>
         Ok(text) => String::from_str(alloc, ascii_str(text.as_slice())),
         Err(EncodeFault::Unfit) => String::from_str(alloc, "-"),
         Err(EncodeFault::NoMemory) => Err(AllocError),
-    }
-}
-
-fn values_json(
-    alloc: Global,
-    parameters: &[Parameter],
-    values: &[Value],
-) -> Result<Json, AllocError>
-    ensures { IfOk result (λ json. view json
-        ≡ values_data parameters.now (map value_view values.now)) }
-{
-    let mut list = Vec::with_capacity(alloc, values.len())?;
-    for i in 0..parameters.len().min(values.len()) {
-        let json = value_json(alloc, &parameters[i].desc, &values[i])?;
-        list.push(json)?;
-    }
-    Ok(Json::Array(list))
-}
-
-// A value by its description; null where it is no value of that.
-fn value_json(alloc: Global, desc: &CheckedDesc, value: &Value) -> Result<Json, AllocError>
-    ensures { IfOk result (λ json. view json
-        ≡ value_data (checked_shape desc.now) (value_view value.now)) }
-{
-    match value_to_json(alloc, desc, value) {
-        Ok(json) => Ok(json),
-        Err(FormFault::Unfit) => Ok(Json::Null),
-        Err(_) => Err(AllocError),
     }
 }

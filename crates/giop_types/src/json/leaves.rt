@@ -1,8 +1,8 @@
 //! Writing the parts of values that are one JSON value: texts, names, numbers and discriminants.
 //! read_leaves.rt reads them.
-ghost use Rattle.std.specs.Prelude.{◌≡◌, IfOk};
+ghost use Rattle.std.specs.Prelude.{◌≡◌, true, IfOk};
 ghost use Rattle.serde_json.specs.View.{view};
-ghost use Rattle.giop_types.specs.JsonForms.ToJson.{text_data, name_data, is_safe, whole_data, label_data};
+ghost use Rattle.giop_types.specs.JsonForms.ToJson.{text_data, name_data, is_safe, integer_data, whole_data, label_data};
 ghost use Rattle.giop_types.specs.Values.Views.{desc_view};
 
 use crate::description::desc::Desc;
@@ -36,6 +36,15 @@ fn is_safe(number: &i128) -> bool
     ensures { result ≡ is_safe number.now }
 {
     is_between(&-0x1f_ffff_ffff_ffff, &0x1f_ffff_ffff_ffff, number)
+}
+
+/// Whether a number is written as a JSON number: it takes 64 bits at most, and its form doesn't
+/// want a text.
+pub fn is_number(numbers: NumberForm, number: &i128) -> bool
+    ensures { result ≡ true → whole_data numbers number.now ≡ integer_data number.now }
+{
+    let (least, most) = (&-0x8000_0000_0000_0000, &0xffff_ffff_ffff_ffff);
+    is_between(least, most, number) && (numbers == NumberForm::Plain || is_safe(number))
 }
 
 /// A number as JSON, or null where it takes more than 64 bits.
