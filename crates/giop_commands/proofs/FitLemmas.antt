@@ -1,14 +1,16 @@
 -- Lists of parts that may not fit, made one part after the other.
-use Rattle.std.proofs.Common.{◌≡◌, ◌≢◌, ℕ, ◌≤◌, min, List, [], ◌∷◌, ◌++◌, length, drop, Option, Some, None, option_map}
-use Rattle.std.proofs.Common.{refl, sym, ap, ◌∙◌, append_assoc, arith, length-drop}
+use Rattle.std.proofs.Common.{◌≡◌, ◌≢◌, ℕ, ◌+◌, ◌<◌, ◌≤◌, min, Bool, true, false, ◌&&◌, List, [], ◌∷◌, ◌++◌, length, drop, get_or, Option, Some, None, option_map}
+use Rattle.std.proofs.Common.{refl, sym, ap, ◌∙◌, append_assoc, arith, length-drop, add-one, drop-cons}
 use Rattle.std.proofs.Math.ListN.{drop_of_length-le}
 use Rattle.std.proofs.lemmas.List.{append-nil}
-use Rattle.serde_json.specs.View.{items_view}
+use Rattle.serde_json.specs.Data.{item}
+use Rattle.serde_json.specs.View.{view, items_view}
 use Rattle.serde_json.specs.declared.value.Value.{Value as Json}
 use Rattle.giop_types.specs.declared.json.interface.Interface.{Interface}
 use Rattle.giop_types.specs.declared.json.parameters.Parameter.{Parameter}
 use Rattle.giop_types.specs.Values.Tree.{Tree}
 use Rattle.giop_commands.specs.declared.call.calls.CallLine.{CallLine}
+use Rattle.giop_commands.specs.AnswerForms.{each_fits, fits_outs}
 use Rattle.giop_commands.specs.CallForms.{made_of, form_of, each_value, each_call}
 
 -- one part and those behind it
@@ -73,3 +75,24 @@ pub values_unmatched : (front : Option (List Tree)) (ps : List Parameter) (ds : 
     → total ≡ Some None
 values_unmatched front ps ds i total is differ so_far =
     unmatched front (drop i ps) (drop i ds) total (omega (arith, length-drop i ps, length-drop i ds)) (omega (arith, length-drop i ps, length-drop i ds)) so_far
+
+-- ---- answers in turn
+
+left_items : (xs : List Json) (i : ℕ) (x : Json) → i < length xs → x ≡ get_or xs i x
+    → items_view (drop i xs) ≡ item (view x) (items_view (drop (i + 1) xs))
+left_items xs i x lt is = ap items_view (drop-cons xs i x lt) ∙ rw (add-one, ← is) refl
+
+-- one more was judged
+judged_more : (fit one : Bool) (rest total : Option Bool)
+    → option_map (λ more. fit && more) (option_map (λ more. one && more) rest) ≡ total → option_map (λ more. (fit && one) && more) rest ≡ total
+judged_more true one None total so_far = so_far
+judged_more true one (Some more) total so_far = so_far
+judged_more false one None total so_far = so_far
+judged_more false one (Some more) total so_far = so_far
+
+pub answer_judged : (interface : Interface) (outs : List Parameter) (fit one : Bool) (xs : List Json) (i : ℕ) (x : Json) (total : Option Bool)
+    → i < length xs → x ≡ get_or xs i x → fits_outs interface outs (view x) ≡ Some one
+    → option_map (λ more. fit && more) (each_fits interface outs (items_view (drop i xs))) ≡ total
+    → option_map (λ more. (fit && one) && more) (each_fits interface outs (items_view (drop (i + 1) xs))) ≡ total
+answer_judged interface outs fit one xs i x total lt is judged so_far =
+    judged_more fit one (each_fits interface outs (items_view (drop (i + 1) xs))) total (rw (left_items xs i x lt is, judged) at so_far)

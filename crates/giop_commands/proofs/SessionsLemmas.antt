@@ -20,7 +20,7 @@ use Rattle.giop_commands.specs.Dump.{ended}
 use Rattle.giop_commands.specs.Endings.{CallsEnd, Ends, ServesEnd}
 use Rattle.giop_commands.specs.Sessions.{Calls, IsCalled, IsServed, Serves, Wire, call_status, connection_in, serve_status, session_text, told}
 use Rattle.giop_commands.specs.Serving as serving
-use Rattle.giop_commands.specs.Serving.{Served, ServerCalls, new_server}
+use Rattle.giop_commands.specs.Serving.{Served, ServerCalls, new_server, session}
 use Rattle.giop_commands.specs.Turns.{Waits}
 use Rattle.giop_commands.specs.Table.{client_entry_in, server_entry_in}
 
@@ -65,14 +65,15 @@ pub calls_told : (asked : Asked) (before after : Wire) (old new : Option (List �
 calls_told asked before after old new ending end = calls_by asked before after old new ending.status end.called
 
 -- the connection of a server's end: its number, its table and its fault
-pub served : (number : ℕ) (it : Served) (lines : LineForm) (before after : Wire) (old new : Option (List ℕ)) (refused : Option SessionFault) (outgoing : List ℕ)
+pub served : (number : ℕ) (it : Served) (lines : LineForm) (before after : Wire) (was now_passed : List (List ℕ)) (old new : Option (List ℕ)) (refused : Option SessionFault) (outgoing : List ℕ)
     (unread : Unread) (left : ServerCalls) (fault : Option SessionFault) (r : Result Ending Failure)
-    → serving.Converses it it.limits (new_server it.limits before.input before.output) refused (between after.input after.output outgoing unread left fault)
+    → serving.Converses it it.limits (session (new_server it.limits before.input before.output) was) refused
+    (session (between after.input after.output outgoing unread left fault) now_passed)
     → OnOk r (Appends old new (ended (connection_in lines number) ++ session_text lines (server_entry_in lines it.interface) left.table (told refused fault)))
     → IfOk r (λ ending. ending.status ≡ serve_status (told refused fault))
-    → IfOk r (Ends server.is_closed (told refused fault) left.table unread) → IfOk r (ServesEnd number it lines before after old new)
-served number it lines before after old new refused outgoing unread left fault (Err failure) talks text is ends = tt
-served number it lines before after old new refused outgoing unread left fault (Ok ending) talks text is ends = record {
+    → IfOk r (Ends server.is_closed (told refused fault) left.table unread) → IfOk r (ServesEnd number it lines before after was now_passed old new)
+served number it lines before after was now_passed old new refused outgoing unread left fault (Err failure) talks text is ends = tt
+served number it lines before after was now_passed old new refused outgoing unread left fault (Ok ending) talks text is ends = record {
   served = record {
     refused = refused;
     outgoing = outgoing;
@@ -87,19 +88,19 @@ served number it lines before after old new refused outgoing unread left fault (
 }
 
 -- by its status
-serves_by : (number : ℕ) (it : Served) (before after : Wire) (old new : Option (List ℕ)) (status : Status)
-    → IsServed number it Text before after old new status → Serves number it before after old new status
-serves_by number it before after old new Done is = is
-serves_by number it before after old new Refused is = is
-serves_by number it before after old new (LimitPassed limit) is = is
-serves_by number it before after old new Usage is = is
-serves_by number it before after old new InputOutput is = tt
-serves_by number it before after old new Memory is = tt
+serves_by : (number : ℕ) (it : Served) (before after : Wire) (was now_passed : List (List ℕ)) (old new : Option (List ℕ)) (status : Status)
+    → IsServed number it Text before after was now_passed old new status → Serves number it before after was now_passed old new status
+serves_by number it before after was now_passed old new Done is = is
+serves_by number it before after was now_passed old new Refused is = is
+serves_by number it before after was now_passed old new (LimitPassed limit) is = is
+serves_by number it before after was now_passed old new Usage is = is
+serves_by number it before after was now_passed old new InputOutput is = tt
+serves_by number it before after was now_passed old new Memory is = tt
 
 -- the same of an ending
-pub serves_told : (number : ℕ) (it : Served) (before after : Wire) (old new : Option (List ℕ)) (ending : Ending)
-    → ServesEnd number it Text before after old new ending → Serves number it before after old new ending.status
-serves_told number it before after old new ending end = serves_by number it before after old new ending.status end.served
+pub serves_told : (number : ℕ) (it : Served) (before after : Wire) (was now_passed : List (List ℕ)) (old new : Option (List ℕ)) (ending : Ending)
+    → ServesEnd number it Text before after was now_passed old new ending → Serves number it before after was now_passed old new ending.status
+serves_told number it before after was now_passed old new ending end = serves_by number it before after was now_passed old new ending.status end.served
 
 -- a client's turns, where its calls aren't over at first
 pub converses_by : (interface : Interface) (s t : Between ClientCalls) (ids : List ℕ) (r : Result (Unit {0}) Failure) → ids ≡ finite.keys s.state.calls.table

@@ -22,7 +22,7 @@ use Rattle.giop_commands.specs.declared.form.LineForm.{LineForm}
 use Rattle.giop_commands.specs.declared.session.ending.Ending.{Ending}
 use Rattle.giop_commands.specs.Dump.{ended}
 use Rattle.giop_commands.specs.Endings.{Ends, ServesStreamEnd}
-use Rattle.giop_commands.specs.Serving.{ServeEnds, Served, ServerCalls, TurnAnswers, new_server}
+use Rattle.giop_commands.specs.Serving.{ServeEnds, Served, ServerCalls, Session, TurnAnswers, new_server, session}
 use Rattle.giop_commands.specs.Sessions.{Wire, connection_in, serve_status, told}
 use Rattle.giop_commands.specs.StreamLines.{server_told_in}
 use Rattle.giop_commands.specs.Streaming.{Shown, Streams, TurnTells, left_text, opened, over_text, shown, still_open, without_ended, without_over}
@@ -97,14 +97,16 @@ told_on {R} {E} {V} {A} {F} old new calls same =
     ∙ ap (λ (e : End R E V A F). record old { outgoing = e.outgoing; framer = e.framer; calls = e.calls; fault = e.fault }) (sym same)
 
 -- a turn, its answers, and what is told behind them
-pub turn_told : (it : Served) (limits : Limits) (lines : LineForm) (s mid t : Between ServerCalls) (old new : Option (List ℕ)) → TurnAnswers it limits s None mid
-    → Appends old new (over_text is_closed (server_told_in lines it.interface) mid.state.calls.table) → t ≡ opened mid
-    → TurnTells it limits lines (shown s old) (shown t new)
-turn_told it limits lines s mid t old new answers tells left = record { mid = mid; answers = answers; tells = tells; left = left }
+pub turn_told : (it : Served) (limits : Limits) (lines : LineForm) (s mid : Session) (t : Between ServerCalls) (old new : Option (List ℕ))
+    → TurnAnswers it limits s None mid
+    → Appends old new (over_text is_closed (server_told_in lines it.interface) mid.end.state.calls.table) → t ≡ opened mid.end
+    → TurnTells it limits lines (shown s old) (shown (session t mid.passed) new)
+turn_told it limits lines s mid t old new answers tells left =
+    record { mid = mid; answers = answers; tells = tells; left = ap (λ e. session e mid.passed) left }
 
 -- how the turns end behind so many
-pub streamed : (it : Served) (limits : Limits) (lines : LineForm) (n : ℕ) (s mid : Shown) (t : Between ServerCalls) (refused : Option SessionFault)
-    → Counted (λ turn s t. TurnTells it limits lines s t) n s mid → n < most_turns → ServeEnds it limits mid.end refused t
+pub streamed : (it : Served) (limits : Limits) (lines : LineForm) (n : ℕ) (s mid : Shown) (t : Session) (refused : Option SessionFault)
+    → Counted (λ turn s t. TurnTells it limits lines s t) n s mid → n < most_turns → ServeEnds it limits mid.session refused t
     → Streams it limits lines s refused (shown t mid.text)
 streamed it limits lines n s mid t refused before few ends = record {
   turns = before.steps;
@@ -116,15 +118,15 @@ streamed it limits lines n s mid t refused before few ends = record {
 }
 
 -- the whole of it
-pub is_streamed : (number : ℕ) (it : Served) (lines : LineForm) (before after : Wire) (old named text new : Option (List ℕ)) (refused : Option SessionFault)
+pub is_streamed : (number : ℕ) (it : Served) (lines : LineForm) (before after : Wire) (was now_passed : List (List ℕ)) (old named text new : Option (List ℕ)) (refused : Option SessionFault)
     (outgoing : List ℕ) (unread : Unread) (left : ServerCalls) (fault : Option SessionFault) (r : Result Ending Failure)
     → Appends old named (ended (connection_in lines number))
-    → Streams it it.limits lines (shown (new_server it.limits before.input before.output) named) refused
-    (shown (between after.input after.output outgoing unread left fault) text)
+    → Streams it it.limits lines (shown (session (new_server it.limits before.input before.output) was) named) refused
+    (shown (session (between after.input after.output outgoing unread left fault) now_passed) text)
     → OnOk r (Appends text new (left_text it lines left (told refused fault) unread)) → IfOk r (λ ending. ending.status ≡ serve_status (told refused fault))
-    → IfOk r (Ends is_closed (told refused fault) left.table unread) → IfOk r (ServesStreamEnd number it lines before after old new)
-is_streamed number it lines before after old named text new refused outgoing unread left fault (Err failure) name streams last is ends = tt
-is_streamed number it lines before after old named text new refused outgoing unread left fault (Ok ending) name streams last is ends = record {
+    → IfOk r (Ends is_closed (told refused fault) left.table unread) → IfOk r (ServesStreamEnd number it lines before after was now_passed old new)
+is_streamed number it lines before after was now_passed old named text new refused outgoing unread left fault (Err failure) name streams last is ends = tt
+is_streamed number it lines before after was now_passed old named text new refused outgoing unread left fault (Ok ending) name streams last is ends = record {
   streamed = record {
     named = named;
     name = name;

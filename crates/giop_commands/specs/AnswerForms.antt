@@ -3,10 +3,9 @@
 use Rattle.std.specs.Prelude.{ℕ, ◌+◌, codes, Bool, true, false, ◌&&◌, not, if◌then◌else◌, count_by}
 use Rattle.std.specs.Prelude.{List, [], ◌∷◌, Vec, Option, Some, None, option_map, option_and_then}
 use Rattle.std.specs.Prelude.{is_some, Result, Ok, Err}
-use Rattle.std.specs.Option.{option_or}
 use Rattle.std.specs.declared.alloc.Global.{Global}
-use Rattle.serde_json.specs.Data.{Data}
-use Rattle.serde_json.specs.Find.{get}
+use Rattle.serde_json.specs.Data.{Data, Items, no_items, item}
+use Rattle.serde_json.specs.Find.{as_array, get}
 use Rattle.giop_types.specs.declared.json.form_fault.FormFault.{FormFault}
 use Rattle.giop_types.specs.declared.json.form_fault.FormFault.TheVariants.{BadJson, BadShape}
 use Rattle.giop_types.specs.declared.json.form_fault.FormFault.TheVariants.{Unfit}
@@ -21,6 +20,7 @@ use Rattle.giop_commands.specs.declared.serve.answers.AnswerGiven.{AnswerGiven}
 use Rattle.giop_commands.specs.declared.serve.answers.AnswerGiven.TheVariants.{Ok as result, User}
 use Rattle.giop_commands.specs.CallForms.{octets_in, values_in}
 use Rattle.giop_commands.specs.GeneralForms.{general_by}
+use Rattle.giop_commands.specs.InTurn.{due_in, passed_of}
 use Rattle.giop_commands.specs.IsA.{is_a_in}
 use Rattle.giop_msg.specs.Messages.Reply.{exception_of}
 use Rattle.giop_msg.specs.Messages.Request.{operation_of}
@@ -55,27 +55,60 @@ given_by interface outs d =
 abbrev pub default_in : Data → Option Data
 default_in d = get (codes "*") d
 
--- what an operation is answered, by the member of its name, else by the default
-abbrev pub given_under : Interface → List ℕ → Data → Operation → Option (Option AnswerGiven)
-given_under interface name d operation =
-    option_and_then (given_by interface operation.outs.list.items)
-    (option_or (get (text_of name) d) (default_in d))
+-- what an operation with these outs is answered behind so many answers of its list, by the member
+-- of its name, else by the default
+abbrev pub given_of : Interface → List Parameter → ℕ → Option Data → Option Data
+    → Option (Option AnswerGiven)
+given_of interface outs n (Some own) default =
+    option_and_then (given_by interface outs) (due_in n own)
+given_of interface outs n None default = option_and_then (given_by interface outs) default
 
--- what is given for an operation of this name: nothing where it is oneway or the interface hasn't
--- it, no member stands for it, or what stands there is no answer to it
-abbrev pub given_in : Interface → Data → List ℕ → Option AnswerGiven
-given_in interface answers name = option_and_then
+abbrev pub given_under : Interface → List ℕ → Data → ℕ → Operation → Option (Option AnswerGiven)
+given_under interface name d n operation =
+    given_of interface operation.outs.list.items n (get (text_of name) d) (default_in d)
+
+-- what is given for an operation of this name, where these answers are passed: nothing where it is
+-- oneway or the interface hasn't it, no member stands for it, or what stands there is no answer
+abbrev pub given_in : Interface → Data → List (List ℕ) → List ℕ → Option AnswerGiven
+given_in interface answers passed name = option_and_then
     (λ operation. if operation.oneway then None
-    else option_and_then (λ given. given) (given_under interface name answers operation))
+    else option_and_then (λ given. given)
+    (given_under interface name answers (passed_of passed name) operation))
     (operation_of interface name)
 
 -- ---- the answers to all operations
 
--- whether what is given for an operation fits; nothing is for a oneway one
+-- whether an answer fits an operation with these outs
+abbrev pub fits_outs : Interface → List Parameter → Data → Option Bool
+fits_outs interface outs d = option_map is_some (given_by interface outs d)
+
+-- whether each of these does
+abbrev pub each_fits : Interface → List Parameter → Items → Option Bool
+each_fits interface outs no_items = Some true
+each_fits interface outs (item d ds) = option_and_then
+    (λ one. option_map (λ more. one && more) (each_fits interface outs ds))
+    (fits_outs interface outs d)
+
+-- a list is of one answer or more
+abbrev pub list_fits : Interface → List Parameter → Items → Option Bool
+list_fits interface outs no_items = None
+list_fits interface outs (item d ds) = each_fits interface outs (item d ds)
+
+-- whether a member fits: an answer, or a list of them
+abbrev pub member_fits : Interface → List Parameter → Data → Option Items → Option Bool
+member_fits interface outs d None = fits_outs interface outs d
+member_fits interface outs d (Some ds) = list_fits interface outs ds
+
+-- whether what is given for an operation fits: its own member, else the default
+abbrev pub fits_of : Interface → List Parameter → Option Data → Option Data → Option Bool
+fits_of interface outs (Some own) default = member_fits interface outs own (as_array own)
+fits_of interface outs None default = option_and_then (fits_outs interface outs) default
+
+-- whether it does; nothing is for a oneway operation
 abbrev pub is_fit : Interface → Data → List ℕ → Operation → Option Bool
 is_fit interface d name operation =
     if operation.oneway then Some true
-    else option_map is_some (given_under interface name d operation)
+    else fits_of interface operation.outs.list.items (get (text_of name) d) (default_in d)
 
 -- whether what is given for each operation fits
 abbrev pub are_fit : Interface → Data → List (Vec ℕ Global × Operation) → Option Bool

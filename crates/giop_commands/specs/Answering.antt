@@ -86,30 +86,32 @@ abbrev pub asked_ins : ServerEntry → List Tree
 asked_ins (Asked request) = request.body
 asked_ins _ = []
 
--- what is given for the operation of a Request, by the answers to the operations of an interface
-abbrev pub given_to : Interface → Data → ServerEntry → Option AnswerGiven
-given_to interface answers (Asked request) = given_in interface answers request.head.operation
-given_to interface answers _ = None
+-- what is given for the operation of a Request, by the answers to the operations of an interface, of
+-- which some are passed
+abbrev pub given_to : Interface → Data → List (List ℕ) → ServerEntry → Option AnswerGiven
+given_to interface answers passed (Asked request) =
+    given_in interface answers passed request.head.operation
+given_to interface answers passed _ = None
 
 -- a system exception of an operation that wasn't carried out
 abbrev pub not_done : List ℕ → ReplyBody
 not_done id = SystemException id 0 No
 
-abbrev pub body_of : Interface → Data → ServerEntry → Answer → ReplyBody
-body_of interface answers entry (Given quiet) =
-    result_for quiet (given_body (asked_ins entry) (given_to interface answers entry))
-body_of interface answers entry NoObject =
+abbrev pub body_of : Interface → Data → List (List ℕ) → ServerEntry → Answer → ReplyBody
+body_of interface answers passed entry (Given quiet) =
+    result_for quiet (given_body (asked_ins entry) (given_to interface answers passed entry))
+body_of interface answers passed entry NoObject =
     not_done (codes "IDL:omg.org/CORBA/OBJECT_NOT_EXIST:1.0")
-body_of interface answers entry BadOperation =
+body_of interface answers passed entry BadOperation =
     not_done (codes "IDL:omg.org/CORBA/BAD_OPERATION:1.0")
-body_of interface answers entry Marshal = not_done (codes "IDL:omg.org/CORBA/MARSHAL:1.0")
-body_of interface answers entry Addressing = NeedsAddressing (pos 0)
+body_of interface answers passed entry Marshal = not_done (codes "IDL:omg.org/CORBA/MARSHAL:1.0")
+body_of interface answers passed entry Addressing = NeedsAddressing (pos 0)
 
 -- the Reply to what is stored for an id
-abbrev pub reply_of : Interface → Data → ℕ → ServerEntry → Version → Answer → AnyReply
-reply_of interface answers id entry version answer = record {
+abbrev pub reply_of : Interface → Data → List (List ℕ) → ℕ → ServerEntry → Version → Answer → AnyReply
+reply_of interface answers passed id entry version answer = record {
   version = version;
   id = id;
   contexts = [];
-  body = body_of interface answers entry answer;
+  body = body_of interface answers passed entry answer;
 }

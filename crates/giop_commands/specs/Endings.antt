@@ -62,18 +62,19 @@ pub record CallsStreamEnd (asked : Asked) (lines : LineForm) (before after : Wir
       Ends client.is_closed (told streamed.refused streamed.fault) streamed.still.table
       streamed.unread ending
 
--- what `serve` did with a connection, told in a form, and how it ended
+-- what `serve` did with a connection, told in a form, and how it ended; before and behind it these
+-- answers of lists are passed
 pub record ServesEnd (number : ℕ) (it : Served) (lines : LineForm) (before after : Wire)
-    (old new : Option (List ℕ)) (ending : Ending) : Type 0 where
-  pub served : IsServed number it lines before after old new ending.status
+    (old_passed new_passed : List (List ℕ)) (old new : Option (List ℕ)) (ending : Ending) : Type 0 where
+  pub served : IsServed number it lines before after old_passed new_passed old new ending.status
   pub ends :
       Ends server.is_closed (told served.refused served.fault) served.left.table served.unread
       ending
 
 -- the same of `serve --stream`
 pub record ServesStreamEnd (number : ℕ) (it : Served) (lines : LineForm) (before after : Wire)
-    (old new : Option (List ℕ)) (ending : Ending) : Type 0 where
-  pub streamed : serving.IsStreamed number it lines before after old new ending.status
+    (old_passed new_passed : List (List ℕ)) (old new : Option (List ℕ)) (ending : Ending) : Type 0 where
+  pub streamed : serving.IsStreamed number it lines before after old_passed new_passed old new ending.status
   pub ends :
       Ends server.is_closed (told streamed.refused streamed.fault) streamed.left.table
       streamed.unread ending

@@ -17,6 +17,7 @@ pub mod Turns
 pub mod CallForms
 pub mod GeneralForms
 pub mod IsA
+pub mod InTurn
 pub mod AnswerForms
 pub mod Answering
 pub mod Calling

@@ -25,6 +25,7 @@ use Rattle.giop_commands.specs.declared.serve.given.Serving.{Serving}
 use Rattle.giop_commands.specs.Acts.{ActsOrTells, Outbox, SendsAll, outbox}
 use Rattle.giop_commands.specs.Answering.{due_to, reply_of}
 use Rattle.giop_commands.specs.Check.{nothing_read, server_hears}
+use Rattle.giop_commands.specs.InTurn.{passed_behind}
 use Rattle.giop_commands.specs.Steps.{AndThen, Each, Upto}
 use Rattle.giop_commands.specs.Turns.{GoesOn, most_turns}
 
@@ -56,6 +57,14 @@ served_of serving = record {
   limits = serving.limits;
 }
 
+-- the calls of an end and its outgoing octets, and which answers of lists are passed
+pub record Desk : Type 0 where
+  pub box : Outbox ServerCalls
+  pub passed : List (List ℕ)
+
+abbrev pub desk : Outbox ServerCalls → List (List ℕ) → Desk
+desk box passed = record { box = box; passed = passed }
+
 -- an end with these limits, at which this fault stands, if one does
 module _ (served : Served) (limits : Limits) (fault : Option SessionFault) where
   -- a Reply to what is stored for an id is sent, unless it is refused
@@ -66,60 +75,71 @@ module _ (served : Served) (limits : Limits) (fault : Option SessionFault) where
       (answer_fault served.interface limits (question_in entry) reply served.form)
       (IsAnswer served.interface (question_in entry) reply served.form)
 
-  -- what is due to what is stored for an id is sent
-  abbrev pub SendsDue : ℕ → ServerEntry → Due → Outbox ServerCalls → Option SessionFault
-      → Outbox ServerCalls → Type 0
+  -- what is due to what is stored for an id is sent, and what is given by it is passed
+  abbrev pub SendsDue : ℕ → ServerEntry → Due → Desk → Option SessionFault → Desk → Type 0
   SendsDue id entry Nothing s refused t = (refused ≡ None) × (t ≡ s)
   SendsDue id entry (Locate here) s refused t =
       ActsOrTells (rules_of server_step is_closed is_gathering) in_call fault id None
-      (IsLocateAnswer id here served.form.order (locate_in here entry)) s refused t
+      (IsLocateAnswer id here served.form.order (locate_in here entry)) s.box refused t.box
+      × (t.passed ≡ s.passed)
   SendsDue id entry (Reply version answer) s refused t =
-      Replies entry (reply_of served.interface served.answers id entry version answer) s refused t
+      Replies entry (reply_of served.interface served.answers s.passed id entry version answer)
+      s.box refused t.box
+      × (t.passed ≡ passed_behind served.answers s.passed entry answer)
 
   -- what is stored for an id is answered, where something is
-  abbrev pub Answers : ℕ → Option ServerEntry → Outbox ServerCalls → Option SessionFault
-      → Outbox ServerCalls → Type 0
+  abbrev pub Answers : ℕ → Option ServerEntry → Desk → Option SessionFault → Desk → Type 0
   Answers id None s refused t = (refused ≡ None) × (t ≡ s)
   Answers id (Some entry) s refused t = SendsDue id entry (due_to served.key entry) s refused t
 
-  abbrev pub AnswersOne : ℕ → Outbox ServerCalls → Option SessionFault → Outbox ServerCalls
-      → Type 0
-  AnswersOne id s = Answers id (entry_of (finite.get s.calls.table id)) s
+  abbrev pub AnswersOne : ℕ → Desk → Option SessionFault → Desk → Type 0
+  AnswersOne id s = Answers id (entry_of (finite.get s.box.calls.table id)) s
+
+  -- the pieces that are left are put out, and nothing is passed
+  abbrev pub SendsLeft : Desk → Option SessionFault → Desk → Type 0
+  SendsLeft s refused t = AnswersSent fault s.box refused t.box × (t.passed ≡ s.passed)
 
   -- what is stored for each id is answered, ascending, and then the pieces that are left are put
   -- out
-  abbrev pub AnswersAll : Outbox ServerCalls → Option SessionFault → Outbox ServerCalls → Type 0
-  AnswersAll s =
-      AndThen (Upto AnswersOne (finite.keys s.calls.table)) (AnswersSent fault) s
+  abbrev pub AnswersAll : Desk → Option SessionFault → Desk → Type 0
+  AnswersAll s = AndThen (Upto AnswersOne (finite.keys s.box.calls.table)) SendsLeft s
 
--- the calls of an end between a reader and a writer, and its outgoing octets
-abbrev pub box_of : Between ServerCalls → Outbox ServerCalls
-box_of s = outbox s.state.calls s.outgoing
+-- an end between a reader and a writer, and which answers of lists are passed
+pub record Session : Type 0 where
+  pub end : Between ServerCalls
+  pub passed : List (List ℕ)
 
--- the same end with others of both
-abbrev pub with_box : Between ServerCalls → Outbox ServerCalls → Between ServerCalls
-with_box s box = between s.input s.output box.outgoing s.state.unread box.calls s.state.fault
+abbrev pub session : Between ServerCalls → List (List ℕ) → Session
+session end passed = record { end = end; passed = passed }
+
+-- its calls and its outgoing octets, and what is passed
+abbrev pub desk_of : Between ServerCalls → List (List ℕ) → Desk
+desk_of s passed = desk (outbox s.state.calls s.outgoing) passed
+
+-- the same end with others of these
+abbrev pub with_desk : Between ServerCalls → Desk → Session
+with_desk s t = session
+    (between s.input s.output t.box.outgoing s.state.unread t.box.calls s.state.fault) t.passed
 
 module _ (served : Served) (limits : Limits) where
   -- the session continues behind a turn, and what waits for an answer is answered
-  pub record TurnAnswers (s : Between ServerCalls) (refused : Option SessionFault)
-      (t : Between ServerCalls) : Type 0 where
+  pub record TurnAnswers (s : Session) (refused : Option SessionFault) (t : Session) : Type 0 where
     pub mid : Between ServerCalls
-    pub turn : GoesOn (server_hears served.interface) s (Ok true) mid
-    pub box : Outbox ServerCalls
-    pub answers : AnswersAll served limits mid.state.fault (box_of mid) refused box
-    pub others : t ≡ with_box mid box
+    pub turn : GoesOn (server_hears served.interface) s.end (Ok true) mid
+    pub left : Desk
+    pub answers : AnswersAll served limits mid.state.fault (desk_of mid s.passed) refused left
+    pub others : t ≡ with_desk mid left
 
   -- so it goes, turn by turn, up to one that ends the session, or behind which an answer is refused
-  abbrev pub ServeEnds : Between ServerCalls → Option SessionFault → Between ServerCalls → Type 0
-  ServeEnds s None t = GoesOn (server_hears served.interface) s (Ok false) t
+  abbrev pub ServeEnds : Session → Option SessionFault → Session → Type 0
+  ServeEnds s None t =
+      GoesOn (server_hears served.interface) s.end (Ok false) t.end × (t.passed ≡ s.passed)
   ServeEnds s (Some why) t = TurnAnswers s (Some why) t
 
-  pub record Converses (s : Between ServerCalls) (refused : Option SessionFault)
-      (t : Between ServerCalls) : Type 0 where
+  pub record Converses (s : Session) (refused : Option SessionFault) (t : Session) : Type 0 where
     pub turns : List ℕ
     pub few : length turns < most_turns
-    pub mid : Between ServerCalls
+    pub mid : Session
     pub each : Each (λ turn s t. TurnAnswers s None t) turns s mid
     pub ends : ServeEnds mid refused t
 

@@ -27,7 +27,7 @@ use Rattle.giop_commands.specs.Check.{fault_status}
 use Rattle.giop_commands.specs.Dump.{ended}
 use Rattle.giop_commands.specs.Forms.{line_in}
 use Rattle.giop_commands.specs.Serving as serving
-use Rattle.giop_commands.specs.Serving.{Served, ServerCalls, new_server}
+use Rattle.giop_commands.specs.Serving.{Served, ServerCalls, new_server, session}
 use Rattle.giop_commands.specs.SessionLines.{session_fault_in}
 use Rattle.giop_commands.specs.Status.{broken_status}
 use Rattle.giop_commands.specs.Table.{client_entry_in, server_entry_in, table_text}
@@ -124,25 +124,27 @@ serve_status None = Done
 
 -- a connection of this number was served by a new server's end, which talked over the wire; and
 -- what is printed of it in a form is its number, the table that its calls are left with, its fault,
--- and this status
+-- and this status. Before and behind it these answers of lists are passed
 pub record IsServed (number : ℕ) (served : Served) (lines : LineForm) (before after : Wire)
-    (old new : Option (List ℕ)) (status : Status) : Type 0 where
+    (old_passed new_passed : List (List ℕ)) (old new : Option (List ℕ)) (status : Status) : Type 0 where
   pub refused : Option SessionFault
   pub outgoing : List ℕ
   pub unread : Unread
   pub left : ServerCalls
   pub fault : Option SessionFault
   pub talks :
-      serving.Converses served served.limits (new_server served.limits before.input before.output) refused
-      (between after.input after.output outgoing unread left fault)
+      serving.Converses served served.limits
+      (session (new_server served.limits before.input before.output) old_passed) refused
+      (session (between after.input after.output outgoing unread left fault) new_passed)
   pub text : Appends old new (ended (connection_in lines number)
       ++ session_text lines (server_entry_in lines served.interface) left.table
       (told refused fault))
   pub is : status ≡ serve_status (told refused fault)
 
 -- what `serve` did, told as text, by the status that the connection ends with
-abbrev pub Serves : ℕ → Served → Wire → Wire → Option (List ℕ) → Option (List ℕ) → Status → Type 0
-Serves number served before after old new InputOutput = ⊤
-Serves number served before after old new Memory = ⊤
-Serves number served before after old new status =
-    IsServed number served (Text Plain) before after old new status
+abbrev pub Serves : ℕ → Served → Wire → Wire → List (List ℕ) → List (List ℕ)
+    → Option (List ℕ) → Option (List ℕ) → Status → Type 0
+Serves number served before after old_passed new_passed old new InputOutput = ⊤
+Serves number served before after old_passed new_passed old new Memory = ⊤
+Serves number served before after old_passed new_passed old new status =
+    IsServed number served (Text Plain) before after old_passed new_passed old new status

@@ -16,7 +16,7 @@ use Rattle.giop_commands.specs.declared.form.LineForm.{LineForm}
 use Rattle.giop_commands.specs.declared.status.Status.{Status}
 use Rattle.giop_commands.specs.Dump.{ended}
 use Rattle.giop_commands.specs.SessionLines.{last_in}
-use Rattle.giop_commands.specs.Serving.{ServeEnds, Served, ServerCalls, TurnAnswers, new_server}
+use Rattle.giop_commands.specs.Serving.{ServeEnds, Served, ServerCalls, Session, TurnAnswers, new_server, session}
 use Rattle.giop_commands.specs.Sessions.{Wire, connection_in, serve_status, told}
 use Rattle.giop_commands.specs.Steps.{Each}
 use Rattle.giop_commands.specs.StreamLines.{server_told_in}
@@ -62,11 +62,11 @@ still_open calls = record calls {
 
 -- a session, and what is printed of it so far, where that is known
 pub record Shown : Type 0 where
-  pub end : Between ServerCalls
+  pub session : Session
   pub text : Option (List ℕ)
 
-abbrev pub shown : Between ServerCalls → Option (List ℕ) → Shown
-shown end text = record { end = end; text = text }
+abbrev pub shown : Session → Option (List ℕ) → Shown
+shown session text = record { session = session; text = text }
 
 -- an end of which the calls that are over are taken out
 abbrev pub opened : Between ServerCalls → Between ServerCalls
@@ -75,12 +75,12 @@ opened s = between s.input s.output s.outgoing s.state.unread (still_open s.stat
 module _ (served : Served) (limits : Limits) (lines : LineForm) where
   -- behind a turn and its answers, the calls that are over are told and taken out
   pub record TurnTells (s t : Shown) : Type 0 where
-    pub mid : Between ServerCalls
-    pub answers : TurnAnswers served limits s.end None mid
+    pub mid : Session
+    pub answers : TurnAnswers served limits s.session None mid
     pub tells :
         Appends s.text t.text
-        (over_text is_closed (server_told_in lines served.interface) mid.state.calls.table)
-    pub left : t.end ≡ opened mid
+        (over_text is_closed (server_told_in lines served.interface) mid.end.state.calls.table)
+    pub left : t.session ≡ session (opened mid.end) mid.passed
 
   -- so it goes, turn by turn, up to one that ends the session, or behind which an answer is refused
   pub record Streams (s : Shown) (refused : Option SessionFault) (t : Shown) : Type 0 where
@@ -88,7 +88,7 @@ module _ (served : Served) (limits : Limits) (lines : LineForm) where
     pub few : length turns < most_turns
     pub mid : Shown
     pub each : Each (λ turn s t. TurnTells s t) turns s mid
-    pub ends : ServeEnds served limits mid.end refused t.end
+    pub ends : ServeEnds served limits mid.session refused t.session
     pub text : t.text ≡ mid.text
 
 -- what is told at the end: what is left, and the last line
@@ -98,9 +98,10 @@ left_text served lines left fault unread =
     ++ ended (last_in lines fault (length unread.octets))
 
 -- a connection of this number was served by a new server's end: what is printed in a form is its
--- number, each call when it is over, and then what is left, and the last line
+-- number, each call when it is over, and then what is left, and the last line. Before and behind it
+-- these answers of lists are passed
 pub record IsStreamed (number : ℕ) (served : Served) (lines : LineForm) (before after : Wire)
-    (old new : Option (List ℕ)) (status : Status) : Type 0 where
+    (old_passed new_passed : List (List ℕ)) (old new : Option (List ℕ)) (status : Status) : Type 0 where
   pub named : Option (List ℕ)
   pub name : Appends old named (ended (connection_in lines number))
   pub refused : Option SessionFault
@@ -111,7 +112,7 @@ pub record IsStreamed (number : ℕ) (served : Served) (lines : LineForm) (befor
   pub text : Option (List ℕ)
   pub streams :
       Streams served served.limits lines
-      (shown (new_server served.limits before.input before.output) named) refused
-      (shown (between after.input after.output outgoing unread left fault) text)
+      (shown (session (new_server served.limits before.input before.output) old_passed) named) refused
+      (shown (session (between after.input after.output outgoing unread left fault) new_passed) text)
   pub last : Appends text new (left_text served lines left (told refused fault) unread)
   pub is : status ≡ serve_status (told refused fault)

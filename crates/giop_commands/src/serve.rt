@@ -10,7 +10,7 @@ ghost use Rattle.giop_commands.specs.Acts.{outbox};
 ghost use Rattle.giop_commands.specs.Check.{default_limits};
 ghost use Rattle.giop_commands.specs.Dump.{ended};
 ghost use Rattle.giop_commands.specs.Endings.{Ends, ServesEnd};
-ghost use Rattle.giop_commands.specs.Serving.{AnswersAll, AnswersOne, Converses, served_of};
+ghost use Rattle.giop_commands.specs.Serving.{AnswersAll, AnswersOne, Converses, desk, served_of, session};
 ghost use Rattle.giop_commands.specs.Sessions.{Serves, connection_in, serve_status, session_text, wire};
 ghost use Rattle.giop_commands.specs.Steps.{Upto};
 ghost use Rattle.giop_commands.specs.Table.{server_entry_in};
@@ -19,6 +19,7 @@ pub mod answering;
 pub mod answers;
 pub mod general;
 pub mod given;
+pub mod in_turn;
 pub mod is_a;
 pub mod reference;
 pub mod streaming;
@@ -29,6 +30,7 @@ use crate::form::{LineForm, write_line};
 use crate::serve::answering::{Due, due_to, reply_to};
 use crate::serve::answers::Answers;
 use crate::serve::given::Serving;
+use crate::serve::in_turn::Passed;
 use crate::session::ending::{Ending, ending_of};
 use crate::session::sending::send_all;
 use crate::session::{TURNS, goes_on, told, told_of, write_session};
@@ -47,6 +49,9 @@ use std::io::{Read, Write};
 /// at a fault, the line of the connection is written to `out`, the table, and the fault, where
 /// there is one.
 ///
+/// Of an operation's answers in turn the first that isn't passed is given, and is passed where another
+/// stands behind it.
+///
 /// A peer that breaks the protocol is sent a MessageError. An answer that can't be sent, such as
 /// one that passes a limit, ends the session with its fault.
 ///
@@ -59,6 +64,7 @@ pub fn serve_session<R: Read, W: Write, O: Write>(
     number: u32,
     interface: &Interface,
     answers: &Answers,
+    passed: &mut Passed,
     key: &[u8],
     form: Form,
     reader: &mut R,
@@ -75,6 +81,7 @@ pub fn serve_session<R: Read, W: Write, O: Write>(
     })
         (wire (R.remaining reader.old) (W.contents writer.old))
         (wire (R.remaining reader.new) (W.contents writer.new))
+        passed.old.names.items passed.new.names.items
         (O.contents out.old) (O.contents out.new) result }
 {
     let serving = Serving {
@@ -84,15 +91,8 @@ pub fn serve_session<R: Read, W: Write, O: Write>(
         form,
         limits: Limits::default(),
     };
-    match serve_over(
-        alloc,
-        number,
-        serving,
-        LineForm::Text(NumberForm::Plain),
-        reader,
-        writer,
-        out,
-    ) {
+    let lines = LineForm::Text(NumberForm::Plain);
+    match serve_over(alloc, number, serving, passed, lines, reader, writer, out) {
         Ok(ending) => ending.status,
         Err(failure) => failure.status(),
     }
@@ -106,6 +106,7 @@ pub fn serve_over<R: Read, W: Write, O: Write>(
     alloc: Global,
     number: u32,
     serving: Serving<'_>,
+    passed: &mut Passed,
     lines: LineForm,
     reader: &mut R,
     writer: &mut W,
@@ -114,11 +115,12 @@ pub fn serve_over<R: Read, W: Write, O: Write>(
     ensures { IfOk result (ServesEnd number (served_of serving.entry) lines
         (wire (R.remaining reader.old) (W.contents writer.old))
         (wire (R.remaining reader.new) (W.contents writer.new))
+        passed.old.names.items passed.new.names.items
         (O.contents out.old) (O.contents out.new)) }
 {
     let interface = serving.interface;
     let mut end = ServerEnd::new(alloc, interface, serving.limits);
-    match converse(alloc, &mut end, serving, reader, writer) {
+    match converse(alloc, &mut end, serving, passed, reader, writer) {
         Ok(refused) => tell(
             alloc,
             lines,
@@ -186,16 +188,17 @@ fn converse<R: Read, W: Write>(
     alloc: Global,
     end: &mut ServerEnd<'_>,
     serving: Serving<'_>,
+    passed: &mut Passed,
     reader: &mut R,
     writer: &mut W,
 ) -> Result<Option<SessionFault>, Failure>
     requires { end.old.interface.now ≡ serving.interface.now }
     ensures converses { IfOk result (λ refused. Converses (served_of serving.entry) end.old.limits
-        (between (R.remaining reader.old) (W.contents writer.old) end.old.outgoing end.old.framer
-        end.old.calls end.old.fault)
+        (session (between (R.remaining reader.old) (W.contents writer.old) end.old.outgoing
+        end.old.framer end.old.calls end.old.fault) passed.old.names.items)
         refused
-        (between (R.remaining reader.new) (W.contents writer.new) end.new.outgoing end.new.framer
-        end.new.calls end.new.fault)) }
+        (session (between (R.remaining reader.new) (W.contents writer.new) end.new.outgoing
+        end.new.framer end.new.calls end.new.fault) passed.new.names.items)) }
     ensures others { end.new ≡ record end.old {
       outgoing = end.new.outgoing;
       framer = end.new.framer;
@@ -207,7 +210,7 @@ fn converse<R: Read, W: Write>(
         if !goes_on(end, reader, writer)? {
             return Ok(None);
         }
-        if let Some(fault) = answer_all(alloc, end, serving)? {
+        if let Some(fault) = answer_all(alloc, end, serving, passed)? {
             return Ok(Some(fault));
         }
     }
@@ -220,18 +223,19 @@ fn answer_all(
     alloc: Global,
     end: &mut ServerEnd<'_>,
     serving: Serving<'_>,
+    passed: &mut Passed,
 ) -> Result<Option<SessionFault>, Failure>
     requires { end.old.interface.now ≡ serving.interface.now }
     ensures answers { IfOk result (λ refused. AnswersAll (served_of serving.entry) end.old.limits
-        end.old.fault (outbox end.old.calls end.old.outgoing) refused
-        (outbox end.new.calls end.new.outgoing)) }
+        end.old.fault (desk (outbox end.old.calls end.old.outgoing) passed.old.names.items) refused
+        (desk (outbox end.new.calls end.new.outgoing) passed.new.names.items)) }
     ensures others { end.new ≡ record end.old {
       calls = end.new.calls;
       outgoing = end.new.outgoing;
     } }
 {
     let ids = end.ids(alloc)?;
-    if let Some(fault) = answer_each(alloc, end, serving, ids.as_slice())? {
+    if let Some(fault) = answer_each(alloc, end, serving, passed, ids.as_slice())? {
         return Ok(Some(fault));
     }
     send_all(alloc, end)
@@ -243,19 +247,20 @@ fn answer_each(
     alloc: Global,
     end: &mut ServerEnd<'_>,
     serving: Serving<'_>,
+    passed: &mut Passed,
     ids: &[u32],
 ) -> Result<Option<SessionFault>, Failure>
     requires { end.old.interface.now ≡ serving.interface.now }
     ensures answers { IfOk result (λ refused. Upto (AnswersOne (served_of serving.entry) end.old.limits
-        end.old.fault) ids.now (outbox end.old.calls end.old.outgoing) refused
-        (outbox end.new.calls end.new.outgoing)) }
+        end.old.fault) ids.now (desk (outbox end.old.calls end.old.outgoing) passed.old.names.items) refused
+        (desk (outbox end.new.calls end.new.outgoing) passed.new.names.items)) }
     ensures others { end.new ≡ record end.old {
       calls = end.new.calls;
       outgoing = end.new.outgoing;
     } }
 {
     'ids: for id in ids {
-        if let Some(fault) = answer(alloc, end, serving, *id)? {
+        if let Some(fault) = answer(alloc, end, serving, passed, *id)? {
             return Ok(Some(fault));
         }
     }
@@ -268,12 +273,13 @@ fn answer(
     alloc: Global,
     end: &mut ServerEnd<'_>,
     serving: Serving<'_>,
+    passed: &mut Passed,
     id: u32,
 ) -> Result<Option<SessionFault>, Failure>
     requires { end.old.interface.now ≡ serving.interface.now }
     ensures answers { IfOk result (λ refused. AnswersOne (served_of serving.entry) end.old.limits
-        end.old.fault id (outbox end.old.calls end.old.outgoing) refused
-        (outbox end.new.calls end.new.outgoing)) }
+        end.old.fault id (desk (outbox end.old.calls end.old.outgoing) passed.old.names.items) refused
+        (desk (outbox end.new.calls end.new.outgoing) passed.new.names.items)) }
     ensures others { end.new ≡ record end.old {
       calls = end.new.calls;
       outgoing = end.new.outgoing;
@@ -287,7 +293,10 @@ fn answer(
         Due::Locate { here } => told_of(end.answer_locate(id, here, serving.form.order)),
         Due::Reply { version, answer } => {
             let (interface, answers) = (serving.interface, serving.answers);
-            let reply = reply_to(alloc, interface, answers, id, entry, version, answer)?;
+            let reply = reply_to(
+                alloc, interface, answers, passed, id, entry, version, answer,
+            )?;
+            passed.pass(alloc, answers, entry, answer)?;
             told_of(end.answer(reply, serving.form))
         }
     }

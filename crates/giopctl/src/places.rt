@@ -1,6 +1,7 @@
 //! Where a refused file of an interface, a description or a value is at fault, as giop_where tells
 //! it. Nothing is told where that isn't known, as when it is out of memory.
 
+pub mod answers;
 mod names;
 pub mod sessions;
 

@@ -7,6 +7,7 @@ ghost use Rattle.giop_commands.specs.Answering.{answer_to, asked_ins, due_to, du
 
 use crate::failure::Failure;
 use crate::serve::answers::{AnswerGiven, Answers};
+use crate::serve::in_turn::Passed;
 use crate::serve::is_a::is_a_body;
 use giop_calls::{CallKind, ServerEntry};
 use giop_cdr::OctetList;
@@ -121,24 +122,26 @@ fn fault_answer(fault: RequestFault) -> Answer
     }
 }
 
-/// The Reply to what is stored for an id, by an interface and its answers.
+/// The Reply to what is stored for an id, by an interface and its answers, of which some are passed.
 pub fn reply_to(
     alloc: Global,
     interface: &Interface,
     answers: &Answers,
+    passed: &Passed,
     id: u32,
     entry: &ServerEntry,
     version: Version,
     answer: Answer,
 ) -> Result<Reply, Failure>
     ensures { IfOk result (λ reply. reply
-        ≡ reply_of interface.now (view answers.now.json) id entry.now version answer) }
+        ≡ reply_of interface.now (view answers.now.json) passed.now.names.items id entry.now
+        version answer) }
 {
     let body = match answer {
         Answer::Given { quiet } => result_for(
             alloc,
             quiet,
-            given(alloc, interface, answers, entry)?,
+            given(alloc, interface, answers, passed, entry)?,
         ),
         Answer::NoObject => not_done(alloc, b"IDL:omg.org/CORBA/OBJECT_NOT_EXIST:1.0")?,
         Answer::BadOperation => not_done(alloc, b"IDL:omg.org/CORBA/BAD_OPERATION:1.0")?,
@@ -180,14 +183,16 @@ fn given(
     alloc: Global,
     interface: &Interface,
     answers: &Answers,
+    passed: &Passed,
     entry: &ServerEntry,
 ) -> Result<ReplyBody, AllocError>
     ensures { IfOk result (λ body. body ≡ given_body (asked_ins entry.now)
-        (given_to interface.now (view answers.now.json) entry.now)) }
+        (given_to interface.now (view answers.now.json) passed.now.names.items entry.now)) }
 {
     match entry {
         ServerEntry::Asked { request } => {
-            let given = answers.given(alloc, interface, request.head.operation.as_slice())?;
+            let name = request.head.operation.as_slice();
+            let given = answers.given(alloc, interface, passed, name)?;
             given_body(alloc, request.body.as_slice(), given)
         }
         _ => given_body(alloc, &[], None),

@@ -1,14 +1,15 @@
 //! The answers that a file gives `serve`, in JSON (docs/FORMATS.md, "Calls and answers"). Their
 //! form is `answers_in` in specs/AnswerForms.antt: change both.
-ghost use Rattle.std.specs.Prelude.{◌≡◌, ◌⊎◌, codes, IfOk, IfErr, string_bytes};
-ghost use Rattle.serde_json.specs.Find.{get};
-ghost use Rattle.serde_json.specs.View.{view};
+ghost use Rattle.std.specs.Prelude.{◌≡◌, ◌&&◌, ◌⊎◌, codes, IfOk, IfErr, string_bytes};
+ghost use Rattle.serde_json.specs.Find.{as_array, get};
+ghost use Rattle.serde_json.specs.View.{items_view, view};
 ghost use Rattle.giop_types.specs.declared.json.form_fault.FormFault.TheVariants.{NoMemory};
 ghost use Rattle.giop_types.specs.JsonForms.FromJson.{Shows};
 ghost use Rattle.giop_types.specs.JsonForms.JsonText.{text_of};
-ghost use Rattle.giop_commands.specs.AnswerForms.{answers_in, are_fit, default_count, default_formed, given_by, given_in, given_under, has_own, is_fit, member_count, own_count, raised, raised_in, result_in};
+ghost use Rattle.giop_commands.specs.AnswerForms.{answers_in, are_fit, default_count, default_formed, each_fits, fits_outs, given_by, given_in, given_under, has_own, is_fit, list_fits, member_count, member_fits, own_count, raised, raised_in, result_in};
 
 use crate::serve::general::general_of;
+use crate::serve::in_turn::{Passed, due_in};
 use crate::serve::is_a::is_a_of;
 use crate::session::json::{is_object_of, octets_of, values_of};
 use giop_cdr::OctetList;
@@ -56,20 +57,29 @@ pub struct Answers {
 
 impl Answers {
     /// What an operation of this name is answered, by the interface for which the answers were
-    /// read. `None` where nothing is given, as for a oneway operation.
+    /// read, where some are passed. `None` where nothing is given, as for a oneway operation.
     pub fn given(
         &self,
         alloc: Global,
         interface: &Interface,
+        passed: &Passed,
         name: &[u8],
     ) -> Result<Option<AnswerGiven>, AllocError>
-        ensures { IfOk result (λ given. given ≡ given_in interface.now (view self.now.json) name.now) }
+        ensures { IfOk result (λ given. given
+            ≡ given_in interface.now (view self.now.json) passed.now.names.items name.now) }
     {
         let operation = match interface.operation(name) {
             Some(operation) if !operation.oneway => operation,
             _ => return Ok(None),
         };
-        match given_under(alloc, interface, name, &self.json, operation) {
+        match given_under(
+            alloc,
+            interface,
+            name,
+            &self.json,
+            passed.of(name),
+            operation,
+        ) {
             Ok(given) => Ok(given),
             Err(FormFault::NoMemory) => Err(AllocError),
             Err(_) => Ok(None),
@@ -79,7 +89,8 @@ impl Answers {
 
 /// The answers that a JSON text gives: an object with a member for each operation of the interface
 /// that isn't oneway, and no other. A member `*` stands for each of these that has none of its own.
-/// A member is one of these:
+/// A member but `*` may be a list of one answer or more, which are given in turn, a call of the
+/// operation each; the last stays. An answer is one of these:
 ///
 /// - `{"ok":[VALUE,..]}`, with the operation's outs.
 /// - `{"user":ID,"members":[VALUE,..]}`, with an exception of the interface and its members.
@@ -205,27 +216,105 @@ fn is_fit(
     if operation.oneway {
         return Ok(true);
     }
-    let given = given_under(alloc, interface, name, json, operation)?;
+    let wanted = operation.outs.as_slice();
+    let key = text_of(alloc, name)?;
+    if let Some(own) = json.get(key.as_str()) {
+        return member_fits(alloc, interface, wanted, own);
+    }
+    match json.get("*") {
+        Some(given) => fits_outs(alloc, interface, wanted, given),
+        None => Err(FormFault::BadShape),
+    }
+}
+
+// Whether a member fits an operation with these outs: an answer, or each of a list of one or more.
+fn member_fits(
+    alloc: Global,
+    interface: &Interface,
+    outs: &[Parameter],
+    json: &Json,
+) -> Result<bool, FormFault>
+    ensures { Shows (λ fit. fit) result
+        (member_fits interface.now outs.now (view json.now) (as_array (view json.now))) }
+{
+    match json.as_array() {
+        None => fits_outs(alloc, interface, outs, json),
+        Some(list) => list_fits(alloc, interface, outs, list.as_slice()),
+    }
+}
+
+fn list_fits(
+    alloc: Global,
+    interface: &Interface,
+    outs: &[Parameter],
+    list: &[Json],
+) -> Result<bool, FormFault>
+    ensures { Shows (λ fit. fit) result
+        (list_fits interface.now outs.now (items_view list.now)) }
+{
+    match list {
+        [] => Err(FormFault::BadShape),
+        _ => each_fits(alloc, interface, outs, list),
+    }
+}
+
+// Whether each of these answers fits an operation with these outs.
+fn each_fits(
+    alloc: Global,
+    interface: &Interface,
+    outs: &[Parameter],
+    list: &[Json],
+) -> Result<bool, FormFault>
+    ensures { Shows (λ fit. fit) result
+        (each_fits interface.now outs.now (items_view list.now)) }
+{
+    let mut all = true;
+    for json in list {
+        let one = fits_outs(alloc, interface, outs, json)?;
+        all = both(all, one);
+    }
+    Ok(all)
+}
+
+fn both(one: bool, other: bool) -> bool
+    ensures { result ≡ (one && other) }
+{
+    one && other
+}
+
+// Whether an answer fits an operation with these outs.
+fn fits_outs(
+    alloc: Global,
+    interface: &Interface,
+    outs: &[Parameter],
+    json: &Json,
+) -> Result<bool, FormFault>
+    ensures { Shows (λ fit. fit) result (fits_outs interface.now outs.now (view json.now)) }
+{
+    let given = given_of(alloc, interface, outs, json)?;
     Ok(given.is_some())
 }
 
-// What an operation is answered, by the member of its name, else by the default.
+// What an operation is answered behind so many answers of its list, by the member of its name, else
+// by the default.
 fn given_under(
     alloc: Global,
     interface: &Interface,
     name: &[u8],
     json: &Json,
+    n: usize,
     operation: &Operation,
 ) -> Result<Option<AnswerGiven>, FormFault>
     ensures { Shows (λ given. given) result
-        (given_under interface.now name.now (view json.now) operation.now) }
+        (given_under interface.now name.now (view json.now) n operation.now) }
 {
     let outs = operation.outs.as_slice();
     let key = text_of(alloc, name)?;
-    if let Some(own) = json.get(key.as_str()) {
-        return given_of(alloc, interface, outs, own);
-    }
-    match json.get("*") {
+    let given = match json.get(key.as_str()) {
+        Some(own) => due_in(n, own),
+        None => json.get("*"),
+    };
+    match given {
         Some(given) => given_of(alloc, interface, outs, given),
         None => Err(FormFault::BadShape),
     }
@@ -309,8 +398,8 @@ fn raised(
     }
 }
 
-// The text of octets: the octet n is the character U+00n.
-fn text_of(alloc: Global, octets: &[u8]) -> Result<String, AllocError>
+/// The text of octets: the octet n is the character U+00n.
+pub fn text_of(alloc: Global, octets: &[u8]) -> Result<String, AllocError>
     ensures { IfOk result (λ text. string_bytes text ≡ text_of octets.now) }
 {
     let mut text = String::with_capacity(alloc, octets.len())?;

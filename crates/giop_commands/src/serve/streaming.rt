@@ -7,7 +7,7 @@ ghost use Rattle.giop_session.specs.Pumping.{between};
 ghost use Rattle.giop_calls.specs.ServerTable.{is_closed};
 ghost use Rattle.giop_commands.specs.Dump.{ended};
 ghost use Rattle.giop_commands.specs.Endings.{Ends, ServesStreamEnd};
-ghost use Rattle.giop_commands.specs.Serving.{served_of};
+ghost use Rattle.giop_commands.specs.Serving.{served_of, session};
 ghost use Rattle.giop_commands.specs.SessionLines.{last_in};
 ghost use Rattle.giop_commands.specs.Sessions.{connection_in, serve_status, wire};
 ghost use Rattle.giop_commands.specs.StreamLines.{answered_in, question_brought, question_ins, server_told_in};
@@ -18,6 +18,7 @@ use crate::call::table::brought_by;
 use crate::failure::Failure;
 use crate::form::{LineForm, write_line};
 use crate::serve::given::Serving;
+use crate::serve::in_turn::Passed;
 use crate::serve::table::request_ins;
 use crate::serve::{answer_all, serve_status, write_connection};
 use crate::session::ending::{Ending, ending_of};
@@ -136,6 +137,7 @@ pub fn stream_over<R: Read, W: Write, O: Write>(
     alloc: Global,
     number: u32,
     serving: Serving<'_>,
+    passed: &mut Passed,
     lines: LineForm,
     reader: &mut R,
     writer: &mut W,
@@ -144,12 +146,13 @@ pub fn stream_over<R: Read, W: Write, O: Write>(
     ensures { IfOk result (ServesStreamEnd number (served_of serving.entry) lines
         (wire (R.remaining reader.old) (W.contents writer.old))
         (wire (R.remaining reader.new) (W.contents writer.new))
+        passed.old.names.items passed.new.names.items
         (O.contents out.old) (O.contents out.new)) }
 {
     let interface = serving.interface;
     tell_begin(lines, number, out)?;
     let mut end = ServerEnd::new(alloc, interface, serving.limits);
-    match converse(alloc, &mut end, serving, lines, reader, writer, out) {
+    match converse(alloc, &mut end, serving, passed, lines, reader, writer, out) {
         Ok(refused) => tell_end(
             alloc,
             lines,
@@ -219,6 +222,7 @@ fn converse<R: Read, W: Write, O: Write>(
     alloc: Global,
     end: &mut ServerEnd<'_>,
     serving: Serving<'_>,
+    passed: &mut Passed,
     lines: LineForm,
     reader: &mut R,
     writer: &mut W,
@@ -226,17 +230,18 @@ fn converse<R: Read, W: Write, O: Write>(
 ) -> Result<Option<SessionFault>, Failure>
     requires { end.old.interface.now ≡ serving.interface.now }
     ensures { IfOk result (λ refused. Streams (served_of serving.entry) end.old.limits lines
-        (shown (between (R.remaining reader.old) (W.contents writer.old) end.old.outgoing
-        end.old.framer end.old.calls end.old.fault) (O.contents out.old))
+        (shown (session (between (R.remaining reader.old) (W.contents writer.old) end.old.outgoing
+        end.old.framer end.old.calls end.old.fault) passed.old.names.items) (O.contents out.old))
         refused
-        (shown (between (R.remaining reader.new) (W.contents writer.new) end.new.outgoing
-        end.new.framer end.new.calls end.new.fault) (O.contents out.new))) }
+        (shown (session (between (R.remaining reader.new) (W.contents writer.new) end.new.outgoing
+        end.new.framer end.new.calls end.new.fault) passed.new.names.items)
+        (O.contents out.new))) }
 {
     'turns: for done in 0..TURNS {
         if !goes_on(end, reader, writer)? {
             return Ok(None);
         }
-        if let Some(fault) = answer_all(alloc, end, serving)? {
+        if let Some(fault) = answer_all(alloc, end, serving, passed)? {
             return Ok(Some(fault));
         }
         tell_over(alloc, lines, serving.interface, end, out)?;

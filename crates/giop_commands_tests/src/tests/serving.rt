@@ -2,6 +2,7 @@
 //! program (tests/cases/serving).
 use crate::tests::session_files::interface;
 use giop_commands::serve::answers::{Answers, answers_from_json};
+use giop_commands::serve::in_turn::Passed;
 use giop_commands::serve_session;
 use giop_commands::status::Status;
 use giop_session::Form;
@@ -54,9 +55,19 @@ fn served<R: Read, W: Write>(
     if !form.is_valid() {
         return Err(Fail::new("the form is none"));
     }
+    let mut passed = Passed::new(alloc);
     let mut out: Vec<u8> = Vec::new(alloc);
     Ok(serve_session(
-        alloc, 1, &interface, &answers, KEY, form, reader, writer, &mut out,
+        alloc,
+        1,
+        &interface,
+        &answers,
+        &mut passed,
+        KEY,
+        form,
+        reader,
+        writer,
+        &mut out,
     ))
 }
 

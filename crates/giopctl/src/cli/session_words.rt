@@ -121,6 +121,7 @@ It listens at 127.0.0.1 alone, and serves one connection after the other. The fi
 a JSON object with a member for each operation that isn't oneway: its result, inout and out
 parameters, or an exception of the interface and its members:
   {\"ping\":{\"ok\":[]},\"add\":{\"ok\":[7]},\"list\":{\"user\":\"IDL:Demo/Bad:1.0\",\"members\":[]}}
+A list of answers in place of one is given in turn, one to a call; the last stays.
 A Request of the object of the key is answered so, one of another object by OBJECT_NOT_EXIST, an
 unknown operation by BAD_OPERATION, and one that can't be decoded by MARSHAL. A LocateRequest is told
 whether its object is here. With --type-id, or by the id of the interface's file, an object answers

@@ -5,12 +5,13 @@ use crate::cli::ServeWords;
 use crate::files::OUTPUT_BUFFER;
 use crate::interface_text::InterfaceText;
 use crate::object_operations::texts_of;
-use crate::places::sessions::of_answers;
+use crate::places::answers::of_answers;
 use crate::report;
 use crate::runs::session::{interface_of, linked, read, read_interface, refused_form};
 use giop_commands::failure::Failure;
 use giop_commands::serve::answers::answers_from_json;
 use giop_commands::serve::given::{KeyWord, Telling};
+use giop_commands::serve::in_turn::Passed;
 use giop_commands::serve::reference::reference_text;
 use giop_commands::serve::streaming::stream_over;
 use giop_commands::status::Status;
@@ -170,7 +171,8 @@ fn bound(rt: &HostRuntime, port: u16) -> io::Result<(TcpListener, u16)> {
     Ok((listener, port))
 }
 
-// Serves so many connections, and continues whatever one of them ends with.
+// Serves so many connections, and continues whatever one of them ends with. Answers in turn go on from
+// one to the next.
 fn serve_each(
     rt: &HostRuntime,
     listener: &TcpListener,
@@ -178,8 +180,10 @@ fn serve_each(
     serving: &Serving<'_>,
 ) -> Status {
     let mut status = Status::Done;
+    let mut passed = Passed::new(rt.alloc());
     for served in 0..words.connections {
-        status = status.or_greater(serve_next(rt, listener, served + 1, words, serving));
+        let number = served + 1;
+        status = status.or_greater(serve_next(rt, listener, number, words, serving, &mut passed));
     }
     status
 }
@@ -191,13 +195,14 @@ fn serve_next(
     number: u32,
     words: &ServeWords<'_>,
     serving: &Serving<'_>,
+    passed: &mut Passed,
 ) -> Status {
     let (stream, peer) = match listener.accept() {
         Ok(accepted) => accepted,
         Err(error) => return report::answer(rt, HERE, Err(Failure::connection(error))),
     };
     let _ = eprintln!(rt; "giopctl: connection {number} from {peer}");
-    let answered = serve_stream(rt, stream, number, words, serving);
+    let answered = serve_stream(rt, stream, number, words, serving, passed);
     match format!(in rt.alloc(); "connection {number}") {
         Ok(name) => report::served(rt, name.as_str(), answered),
         Err(_) => report::served(rt, HERE, answered),
@@ -210,6 +215,7 @@ fn serve_stream(
     number: u32,
     words: &ServeWords<'_>,
     serving: &Serving<'_>,
+    passed: &mut Passed,
 ) -> Result<Ending, Failure> {
     let link = linked(rt, stream, None)?;
     let (mut reader, mut writer) = (&link, &link);
@@ -218,10 +224,14 @@ fn serve_stream(
     let (alloc, lines) = (rt.alloc(), words.lines);
     let ending = match words.telling {
         Telling::AtTheEnd => {
-            serve_over(alloc, number, *serving, lines, reader, writer, &mut out)?
+            serve_over(
+                alloc, number, *serving, passed, lines, reader, writer, &mut out,
+            )?
         }
         Telling::WhenOver => {
-            stream_over(alloc, number, *serving, lines, reader, writer, &mut out)?
+            stream_over(
+                alloc, number, *serving, passed, lines, reader, writer, &mut out,
+            )?
         }
     };
     out.flush()?;

@@ -6,21 +6,22 @@ use Rattle.giop_session.specs.Acts.ServerAnswers.{IsAnswer, answer_fault, questi
 use Rattle.giop_commands.specs.declared.serve.answering.Due.TheVariants.{Reply}
 use Rattle.giop_commands.specs.Acts.{outbox}
 use Rattle.giop_commands.specs.Answering.{reply_of}
-use Rattle.giop_commands.specs.Serving.{served_of}
+use Rattle.giop_commands.specs.Serving.{desk, served_of}
 use Rattle.giop_commands.proofs.ActLemmas.{acts_told}
-use Rattle.giop_commands.proofs.ServingLemmas.{due_told}
+use Rattle.giop_commands.proofs.ServingLemmas.{and_passed, due_told}
 use Rattle.giop_commands.proofs.serve.answer.Goals as goal
 
 pub returns-in_ok-reply-in-Reply-clause-answers : goal.returns-in_ok-reply-in-Reply-clause-answers
 returns-in_ok-reply-in-Reply-clause-answers c =
     let it = served_of c.args.serving in
     let entry = c.in-Some.entry.now in
-    let s = outbox c.args.end.now.calls c.args.end.now.outgoing in
-    let t = outbox c.answer.new.self.calls c.answer.new.self.outgoing in
-    let reply = reply_of it.interface it.answers c.args.id entry c.in-Reply.version c.in-Reply.answer in
+    let s = desk (outbox c.args.end.now.calls c.args.end.now.outgoing) c.args.passed.now.names.items in
+    let t = desk (outbox c.answer.new.self.calls c.answer.new.self.outgoing) c.pass.new.self.names.items in
+    let reply = reply_of it.interface it.answers c.args.passed.now.names.items c.args.id entry c.in-Reply.version c.in-Reply.answer in
     due_told it c.args.end.now.limits c.args.end.now.fault c.args.id s t entry (Reply c.in-Reply.version c.in-Reply.answer) c.told_of-in-Reply.result
     (sym c.in-Some.ensures) c.in-Reply.ensures
-    (acts_told (rules_of server_step is_closed is_gathering) in_call c.args.end.now.fault c.args.id
-    (answer_fault it.interface c.args.end.now.limits (question_in entry) reply it.form) (IsAnswer it.interface (question_in entry) reply it.form) s t
+    (and_passed _ _ _ (acts_told (rules_of server_step is_closed is_gathering) in_call c.args.end.now.fault c.args.id
+    (answer_fault it.interface c.args.end.now.limits (question_in entry) reply it.form) (IsAnswer it.interface (question_in entry) reply it.form) s.box t.box
     c.answer.result c.told_of-in-Reply.result (λ why stands. let was = c.answer.ensures.failed why stands in (was.0, ap (λ e. outbox e.calls e.outgoing) was.1))
     (rw (c.in_ok-reply-in-Reply.ensures, ← c.in-Some.ensures, c.requires) at c.answer.ensures.answered) c.told_of-in-Reply.ensures.ok)
+    c.in_ok-pass.ensures)

@@ -6,7 +6,7 @@ use Rattle.giop_commands.proofs.serve.serve_over.Goals as goal
 pub returns-in-Ok : goal.returns-in-Ok
 returns-in-Ok g c =
     let it : Served = served_of c.args.serving in
-    served c.args.number it c.args.lines _ _ _ _ c.in-Ok.refused c.converse.new.end.outgoing c.converse.new.end.framer c.converse.new.end.calls
+    served c.args.number it c.args.lines _ _ _ _ _ _ c.in-Ok.refused c.converse.new.end.outgoing c.converse.new.end.framer c.converse.new.end.calls
     c.converse.new.end.fault c.tell.result
     (rw (
       c.new-end.ensures.limits,
