@@ -4,11 +4,12 @@ A form is judged as a whole before what it says: BadJson, then BadShape anywhere
 anywhere, then Unfit. So each reader here answers what the text says, and raises BadShape alone; the
 others are told by `description_of`, `interface_of` and `value_of`.
 """
+import re
 from dataclasses import dataclass
 
 from descriptions import (Array, Boolean, Char, Enum, Number, Octets, REFERENCE, Sequence, String,
                           Struct, Union, all_differ, is_sound)
-from json_text import BadJson, compact, json_of
+from json_text import BadJson, compact, json_of, whole
 from names import NotPlain, plain
 from references import BadText, reference_of, text_of
 
@@ -63,6 +64,14 @@ def list_of(json, length=None):
 
 def is_whole(json):
     return isinstance(json, int) and not isinstance(json, bool)
+
+
+def whole_of(json):
+    """A whole number, or the text of one, in the characters of a JSON number."""
+    if isinstance(json, str) and re.fullmatch('0|-?[1-9][0-9]{0,19}', json):
+        json = whole(json)
+    demand(is_whole(json))
+    return json
 
 
 def number_of(json, least):
@@ -143,8 +152,7 @@ def label_form(disc, json):
     if isinstance(disc, Enum):
         name = octets_of(json)
         return disc.names.index(name) if name in disc.names else None
-    demand(is_whole(json))
-    return json
+    return whole_of(json)
 
 
 def char_form(json):
@@ -186,8 +194,7 @@ def value_form(kind, json):
     if isinstance(kind, (Boolean, Char, Enum)):
         return label_form(kind, json)
     if isinstance(kind, Number):
-        demand(is_whole(json))
-        return json
+        return whole_of(json)
     if isinstance(kind, String):
         return octets_of(json)
     if isinstance(kind, Octets):

@@ -97,7 +97,9 @@ def key(rng):
 SCRAPS = (None, True, False, 0, 1, -1, 127, 128, 255, 256, -129, 2 ** 15, 2 ** 16, 2 ** 31,
           2 ** 32 - 1, 2 ** 32, 2 ** 63 - 1, 2 ** 63, 2 ** 64 - 1, 2 ** 64, -2 ** 63, -2 ** 63 - 1,
           1.5, 1e3, 10 ** 30, '', 'a', 'ab', 'A', '\0', 'a\0', '\xff', '\u0100', '\U0001F600',
-          '00', '0', 'FF', 'fg', [], {}, [[]], [None], 'octet', 'long', 'string',
+          '00', '0', '1', '-1', '-0', '01', '+1', ' 1', '1.0', '1e3', '-', '\u0661', '256',
+          '9007199254740993', '18446744073709551615', '18446744073709551616',
+          '-9223372036854775808', '-9223372036854775809', '0' * 30 + '1', '1' * 5000, 'FF', 'fg', [], {}, [[]], [None], 'octet', 'long', 'string',
           {'string': 0}, {'octets': 2 ** 32}, {'enum': []},
           {'struct': []}, {'array': 'octet', 'length': 0}, {'sequence': 'octet', 'bound': 0},
           {'union': 'octet', 'cases': [[[1], 'a', 'octet']]}, {'union': 'long', 'cases': []},
@@ -139,9 +141,9 @@ def replace(rng, holder, key, _found):
 
 
 def nudge(rng, holder, key, _found):
-    """One more or one less."""
+    """One more or one less, or the same number as a text."""
     if isinstance(holder[key], int) and not isinstance(holder[key], bool):
-        holder[key] += rng.choice((1, -1))
+        holder[key] = rng.choice((holder[key] + 1, holder[key] - 1, str(holder[key])))
     else:
         holder[key] = rng.choice(SCRAPS)
 

@@ -12,6 +12,7 @@ use Rattle.giop_types.specs.declared.json.form_fault.FormFault.TheVariants.{Unfi
 use Rattle.giop_types.specs.declared.json.parameters.Parameter.{Parameter}
 use Rattle.giop_types.specs.declared.value.Value.{Value}
 use Rattle.giop_types.specs.Descriptions.CheckedShape.{checked_shape}
+use Rattle.giop_types.specs.declared.json.number_form.NumberForm.TheVariants.{Plain}
 use Rattle.giop_types.specs.JsonForms.ToJson.{to_data}
 use Rattle.giop_types.specs.Values.Tree.{Tree}
 use Rattle.giop_types.specs.Values.Views.{value_view}
@@ -62,9 +63,9 @@ one_was_unfit front ps ds i total is so_far =
 pub one_made : (done : List Data) (ps : List Parameter) (vs : List Value) (i : ℕ) (p : Parameter) (v : Value) (total : List Data)
     → i < length ps → length ps ≡ length vs → p ≡ get_or ps i p → v ≡ get_or vs i v
     → done ++ each_data (drop i ps) (map value_view (drop i vs)) ≡ total
-    → (done ++ to_data (checked_shape p.desc) (value_view v) ∷ []) ++ each_data (drop (i + 1) ps) (map value_view (drop (i + 1) vs)) ≡ total
+    → (done ++ to_data Plain (checked_shape p.desc) (value_view v) ∷ []) ++ each_data (drop (i + 1) ps) (map value_view (drop (i + 1) vs)) ≡ total
 one_made done ps vs i p v total lt many is has so_far =
-    let d = to_data (checked_shape p.desc) (value_view v) in
+    let d = to_data Plain (checked_shape p.desc) (value_view v) in
     let next : each_data (drop i ps) (map value_view (drop i vs)) ≡ d ∷ each_data (drop (i + 1) ps) (map value_view (drop (i + 1) vs)) =
     rw (left_is ps i p lt is, left_is vs i v (omega arith) has) refl in
     append_assoc done (d ∷ []) _ ∙ sym (ap (λ ds. done ++ ds) next) ∙ so_far
@@ -80,4 +81,4 @@ all_made done ps vs i total past so_far =
 pub each_whole : (ps : List Parameter) (trees : List Tree) → items_have_float (items_of (each_data ps trees)) ≡ false
 each_whole [] trees = refl
 each_whole (p ∷ ps) [] = refl
-each_whole (p ∷ ps) (t ∷ ts) = rw (data_whole (checked_shape p.desc) t) (each_whole ps ts)
+each_whole (p ∷ ps) (t ∷ ts) = rw (data_whole Plain (checked_shape p.desc) t) (each_whole ps ts)

@@ -9,6 +9,7 @@ use Rattle.giop_types.specs.declared.json.form_fault.FormFault.{FormFault}
 use Rattle.giop_types.specs.declared.json.form_fault.FormFault.TheVariants.{BadJson, BadShape, Unfit}
 use Rattle.giop_types.specs.declared.json.parameters.Parameter.{Parameter}
 use Rattle.giop_types.specs.Descriptions.CheckedShape.{checked_shape}
+use Rattle.giop_types.specs.declared.json.number_form.NumberForm.TheVariants.{Plain}
 use Rattle.giop_types.specs.JsonForms.DescFromJson.{json_in}
 use Rattle.giop_types.specs.JsonForms.FromJson.{from_data}
 use Rattle.giop_types.specs.JsonForms.ToJson.{to_data}
@@ -52,7 +53,7 @@ values_of_text parameters text = values_told parameters (json_in text)
 
 -- values, each by the description of its parameter
 abbrev pub each_data : List Parameter → List Tree → List Data
-each_data (p ∷ ps) (tree ∷ trees) = to_data (checked_shape p.desc) tree ∷ each_data ps trees
+each_data (p ∷ ps) (tree ∷ trees) = to_data Plain (checked_shape p.desc) tree ∷ each_data ps trees
 each_data [] trees = []
 each_data (p ∷ ps) [] = []
 

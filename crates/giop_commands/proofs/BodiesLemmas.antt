@@ -8,6 +8,7 @@ use Rattle.std.specs.Str.{IsAscii}
 use Rattle.serde_json.specs.Data.{Data, null}
 use Rattle.serde_json.specs.View.{items_of}
 use Rattle.serde_json.specs.Written.{has_float, items_have_float}
+use Rattle.giop_types.specs.declared.json.number_form.NumberForm.TheVariants.{Plain}
 use Rattle.giop_types.specs.declared.json.parameters.Parameter.{Parameter}
 use Rattle.giop_types.specs.declared.value.Value.{Value}
 use Rattle.giop_types.specs.Descriptions.CheckedShape.{checked_shape}
@@ -29,7 +30,7 @@ pub each_whole : (parameters : List Parameter) (trees : List Tree) → items_hav
 each_whole [] trees = refl
 each_whole (p ∷ ps) [] = refl
 each_whole (p ∷ ps) (t ∷ ts) =
-    rw (chosen_whole (fits (checked_shape p.desc) t) (to_data (checked_shape p.desc) t) (data_whole (checked_shape p.desc) t)) (each_whole ps ts)
+    rw (chosen_whole (fits (checked_shape p.desc) t) (to_data Plain (checked_shape p.desc) t) (data_whole Plain (checked_shape p.desc) t)) (each_whole ps ts)
 
 no_values : (parameters : List Parameter) → each_data parameters [] ≡ []
 no_values [] = refl

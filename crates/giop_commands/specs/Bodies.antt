@@ -6,6 +6,7 @@ use Rattle.serde_json.specs.Written.{compact_text}
 use Rattle.giop_types.specs.declared.json.interface.Interface.{Interface}
 use Rattle.giop_types.specs.declared.json.interface.Operation.{Operation}
 use Rattle.giop_types.specs.declared.json.parameters.Parameter.{Parameter}
+use Rattle.giop_types.specs.declared.json.number_form.NumberForm.TheVariants.{Plain}
 use Rattle.giop_types.specs.Descriptions.CheckedShape.{checked_shape}
 use Rattle.giop_types.specs.Descriptions.Shape.{Shape}
 use Rattle.giop_types.specs.JsonForms.ToJson.{to_data}
@@ -25,7 +26,7 @@ use Rattle.giop_commands.specs.Convert.{reference_text}
 
 -- a value by its description; null where it is none of it, as no decoded value is
 abbrev pub value_data : Shape → Tree → Data
-value_data shape tree = if fits shape tree then to_data shape tree else null
+value_data shape tree = if fits shape tree then to_data Plain shape tree else null
 
 -- values, each by the description of its parameter
 abbrev pub each_data : List Parameter → List Tree → List Data

@@ -31,6 +31,7 @@ use Rattle.giop_types.specs.Coding.Decoding.{decode_at}
 use Rattle.giop_types.specs.JsonForms.FromJson.{from_data}
 use Rattle.giop_types.specs.IorText.{IorText, RefusedText, text_written}
 use Rattle.giop_types.specs.Descriptions.Shape.{Shape}
+use Rattle.giop_types.specs.declared.json.number_form.NumberForm.TheVariants.{Plain}
 use Rattle.giop_types.specs.JsonForms.ToJson.{to_data}
 use Rattle.giop_types.specs.Values.Tree.{Tree}
 use Rattle.giop_types.specs.Coding.Written.{value_out}
@@ -176,7 +177,7 @@ abbrev pub ConvertsDecode : Shape → Order → List ℕ → Option (List ℕ) �
 ConvertsDecode shape order octets old new Done =
     (said : List ℕ) × (tree : Tree) × (after : Cursor) × (decode_of (unended octets) ≡ Ok said)
     × (decode_at shape (reader_of order said) ≡ Ok (tree, after)) × (after.rest ≡ [])
-    × Appends old new (ended (compact_text (to_data shape tree)))
+    × Appends old new (ended (compact_text (to_data Plain shape tree)))
 ConvertsDecode shape order octets old new Refused =
     ((e : FromHexError) × (decode_of (unended octets) ≡ Err e) × Tells old new refusal.BadHex)
     ⊎ ((said : List ℕ) × (e : CdrFault) × (decode_of (unended octets) ≡ Ok said)

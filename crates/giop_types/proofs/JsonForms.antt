@@ -2,6 +2,8 @@
 pub mod JsonTextLemmas
 pub mod ToJsonLemmas
 pub mod FromJsonLemmas
+pub mod NumberTextLemmas
+pub mod NumberShownLemmas
 pub mod JsonLeavesBack
 pub mod JsonObjects
 pub mod JsonBack

@@ -1,5 +1,6 @@
 -- Descriptions and values in JSON, and the text of a reference.
 pub mod JsonText
+pub mod NumberText
 pub mod ToJson
 pub mod FormFault
 pub mod FromJson

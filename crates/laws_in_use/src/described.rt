@@ -15,6 +15,7 @@ ghost use Rattle.giop_types.specs.Descriptions.Shape.{ushort};
 ghost use Rattle.giop_types.specs.IorText.{ior_text_of, IorText, prefixed, PrefixedText, text_written};
 ghost use Rattle.giop_types.specs.JsonForms.FromJson.{from_data, ReadsBack};
 ghost use Rattle.giop_types.specs.JsonForms.ToJson.{to_data};
+ghost use Rattle.giop_types.specs.declared.json.number_form.NumberForm.{NumberForm};
 ghost use Rattle.giop_types.specs.Values.Fits.{fits};
 ghost use Rattle.giop_types.specs.Values.Leaves.{leaves, leaves_of};
 ghost use Rattle.giop_types.specs.Values.Same.{same_list, same_value};
@@ -31,7 +32,7 @@ use giop_types::laws::{
     values_are_bounded, values_are_spelled, written_and_read_as_json,
     written_ior_texts_are_read_back, written_values_are_read_back,
 };
-use giop_types::{CheckedDesc, FormFault, Value};
+use giop_types::{CheckedDesc, FormFault, NumberForm, Value};
 use std::alloc::Global;
 
 /// A struct of a number and a text is written from the offset 1 on, read back with what stands
@@ -44,7 +45,7 @@ pub fn a_struct_at_one()
         (record { order = Big; at = 11; rest = 9 ∷ [] }) }
     ensures alone { (other : Tree) (octets rest : List ℕ) → Spells pair Big 1 other octets
         → octets ++ rest ≡ value_octets ++ 9 ∷ [] → other ≡ value }
-    ensures json { from_data pair (to_data pair value) ≡ Ok value }
+    ensures json { (numbers : NumberForm) → from_data pair (to_data numbers pair value) ≡ Ok value }
 {
     written_values_are_read_back();
     values_are_spelled();
@@ -126,6 +127,7 @@ pub fn a_value_there_and_back(
 /// The same as JSON.
 pub fn a_value_as_json_and_back(
     alloc: Global,
+    numbers: NumberForm,
     desc: &CheckedDesc,
     value: &Value,
 ) -> Result<Result<Value, FormFault>, FormFault>
@@ -133,5 +135,5 @@ pub fn a_value_as_json_and_back(
     ensures fit { IsErrOf result Unfit → ⊥ }
     ensures back { IfOk result (λ read. ReadsBack (value_view value.now) read) }
 {
-    written_and_read_as_json(alloc, desc, value)
+    written_and_read_as_json(alloc, numbers, desc, value)
 }

@@ -13,6 +13,7 @@ ghost use Rattle.giop_types.specs.JsonForms.DescFromJson.{json_in};
 ghost use Rattle.giop_types.specs.Values.Fits.{fits};
 ghost use Rattle.giop_types.specs.JsonForms.FromJson.{from_data};
 ghost use Rattle.giop_types.specs.JsonForms.ToJson.{to_data};
+ghost use Rattle.giop_types.specs.declared.json.number_form.NumberForm.TheVariants.{Plain};
 ghost use Rattle.giop_types.specs.Values.Views.{value_view};
 ghost use Rattle.giop_commands.specs.Convert.{ConvertsEncode, ConvertsDecode, RefusedForm, RefusedOctets, value_octets, reader_of};
 
@@ -164,7 +165,7 @@ fn value_of_octets(
 fn text_of_value(alloc: Global, value: &Value, desc: &CheckedDesc) -> Result<String, AllocError>
     requires { fits (checked_shape desc.now) (value_view value.now) ≡ true }
     ensures { IfOk result (λ text. string_bytes text
-        ≡ compact_text (to_data (checked_shape desc.now) (value_view value.now))) }
+        ≡ compact_text (to_data Plain (checked_shape desc.now) (value_view value.now))) }
 {
     match value_to_json(alloc, desc, value) {
         Ok(json) => Ok(json.to_string(alloc)?),

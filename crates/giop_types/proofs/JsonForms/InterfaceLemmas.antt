@@ -1,5 +1,5 @@
 -- Interfaces read from JSON: loops over the members of an object, and over what is judged.
-use Rattle.std.proofs.Common.{◌≡◌, ℕ, ◌∷◌, [], ◌++◌, List, map, Option, Some, None, option_map, option_and_then, Result, Ok, Err, false}
+use Rattle.std.proofs.Common.{◌≡◌, ℕ, ◌∷◌, [], ◌++◌, List, map, Option, Some, None, option_map, option_and_then, Ok, Err, false}
 use Rattle.std.proofs.Common.{Ordering, Less, Equal, Greater, nat_cmp, String, string_bytes, refl, sym, ap, ◌∙◌, arith, append_assoc, length}
 use Rattle.std.proofs.lemmas.List.{map-append, append-nil}
 use Rattle.std.specs.declared.alloc.Global.{Global}

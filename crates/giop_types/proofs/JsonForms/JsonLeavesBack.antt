@@ -1,12 +1,14 @@
 -- The leaves of values that are written as JSON are read back: texts, names, numbers and discriminants.
 use Rattle.std.proofs.Common.{◌≡◌, ◌<◌, ◌≤◌, ◌^◌, ◌-◌, ℕ, zero, suc, ℤ, pos, negsuc, nat_lt}
-use Rattle.std.proofs.Common.{true, false, bytes_eq, min, int_le, int_lt}
+use Rattle.std.proofs.Common.{Bool, true, false, bytes_eq, min, int_le, int_lt, if◌then◌else◌}
 use Rattle.std.proofs.Common.{List, [], ◌∷◌, length, get_or, Some, refl, ap, ◌∙◌, arith}
 use Rattle.std.proofs.lemmas.Bool.{lt-ltb, ltb-true, leb-true, le-leb, and_parts, and_from, or_parts, both_ways, false_from_ne_true}
 use Rattle.std.proofs.lemmas.Str.{chars-encodes, encodes_same}
 use Rattle.std.proofs.lemmas.Option.{slice_get-get_or}
 use Rattle.std.specs.Cmp.Lexicographic.{bytes_decides}
 use Rattle.std.specs.List.{list_any, slice_get}
+use Rattle.serde_json.specs.Data as json
+use Rattle.std.specs.Fmt.{signed_decimal}
 use lib.Utf8.{scalars, scalar, low_scalar}
 use Rattle.hex.specs.Hex.{IsBytes}
 use Rattle.giop_types.specs.Descriptions.Shape.{Shape, boolean, char, short, ushort, long, ulong, longlong, ulonglong}
@@ -14,9 +16,12 @@ use Rattle.giop_types.specs.Descriptions.Shape.{octet, text, octets, labels, mem
 use Rattle.giop_types.specs.Descriptions.Checked.{same_name, has_doubled, is_between, is_label_of}
 use Rattle.giop_types.specs.Values.Fits.{are_octets, is_unsigned, fits_label}
 use Rattle.giop_types.specs.JsonForms.JsonText.{text_of, octets_of_chars, octets_in}
-use Rattle.giop_types.specs.JsonForms.ToJson.{name_data, whole_data, label_data, text_data}
+use Rattle.giop_types.specs.JsonForms.ToJson.{name_data, is_safe, number_data, integer_data, whole_data, label_data, text_data}
 use Rattle.giop_types.specs.JsonForms.FromJson.{ordinal_in, ordinal_shown, whole, label_shown, char_shown}
 use Rattle.std.proofs.lemmas.Bool.{false≢true}
+use Rattle.giop_types.specs.declared.json.number_form.NumberForm.{NumberForm}
+use Rattle.giop_types.specs.declared.json.number_form.NumberForm.TheVariants.{Plain, Quoted}
+use Rattle.giop_types.proofs.JsonForms.NumberTextLemmas.{whole_told_back}
 
 -- ---- texts
 
@@ -81,68 +86,86 @@ name_back names n apart lt =
 
 -- ---- numbers and discriminants
 
-whole_back : (z : ℤ) → is_between (negsuc (2 ^ 63 - 1)) (pos (2 ^ 64 - 1)) z ≡ true → whole (whole_data z) ≡ Some z
-whole_back (pos n) h = rw h refl
-whole_back (negsuc n) h = rw h refl
+plain_back : (z : ℤ) → whole (integer_data z) ≡ Some z
+plain_back (pos n) = refl
+plain_back (negsuc n) = refl
 
-natural_back : (k : ℕ) → k ≤ 2 ^ 64 - 1 → (z : ℤ) → is_between (pos 0) (pos k) z ≡ true → whole (whole_data z) ≡ Some z
-natural_back k few (pos n) h =
-    let le : n ≤ k = leb-true n k (and_parts (int_le (pos 0) (pos n)) (int_le (pos n) (pos k)) h).1 in
-    whole_back (pos n) (le-leb n (2 ^ 64 - 1) (omega arith))
-natural_back k few (negsuc n) h = absurd cc
+-- a number of 64 bits at most
+abbrev IsWide : ℤ → Type 0
+IsWide z = is_between (negsuc (2 ^ 63 - 1)) (pos (2 ^ 64 - 1)) z ≡ true
 
-signed_back : (k : ℕ) → k ≤ 2 ^ 63 - 1 → (z : ℤ) → is_between (negsuc k) (pos k) z ≡ true → whole (whole_data z) ≡ Some z
-signed_back k few (pos n) h =
-    let le : n ≤ k = leb-true n k (and_parts (int_le (negsuc k) (pos n)) (int_le (pos n) (pos k)) h).1 in
-    whole_back (pos n) (le-leb n (2 ^ 64 - 1) (omega arith))
-signed_back k few (negsuc n) h =
-    let le : n ≤ k = leb-true n k (and_parts (int_le (negsuc k) (negsuc n)) (int_le (negsuc n) (pos k)) h).0 in
-    whole_back (negsuc n) (and_from (int_le (negsuc (2 ^ 63 - 1)) (negsuc n)) (int_le (negsuc n) (pos (2 ^ 64 - 1))) (le-leb n (2 ^ 63 - 1) (omega arith)) refl)
+either_back : (safe : Bool) (z : ℤ) → IsWide z → whole (if safe then integer_data z else json.string (signed_decimal z)) ≡ Some z
+either_back true z h = plain_back z
+either_back false z h = whole_told_back z h
 
-boolean_back : (z : ℤ) → is_label_of boolean z ≡ true → label_shown boolean (label_data boolean z) ≡ Some z
-boolean_back (pos zero) h = refl
-boolean_back (pos (suc zero)) h = refl
-boolean_back (pos (suc (suc n))) h =
-    let le : suc (suc n) ≤ 1 = leb-true (suc (suc n)) 1 (and_parts (int_le (pos 0) (pos (suc (suc n)))) (int_le (pos (suc (suc n))) (pos 1)) h).1 in
-    absurd (omega arith)
-boolean_back (negsuc n) h = absurd cc
-
-char_label_back : (z : ℤ) → is_label_of char z ≡ true → label_shown char (label_data char z) ≡ Some z
-char_label_back (pos n) h =
-    let le : n ≤ 2 ^ 8 - 1 = leb-true n (2 ^ 8 - 1) (and_parts (int_le (pos 0) (pos n)) (int_le (pos n) (pos (2 ^ 8 - 1))) h).1 in
-    let small : nat_lt n (2 ^ 8) ≡ true = lt-ltb n (2 ^ 8) (omega arith) in
-    rw (small, char_back n small) refl
-char_label_back (negsuc n) h = absurd cc
-
-names_label_back : (names : List (List ℕ)) (z : ℤ) → has_doubled same_name names ≡ false → fits_label (labels names) z ≡ true
-    → label_shown (labels names) (label_data (labels names) z) ≡ Some z
-names_label_back names (pos n) apart h =
-    let lt : n < min (length names) (2 ^ 32) = ltb-true n (min (length names) (2 ^ 32))
-    (and_parts (int_le (pos 0) (pos n)) (int_lt (pos n) (pos (min (length names) (2 ^ 32)))) h).1 in
-    let small : nat_lt n (2 ^ 32) ≡ true = lt-ltb n (2 ^ 32) (omega arith) in
-    let named : nat_lt n (length names) ≡ true = lt-ltb n (length names) (omega arith) in
-    rw (small, name_back names n apart named) refl
-names_label_back names (negsuc n) apart h = absurd cc
+number_back : (numbers : NumberForm) (z : ℤ) → IsWide z → whole (number_data numbers z) ≡ Some z
+number_back Plain z h = plain_back z
+number_back Quoted z h = either_back (is_safe z) z h
 
 -- the names of an enum, which no two are the same of
 abbrev pub AreApart : Shape → Type 0
 AreApart (labels names) = has_doubled same_name names ≡ false
 AreApart _ = Unit {0}
 
-pub label_back : (disc : Shape) (z : ℤ) → AreApart disc → fits_label disc z ≡ true → label_shown disc (label_data disc z) ≡ Some z
-label_back boolean z apart h = boolean_back z h
-label_back char z apart h = char_label_back z h
-label_back short z apart h = signed_back 32767 (omega arith) z h
-label_back ushort z apart h = natural_back 65535 (omega arith) z h
-label_back long z apart h = signed_back 2147483647 (omega arith) z h
-label_back ulong z apart h = natural_back 4294967295 (omega arith) z h
-label_back longlong z apart h = signed_back 9223372036854775807 (omega arith) z h
-label_back ulonglong z apart h = natural_back 18446744073709551615 (omega arith) z h
-label_back (labels names) z apart h = names_label_back names z apart h
-label_back octet z apart h = absurd (false≢true h)
-label_back (text n) z apart h = absurd (false≢true h)
-label_back (octets n) z apart h = absurd (false≢true h)
-label_back (members fs) z apart h = absurd (false≢true h)
-label_back (choice d bs o) z apart h = absurd (false≢true h)
-label_back (items t n) z apart h = absurd (false≢true h)
-label_back (row t n) z apart h = absurd (false≢true h)
+-- the form of numbers
+module _ (numbers : NumberForm) where
+  whole_back : (z : ℤ) → IsWide z → whole (whole_data numbers z) ≡ Some z
+  whole_back z h = rw h (number_back numbers z h)
+
+  pub natural_back : (k : ℕ) → k ≤ 2 ^ 64 - 1 → (z : ℤ) → is_between (pos 0) (pos k) z ≡ true → whole (whole_data numbers z) ≡ Some z
+  natural_back k few (pos n) h =
+      let le : n ≤ k = leb-true n k (and_parts (int_le (pos 0) (pos n)) (int_le (pos n) (pos k)) h).1 in
+      whole_back (pos n) (le-leb n (2 ^ 64 - 1) (omega arith))
+  natural_back k few (negsuc n) h = absurd cc
+
+  pub signed_back : (k : ℕ) → k ≤ 2 ^ 63 - 1 → (z : ℤ) → is_between (negsuc k) (pos k) z ≡ true → whole (whole_data numbers z) ≡ Some z
+  signed_back k few (pos n) h =
+      let le : n ≤ k = leb-true n k (and_parts (int_le (negsuc k) (pos n)) (int_le (pos n) (pos k)) h).1 in
+      whole_back (pos n) (le-leb n (2 ^ 64 - 1) (omega arith))
+  signed_back k few (negsuc n) h =
+      let le : n ≤ k = leb-true n k (and_parts (int_le (negsuc k) (negsuc n)) (int_le (negsuc n) (pos k)) h).0 in
+      whole_back (negsuc n) (and_from (int_le (negsuc (2 ^ 63 - 1)) (negsuc n)) (int_le (negsuc n) (pos (2 ^ 64 - 1)))
+      (le-leb n (2 ^ 63 - 1) (omega arith)) refl)
+
+  boolean_back : (z : ℤ) → is_label_of boolean z ≡ true → label_shown boolean (label_data numbers boolean z) ≡ Some z
+  boolean_back (pos zero) h = refl
+  boolean_back (pos (suc zero)) h = refl
+  boolean_back (pos (suc (suc n))) h =
+      let le : suc (suc n) ≤ 1 = leb-true (suc (suc n)) 1 (and_parts (int_le (pos 0) (pos (suc (suc n)))) (int_le (pos (suc (suc n))) (pos 1)) h).1 in
+      absurd (omega arith)
+  boolean_back (negsuc n) h = absurd cc
+
+  char_label_back : (z : ℤ) → is_label_of char z ≡ true → label_shown char (label_data numbers char z) ≡ Some z
+  char_label_back (pos n) h =
+      let le : n ≤ 2 ^ 8 - 1 = leb-true n (2 ^ 8 - 1) (and_parts (int_le (pos 0) (pos n)) (int_le (pos n) (pos (2 ^ 8 - 1))) h).1 in
+      let small : nat_lt n (2 ^ 8) ≡ true = lt-ltb n (2 ^ 8) (omega arith) in
+      rw (small, char_back n small) refl
+  char_label_back (negsuc n) h = absurd cc
+
+  names_label_back : (names : List (List ℕ)) (z : ℤ) → has_doubled same_name names ≡ false → fits_label (labels names) z ≡ true
+      → label_shown (labels names) (label_data numbers (labels names) z) ≡ Some z
+  names_label_back names (pos n) apart h =
+      let lt : n < min (length names) (2 ^ 32) = ltb-true n (min (length names) (2 ^ 32))
+      (and_parts (int_le (pos 0) (pos n)) (int_lt (pos n) (pos (min (length names) (2 ^ 32)))) h).1 in
+      let small : nat_lt n (2 ^ 32) ≡ true = lt-ltb n (2 ^ 32) (omega arith) in
+      let named : nat_lt n (length names) ≡ true = lt-ltb n (length names) (omega arith) in
+      rw (small, name_back names n apart named) refl
+  names_label_back names (negsuc n) apart h = absurd cc
+
+  pub label_back : (disc : Shape) (z : ℤ) → AreApart disc → fits_label disc z ≡ true → label_shown disc (label_data numbers disc z) ≡ Some z
+  label_back boolean z apart h = boolean_back z h
+  label_back char z apart h = char_label_back z h
+  label_back short z apart h = signed_back 32767 (omega arith) z h
+  label_back ushort z apart h = natural_back 65535 (omega arith) z h
+  label_back long z apart h = signed_back 2147483647 (omega arith) z h
+  label_back ulong z apart h = natural_back 4294967295 (omega arith) z h
+  label_back longlong z apart h = signed_back 9223372036854775807 (omega arith) z h
+  label_back ulonglong z apart h = natural_back 18446744073709551615 (omega arith) z h
+  label_back (labels names) z apart h = names_label_back names z apart h
+  label_back octet z apart h = absurd (false≢true h)
+  label_back (text n) z apart h = absurd (false≢true h)
+  label_back (octets n) z apart h = absurd (false≢true h)
+  label_back (members fs) z apart h = absurd (false≢true h)
+  label_back (choice d bs o) z apart h = absurd (false≢true h)
+  label_back (items t n) z apart h = absurd (false≢true h)
+  label_back (row t n) z apart h = absurd (false≢true h)

@@ -20,6 +20,7 @@ use Rattle.giop_types.specs.Values.Views.{trees_of, value_view}
 use Rattle.giop_types.specs.Coding.Decoding.{is_label}
 use Rattle.giop_types.specs.Values.Fits.{fits}
 use Rattle.giop_types.specs.JsonForms.JsonText as utf8
+use Rattle.giop_types.specs.JsonForms.NumberText.{whole_told}
 use Rattle.giop_types.specs.JsonForms.Reference.{is_reference, reference_shown}
 
 -- ---- numbers: one that its type can't hold is shown as the longer one that it is, which doesn't
@@ -45,9 +46,14 @@ abbrev pub number_tree : Shape → ℤ → Tree
 number_tree s (pos n) = natural_tree s n
 number_tree s (negsuc n) = negative_tree s n
 
--- a whole number, without fraction or exponent
+-- what a number says without fraction or exponent, or else a text
+abbrev pub said_by : Option json.Num → Option (List ℕ) → Option ℤ
+said_by (Some n) s = as_integer n
+said_by None s = option_and_then whole_told s
+
+-- a whole number, or the text of one
 abbrev pub whole : json.Data → Option ℤ
-whole d = option_and_then as_integer (as_number d)
+whole d = said_by (as_number d) (as_str d)
 
 -- ---- texts
 

@@ -1,6 +1,5 @@
 -- What contracts see of the parts of an interface whose descriptions are still to be checked.
 use Rattle.std.specs.Prelude.{ℕ, List, map}
-use Rattle.giop_cdr.specs.declared.octet_list.OctetList.{OctetList}
 use Rattle.giop_types.specs.declared.json.interface_form.OperationForm.{OperationForm}
 use Rattle.giop_types.specs.declared.json.interface_form.ParametersForm.{ParametersForm}
 use Rattle.giop_types.specs.JsonForms.InterfaceFromJson.{Signature}

@@ -1,6 +1,6 @@
 -- The interface that a JSON text is: its operations by their names, and its exceptions by their
 -- ids, of which every description is checked.
-use Rattle.std.specs.Prelude.{ℕ, ◌+◌, codes, Bool, true, false, ◌&&◌, ◌||◌, not, if◌then◌else◌}
+use Rattle.std.specs.Prelude.{ℕ, ◌+◌, codes, Bool, true, false, ◌||◌, if◌then◌else◌}
 use Rattle.std.specs.Prelude.{List, [], ◌∷◌, map, Option, Some, None, option_map, option_and_then, is_some, Result, Ok, Err, Vec}
 use Rattle.std.specs.BTreeMap.{BTreeMap, insert_entry}
 use Rattle.std.specs.declared.alloc.Global.{Global}

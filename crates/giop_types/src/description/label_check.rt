@@ -12,8 +12,8 @@ use crate::description::desc::{CaseDesc, Desc};
 use std::alloc::Global;
 use std::collections::BTreeSet;
 
-// Whether a label is from the first number to the last.
-fn is_between(first: &i128, last: &i128, label: &i128) -> bool
+/// Whether a label is from the first number to the last.
+pub fn is_between(first: &i128, last: &i128, label: &i128) -> bool
     ensures { result ≡ is_between first.now last.now label.now }
 {
     first <= label && label <= last

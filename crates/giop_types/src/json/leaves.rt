@@ -2,10 +2,12 @@
 //! read_leaves.rt reads them.
 ghost use Rattle.std.specs.Prelude.{◌≡◌, IfOk};
 ghost use Rattle.serde_json.specs.View.{view};
-ghost use Rattle.giop_types.specs.JsonForms.ToJson.{text_data, name_data, whole_data, label_data};
+ghost use Rattle.giop_types.specs.JsonForms.ToJson.{text_data, name_data, is_safe, whole_data, label_data};
 ghost use Rattle.giop_types.specs.Values.Views.{desc_view};
 
 use crate::description::desc::Desc;
+use crate::description::label_check::is_between;
+use crate::json::number_form::NumberForm;
 use crate::json::texts::text_of;
 use giop_cdr::OctetList;
 use serde_json::{Number, Value as Json};
@@ -29,20 +31,36 @@ pub fn name_json(alloc: Global, names: &[OctetList], ordinal: usize) -> Result<J
     }
 }
 
-/// A number as JSON, or null where it takes more than 64 bits.
-pub fn whole_json(number: &i128) -> Json
-    ensures { view result ≡ whole_data number.now }
+// Whether a number is within those that a float of 64 bits tells from the ones beside them.
+fn is_safe(number: &i128) -> bool
+    ensures { result ≡ is_safe number.now }
 {
-    match Number::from_i128(*number) {
-        Some(number) => Json::Number(number),
-        None => Json::Null,
+    is_between(&-0x1f_ffff_ffff_ffff, &0x1f_ffff_ffff_ffff, number)
+}
+
+/// A number as JSON, or null where it takes more than 64 bits.
+pub fn whole_json(alloc: Global, numbers: NumberForm, number: &i128) -> Result<Json, AllocError>
+    ensures { IfOk result (λ json. view json ≡ whole_data numbers number.now) }
+{
+    let Some(plain) = Number::from_i128(*number) else {
+        return Ok(Json::Null);
+    };
+    match numbers {
+        NumberForm::Quoted if !is_safe(number) => Ok(Json::String(number.to_string(alloc)?)),
+        _ => Ok(Json::Number(plain)),
     }
 }
 
 /// A discriminant as JSON. It is null where a char or an enum has no such number, or the number
 /// takes more than 64 bits.
-pub fn label_json(alloc: Global, disc: &Desc, label: &i128) -> Result<Json, AllocError>
-    ensures { IfOk result (λ json. view json ≡ label_data (desc_view disc.now) label.now) }
+pub fn label_json(
+    alloc: Global,
+    numbers: NumberForm,
+    disc: &Desc,
+    label: &i128,
+) -> Result<Json, AllocError>
+    ensures { IfOk result
+        (λ json. view json ≡ label_data numbers (desc_view disc.now) label.now) }
 {
     match disc {
         Desc::Boolean => Ok(Json::Bool(*label != 0)),
@@ -54,6 +72,6 @@ pub fn label_json(alloc: Global, disc: &Desc, label: &i128) -> Result<Json, Allo
             Ok(ordinal) => name_json(alloc, names, ordinal as usize),
             Err(_) => Ok(Json::Null),
         },
-        _ => Ok(whole_json(label)),
+        _ => whole_json(alloc, numbers, label),
     }
 }

@@ -1,25 +1,26 @@
 //! Reading the parts of values that are one JSON value: numbers, texts, names and discriminants.
 //! leaves.rt and to_json.rt write them.
-ghost use Rattle.std.specs.Prelude.{◌≡◌, IfOk, option_map};
+ghost use Rattle.std.specs.Prelude.{◌≡◌, option_map};
 ghost use Rattle.giop_types.specs.JsonForms.FromJson.{Shows, natural_tree, number_tree, whole, octets_shown, char_shown, hex_shown, ordinal_in, ordinal_shown, ordinal_tree, label_shown};
 ghost use Rattle.giop_types.specs.Values.Views.{desc_view, value_view};
 ghost use Rattle.serde_json.specs.View.{view};
 
 use crate::description::desc::Desc;
 use crate::json::form_fault::FormFault;
-use crate::json::texts::{octets_in, text_of};
+use crate::json::number_text::number_in;
+use crate::json::texts::{is_text_of, octets_in};
 use crate::value::Value;
 use giop_cdr::OctetList;
 use hex::FromHexError;
 use serde_json::Value as Json;
-use std::alloc::{AllocError, Global};
+use std::alloc::Global;
 
-/// Reads a whole number. Another JSON value is BadShape, and so is a number with a fraction or an
-/// exponent.
+/// Reads a whole number, or a text that says one of 64 bits. Another JSON value is BadShape, and so
+/// is a number with a fraction or an exponent.
 pub fn whole_of(json: &Json) -> Result<i128, FormFault>
     ensures { Shows (λ z. z) result (whole (view json.now)) }
 {
-    match json.as_number() {
+    match number_in(json) {
         Some(number) => match number.as_i128() {
             Some(whole) => Ok(whole),
             None => Err(FormFault::BadShape),
@@ -34,10 +35,13 @@ pub fn number_of(desc: &Desc, json: &Json) -> Result<Value, FormFault>
     ensures { Shows value_view result
         (option_map (number_tree (desc_view desc.now)) (whole (view json.now))) }
 {
-    if let Some(number) = json.as_u64() {
+    let Some(number) = number_in(json) else {
+        return Err(FormFault::BadShape);
+    };
+    if let Some(number) = number.as_u64() {
         return Ok(natural_value(desc, number));
     }
-    match json.as_i64() {
+    match number.as_i64() {
         Some(number) => Ok(integer_value(desc, number)),
         None => Err(FormFault::BadShape),
     }
@@ -112,16 +116,17 @@ pub fn hex_of(alloc: Global, json: &Json) -> Result<OctetList, FormFault>
     }
 }
 
-// The ordinal of the first name that has this text, or the number of names where none has it.
-fn ordinal_in(alloc: Global, text: &str, names: &[OctetList]) -> Result<usize, AllocError>
-    ensures { IfOk result (λ ordinal. ordinal ≡ ordinal_in text.now names.now) }
+// The ordinal of the first name that has this text, or the number of names where none has it. It
+// takes no memory.
+fn ordinal_in(text: &str, names: &[OctetList]) -> usize
+    ensures { result ≡ ordinal_in text.now names.now }
 {
     for (i, name) in names.iter().enumerate() {
-        if text_of(alloc, name.as_slice())?.as_str() == text {
-            return Ok(i);
+        if is_text_of(name.as_slice(), text) {
+            return i;
         }
     }
-    Ok(names.len())
+    names.len()
 }
 
 /// The ordinal of a name, or the number of names where the text is none of them. A text with a
@@ -132,7 +137,7 @@ pub fn ordinal_of(alloc: Global, names: &[OctetList], json: &Json) -> Result<usi
     let Some(text) = json.as_str() else {
         return Err(FormFault::BadShape);
     };
-    let ordinal = ordinal_in(alloc, text, names)?;
+    let ordinal = ordinal_in(text, names);
     if ordinal < names.len() {
         return Ok(ordinal);
     }

@@ -1,6 +1,6 @@
 //! JSON texts that are octets: the characters U+0000 to U+00FF are the octets 0 to 255. The code is
 //! specs/JsonForms/JsonText.antt; other characters are refused.
-ghost use Rattle.std.specs.Prelude.{◌≡◌, IfOk, option_map, string_bytes};
+ghost use Rattle.std.specs.Prelude.{◌≡◌, ◌&&◌, ◌==◌, nat_lt, length, slice_index, IfOk, option_map, string_bytes, bytes_eq};
 ghost use Rattle.giop_types.specs.JsonForms.JsonText.{text_of, octets_in};
 
 use giop_cdr::OctetList;
@@ -15,6 +15,28 @@ pub fn text_of(alloc: Global, octets: &[u8]) -> Result<String, AllocError>
         text.push(char::from(*octet))?;
     }
     Ok(text)
+}
+
+/// Whether a text is that of these octets. It takes no memory, and ends at the first character that
+/// isn't theirs.
+pub fn is_text_of(octets: &[u8], text: &str) -> bool
+    ensures { result ≡ bytes_eq (text_of octets.now) text.now }
+{
+    let mut passed = 0;
+    for c in text.chars() {
+        if !is_at(octets, passed, c) {
+            return false;
+        }
+        passed += 1;
+    }
+    passed == octets.len()
+}
+
+// Whether an octet stands at a place, and is this character.
+fn is_at(octets: &[u8], at: usize, c: char) -> bool
+    ensures { result ≡ (nat_lt at (length octets.now) && (slice_index octets.now at == c)) }
+{
+    at < octets.len() && u32::from(octets[at]) == u32::from(c)
 }
 
 /// The octets of a text, or None where a character is above U+00FF.

@@ -4,6 +4,7 @@ ghost use Rattle.std.specs.Prelude.{◌≡◌, ◌⊎◌, map, option_map, true,
 ghost use Rattle.serde_json.specs.Data.{array, object, no_members, put as with_member};
 ghost use Rattle.serde_json.specs.View.{view, items_of, members_view};
 ghost use Rattle.giop_types.specs.declared.json.form_fault.FormFault.TheVariants.{Unfit, NoMemory};
+ghost use Rattle.giop_types.specs.declared.json.number_form.NumberForm.TheVariants.{Plain};
 ghost use Rattle.giop_types.specs.Descriptions.CheckedShape.{checked_shape};
 ghost use Rattle.giop_types.specs.Descriptions.Shape.{is_leaf};
 ghost use Rattle.giop_types.specs.Values.Fits.{fits};
@@ -16,18 +17,41 @@ use crate::codec::reading::has_label;
 use crate::description::checked_desc::CheckedDesc;
 use crate::description::desc::{CaseDesc, Desc, NamedDesc};
 use crate::json::form_fault::FormFault;
-use crate::json::leaves::{label_json, name_json, text_json};
+use crate::json::leaves::{label_json, name_json, text_json, whole_json};
+use crate::json::number_form::NumberForm;
 use crate::json::reference::{is_reference, reference_json};
 use crate::json::texts::text_of;
 use crate::value::Value;
 use serde_json::{Map, Value as Json};
 use std::alloc::{AllocError, Global};
 
-/// A value of this description as JSON, which `value_from_json` reads as the value. Refused as
-/// Unfit where the value isn't of the description, and as NoMemory when out of memory.
+/// A value of this description as JSON, its whole numbers as JSON numbers. `value_from_json` reads
+/// it as the value. Refused as Unfit where the value isn't of the description, and as NoMemory when
+/// out of memory.
 pub fn value_to_json(alloc: Global, desc: &CheckedDesc, value: &Value) -> Result<Json, FormFault>
     ensures value { IfOk result (λ json.
-        view json ≡ to_data (checked_shape desc.now) (value_view value.now)) }
+        view json ≡ to_data Plain (checked_shape desc.now) (value_view value.now)) }
+    ensures back { IfOk result (λ json.
+        from_data (checked_shape desc.now) (view json) ≡ Ok (value_view value.now)) }
+    ensures only { fits (checked_shape desc.now) (value_view value.now) ≡ false
+        → IsErrOf result Unfit }
+    ensures err { IfErr result
+        (λ e. ((e ≡ Unfit) × (fits (checked_shape desc.now) (value_view value.now) ≡ false))
+        ⊎ (e ≡ NoMemory)) }
+{
+    value_to_json_in(alloc, NumberForm::Plain, desc, value)
+}
+
+/// A value of this description as JSON, its whole numbers in a form. `value_from_json` reads it as
+/// the value. Refused as `value_to_json` refuses.
+pub fn value_to_json_in(
+    alloc: Global,
+    numbers: NumberForm,
+    desc: &CheckedDesc,
+    value: &Value,
+) -> Result<Json, FormFault>
+    ensures value { IfOk result (λ json.
+        view json ≡ to_data numbers (checked_shape desc.now) (value_view value.now)) }
     ensures back { IfOk result (λ json.
         from_data (checked_shape desc.now) (view json) ≡ Ok (value_view value.now)) }
     ensures only { fits (checked_shape desc.now) (value_view value.now) ≡ false
@@ -39,15 +63,20 @@ pub fn value_to_json(alloc: Global, desc: &CheckedDesc, value: &Value) -> Result
     if !fits(desc, value) {
         return Err(FormFault::Unfit);
     }
-    Ok(to_json(alloc, value, desc.desc())?)
+    Ok(to_json(alloc, numbers, value, desc.desc())?)
 }
 
 /// Writes a value as JSON. It is null where the value is of another kind than its description.
 #[cycle(to_json)]
 #[tactic(auto, unfolding(crate::specs::JsonForms::ToJson::to_data))]
-pub fn to_json(alloc: Global, value: &Value, desc: &Desc) -> Result<Json, AllocError>
+pub fn to_json(
+    alloc: Global,
+    numbers: NumberForm,
+    value: &Value,
+    desc: &Desc,
+) -> Result<Json, AllocError>
     ensures { IfOk result
-        (λ json. view json ≡ to_data (desc_view desc.now) (value_view value.now)) }
+        (λ json. view json ≡ to_data numbers (desc_view desc.now) (value_view value.now)) }
 {
     match desc {
         Desc::Members(members) => match value {
@@ -55,7 +84,7 @@ pub fn to_json(alloc: Global, value: &Value, desc: &Desc) -> Result<Json, AllocE
                 if is_reference(members) {
                     reference_json(alloc, value, desc)
                 } else {
-                    members_json(alloc, values, members)
+                    members_json(alloc, numbers, values, members)
                 }
             }
             _ => Ok(Json::Null),
@@ -70,29 +99,34 @@ pub fn to_json(alloc: Global, value: &Value, desc: &Desc) -> Result<Json, AllocE
                 member,
             } => choice_json(
                 alloc,
-                label_json(alloc, disc, label)?,
-                member_json(alloc, member, selected(cases, fallback, label))?,
+                label_json(alloc, numbers, disc, label)?,
+                member_json(alloc, numbers, member, selected(cases, fallback, label))?,
             ),
             _ => Ok(Json::Null),
         },
         Desc::Items(item, _) => match value {
-            Value::Items(values) => items_json(alloc, values, item),
+            Value::Items(values) => items_json(alloc, numbers, values, item),
             _ => Ok(Json::Null),
         },
         Desc::Row(item, _) => match value {
-            Value::Row(values) => items_json(alloc, values, item),
+            Value::Row(values) => items_json(alloc, numbers, values, item),
             _ => Ok(Json::Null),
         },
-        _ => leaf_json(alloc, value, desc),
+        _ => leaf_json(alloc, numbers, value, desc),
     }
 }
 
 // A value that holds no other value.
 #[tactic(auto, unfolding(crate::specs::JsonForms::ToJson::to_data))]
-fn leaf_json(alloc: Global, value: &Value, desc: &Desc) -> Result<Json, AllocError>
+fn leaf_json(
+    alloc: Global,
+    numbers: NumberForm,
+    value: &Value,
+    desc: &Desc,
+) -> Result<Json, AllocError>
     requires { is_leaf (desc_view desc.now) ≡ true }
     ensures { IfOk result
-        (λ json. view json ≡ to_data (desc_view desc.now) (value_view value.now)) }
+        (λ json. view json ≡ to_data numbers (desc_view desc.now) (value_view value.now)) }
 {
     match (desc, value) {
         (Desc::Boolean, Value::Boolean(boolean)) => Ok(Json::from(*boolean)),
@@ -102,8 +136,12 @@ fn leaf_json(alloc: Global, value: &Value, desc: &Desc) -> Result<Json, AllocErr
         (Desc::UShort, Value::UShort(number)) => Ok(Json::from(*number)),
         (Desc::Long, Value::Long(number)) => Ok(Json::from(*number)),
         (Desc::ULong, Value::ULong(number)) => Ok(Json::from(*number)),
-        (Desc::LongLong, Value::LongLong(number)) => Ok(Json::from(*number)),
-        (Desc::ULongLong, Value::ULongLong(number)) => Ok(Json::from(*number)),
+        (Desc::LongLong, Value::LongLong(number)) => {
+            whole_json(alloc, numbers, &i128::from(*number))
+        }
+        (Desc::ULongLong, Value::ULongLong(number)) => {
+            whole_json(alloc, numbers, &i128::from(*number))
+        }
         (Desc::Text(_), Value::Text(text)) => text_json(alloc, text.as_slice()),
         (Desc::Octets(_), Value::Octets(octets)) => {
             Ok(Json::String(hex::encode(alloc, octets.as_slice())?))
@@ -115,16 +153,21 @@ fn leaf_json(alloc: Global, value: &Value, desc: &Desc) -> Result<Json, AllocErr
 
 // The members of a struct as an object, by their names.
 #[cycle(to_json)]
-fn members_json(alloc: Global, values: &[Value], members: &[NamedDesc]) -> Result<Json, AllocError>
+fn members_json(
+    alloc: Global,
+    numbers: NumberForm,
+    values: &[Value],
+    members: &[NamedDesc],
+) -> Result<Json, AllocError>
     ensures { IfOk result (λ json. view json
-        ≡ object (fields_data (fields_of (map named_view members.now))
+        ≡ object (fields_data numbers (fields_of (map named_view members.now))
         (map value_view values.now) no_members)) }
 {
     let mut object = Map::new(alloc);
     for i in 0..members.len().min(values.len()) {
         let member = &members[i];
         let name = text_of(alloc, member.name.as_slice())?;
-        let value = to_json(alloc, &values[i], &member.desc)?;
+        let value = to_json(alloc, numbers, &values[i], &member.desc)?;
         put(&mut object, name, value)?;
     }
     Ok(Json::Object(object))
@@ -141,13 +184,18 @@ fn put(object: &mut Map<String, Json>, name: String, value: Json) -> Result<(), 
 
 // Values as a list.
 #[cycle(to_json)]
-fn items_json(alloc: Global, values: &[Value], item: &Desc) -> Result<Json, AllocError>
-    ensures { IfOk result (λ json. view json
-        ≡ array (items_of (map (to_data (desc_view item.now)) (map value_view values.now)))) }
+fn items_json(
+    alloc: Global,
+    numbers: NumberForm,
+    values: &[Value],
+    item: &Desc,
+) -> Result<Json, AllocError>
+    ensures { IfOk result (λ json. view json ≡ array
+        (items_of (map (to_data numbers (desc_view item.now)) (map value_view values.now)))) }
 {
     let mut list = Vec::with_capacity(alloc, values.len())?;
     for value in values {
-        let json = to_json(alloc, value, item)?;
+        let json = to_json(alloc, numbers, value, item)?;
         list.push(json)?;
     }
     Ok(Json::Array(list))
@@ -187,14 +235,15 @@ fn choice_json(alloc: Global, label: Json, member: Json) -> Result<Json, AllocEr
 #[cycle(to_json)]
 fn member_json(
     alloc: Global,
+    numbers: NumberForm,
     member: &Option<Box<Value>>,
     desc: Option<&Desc>,
 ) -> Result<Json, AllocError>
-    ensures { IfOk result (λ json. view json
-        ≡ selected_data (option_map (λ d. desc_view d.now) desc.entry) (member_view member.now)) }
+    ensures { IfOk result (λ json. view json ≡ selected_data numbers
+        (option_map (λ d. desc_view d.now) desc.entry) (member_view member.now)) }
 {
     match (member, desc) {
-        (Some(value), Some(desc)) => to_json(alloc, value, desc),
+        (Some(value), Some(desc)) => to_json(alloc, numbers, value, desc),
         _ => Ok(Json::Null),
     }
 }

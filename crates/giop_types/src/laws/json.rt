@@ -2,6 +2,7 @@
 //! empty, and that of the second makes the calls that it is about. No program calls these.
 ghost use Rattle.std.specs.Prelude.{◌≡◌, ◌↔◌, true, false, None, Ok, IfOk, IsErrOf};
 ghost use Rattle.giop_types.specs.declared.json.form_fault.FormFault.TheVariants.{Unfit};
+ghost use Rattle.giop_types.specs.declared.json.number_form.NumberForm.{NumberForm};
 ghost use Rattle.giop_types.specs.Descriptions.Checked.{desc_fault};
 ghost use Rattle.giop_types.specs.Descriptions.CheckedShape.{checked_shape};
 ghost use Rattle.giop_types.specs.JsonForms.Plain.{is_plain};
@@ -14,23 +15,26 @@ ghost use Rattle.giop_types.specs.Values.Views.{value_view};
 
 use crate::description::checked_desc::CheckedDesc;
 use crate::json::form_fault::FormFault;
-use crate::json::{value_from_json, value_to_json};
+use crate::json::number_form::NumberForm;
+use crate::json::{value_from_json, value_to_json_in};
 use crate::value::Value;
 use std::alloc::Global;
 
-/// A fitting value that is written as JSON is read as that value, references included. That holds
-/// of every description without a fault in which each union has one member by default at most, as
-/// in each `Desc`.
+/// A fitting value that is written as JSON, its numbers in either form, is read as that value,
+/// references included. That holds of every description without a fault in which each union has one
+/// member by default at most, as in each `Desc`.
 pub fn json_gives_values_back()
     ensures { (shape : Shape) → desc_fault 1 shape ≡ None → is_plain shape ≡ true
-        → (tree : Tree) → fits shape tree ≡ true → from_data shape (to_data shape tree) ≡ Ok tree }
+        → (tree : Tree) → fits shape tree ≡ true → (numbers : NumberForm)
+        → from_data shape (to_data numbers shape tree) ≡ Ok tree }
 {}
 
 /// Writes a value as JSON and reads that again. Refused as Unfit where the value isn't of the
-/// description, or as NoMemory. `value_from_json` returns the value for what `value_to_json` wrote,
-/// or is out of memory: it refuses nothing else.
+/// description, or as NoMemory. `value_from_json` returns the value for what `value_to_json_in`
+/// wrote, or is out of memory: it refuses nothing else.
 pub fn written_and_read_as_json(
     alloc: Global,
+    numbers: NumberForm,
     desc: &CheckedDesc,
     value: &Value,
 ) -> Result<Result<Value, FormFault>, FormFault>
@@ -38,6 +42,6 @@ pub fn written_and_read_as_json(
     ensures err { IsErrOf result Unfit
         ↔ (fits (checked_shape desc.now) (value_view value.now) ≡ false) }
 {
-    let json = value_to_json(alloc, desc, value)?;
+    let json = value_to_json_in(alloc, numbers, desc, value)?;
     Ok(value_from_json(alloc, desc, &json))
 }

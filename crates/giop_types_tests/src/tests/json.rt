@@ -2,7 +2,8 @@
 //! program (tests/cases/values, descriptions, nesting).
 use giop_cdr::{CdrOut, Order};
 use giop_types::{
-    FormFault, Value, desc_from_json, encode, reference_desc, value_from_json, value_to_json,
+    FormFault, NumberForm, Value, desc_from_json, encode, reference_desc, value_from_json,
+    value_to_json, value_to_json_in,
 };
 use serde_json::Value as Json;
 use std::alloc::Global;
@@ -19,6 +20,45 @@ fn a_value_is_read_and_written_again(rt: HostRuntime) -> Result<(), Fail> {
     assert_eq!(rt; written.to_string(alloc)?.as_str(), "[1,-2]");
     let other = value_from_json(alloc, &desc, &Json::from_str(alloc, "[2147483648]")?);
     assert_eq!(rt; other.err(), Some(FormFault::Unfit));
+    Ok(())
+}
+
+// A long long, an unsigned long long and a discriminant, plain and where texts are asked for.
+#[test]
+fn numbers_from_2_53_on_are_texts_where_that_is_asked_for(rt: HostRuntime) -> Result<(), Fail> {
+    let alloc = rt.alloc();
+    let union = "{\"union\":\"longlong\",\"cases\":[[[1],\"a\",\"octet\"]]}";
+    let rows = [
+        ("\"longlong\"", "9007199254740991", "9007199254740991"),
+        ("\"longlong\"", "9007199254740992", "\"9007199254740992\""),
+        ("\"longlong\"", "-9007199254740991", "-9007199254740991"),
+        ("\"longlong\"", "-9007199254740992", "\"-9007199254740992\""),
+        (
+            "\"longlong\"",
+            "-9223372036854775808",
+            "\"-9223372036854775808\"",
+        ),
+        (
+            "\"ulonglong\"",
+            "18446744073709551615",
+            "\"18446744073709551615\"",
+        ),
+        (
+            union,
+            "{\"disc\":9007199254740993,\"value\":null}",
+            "{\"disc\":\"9007199254740993\",\"value\":null}",
+        ),
+    ];
+    for (desc, plain, quoted) in rows {
+        let desc = desc_from_json(alloc, desc.as_bytes())?;
+        for text in [plain, quoted] {
+            let value = value_from_json(alloc, &desc, &Json::from_str(alloc, text)?)?;
+            let numbers = value_to_json(alloc, &desc, &value)?;
+            assert_eq!(rt; numbers.to_string(alloc)?.as_str(), plain);
+            let texts = value_to_json_in(alloc, NumberForm::Quoted, &desc, &value)?;
+            assert_eq!(rt; texts.to_string(alloc)?.as_str(), quoted);
+        }
+    }
     Ok(())
 }
 

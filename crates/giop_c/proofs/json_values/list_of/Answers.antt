@@ -9,6 +9,7 @@ use Rattle.serde_json.proofs.Views.{view-Array}
 use Rattle.giop_types.specs.declared.json.form_fault.FormFault.{FormFault}
 use Rattle.giop_types.specs.declared.json.form_fault.FormFault.TheVariants.{NoMemory, Unfit}
 use Rattle.giop_types.specs.Descriptions.CheckedShape.{checked_shape}
+use Rattle.giop_types.specs.declared.json.number_form.NumberForm.TheVariants.{Plain}
 use Rattle.giop_types.specs.JsonForms.ToJson.{to_data}
 use Rattle.giop_types.specs.Values.Fits.{fields_fit, fits}
 use Rattle.giop_types.specs.Values.Views.{value_view}
@@ -50,7 +51,7 @@ loop-i-preserved c =
     let shape = checked_shape p.result.desc in
     let tree = value_view v.result in
     let pushed : map view c.push.new.self.items ≡ map view l.list.items ++ view c.in_ok-json.json ∷ [] = grind (arith, common_steps) in
-    let made : map view c.push.new.self.items ≡ map view l.list.items ++ to_data shape tree ∷ [] =
+    let made : map view c.push.new.self.items ≡ map view l.list.items ++ to_data Plain shape tree ∷ [] =
     pushed ∙ ap (λ d. map view l.list.items ++ d ∷ []) (rw (← p.is) at c.in_ok-json.ensures.value) in
     let passes : fits shape tree ≡ true = true_from_ne_false _ (λ fails. let e = (rw (← p.is) at c.in_ok-json.ensures.only) fails in cc) in
     record {

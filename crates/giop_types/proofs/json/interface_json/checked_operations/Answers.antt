@@ -1,4 +1,4 @@
-use Rattle.std.proofs.Common.{◌≡◌, ◌∷◌, [], arith, length, ap, sym}
+use Rattle.std.proofs.Common.{◌≡◌, ◌∷◌, arith, length, ap, sym}
 use Rattle.std.specs.Vec.Iter.{into_iter_items}
 use Rattle.giop_types.specs.JsonForms.InterfaceForms.{operation_entry, operation_form_view}
 use Rattle.giop_types.specs.JsonForms.InterfaceFromJson.{operation_view, signature_fault}

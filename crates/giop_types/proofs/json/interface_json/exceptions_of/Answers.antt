@@ -2,13 +2,11 @@ use Rattle.std.proofs.Common.{◌≡◌, ◌++◌, ◌∷◌, [], map, arith, So
 use Rattle.std.proofs.lemmas.Grind.{common_steps}
 use Rattle.std.proofs.lemmas.List.{map-append}
 use Rattle.std.proofs.lemmas.Map.Iter.{rest_more, rest_all}
-use Rattle.std.proofs.lemmas.Result.{err_from_is_err_and}
 use Rattle.std.specs.Map.Iter.{deref_pair}
 use Rattle.serde_json.specs.View.{view, members_view}
 use Rattle.giop_types.specs.JsonForms.InterfaceForms.{exception_entry, parameters_form_view}
 use Rattle.giop_types.specs.JsonForms.InterfaceFromJson.{name_in, entries_in, parameters_in}
-use Rattle.giop_types.proofs.JsonForms.FromJsonLemmas.{refused_along}
-use Rattle.giop_types.proofs.JsonForms.InterfaceLemmas.{member_made, member_missing, members_made, nameless, unsaid, tabled}
+use Rattle.giop_types.proofs.JsonForms.InterfaceLemmas.{member_made, members_made, tabled}
 use Rattle.giop_types.proofs.json.interface_json.exceptions_of.Goals as goal
 
 pub loop-key-preserved : goal.loop-key-preserved

@@ -7,10 +7,10 @@ use Rattle.giop_types.proofs.json.to_json.+to_json.Given as goal
 
 abbrev pub invariant-items_json-loop-value : goal.invariant-items_json-loop-value
 invariant-items_json-loop-value l =
-    map view l.list.items ++ map (to_data (desc_view l.item)) (map value_view (drop l.value-index l.values))
-    ≡ map (to_data (desc_view l.item)) (map value_view l.values)
+    map view l.list.items ++ map (to_data l.numbers (desc_view l.item)) (map value_view (drop l.value-index l.values))
+    ≡ map (to_data l.numbers (desc_view l.item)) (map value_view l.values)
 
 abbrev pub invariant-members_json-loop-i : goal.invariant-members_json-loop-i
 invariant-members_json-loop-i l =
-    fields_data (fields_of (map named_view (drop l.i l.members))) (map value_view (drop l.i l.values)) (members_view l.object.entries)
-    ≡ fields_data (fields_of (map named_view l.members)) (map value_view l.values) no_members
+    fields_data l.numbers (fields_of (map named_view (drop l.i l.members))) (map value_view (drop l.i l.values)) (members_view l.object.entries)
+    ≡ fields_data l.numbers (fields_of (map named_view l.members)) (map value_view l.values) no_members
