@@ -6,7 +6,7 @@ use Rattle.serde_json.specs.Written.{compact_text}
 use Rattle.giop_types.specs.declared.json.interface.Interface.{Interface}
 use Rattle.giop_types.specs.declared.json.interface.Operation.{Operation}
 use Rattle.giop_types.specs.declared.json.parameters.Parameter.{Parameter}
-use Rattle.giop_types.specs.declared.json.number_form.NumberForm.TheVariants.{Plain}
+use Rattle.giop_types.specs.declared.json.number_form.NumberForm.{NumberForm}
 use Rattle.giop_types.specs.Descriptions.CheckedShape.{checked_shape}
 use Rattle.giop_types.specs.Descriptions.Shape.{Shape}
 use Rattle.giop_types.specs.JsonForms.ToJson.{to_data}
@@ -25,22 +25,22 @@ use Rattle.giop_calls.specs.declared.client.entry.ClientEntry.TheVariants as cli
 use Rattle.giop_commands.specs.Convert.{reference_text}
 
 -- a value by its description; null where it is none of it, as no decoded value is
-abbrev pub value_data : Shape → Tree → Data
-value_data shape tree = if fits shape tree then to_data Plain shape tree else null
+abbrev pub value_data : NumberForm → Shape → Tree → Data
+value_data numbers shape tree = if fits shape tree then to_data numbers shape tree else null
 
 -- values, each by the description of its parameter
-abbrev pub each_data : List Parameter → List Tree → List Data
-each_data (parameter ∷ parameters) (tree ∷ trees) =
-    value_data (checked_shape parameter.desc) tree ∷ each_data parameters trees
-each_data [] trees = []
-each_data (parameter ∷ parameters) [] = []
+abbrev pub each_data : NumberForm → List Parameter → List Tree → List Data
+each_data numbers (parameter ∷ parameters) (tree ∷ trees) =
+    value_data numbers (checked_shape parameter.desc) tree ∷ each_data numbers parameters trees
+each_data numbers [] trees = []
+each_data numbers (parameter ∷ parameters) [] = []
 
 -- values as a JSON list
-abbrev pub values_data : List Parameter → List Tree → Data
-values_data parameters trees = array (items_of (each_data parameters trees))
+abbrev pub values_data : NumberForm → List Parameter → List Tree → Data
+values_data numbers parameters trees = array (items_of (each_data numbers parameters trees))
 
-abbrev pub values_text : List Parameter → List Tree → List ℕ
-values_text parameters trees = compact_text (values_data parameters trees)
+abbrev pub values_text : NumberForm → List Parameter → List Tree → List ℕ
+values_text numbers parameters trees = compact_text (values_data numbers parameters trees)
 
 -- the text of the reference that a Reply forwards to; - where octets spell none, as a decoded one's
 -- do
@@ -53,29 +53,29 @@ ins_of (Some operation) = operation.ins.list.items
 ins_of None = []
 
 -- the ins of a Request
-abbrev pub request_ins : Interface → Request → List ℕ
-request_ins interface request =
-    values_text (ins_of (operation_of interface request.head.operation)) request.body
+abbrev pub request_ins : NumberForm → Interface → Request → List ℕ
+request_ins numbers interface request =
+    values_text numbers (ins_of (operation_of interface request.head.operation)) request.body
 
 -- the ins of the Request that stands at a server, where one was decoded and isn't answered
-abbrev pub ins_text : Interface → ServerEntry → List ℕ
-ins_text interface (server.Asked request) = request_ins interface request
-ins_text interface (server.Delivered request) = request_ins interface request
-ins_text interface _ = []
+abbrev pub ins_text : NumberForm → Interface → ServerEntry → List ℕ
+ins_text numbers interface (server.Asked request) = request_ins numbers interface request
+ins_text numbers interface (server.Delivered request) = request_ins numbers interface request
+ins_text numbers interface _ = []
 
 -- what a Reply to a Request brought: the outs of its operation, the members of an exception, or a
 -- reference
-abbrev pub brought_by : Interface → Request → ReplyBody → List ℕ
-brought_by interface request (NoException outs) =
-    values_text (outs_of (operation_of interface request.head.operation)) outs
-brought_by interface request (UserException id members) =
-    values_text (listed (exception_of interface id)) members
-brought_by interface request (SystemException id minor completed) = []
-brought_by interface request (Forward ior) = forward_text ior
-brought_by interface request (ForwardPerm ior) = forward_text ior
-brought_by interface request (NeedsAddressing disposition) = []
+abbrev pub brought_by : NumberForm → Interface → Request → ReplyBody → List ℕ
+brought_by numbers interface request (NoException outs) =
+    values_text numbers (outs_of (operation_of interface request.head.operation)) outs
+brought_by numbers interface request (UserException id members) =
+    values_text numbers (listed (exception_of interface id)) members
+brought_by numbers interface request (SystemException id minor completed) = []
+brought_by numbers interface request (Forward ior) = forward_text ior
+brought_by numbers interface request (ForwardPerm ior) = forward_text ior
+brought_by numbers interface request (NeedsAddressing disposition) = []
 
 -- what the Reply brought that stands at a client
-abbrev pub brought_text : Interface → ClientEntry → List ℕ
-brought_text interface (client.Done request reply) = brought_by interface request reply.body
-brought_text interface _ = []
+abbrev pub brought_text : NumberForm → Interface → ClientEntry → List ℕ
+brought_text numbers interface (client.Done request reply) = brought_by numbers interface request reply.body
+brought_text numbers interface _ = []

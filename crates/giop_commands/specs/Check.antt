@@ -28,6 +28,7 @@ use Rattle.giop_commands.specs.declared.status.Status.{Status}
 use Rattle.giop_commands.specs.declared.status.Status.TheVariants.{Done, Refused, InputOutput, Memory}
 use Rattle.giop_lines.specs.declared.refusal.RefusalLine.TheVariants.{Form}
 use Rattle.giop_commands.specs.declared.form.LineForm.{LineForm}
+use Rattle.giop_types.specs.declared.json.number_form.NumberForm.TheVariants.{Plain}
 use Rattle.giop_commands.specs.declared.form.LineForm.TheVariants.{Text}
 use Rattle.giop_commands.specs.Dump.{ended}
 use Rattle.giop_commands.specs.Forms.{refused_in}
@@ -126,7 +127,7 @@ abbrev pub Checks : Interface → Limits → List ℕ → Option (List ℕ) → 
 Checks interface limits octets old new InputOutput = ⊤
 Checks interface limits octets old new Memory = ⊤
 Checks interface limits octets old new status =
-    IsChecked interface limits false Text octets old new status
+    IsChecked interface limits false (Text Plain) octets old new status
 
 -- what a check does of the octets that a reader gives, where they are known and nothing failed
 abbrev pub ChecksKnown : Interface → Limits → Bool → LineForm → Option (List ℕ) → Option (List ℕ)

@@ -31,7 +31,7 @@ use Rattle.giop_types.specs.Coding.Decoding.{decode_at}
 use Rattle.giop_types.specs.JsonForms.FromJson.{from_data}
 use Rattle.giop_types.specs.IorText.{IorText, RefusedText, text_written}
 use Rattle.giop_types.specs.Descriptions.Shape.{Shape}
-use Rattle.giop_types.specs.declared.json.number_form.NumberForm.TheVariants.{Plain}
+use Rattle.giop_types.specs.declared.json.number_form.NumberForm.{NumberForm}
 use Rattle.giop_types.specs.JsonForms.ToJson.{to_data}
 use Rattle.giop_types.specs.Values.Tree.{Tree}
 use Rattle.giop_types.specs.Coding.Written.{value_out}
@@ -75,8 +75,8 @@ profile_in form p =
 
 -- what stands before an item of a list in JSON, but before the first
 abbrev pub comma_in : LineForm → Bool → List ℕ
-comma_in Text first = []
-comma_in Json first = if first then [] else codes ","
+comma_in (Text numbers) first = []
+comma_in (Json numbers) first = if first then [] else codes ","
 
 -- each profile, of which the first is the first of all or not
 abbrev pub profiles_in : LineForm → Bool → List TaggedProfile → List ℕ
@@ -117,8 +117,8 @@ text_of_corbaloc c =
 
 -- the corbaloc again, and its reference
 abbrev pub corbaloc_in : LineForm → Corbaloc → List ℕ → List ℕ
-corbaloc_in Text c text = ended (corbaloc_text c) ++ ended text
-corbaloc_in Json c text = ended (corbaloc_json (corbaloc_text c) text)
+corbaloc_in (Text numbers) c text = ended (corbaloc_text c) ++ ended text
+corbaloc_in (Json numbers) c text = ended (corbaloc_json (corbaloc_text c) text)
 
 -- `convert corbaloc` of a file's octets, in a form
 abbrev pub ConvertsCorbaloc : LineForm → List ℕ → Option (List ℕ) → Option (List ℕ) → Status → Type 0
@@ -172,17 +172,17 @@ RefusedOctets shape order octets e =
     × (after.rest ≢ []) × (e ≡ fault after.at Trailing))
 
 -- `convert decode` of a file's octets
-abbrev pub ConvertsDecode : Shape → Order → List ℕ → Option (List ℕ) → Option (List ℕ) → Status
+abbrev pub ConvertsDecode : NumberForm → Shape → Order → List ℕ → Option (List ℕ) → Option (List ℕ) → Status
     → Type 0
-ConvertsDecode shape order octets old new Done =
+ConvertsDecode numbers shape order octets old new Done =
     (said : List ℕ) × (tree : Tree) × (after : Cursor) × (decode_of (unended octets) ≡ Ok said)
     × (decode_at shape (reader_of order said) ≡ Ok (tree, after)) × (after.rest ≡ [])
-    × Appends old new (ended (compact_text (to_data Plain shape tree)))
-ConvertsDecode shape order octets old new Refused =
+    × Appends old new (ended (compact_text (to_data numbers shape tree)))
+ConvertsDecode numbers shape order octets old new Refused =
     ((e : FromHexError) × (decode_of (unended octets) ≡ Err e) × Tells old new refusal.BadHex)
     ⊎ ((said : List ℕ) × (e : CdrFault) × (decode_of (unended octets) ≡ Ok said)
     × RefusedOctets shape order said e × Tells old new (refusal.Octets e))
-ConvertsDecode shape order octets old new _ = ⊥
+ConvertsDecode numbers shape order octets old new _ = ⊥
 
 -- ---- values by the text of a description
 
@@ -190,7 +190,7 @@ ConvertsDecode shape order octets old new _ = ⊥
 abbrev pub ConvertsBy : Way → Shape → Order → List ℕ → Option (List ℕ) → Option (List ℕ) → Status
     → Type 0
 ConvertsBy Encode = ConvertsEncode
-ConvertsBy Decode = ConvertsDecode
+ConvertsBy (Decode numbers) = ConvertsDecode numbers
 
 -- `convert encode` or `convert decode`, by the description that a text is; where it is none, its
 -- fault is reported, and no other

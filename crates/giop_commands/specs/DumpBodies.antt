@@ -24,7 +24,7 @@ use Rattle.giop_commands.specs.declared.status.Status.TheVariants.{Refused}
 use Rattle.giop_commands.specs.Bodies.{request_ins}
 use Rattle.giop_commands.specs.Dump.{DumpsKnown, Telling, ended}
 use Rattle.giop_commands.specs.DumpHeads.{fault_in, message_text, rest_in, second_text}
-use Rattle.giop_commands.specs.Forms.{closed_in, ended_in, part_in, refused_in}
+use Rattle.giop_commands.specs.Forms.{closed_in, ended_in, numbers_of, part_in, refused_in}
 use Rattle.giop_commands.specs.Joining.{lists_after, told_piece}
 
 -- why the body of a Request isn't read; a fault of its head is told with the head
@@ -38,7 +38,7 @@ ins_in form ins = part_in form (ins_line ins) (ins_json ins)
 
 -- the ins of a Request, or why they aren't read
 abbrev pub ins_text_of : Interface → LineForm → Result Request RequestFault → List ℕ
-ins_text_of interface form (Ok request) = ins_in form (request_ins interface request)
+ins_text_of interface form (Ok request) = ins_in form (request_ins (numbers_of form) interface request)
 ins_text_of interface form (Err e) = undecoded_text form e
 
 -- the body of a whole Request

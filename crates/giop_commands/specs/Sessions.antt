@@ -17,6 +17,7 @@ use Rattle.giop_session.specs.Calls.Sending.{entry_of}
 use Rattle.giop_lines.specs.SessionJson.{connection_json}
 use Rattle.giop_lines.specs.TableLines.{connection_line}
 use Rattle.giop_commands.specs.declared.form.LineForm.{LineForm}
+use Rattle.giop_types.specs.declared.json.number_form.NumberForm.TheVariants.{Plain}
 use Rattle.giop_commands.specs.declared.form.LineForm.TheVariants.{Text}
 use Rattle.giop_commands.specs.declared.status.Status.{Status}
 use Rattle.giop_commands.specs.declared.status.Status.TheVariants.{Done, Refused, InputOutput, Memory}
@@ -112,7 +113,7 @@ pub record IsCalled (asked : Asked) (lines : LineForm) (before after : Wire)
 abbrev pub Calls : Asked → Wire → Wire → Option (List ℕ) → Option (List ℕ) → Status → Type 0
 Calls asked before after old new InputOutput = ⊤
 Calls asked before after old new Memory = ⊤
-Calls asked before after old new status = IsCalled asked Text before after old new status
+Calls asked before after old new status = IsCalled asked (Text Plain) before after old new status
 
 -- ---- the connection of a server
 
@@ -144,4 +145,4 @@ abbrev pub Serves : ℕ → Served → Wire → Wire → Option (List ℕ) → O
 Serves number served before after old new InputOutput = ⊤
 Serves number served before after old new Memory = ⊤
 Serves number served before after old new status =
-    IsServed number served Text before after old new status
+    IsServed number served (Text Plain) before after old new status

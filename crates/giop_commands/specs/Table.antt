@@ -11,7 +11,7 @@ use Rattle.giop_session.specs.Calls.Sending.{entry_of}
 use Rattle.giop_commands.specs.Bodies.{brought_text, ins_text}
 use Rattle.giop_commands.specs.declared.form.LineForm.{LineForm}
 use Rattle.giop_commands.specs.Dump.{ended}
-use Rattle.giop_commands.specs.Forms.{line_in}
+use Rattle.giop_commands.specs.Forms.{line_in, numbers_of}
 use Rattle.giop_lines.specs.SessionJson.{client_json}
 use Rattle.giop_lines.specs.TableJson.{server_json}
 use Rattle.giop_lines.specs.TableLines.{client_line, server_line}
@@ -19,13 +19,13 @@ use Rattle.giop_lines.specs.TableLines.{client_line, server_line}
 -- the line of what is stored for an id at a server of an interface, and at a client, in a form
 abbrev pub server_entry_in : LineForm → Interface → ℕ → ServerEntry → List ℕ
 server_entry_in lines interface id entry =
-    line_in lines (server_line id entry (ins_text interface entry))
-    (server_json id entry (ins_text interface entry))
+    line_in lines (server_line id entry (ins_text (numbers_of lines) interface entry))
+    (server_json id entry (ins_text (numbers_of lines) interface entry))
 
 abbrev pub client_entry_in : LineForm → Interface → ℕ → ClientEntry → List ℕ
 client_entry_in lines interface id entry =
-    line_in lines (client_line id entry (brought_text interface entry))
-    (client_json id entry (brought_text interface entry))
+    line_in lines (client_line id entry (brought_text (numbers_of lines) interface entry))
+    (client_json id entry (brought_text (numbers_of lines) interface entry))
 
 -- a line for an entry, where there is one
 abbrev pub entry_text : {E : Type 0} → (E → List ℕ) → Option E → List ℕ

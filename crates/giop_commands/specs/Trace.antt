@@ -17,8 +17,8 @@ direction_status None rest = if rest == 0 then Done else Refused
 
 -- how a direction ends, in a line of a form
 abbrev pub direction_end_in : LineForm → Direction → Option WireFault → ℕ → List ℕ
-direction_end_in Text = direction_end
-direction_end_in Json = direction_end_json
+direction_end_in (Text numbers) = direction_end
+direction_end_in (Json numbers) = direction_end_json
 
 -- the status of both directions: that of the other where one is done; where neither is, a limit that
 -- was passed before a refusal, and the client's before the server's

@@ -36,7 +36,7 @@ use giop_calls::ClientEntry;
 use giop_cdr::OctetList;
 use giop_msg::{Request, RequestHead, ServiceContexts, Target, Version};
 use giop_session::{ClientEnd, Form, Limits, SessionFault};
-use giop_types::Interface;
+use giop_types::{Interface, NumberForm};
 use std::alloc::{AllocError, Global};
 use std::io::{Read, Write};
 
@@ -85,7 +85,15 @@ pub fn call_session<R: Read, W: Write, O: Write>(
         form,
         limits: Limits::default(),
     };
-    match call_over(alloc, calling, calls, LineForm::Text, reader, writer, out) {
+    match call_over(
+        alloc,
+        calling,
+        calls,
+        LineForm::Text(NumberForm::Plain),
+        reader,
+        writer,
+        out,
+    ) {
         Ok(ending) => ending.status,
         Err(failure) => failure.status(),
     }

@@ -20,7 +20,7 @@ use crate::session::table::write_table;
 use crate::session::write_session_fault;
 use crate::status::Status;
 use giop_session::{End, Hearing, Limits, ServerEnd, SessionFault};
-use giop_types::Interface;
+use giop_types::{Interface, NumberForm};
 use std::alloc::Global;
 use std::io;
 use std::io::{ErrorKind, Read, Write};
@@ -47,7 +47,7 @@ pub fn check_octets<W: Write>(
         interface,
         Limits::default(),
         false,
-        LineForm::Text,
+        LineForm::Text(NumberForm::Plain),
         &mut left,
         writer,
         BehindFault::Read,

@@ -3,6 +3,7 @@
 //! together.
 ghost use Rattle.std.specs.Prelude.{◌≡◌, ◌++◌, IfErr, IfOk, OnOk, option_copied};
 ghost use Rattle.std.specs.Io.KnownBytes.{IsAtEnd};
+ghost use Rattle.giop_types.specs.declared.json.number_form.NumberForm.TheVariants.{Plain};
 ghost use Rattle.giop_commands.specs.DumpBodies.{telling_by};
 ghost use Rattle.giop_commands.specs.Dump.{Dumps, DumpsKnown, no_lists};
 ghost use Rattle.giop_commands.specs.DumpHeads.{heads_alone};
@@ -21,6 +22,7 @@ use crate::form::LineForm;
 use crate::pieces::{PieceBuffer, drain};
 use crate::status::Status;
 use giop_msg::Framer;
+use giop_types::NumberForm;
 use std::alloc::Global;
 use std::io;
 use std::io::{ErrorKind, Read, Write};
@@ -45,11 +47,11 @@ pub enum BehindFault {
 /// Where writing fails, it is `InputOutput`. Where it is out of memory, it is `Memory`. After
 /// either, a part of the text may be written.
 pub fn dump_octets<W: Write>(alloc: Global, octets: &[u8], writer: &mut W) -> Status
-    ensures { Dumps (heads_alone LineForm.Text) MESSAGE_LIMIT octets.now (W.contents writer.old)
+    ensures { Dumps (heads_alone (LineForm.Text Plain)) MESSAGE_LIMIT octets.now (W.contents writer.old)
         (W.contents writer.new) result }
 {
     let mut left = octets;
-    let (limit, form) = (MESSAGE_LIMIT, LineForm::Text);
+    let (limit, form) = (MESSAGE_LIMIT, LineForm::Text(NumberForm::Plain));
     match dump_stream(alloc, limit, form, &mut left, writer, BehindFault::Read) {
         Ok(status) => status,
         Err(failure) => failure.status(),

@@ -8,16 +8,31 @@ ghost use Rattle.giop_commands.specs.Forms.{closed_in, ended_in, line_in, part_i
 use crate::failure::Failure;
 use crate::status::Status;
 use giop_lines::{RefusalJson, RefusalLine};
+use giop_types::NumberForm;
 use std::fmt::Display;
 use std::io::Write;
 
-/// The form of a line.
+/// The form of a line, and that of the whole numbers in the values of one.
 #[derive(Clone, Copy, Debug, PartialEq, Eq)]
 pub enum LineForm {
     /// Words (docs/giopctl.md).
-    Text,
+    Text(NumberForm),
     /// An object of JSON (docs/FORMATS.md).
-    Json,
+    Json(NumberForm),
+}
+
+impl LineForm {
+    ghost use Rattle.giop_commands.specs.Forms.{numbers_of};
+
+    /// The form of whole numbers in values.
+    pub fn numbers(self) -> NumberForm
+        ensures { result ≡ numbers_of self }
+    {
+        match self {
+            LineForm::Text(numbers) => numbers,
+            LineForm::Json(numbers) => numbers,
+        }
+    }
 }
 
 /// Writes a part of what is told: a line of text, or members of the JSON line.
@@ -31,8 +46,8 @@ pub fn write_part<T: Display + Drop, J: Display + Drop, W: Write>(
         (Appends (W.contents writer.old) (W.contents writer.new))) }
 {
     match form {
-        LineForm::Text => writeln!(writer, "{text}")?,
-        LineForm::Json => write!(writer, "{json}")?,
+        LineForm::Text(_) => writeln!(writer, "{text}")?,
+        LineForm::Json(_) => write!(writer, "{json}")?,
     }
     Ok(())
 }
@@ -48,8 +63,8 @@ pub fn write_line<T: Display + Drop, J: Display + Drop, W: Write>(
         (λ line. Appends (W.contents writer.old) (W.contents writer.new) (ended line))) }
 {
     match form {
-        LineForm::Text => writeln!(writer, "{text}")?,
-        LineForm::Json => writeln!(writer, "{json}")?,
+        LineForm::Text(_) => writeln!(writer, "{text}")?,
+        LineForm::Json(_) => writeln!(writer, "{json}")?,
     }
     Ok(())
 }
@@ -60,8 +75,8 @@ pub fn write_closed<W: Write>(form: LineForm, writer: &mut W) -> Result<(), Fail
         (Appends (W.contents writer.old) (W.contents writer.new) (closed_in form)) }
 {
     match form {
-        LineForm::Text => {}
-        LineForm::Json => write!(writer, "}}")?,
+        LineForm::Text(_) => {}
+        LineForm::Json(_) => write!(writer, "}}")?,
     }
     Ok(())
 }
@@ -72,8 +87,8 @@ pub fn write_ended<W: Write>(form: LineForm, writer: &mut W) -> Result<(), Failu
         (Appends (W.contents writer.old) (W.contents writer.new) (ended_in form)) }
 {
     match form {
-        LineForm::Text => {}
-        LineForm::Json => writeln!(writer, "}}")?,
+        LineForm::Text(_) => {}
+        LineForm::Json(_) => writeln!(writer, "}}")?,
     }
     Ok(())
 }

@@ -34,7 +34,7 @@ use crate::session::{TURNS, goes_on, told, told_of, write_session};
 use crate::status::Status;
 use giop_lines::{ConnectionJson, ConnectionLine};
 use giop_session::{Form, Limits, ServerEnd, SessionFault};
-use giop_types::Interface;
+use giop_types::{Interface, NumberForm};
 use std::alloc::Global;
 use std::io::{Read, Write};
 
@@ -83,7 +83,15 @@ pub fn serve_session<R: Read, W: Write, O: Write>(
         form,
         limits: Limits::default(),
     };
-    match serve_over(alloc, number, serving, LineForm::Text, reader, writer, out) {
+    match serve_over(
+        alloc,
+        number,
+        serving,
+        LineForm::Text(NumberForm::Plain),
+        reader,
+        writer,
+        out,
+    ) {
         Ok(ending) => ending.status,
         Err(failure) => failure.status(),
     }

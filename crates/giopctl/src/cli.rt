@@ -4,10 +4,12 @@
 ghost use Rattle.std.specs.Prelude.{◌≤◌, ◌^◌};
 ghost use Rattle.giop_commands.specs.Check.{AreLimits};
 
+mod form_words;
 mod limit_words;
 mod object_words;
 mod session_words;
 
+use crate::cli::form_words::{json, json_numbers, lines_of, numbers_of, plain_lines_of};
 use crate::cli::limit_words::{
     gathered_limit, gathered_limit_of, limited, limits_of, message_limit, message_limit_of,
 };
@@ -321,17 +323,17 @@ fn misused(alloc: Global, wrong: &str) -> Result<Error, AllocError> {
 
 fn conversion<'a>(convert: &ArgMatches<'a>) -> Result<Option<Task<'a>>, &'static str> {
     if let Some(ior) = convert.subcommand_matches("ior") {
-        return Ok(converted(ior, Some(ConvertKind::Ior(lines_of(ior)))));
+        return Ok(converted(ior, Some(ConvertKind::Ior(plain_lines_of(ior)))));
     }
     if let Some(corbaloc) = convert.subcommand_matches("corbaloc") {
-        let form = lines_of(corbaloc);
+        let form = plain_lines_of(corbaloc);
         return Ok(converted(corbaloc, Some(ConvertKind::Corbaloc(form))));
     }
     if let Some(encode) = convert.subcommand_matches("encode") {
         return value_conversion(encode, Way::Encode);
     }
     match convert.subcommand_matches("decode") {
-        Some(decode) => value_conversion(decode, Way::Decode),
+        Some(decode) => value_conversion(decode, Way::Decode(numbers_of(decode))),
         None => Ok(None),
     }
 }
@@ -404,14 +406,6 @@ fn traced<'a>(matches: &ArgMatches<'a>) -> Result<Option<Task<'a>>, &'static str
     })))
 }
 
-// The form of the lines of a command that takes `--json`.
-fn lines_of(matches: &ArgMatches<'_>) -> LineForm {
-    match matches.get_flag("json") {
-        true => LineForm::Json,
-        false => LineForm::Text,
-    }
-}
-
 fn called<'a>(
     matches: &ArgMatches<'a>,
     values: Vec<&'a str>,
@@ -466,14 +460,6 @@ fn giopctl<'a>(alloc: Global) -> Result<Command<'a>, AllocError> {
         .subcommand(serve(alloc)?)
 }
 
-// The word of a command that may write lines of JSON.
-fn json<'a>(alloc: Global) -> Arg<'a> {
-    Arg::new(alloc, "json")
-        .long("json")
-        .action(ArgAction::SetTrue)
-        .help("Each line is an object of JSON")
-}
-
 fn dump<'a>(alloc: Global) -> Result<Command<'a>, AllocError> {
     let file = Arg::new(alloc, "FILE")
         .required(true)
@@ -487,6 +473,7 @@ fn dump<'a>(alloc: Global) -> Result<Command<'a>, AllocError> {
         .after_help(DUMP_HELP)
         .arg(interface)?
         .arg(json(alloc))?
+        .arg(json_numbers(alloc))?
         .arg(message_limit(alloc))?
         .arg(gathered_limit(alloc))?
         .arg(file)
@@ -510,6 +497,7 @@ fn check<'a>(alloc: Global) -> Result<Command<'a>, AllocError> {
         .after_help(CHECK_HELP)
         .arg(interface)?
         .arg(json(alloc))?
+        .arg(json_numbers(alloc))?
         .arg(strict)?;
     limited(alloc, command)?.arg(file)
 }
@@ -529,6 +517,7 @@ fn trace<'a>(alloc: Global) -> Result<Command<'a>, AllocError> {
         .after_help(TRACE_HELP)
         .arg(interface)?
         .arg(json(alloc))?
+        .arg(json_numbers(alloc))?
         .arg(message_limit(alloc))?
         .arg(client)?
         .arg(server)
@@ -558,7 +547,8 @@ fn convert<'a>(alloc: Global) -> Result<Command<'a>, AllocError> {
             "decode",
             "Writes octets as a value in JSON",
             DECODE_HELP,
-        )?)
+        )?
+        .arg(json_numbers(alloc))?)
 }
 
 // A kind of `convert`, by its name, with what it does and how.

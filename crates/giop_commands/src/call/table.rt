@@ -15,7 +15,7 @@ use giop_calls::{ClientEntry, ClientRule};
 use giop_cdr::OctetList;
 use giop_lines::{ClientEntryJson, ClientEntryLine};
 use giop_msg::{ReplyBody, Request};
-use giop_types::{Interface, Value};
+use giop_types::{Interface, NumberForm, Value};
 use std::alloc::{AllocError, Global};
 use std::io::Write;
 
@@ -32,7 +32,7 @@ impl Tabled for ClientRule {
         entry: &ClientEntry,
         writer: &mut W,
     ) -> Result<(), Failure> {
-        let brought = brought_text(alloc, interface, entry)?;
+        let brought = brought_text(alloc, lines.numbers(), interface, entry)?;
         let brought = brought.as_str();
         let (text, json) = (
             ClientEntryLine { id, entry, brought },
@@ -45,13 +45,16 @@ impl Tabled for ClientRule {
 // What the Reply of an entry brought, as text; empty where the entry has none.
 fn brought_text(
     alloc: Global,
+    numbers: NumberForm,
     interface: &Interface,
     entry: &ClientEntry,
 ) -> Result<String, AllocError>
-    ensures { IfOk result (λ text. string_bytes text ≡ brought_text interface.now entry.now) }
+    ensures { IfOk result (λ text. string_bytes text ≡ brought_text numbers interface.now entry.now) }
 {
     match entry {
-        ClientEntry::Done { request, reply } => brought_by(alloc, interface, request, &reply.body),
+        ClientEntry::Done { request, reply } => {
+            brought_by(alloc, numbers, interface, request, &reply.body)
+        }
         _ => Ok(String::new(alloc)),
     }
 }
@@ -59,17 +62,24 @@ fn brought_text(
 /// What a Reply to a Request brought, as text; empty where its status has no values.
 pub fn brought_by(
     alloc: Global,
+    numbers: NumberForm,
     interface: &Interface,
     request: &Request,
     body: &ReplyBody,
 ) -> Result<String, AllocError>
     ensures { IfOk result (λ text. string_bytes text
-        ≡ brought_by interface.now request.now body.now) }
+        ≡ brought_by numbers interface.now request.now body.now) }
 {
     match body {
-        ReplyBody::NoException(outs) => outs_text(alloc, interface, request, outs.as_slice()),
+        ReplyBody::NoException(outs) => outs_text(
+            alloc,
+            numbers,
+            interface,
+            request,
+            outs.as_slice(),
+        ),
         ReplyBody::UserException { id, members } => {
-            members_text(alloc, interface, id, members.as_slice())
+            members_text(alloc, numbers, interface, id, members.as_slice())
         }
         ReplyBody::SystemException { .. } => Ok(String::new(alloc)),
         ReplyBody::Forward(ior) => forward_text(alloc, ior),
@@ -80,31 +90,33 @@ pub fn brought_by(
 
 fn outs_text(
     alloc: Global,
+    numbers: NumberForm,
     interface: &Interface,
     request: &Request,
     values: &[Value],
 ) -> Result<String, AllocError>
-    ensures { IfOk result (λ text. string_bytes text ≡ values_text
+    ensures { IfOk result (λ text. string_bytes text ≡ values_text numbers
         (outs_of (operation_of interface.now request.now.head.operation))
         (map value_view values.now)) }
 {
     match interface.operation(request.head.operation.as_slice()) {
-        Some(operation) => values_text(alloc, operation.outs.as_slice(), values),
-        None => values_text(alloc, &[], values),
+        Some(operation) => values_text(alloc, numbers, operation.outs.as_slice(), values),
+        None => values_text(alloc, numbers, &[], values),
     }
 }
 
 fn members_text(
     alloc: Global,
+    numbers: NumberForm,
     interface: &Interface,
     id: &OctetList,
     values: &[Value],
 ) -> Result<String, AllocError>
-    ensures { IfOk result (λ text. string_bytes text ≡ values_text
+    ensures { IfOk result (λ text. string_bytes text ≡ values_text numbers
         (listed (exception_of interface.now id.now)) (map value_view values.now)) }
 {
     match interface.exception(id.as_slice()) {
-        Some(members) => values_text(alloc, members.as_slice(), values),
-        None => values_text(alloc, &[], values),
+        Some(members) => values_text(alloc, numbers, members.as_slice(), values),
+        None => values_text(alloc, numbers, &[], values),
     }
 }

@@ -8,7 +8,7 @@ use crate::convert::value::{convert_decode, convert_encode, form_refusal};
 use crate::failure::Failure;
 use crate::status::Status;
 use giop_cdr::Order;
-use giop_types::desc_from_json;
+use giop_types::{NumberForm, desc_from_json};
 use std::alloc::Global;
 use std::io::Write;
 
@@ -17,8 +17,8 @@ use std::io::Write;
 pub enum Way {
     /// From JSON to octets.
     Encode,
-    /// From octets to JSON.
-    Decode,
+    /// From octets to JSON, whole numbers in a form.
+    Decode(NumberForm),
 }
 
 /// Converts a file's octets by a description in JSON, as `convert_encode` or `convert_decode` says.
@@ -41,6 +41,6 @@ pub fn convert_value<W: Write>(
     };
     match way {
         Way::Encode => convert_encode(alloc, octets, &desc, order, writer),
-        Way::Decode => convert_decode(alloc, octets, &desc, order, writer),
+        Way::Decode(numbers) => convert_decode(alloc, numbers, octets, &desc, order, writer),
     }
 }

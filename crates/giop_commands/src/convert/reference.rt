@@ -89,8 +89,8 @@ fn write_text<W: Write>(text: &[u8], form: LineForm, writer: &mut W) -> Result<(
         (ended (line_in form text.now (ior_json text.now)))) }
 {
     match form {
-        LineForm::Text => write_line(text, writer),
-        LineForm::Json => {
+        LineForm::Text(_) => write_line(text, writer),
+        LineForm::Json(_) => {
             writeln!(writer, "{}", IorJson(text))?;
             Ok(())
         }
@@ -121,7 +121,7 @@ fn write_comma<W: Write>(form: LineForm, first: bool, writer: &mut W) -> Result<
         (comma_in form first)) }
 {
     match form {
-        LineForm::Json if !first => write!(writer, ",")?,
+        LineForm::Json(_) if !first => write!(writer, ",")?,
         _ => {}
     }
     Ok(())
@@ -209,11 +209,11 @@ fn write_corbaloc<W: Write>(
     let text = corbaloc_to_text(alloc, corbaloc)?;
     let (corbaloc, ior) = (text.as_slice(), reference);
     match form {
-        LineForm::Text => {
+        LineForm::Text(_) => {
             write_line(corbaloc, writer)?;
             write_line(ior, writer)?;
         }
-        LineForm::Json => writeln!(writer, "{}", CorbalocJson { corbaloc, ior })?,
+        LineForm::Json(_) => writeln!(writer, "{}", CorbalocJson { corbaloc, ior })?,
     }
     Ok(Status::Done)
 }

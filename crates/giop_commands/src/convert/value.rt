@@ -13,7 +13,6 @@ ghost use Rattle.giop_types.specs.JsonForms.DescFromJson.{json_in};
 ghost use Rattle.giop_types.specs.Values.Fits.{fits};
 ghost use Rattle.giop_types.specs.JsonForms.FromJson.{from_data};
 ghost use Rattle.giop_types.specs.JsonForms.ToJson.{to_data};
-ghost use Rattle.giop_types.specs.declared.json.number_form.NumberForm.TheVariants.{Plain};
 ghost use Rattle.giop_types.specs.Values.Views.{value_view};
 ghost use Rattle.giop_commands.specs.Convert.{ConvertsEncode, ConvertsDecode, RefusedForm, RefusedOctets, value_octets, reader_of};
 
@@ -23,7 +22,8 @@ use crate::status::Status;
 use giop_cdr::{CdrFault, CdrIn, CdrKind, CdrOut, EncodeFault, Order, SliceOctets};
 use giop_lines::RefusalLine;
 use giop_types::{
-    CheckedDesc, FormFault, Value, decode, encode, parse_json, value_from_json, value_to_json,
+    CheckedDesc, FormFault, NumberForm, Value, decode, encode, parse_json, value_from_json,
+    value_to_json_in,
 };
 use hex::FromHexError;
 use std::alloc::{AllocError, Global};
@@ -97,17 +97,18 @@ fn octets_of_value(
     }
 }
 
-/// Writes a value in JSON, whose octets from offset 0 on a file has in hexadecimal; `Done`. Where
+/// Writes a value in JSON, its whole numbers in a form, whose octets from offset 0 on a file has in hexadecimal; `Done`. Where
 /// the file is no hexadecimal text, or its octets are no value of the description, or octets are
 /// left behind it, the line of the fault is written; `Refused`.
 pub fn convert_decode<W: Write>(
     alloc: Global,
+    numbers: NumberForm,
     octets: &[u8],
     desc: &CheckedDesc,
     order: Order,
     writer: &mut W,
 ) -> Result<Status, Failure>
-    ensures { IfOk result (ConvertsDecode (checked_shape desc.now) order octets.now
+    ensures { IfOk result (ConvertsDecode numbers (checked_shape desc.now) order octets.now
         (W.contents writer.old) (W.contents writer.new)) }
 {
     let said = match hex::decode(alloc, unended(octets)) {
@@ -117,7 +118,7 @@ pub fn convert_decode<W: Write>(
     };
     let fault = match value_of_octets(alloc, said.as_slice(), desc, order) {
         Ok(value) => {
-            let text = text_of_value(alloc, &value, desc)?;
+            let text = text_of_value(alloc, numbers, &value, desc)?;
             write_line(text.as_bytes(), writer)?;
             return Ok(Status::Done);
         }
@@ -162,12 +163,17 @@ fn value_of_octets(
 }
 
 // A value that fits in JSON, without blanks.
-fn text_of_value(alloc: Global, value: &Value, desc: &CheckedDesc) -> Result<String, AllocError>
+fn text_of_value(
+    alloc: Global,
+    numbers: NumberForm,
+    value: &Value,
+    desc: &CheckedDesc,
+) -> Result<String, AllocError>
     requires { fits (checked_shape desc.now) (value_view value.now) ≡ true }
     ensures { IfOk result (λ text. string_bytes text
-        ≡ compact_text (to_data Plain (checked_shape desc.now) (value_view value.now))) }
+        ≡ compact_text (to_data numbers (checked_shape desc.now) (value_view value.now))) }
 {
-    match value_to_json(alloc, desc, value) {
+    match value_to_json_in(alloc, numbers, desc, value) {
         Ok(json) => Ok(json.to_string(alloc)?),
         Err(FormFault::NoMemory) => Err(AllocError),
         Err(_) => unreachable!(),

@@ -3,6 +3,7 @@ ghost use Rattle.std.specs.Prelude.{◌≡◌, ◌≤◌, ◌^◌, length, OnOk}
 ghost use Rattle.std.specs.Io.KnownBytes.{Appends};
 ghost use Rattle.giop_msg.specs.Messages.RequestAnswer.{IsWholeWant};
 ghost use Rattle.giop_commands.specs.Bodies.{request_ins};
+ghost use Rattle.giop_commands.specs.Forms.{numbers_of};
 ghost use Rattle.giop_commands.specs.DumpBodies.{body_text, ins_in, joined_text, own_text, piece_text, undecoded_text};
 
 use crate::dump::heads::write_second;
@@ -109,9 +110,9 @@ fn write_ins<W: Write>(
     writer: &mut W,
 ) -> Result<(), Failure>
     ensures { OnOk result (Appends (W.contents writer.old) (W.contents writer.new)
-        (ins_in form (request_ins interface.now request.now))) }
+        (ins_in form (request_ins (numbers_of form) interface.now request.now))) }
 {
-    let ins = request_ins(alloc, interface, request)?;
+    let ins = request_ins(alloc, form.numbers(), interface, request)?;
     let ins = ins.as_str();
     write_part(form, InsLine(ins), InsJson(ins), writer)
 }

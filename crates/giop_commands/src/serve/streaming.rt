@@ -28,7 +28,7 @@ use giop_calls::{Question, ServerEntry, ServerRule};
 use giop_lines::{AnsweredJson, AnsweredLine, RestJson, RestLine};
 use giop_msg::ReplyBody;
 use giop_session::{ServerEnd, SessionFault};
-use giop_types::Interface;
+use giop_types::{Interface, NumberForm};
 use std::alloc::{AllocError, Global};
 use std::io::{Read, Write};
 
@@ -71,8 +71,8 @@ fn write_answered<W: Write>(
     ensures { OnOk result (Appends (W.contents writer.old) (W.contents writer.new)
         (ended (answered_in lines interface.now id asked.now body.now))) }
 {
-    let ins = question_ins(alloc, interface, asked)?;
-    let brought = question_brought(alloc, interface, asked, body)?;
+    let ins = question_ins(alloc, lines.numbers(), interface, asked)?;
+    let brought = question_brought(alloc, lines.numbers(), interface, asked, body)?;
     let (ins, brought) = (ins.as_str(), brought.as_str());
     let text = AnsweredLine {
         id,
@@ -94,13 +94,14 @@ fn write_answered<W: Write>(
 // The ins of what was asked, as a JSON list; empty where it couldn't be decoded.
 fn question_ins(
     alloc: Global,
+    numbers: NumberForm,
     interface: &Interface,
     asked: &Question,
 ) -> Result<String, AllocError>
-    ensures { IfOk result (λ text. string_bytes text ≡ question_ins interface.now asked.now) }
+    ensures { IfOk result (λ text. string_bytes text ≡ question_ins numbers interface.now asked.now) }
 {
     match asked {
-        Question::Request(request) => request_ins(alloc, interface, request),
+        Question::Request(request) => request_ins(alloc, numbers, interface, request),
         Question::Undecoded(_) => Ok(String::new(alloc)),
     }
 }
@@ -108,15 +109,16 @@ fn question_ins(
 // What a Reply to what was asked brings, as text; empty where it couldn't be decoded.
 fn question_brought(
     alloc: Global,
+    numbers: NumberForm,
     interface: &Interface,
     asked: &Question,
     body: &ReplyBody,
 ) -> Result<String, AllocError>
     ensures { IfOk result (λ text. string_bytes text
-        ≡ question_brought interface.now asked.now body.now) }
+        ≡ question_brought numbers interface.now asked.now body.now) }
 {
     match asked {
-        Question::Request(request) => brought_by(alloc, interface, request, body),
+        Question::Request(request) => brought_by(alloc, numbers, interface, request, body),
         Question::Undecoded(_) => Ok(String::new(alloc)),
     }
 }

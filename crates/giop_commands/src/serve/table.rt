@@ -11,7 +11,7 @@ use crate::session::table::Tabled;
 use giop_calls::{ServerEntry, ServerRule};
 use giop_lines::{ServerEntryJson, ServerEntryLine};
 use giop_msg::Request;
-use giop_types::Interface;
+use giop_types::{Interface, NumberForm};
 use std::alloc::{AllocError, Global};
 use std::io::Write;
 
@@ -28,7 +28,7 @@ impl Tabled for ServerRule {
         entry: &ServerEntry,
         writer: &mut W,
     ) -> Result<(), Failure> {
-        let ins = ins_text(alloc, interface, entry)?;
+        let ins = ins_text(alloc, lines.numbers(), interface, entry)?;
         let ins = ins.as_str();
         let (text, json) = (
             ServerEntryLine { id, entry, ins },
@@ -41,14 +41,15 @@ impl Tabled for ServerRule {
 /// The ins of the decoded Request of an entry, as a JSON list; empty where the entry has none.
 pub fn ins_text(
     alloc: Global,
+    numbers: NumberForm,
     interface: &Interface,
     entry: &ServerEntry,
 ) -> Result<String, AllocError>
-    ensures { IfOk result (λ text. string_bytes text ≡ ins_text interface.now entry.now) }
+    ensures { IfOk result (λ text. string_bytes text ≡ ins_text numbers interface.now entry.now) }
 {
     match entry {
-        ServerEntry::Asked { request } => request_ins(alloc, interface, request),
-        ServerEntry::Delivered { request } => request_ins(alloc, interface, request),
+        ServerEntry::Asked { request } => request_ins(alloc, numbers, interface, request),
+        ServerEntry::Delivered { request } => request_ins(alloc, numbers, interface, request),
         _ => Ok(String::new(alloc)),
     }
 }
@@ -56,14 +57,15 @@ pub fn ins_text(
 /// The ins of a Request, as a JSON list.
 pub fn request_ins(
     alloc: Global,
+    numbers: NumberForm,
     interface: &Interface,
     request: &Request,
 ) -> Result<String, AllocError>
-    ensures { IfOk result (λ text. string_bytes text ≡ request_ins interface.now request.now) }
+    ensures { IfOk result (λ text. string_bytes text ≡ request_ins numbers interface.now request.now) }
 {
     let values = request.body.as_slice();
     match interface.operation(request.head.operation.as_slice()) {
-        Some(operation) => values_text(alloc, operation.ins.as_slice(), values),
-        None => values_text(alloc, &[], values),
+        Some(operation) => values_text(alloc, numbers, operation.ins.as_slice(), values),
+        None => values_text(alloc, numbers, &[], values),
     }
 }

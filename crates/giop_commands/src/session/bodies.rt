@@ -9,21 +9,22 @@ ghost use Rattle.giop_commands.specs.Bodies.{forward_text, value_data, values_da
 
 use giop_cdr::EncodeFault;
 use giop_ior::{Ior, ior_to_text};
-use giop_types::{CheckedDesc, FormFault, Parameter, Value, value_to_json};
+use giop_types::{CheckedDesc, FormFault, NumberForm, Parameter, Value, value_to_json_in};
 use percent_encoding::ascii_str;
 use serde_json::Value as Json;
 use std::alloc::{AllocError, Global};
 
-/// Values as a JSON list, each by the description of its parameter.
+/// Values as a JSON list, each by the description of its parameter, their whole numbers in a form.
 pub fn values_text(
     alloc: Global,
+    numbers: NumberForm,
     parameters: &[Parameter],
     values: &[Value],
 ) -> Result<String, AllocError>
     ensures { IfOk result (λ text. string_bytes text
-        ≡ values_text parameters.now (map value_view values.now)) }
+        ≡ values_text numbers parameters.now (map value_view values.now)) }
 {
-    let list = values_json(alloc, parameters, values)?;
+    let list = values_json(alloc, numbers, parameters, values)?;
     Ok(list.to_string(alloc)?)
 }
 
@@ -40,26 +41,32 @@ pub fn forward_text(alloc: Global, ior: &Ior) -> Result<String, AllocError>
 
 fn values_json(
     alloc: Global,
+    numbers: NumberForm,
     parameters: &[Parameter],
     values: &[Value],
 ) -> Result<Json, AllocError>
     ensures { IfOk result (λ json. view json
-        ≡ values_data parameters.now (map value_view values.now)) }
+        ≡ values_data numbers parameters.now (map value_view values.now)) }
 {
     let mut list = Vec::with_capacity(alloc, values.len())?;
     for i in 0..parameters.len().min(values.len()) {
-        let json = value_json(alloc, &parameters[i].desc, &values[i])?;
+        let json = value_json(alloc, numbers, &parameters[i].desc, &values[i])?;
         list.push(json)?;
     }
     Ok(Json::Array(list))
 }
 
 // A value by its description; null where it is no value of that.
-fn value_json(alloc: Global, desc: &CheckedDesc, value: &Value) -> Result<Json, AllocError>
+fn value_json(
+    alloc: Global,
+    numbers: NumberForm,
+    desc: &CheckedDesc,
+    value: &Value,
+) -> Result<Json, AllocError>
     ensures { IfOk result (λ json. view json
-        ≡ value_data (checked_shape desc.now) (value_view value.now)) }
+        ≡ value_data numbers (checked_shape desc.now) (value_view value.now)) }
 {
-    match value_to_json(alloc, desc, value) {
+    match value_to_json_in(alloc, numbers, desc, value) {
         Ok(json) => Ok(json),
         Err(FormFault::Unfit) => Ok(Json::Null),
         Err(_) => Err(AllocError),

@@ -6,13 +6,14 @@ use crate::trace::answered::Answered;
 use giop_cdr::CdrFault;
 use giop_lines::{CdrFaultText, CompletionText, EscapedText, HexText, MinorText};
 use giop_msg::{Msg, ReplyBody, Request};
-use giop_types::Interface;
+use giop_types::{Interface, NumberForm};
 use std::alloc::Global;
 use std::io::Write;
 
 /// Writes what the answer of a call is, by the Request that it answers, where that was decoded.
 pub fn write_answer<W: Write>(
     alloc: Global,
+    numbers: NumberForm,
     interface: &Interface,
     request: Option<&Request>,
     message: &Msg,
@@ -21,7 +22,14 @@ pub fn write_answer<W: Write>(
 ) -> Result<(), Failure> {
     match answered {
         Answered::Pieces => write_octets("Unfinished", message, writer),
-        Answered::Reply(reply) => write_body(alloc, interface, request, &reply.body, writer),
+        Answered::Reply(reply) => write_body(
+            alloc,
+            numbers,
+            interface,
+            request,
+            &reply.body,
+            writer,
+        ),
         Answered::Located(status) => {
             write!(writer, " LocateDone {}", *status)?;
             Ok(())
@@ -42,6 +50,7 @@ fn write_octets<W: Write>(name: &str, message: &Msg, writer: &mut W) -> Result<(
 // What a Reply says: its status, and by that what it brought.
 fn write_body<W: Write>(
     alloc: Global,
+    numbers: NumberForm,
     interface: &Interface,
     request: Option<&Request>,
     body: &ReplyBody,
@@ -61,7 +70,7 @@ fn write_body<W: Write>(
     let Some(request) = request else {
         return Ok(());
     };
-    let brought = brought_by(alloc, interface, request, body)?;
+    let brought = brought_by(alloc, numbers, interface, request, body)?;
     let brought = brought.as_str();
     match body {
         ReplyBody::NoException(_) => write!(writer, " Done 0 {brought}")?,

@@ -10,7 +10,7 @@ use crate::trace::json::write_call_json;
 use giop_lines::IdText;
 use giop_msg::{Msg, Request};
 use giop_trace::Flow;
-use giop_types::Interface;
+use giop_types::{Interface, NumberForm};
 use std::alloc::Global;
 use std::io::Write;
 
@@ -28,6 +28,8 @@ pub enum Unanswered {
 /// What is told of a call.
 #[derive(Clone, Copy)]
 pub struct Told<'a> {
+    /// The form of whole numbers in its values.
+    pub numbers: NumberForm,
     /// Its id, where it has one that can be read.
     pub id: Option<u32>,
     /// Its messages.
@@ -53,6 +55,7 @@ pub fn write_call<W: Write>(
     let asked = asked_of(alloc, interface, &flow.asked)?;
     let answered = answered_of(alloc, interface, request_in(&asked), &flow.answer)?;
     let told = Told {
+        numbers: form.numbers(),
         id,
         flow,
         asked: &asked,
@@ -60,8 +63,8 @@ pub fn write_call<W: Write>(
         unanswered,
     };
     match form {
-        LineForm::Text => write_call_text(alloc, interface, told, writer),
-        LineForm::Json => write_call_json(alloc, interface, told, writer),
+        LineForm::Text(_) => write_call_text(alloc, interface, told, writer),
+        LineForm::Json(_) => write_call_json(alloc, interface, told, writer),
     }
 }
 
@@ -84,13 +87,20 @@ fn write_call_text<W: Write>(
     told: Told<'_>,
     writer: &mut W,
 ) -> Result<(), Failure> {
-    let Told { flow, asked, .. } = told;
+    let Told {
+        numbers,
+        flow,
+        asked,
+        ..
+    } = told;
     write!(writer, "{}", IdText(told.id))?;
-    write_asked(alloc, interface, flow, asked, writer)?;
+    write_asked(alloc, numbers, interface, flow, asked, writer)?;
     match (&flow.answer, told.answered) {
         (Some(message), Some(answered)) => {
             let request = request_in(asked);
-            write_answer(alloc, interface, request, message, answered, writer)?
+            write_answer(
+                alloc, numbers, interface, request, message, answered, writer,
+            )?
         }
         _ if !asked.is_call() => {}
         _ if flow.cancelled => write!(writer, " Cancelled")?,

@@ -97,7 +97,7 @@ impl Incoming {
     {
         let (fault, rest) = (self.fault, self.framer.rest());
         match form {
-            LineForm::Text => writeln!(
+            LineForm::Text(_) => writeln!(
                 writer,
                 "{}",
                 DirectionEndLine {
@@ -106,7 +106,7 @@ impl Incoming {
                     rest
                 }
             )?,
-            LineForm::Json => writeln!(
+            LineForm::Json(_) => writeln!(
                 writer,
                 "{}",
                 DirectionEndJson {

@@ -22,7 +22,14 @@ pub fn write_call_json<W: Write>(
     writer: &mut W,
 ) -> Result<(), Failure> {
     write!(writer, "{{\"id\":{},\"asked\":", IdJson(told.id))?;
-    write_asked_json(alloc, interface, told.flow, told.asked, writer)?;
+    write_asked_json(
+        alloc,
+        told.numbers,
+        interface,
+        told.flow,
+        told.asked,
+        writer,
+    )?;
     write!(writer, ",\"outcome\":")?;
     write_outcome(alloc, interface, told, writer)?;
     writeln!(writer, "}}")?;
@@ -38,7 +45,15 @@ fn write_outcome<W: Write>(
     match (&told.flow.answer, told.answered) {
         (Some(message), Some(answered)) => {
             let request = request_in(told.asked);
-            write_answer_json(alloc, interface, request, message, answered, writer)
+            write_answer_json(
+                alloc,
+                told.numbers,
+                interface,
+                request,
+                message,
+                answered,
+                writer,
+            )
         }
         _ if !told.asked.is_call() => write_null(writer),
         _ if told.flow.cancelled => write_what("cancelled", writer),

@@ -2,6 +2,7 @@
 use giop_commands::failure::Failure;
 use giop_commands::status::Status;
 use giop_commands::{BehindFault, LineForm, MESSAGE_LIMIT, dump_stream};
+use giop_types::NumberForm;
 use std::io;
 use std::io::{ErrorKind, Read, Write};
 use std::test::Fail;
@@ -66,7 +67,7 @@ fn the_pieces_that_come_do_not_matter(rt: HostRuntime) -> Result<(), Fail> {
         let answered = dump_stream(
             rt.alloc(),
             MESSAGE_LIMIT,
-            LineForm::Text,
+            LineForm::Text(NumberForm::Plain),
             &mut reader,
             &mut written,
             BehindFault::Read,
@@ -99,7 +100,7 @@ fn a_read_that_fails_leaves_the_lines_before_it(rt: HostRuntime) -> Result<(), F
         let answered = dump_stream(
             rt.alloc(),
             MESSAGE_LIMIT,
-            LineForm::Text,
+            LineForm::Text(NumberForm::Plain),
             &mut reader,
             &mut written,
             BehindFault::Read,
@@ -124,7 +125,7 @@ fn a_read_that_fails_behind_a_fault_is_told(rt: HostRuntime) -> Result<(), Fail>
         let answered = dump_stream(
             rt.alloc(),
             MESSAGE_LIMIT,
-            LineForm::Text,
+            LineForm::Text(NumberForm::Plain),
             &mut reader,
             &mut written,
             BehindFault::Read,
@@ -152,7 +153,7 @@ fn a_fault_ends_an_input_that_never_ends(rt: HostRuntime) -> Result<(), Fail> {
     let answered = dump_stream(
         rt.alloc(),
         MESSAGE_LIMIT,
-        LineForm::Text,
+        LineForm::Text(NumberForm::Plain),
         &mut Zeros,
         &mut written,
         BehindFault::Leave,
@@ -194,7 +195,7 @@ fn what_is_whole_is_shown_before_a_read(rt: HostRuntime) -> Result<(), Fail> {
         let answered = dump_stream(
             rt.alloc(),
             MESSAGE_LIMIT,
-            LineForm::Text,
+            LineForm::Text(NumberForm::Plain),
             &mut reader,
             &mut writer,
             BehindFault::Leave,

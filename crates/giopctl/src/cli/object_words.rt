@@ -1,8 +1,8 @@
 //! The words of `locate` and `ping`: their arguments and their help. A change here is one in
 //! docs/giopctl.md and tests/program too.
 
+use crate::cli::form_words::{json, plain_lines_of};
 use crate::cli::session_words::{little, target, timeout, timeout_of};
-use crate::cli::{json, lines_of};
 use clap::{ArgMatches, Command};
 use giop_commands::LineForm;
 use std::alloc::{AllocError, Global};
@@ -96,7 +96,7 @@ pub fn object_words<'a>(matches: &ArgMatches<'a>) -> Result<ObjectWords<'a>, &'s
             target,
             timeout: timeout_of(matches)?,
             little: matches.get_flag("little"),
-            lines: lines_of(matches),
+            lines: plain_lines_of(matches),
         }),
         None => Err("--target is wanted"),
     }

@@ -4,8 +4,8 @@ ghost use Rattle.std.specs.Prelude.{IfOk};
 ghost use Rattle.giop_session.specs.Acts.Form.{IsForm};
 ghost use Rattle.giop_commands.specs.Check.{AreLimits};
 
+use crate::cli::form_words::{json, json_numbers, lines_of};
 use crate::cli::limit_words::{limited, limits_of};
-use crate::cli::{json, lines_of};
 use crate::files::apart;
 use clap::builder::ValueParser;
 use clap::{Arg, ArgAction, ArgGroup, ArgMatches, Command};
@@ -169,6 +169,7 @@ pub fn call<'a>(alloc: Global) -> Result<Command<'a>, AllocError> {
         .arg(target(alloc))?
         .arg(interface(alloc))?
         .arg(json(alloc))?
+        .arg(json_numbers(alloc))?
         .arg(stream(alloc))?
         .arg(timeout(alloc))?;
     sent(alloc, command)?.arg(file)?.arg(values)
@@ -217,6 +218,7 @@ pub fn serve<'a>(alloc: Global) -> Result<Command<'a>, AllocError> {
         .arg(type_id)?
         .arg(connections)?
         .arg(json(alloc))?
+        .arg(json_numbers(alloc))?
         .arg(stream(alloc))?;
     sent(alloc, command)
 }

@@ -91,7 +91,7 @@ fn refused_value(
     };
     match way {
         Way::Encode => refused_json(rt, file, octets, &desc, description),
-        Way::Decode => refused_digits(rt, file, unended(octets), 0),
+        Way::Decode(_) => refused_digits(rt, file, unended(octets), 0),
     }
 }
 

@@ -7,13 +7,14 @@ use crate::trace::json::{write_message, write_null};
 use giop_cdr::CdrFault;
 use giop_lines::{CdrFaultJson, HexJson, OutcomeJson, TextJson};
 use giop_msg::{Msg, ReplyBody, Request};
-use giop_types::Interface;
+use giop_types::{Interface, NumberForm};
 use std::alloc::Global;
 use std::io::Write;
 
 /// Writes what the answer of a call is, by the Request that it answers, where that was decoded.
 pub fn write_answer_json<W: Write>(
     alloc: Global,
+    numbers: NumberForm,
     interface: &Interface,
     request: Option<&Request>,
     message: &Msg,
@@ -22,7 +23,9 @@ pub fn write_answer_json<W: Write>(
 ) -> Result<(), Failure> {
     match answered {
         Answered::Pieces => write_message("unfinished", message, writer),
-        Answered::Reply(reply) => write_body(alloc, interface, request, &reply.body, writer),
+        Answered::Reply(reply) => {
+            write_body(alloc, numbers, interface, request, &reply.body, writer)
+        }
         Answered::Located(status) => {
             write!(writer, "{{\"what\":\"located\",\"status\":{}}}", *status)?;
             Ok(())
@@ -37,6 +40,7 @@ pub fn write_answer_json<W: Write>(
 // What a Reply says, and what it brought; null where that isn't known without its Request.
 fn write_body<W: Write>(
     alloc: Global,
+    numbers: NumberForm,
     interface: &Interface,
     request: Option<&Request>,
     body: &ReplyBody,
@@ -48,7 +52,7 @@ fn write_body<W: Write>(
     let Some(request) = request else {
         return write_null(writer);
     };
-    let brought = brought_by(alloc, interface, request, body)?;
+    let brought = brought_by(alloc, numbers, interface, request, body)?;
     write_outcome(body, brought.as_str(), writer)
 }
 

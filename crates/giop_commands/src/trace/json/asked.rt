@@ -7,20 +7,23 @@ use crate::trace::json::{write_message, write_null, write_what};
 use giop_lines::{HexJson, RequestFaultJson, TargetJson, TextJson};
 use giop_msg::{Msg, Request, RequestFault};
 use giop_trace::Flow;
-use giop_types::Interface;
+use giop_types::{Interface, NumberForm};
 use std::alloc::Global;
 use std::io::Write;
 
 /// Writes what was asked; null where a message of the server has no place in a call.
 pub fn write_asked_json<W: Write>(
     alloc: Global,
+    numbers: NumberForm,
     interface: &Interface,
     flow: &Flow,
     asked: &Asked,
     writer: &mut W,
 ) -> Result<(), Failure> {
     match (asked, &flow.asked) {
-        (Asked::Request(request), _) => write_request(alloc, interface, request, writer),
+        (Asked::Request(request), _) => {
+            write_request(alloc, numbers, interface, request, writer)
+        }
         (Asked::Locate(request), _) => {
             let target = TargetJson(&request.target);
             write!(writer, "{{\"what\":\"locate\",{target}}}")?;
@@ -35,11 +38,12 @@ pub fn write_asked_json<W: Write>(
 
 fn write_request<W: Write>(
     alloc: Global,
+    numbers: NumberForm,
     interface: &Interface,
     request: &Request,
     writer: &mut W,
 ) -> Result<(), Failure> {
-    let ins = request_ins(alloc, interface, request)?;
+    let ins = request_ins(alloc, numbers, interface, request)?;
     let target = TargetJson(&request.head.target);
     let operation = TextJson(request.head.operation.as_slice());
     write!(

@@ -6,5 +6,5 @@ use Rattle.giop_commands.proofs.session.bodies.values_json.Given as goal
 
 abbrev pub invariant-loop-i : goal.invariant-loop-i
 invariant-loop-i l =
-    map view l.list.items ++ each_data (drop l.i l.parameters) (map value_view (drop l.i l.values))
-    ≡ each_data l.parameters (map value_view l.values)
+    map view l.list.items ++ each_data l.numbers (drop l.i l.parameters) (map value_view (drop l.i l.values))
+    ≡ each_data l.numbers l.parameters (map value_view l.values)

@@ -8,5 +8,5 @@ use Rattle.giop_commands.proofs.session.bodies.values_text.Goals as goal
 pub returns : goal.returns
 returns c =
     let shown = c.in_ok-list.ensures in
-    let whole : has_float (view c.in_ok-list.list) ≡ false = ap has_float shown ∙ each_whole c.args.parameters.now (map value_view c.args.values.now) in
+    let whole : has_float (view c.in_ok-list.list) ≡ false = ap has_float shown ∙ each_whole c.args.numbers c.args.parameters.now (map value_view c.args.values.now) in
     c.in_ok-to_string.ensures.text whole ∙ ap compact_text shown

@@ -1,0 +1,51 @@
+//! The options of how lines, and the numbers in their values, are written: --json and
+//! --json-numbers. A change here is one in docs/giopctl.md and tests/program too.
+
+use clap::builder::ValueParser;
+use clap::{Arg, ArgAction, ArgMatches};
+use giop_commands::LineForm;
+use giop_types::NumberForm;
+use std::alloc::Global;
+
+/// The option of a command that may write lines of JSON.
+pub fn json<'a>(alloc: Global) -> Arg<'a> {
+    Arg::new(alloc, "json")
+        .long("json")
+        .action(ArgAction::SetTrue)
+        .help("Each line is an object of JSON")
+}
+
+/// The option of a command that writes values.
+pub fn json_numbers<'a>(alloc: Global) -> Arg<'a> {
+    Arg::new(alloc, "json-numbers")
+        .long("json-numbers")
+        .value_name("FORM")
+        .default_value("number")
+        .value_parser(ValueParser::Names(&["number", "text"]))
+        .help("With text, numbers in values beyond 2^53 - 1 are texts, which jq doesn't round")
+}
+
+/// The form of the lines of a command that takes `--json` alone.
+pub fn plain_lines_of(matches: &ArgMatches<'_>) -> LineForm {
+    form_of(matches, NumberForm::Plain)
+}
+
+/// The form of the lines of a command that takes `--json` and `--json-numbers`.
+pub fn lines_of(matches: &ArgMatches<'_>) -> LineForm {
+    form_of(matches, numbers_of(matches))
+}
+
+/// The form of numbers in values, of a command that takes `--json-numbers`.
+pub fn numbers_of(matches: &ArgMatches<'_>) -> NumberForm {
+    match matches.get_str("json-numbers") {
+        Some("text") => NumberForm::Quoted,
+        _ => NumberForm::Plain,
+    }
+}
+
+fn form_of(matches: &ArgMatches<'_>, numbers: NumberForm) -> LineForm {
+    match matches.get_flag("json") {
+        true => LineForm::Json(numbers),
+        false => LineForm::Text(numbers),
+    }
+}
