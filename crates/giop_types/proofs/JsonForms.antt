@@ -1,5 +1,6 @@
 -- What the JSON forms rest on.
 pub mod JsonTextLemmas
+pub mod OrdinalLemmas
 pub mod ToJsonLemmas
 pub mod FromJsonLemmas
 pub mod NumberTextLemmas

@@ -5,6 +5,7 @@ pub mod ToJson
 pub mod ValuesText
 pub mod FormFault
 pub mod FromJson
+pub mod Ordinals
 pub mod DescFromJson
 pub mod InterfaceFromJson
 pub mod InterfaceForms

@@ -21,14 +21,14 @@ use Rattle.giop_types.specs.Descriptions.Shape.{Shape, members, choice, Fields, 
 use Rattle.giop_types.specs.Values.Tree.{Tree, members_of, items_of, row_of, choice_of}
 use Rattle.giop_types.specs.Values.Views.{desc_view, named_view, case_view, fallback_view, fields_of, branches_of, trees_of, value_view}
 use Rattle.giop_types.specs.JsonForms.FromJson.{ordinal_in, shown, fields_shown, branches_shown, items_shown, field_count, one_shown, is_object_of, fallback_shown}
-use Rattle.giop_types.specs.JsonForms.FromJson.{Shows, ShowsCase, union_parts, label_shown, members_shown}
+use Rattle.giop_types.specs.JsonForms.FromJson.{Shows, ShowsCase, ordinal_shown, ordinal_tree, union_parts, label_shown, members_shown}
 use Rattle.giop_types.specs.JsonForms.Reference.{is_reference, reference_shown}
 use Rattle.std.specs.declared.vec.Vec.{Vec}
 use Rattle.std.specs.declared.alloc.Global.{Global}
 use Rattle.std.specs.declared.boxed.Box.{Box}
 use Rattle.giop_types.specs.declared.description.desc.Desc.{Desc}
 use Rattle.giop_types.specs.declared.value.Value.{Value}
-use Rattle.giop_types.proofs.Values.ViewLemmas.{view-Named, view-Items, view-Row, view-Choice, view-Members}
+use Rattle.giop_types.proofs.Values.ViewLemmas.{view-Named, view-Labels, view-Items, view-Row, view-Choice, view-Members}
 use Rattle.giop_types.proofs.Coding.PartLoops.{IsEachPart}
 use Rattle.giop_types.proofs.Coding.MemberLoops.{left_is, branches_left}
 
@@ -112,6 +112,23 @@ pub row_form : (d : _) (n : ℕ) (j : json.Data) → shown (desc_view (desc.Row 
     ≡ option_map (λ ts. row_of (trees_of ts)) (option_and_then (items_shown (shown (desc_view d.value))) (as_array j))
 unfolding shown
 row_form d n j = ap (λ s. shown s j) (view-Row d n)
+
+-- a list of names
+
+labels_form : (names : _) (d : json.Data) → shown (desc_view (desc.Labels names)) d ≡ option_map ordinal_tree (ordinal_shown names.items d)
+unfolding shown
+labels_form names d = ap (λ s. shown s d) (view-Labels names)
+
+same_items : {A : Type 0} (f g : json.Data → Option A) → ((d : json.Data) → f d ≡ g d) → (js : json.Items) → items_shown f js ≡ items_shown g js
+same_items f g same json.no_items = refl
+same_items f g same (json.item d ds) = rw (same d, same_items f g same ds) refl
+
+pub labels_listed : (names : _) (d : json.Data) (js : json.Items) → Some js ≡ as_array d
+    → option_and_then (items_shown (shown (desc_view (desc.Labels names)))) (as_array d)
+    ≡ items_shown (λ j. option_map ordinal_tree (ordinal_shown names.items j)) js
+labels_listed names d js is =
+    ap (option_and_then (items_shown (shown (desc_view (desc.Labels names))))) (sym is)
+    ∙ same_items (shown (desc_view (desc.Labels names))) (λ j. option_map ordinal_tree (ordinal_shown names.items j)) (labels_form names) js
 
 choice_form : (d : Box Desc Global) (cs : Vec CaseDesc Global) (f : Option (Box NamedDesc Global)) (j : json.Data)
     → shown (desc_view (desc.Choice d cs f)) j ≡ shown (choice (desc_view d.value) (branches_of (map case_view cs.items)) (fallback_view f)) j

@@ -7,8 +7,11 @@ use Rattle.giop_types.specs.declared.description.desc.CaseDesc.{CaseDesc}
 use Rattle.giop_types.specs.declared.value.Value.{the_lemmas as value_lemmas}
 use Rattle.giop_types.specs.declared.value.Value.TheVariants as value
 use Rattle.giop_types.specs.Values.Tree.{choice_of, no_trees, tree}
-use Rattle.giop_types.specs.Descriptions.Shape.{members, choice, items, row}
+use Rattle.giop_types.specs.Descriptions.Shape.{labels, members, choice, items, row}
 use Rattle.giop_types.specs.Values.Views.{value_view, desc_view, named_view, case_view, fallback_view, fields_of, branches_of}
+
+pub view-Labels : (names : _) → desc_view (desc.Labels names) ≡ labels names.items
+view-Labels names = search (rules, the_lemmas)
 
 pub view-Members : (ms : _) → desc_view (desc.Members ms) ≡ members (fields_of (map named_view ms.items))
 view-Members ms = search (rules, the_lemmas)

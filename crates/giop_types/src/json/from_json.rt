@@ -17,6 +17,7 @@ use crate::codec::reading::has_label;
 use crate::description::checked_desc::CheckedDesc;
 use crate::description::desc::{CaseDesc, Desc, NamedDesc};
 use crate::json::form_fault::FormFault;
+use crate::json::ordinals::{are_many, named_values};
 use crate::json::read_leaves::{
     char_of, hex_of, label_of, number_of, octets_of, ordinal_of, ordinal_value,
 };
@@ -148,9 +149,12 @@ fn show_items(alloc: Global, item: &Desc, json: &Json) -> Result<Vec<Value>, For
     ensures { Shows (λ values. map value_view values.items) result
         (option_and_then (items_shown (shown (desc_view item.now))) (as_array (view json.now))) }
 {
-    match json.as_array() {
-        Some(list) => show_each(alloc, item, list.as_slice()),
-        None => Err(FormFault::BadShape),
+    let Some(list) = json.as_array() else {
+        return Err(FormFault::BadShape);
+    };
+    match item {
+        Desc::Labels(names) if are_many(names, list) => named_values(alloc, names, list),
+        _ => show_each(alloc, item, list),
     }
 }
 

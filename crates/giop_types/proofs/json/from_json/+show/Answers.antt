@@ -13,6 +13,7 @@ use Rattle.giop_types.proofs.Values.FitLemmas.{items_view, row_view}
 use Rattle.giop_types.proofs.Coding.MemberLoops.{one_more}
 use Rattle.giop_types.proofs.Coding.PartLoops.{part_made, part_missing, parts_made}
 use Rattle.giop_types.proofs.JsonForms.FromJsonLemmas.{members-each, items-each, field_count_is, case_shown, case_passed, no_case, items_form, row_form}
+use Rattle.giop_types.proofs.JsonForms.FromJsonLemmas.{labels_listed}
 use Rattle.giop_types.proofs.JsonForms.FromJsonLemmas.{refused_along, no_form, default_shown, null_shown, case_absent, choice_shows}
 use Rattle.giop_types.proofs.json.from_json.+show.Goals as goal
 
@@ -132,6 +133,12 @@ pub show_members-returns-else-is_object_of : goal.show_members-returns-else-is_o
 show_members-returns-else-is_object_of t c =
     let test : is_object_of (length c.args.members.now) (view c.args.json.now) ≡ false = sym c.is_object_of.ensures ∙ c.if-is_object_of.false in
     rw (field_count_is c.args.members.now, test) (inl (refl, refl))
+
+pub show_items-returns-in-Labels : goal.show_items-returns-in-Labels
+show_items-returns-in-Labels t c =
+    let form = labels_listed c.in-Labels.names (view c.args.json.now) (json_items c.in-Some.list.now.items) c.in-Some.ensures in
+    let made = rw (c.deref-in-Labels.ensures.value, c.deref-in-Labels-2.ensures.value) at c.named_values.ensures in
+    rw (c.in-Labels.is, form) made
 
 pub show_each-loop-json-preserved : goal.show_each-loop-json-preserved
 show_each-loop-json-preserved t c =
