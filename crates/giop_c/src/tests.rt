@@ -3,6 +3,7 @@
 
 mod client;
 mod contexts;
+mod references;
 mod server;
 mod server_entries;
 mod threads;
