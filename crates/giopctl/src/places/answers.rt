@@ -172,8 +172,10 @@ fn answer_refusal(
     match Interface::from_json(alloc, interface.as_bytes()) {
         Ok(interface) => match answers_from_json(alloc, &interface, text.as_bytes()) {
             Ok(_) => Ok(0),
+            Err(FormFault::NoMemory) => Err(AllocError),
             Err(fault) => Ok(fault_code(fault)),
         },
+        Err(FormFault::NoMemory) => Err(AllocError),
         Err(_) => Ok(0),
     }
 }

@@ -82,6 +82,7 @@ fn call_refusal(alloc: Global, interface: &Interface, call: &Json) -> Result<u8,
     let text = json!(in alloc; [call])?.to_string(alloc)?;
     match calls_from_json(alloc, interface, text.as_bytes()) {
         Ok(_) => Ok(0),
+        Err(FormFault::NoMemory) => Err(AllocError),
         Err(fault) => Ok(fault_code(fault)),
     }
 }
