@@ -160,7 +160,8 @@ void giop_framer_free(giop_framer *framer);
 
 /* ---- interfaces ----
  *
- * An interface says what the operations of an object take and give. It is made of JSON (docs/FORMATS.md).
+ * An interface says what the operations of an object take and give. It is made of JSON (docs/FORMATS.md), in
+ * which types may have names.
  */
 typedef struct giop_interface {
     void *at;
@@ -176,9 +177,10 @@ typedef struct giop_text_fault {
 #define GIOP_TEXT_BAD_JSON 1u        /* it is no JSON, or nests more than 127 deep */
 #define GIOP_TEXT_BAD_SHAPE 2u       /* it has another form than the one that is asked for */
 #define GIOP_TEXT_BAD_DESCRIPTION 3u /* a description describes no type of IDL */
-#define GIOP_TEXT_UNFIT 4u           /* a value isn't of its description, or there are too many or too few */
+#define GIOP_TEXT_UNFIT 4u           /* a value isn't of its description, or there are too many or too few; or what
+                                      * the names of an interface's types stand for is more than 1,000,000 */
 
-/* Opens a handle: the interface that a text of JSON is. What the handle held is let go. Answers GIOP_OK;
+/* Opens a handle: the interface that a text of JSON says. What the handle held is let go. Answers GIOP_OK;
  * GIOP_FAULT: the text is refused, and *fault says why; or GIOP_NO_MEMORY. With both the handle is as it
  * was. *fault is written with GIOP_FAULT alone. json may be NULL where size is 0. */
 uint32_t giop_interface_new(giop_interface *interface, const uint8_t *json, size_t size,

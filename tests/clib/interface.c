@@ -45,6 +45,31 @@ static const struct refused {
     {"{\"operations\":{\"f\":{\"ins\":[[\"a\",{\"enum\":[\"x\",\"x\"]}]]}}}", GIOP_TEXT_BAD_DESCRIPTION, 2},
 };
 
+/* A type of two members, of which one has a name itself; a name that no type has; one that stands for itself. */
+static void the_types_of_an_interface_have_names(void) {
+    static const char named[] = "{\"id\":\"IDL:P:1.0\",\"types\":{\"Point\":{\"struct\":[[\"x\",{\"type\":\"Half\"}],"
+                                "[\"y\",\"octet\"]]},\"Half\":\"short\"},\"operations\":{\"move\":{\"ins\":[[\"to\","
+                                "{\"type\":\"Point\"}]],\"comment\":\"there\"}}}";
+    static const char none[] = "{\"operations\":{\"f\":{\"ins\":[[\"a\",{\"type\":\"T\"}]]}}}";
+    static const char itself[] = "{\"types\":{\"T\":{\"type\":\"T\"}},\"operations\":{\"f\":{\"ins\":[[\"a\","
+                                 "{\"type\":\"T\"}]]}}}";
+    static const uint8_t octets[3] = {1, 2, 3};
+    giop_interface interface = {0};
+    giop_text_fault fault;
+    giop_end_fault wrong;
+    uint8_t text[32];
+    size_t size;
+    CHECK(opens(&interface, none, &fault) == GIOP_FAULT && fault.number == GIOP_TEXT_BAD_SHAPE);
+    CHECK(opens(&interface, itself, &fault) == GIOP_FAULT && fault.number == GIOP_TEXT_BAD_SHAPE);
+    CHECK(opens(&interface, named, &fault) == GIOP_OK && is_unwritten(fault));
+    CHECK(giop_interface_convert(&interface, 0, (const uint8_t *)"move", 4, GIOP_BIG_ENDIAN, octets, 3, GIOP_JSON, text,
+                                 sizeof text, &size, &wrong)
+          == GIOP_OK);
+    CHECK(size == 17 && memcmp(text, "[{\"x\":258,\"y\":3}]", 17) == 0);
+    giop_interface_free(&interface);
+    CHECK(blocks == 0);
+}
+
 static void a_refused_text_leaves_the_handle(void) {
     giop_interface interface = {0};
     giop_text_fault fault;
@@ -81,6 +106,7 @@ static void each_allocation_may_be_refused(void) {
 
 int main(void) {
     an_interface_is_opened_and_freed();
+    the_types_of_an_interface_have_names();
     a_refused_text_leaves_the_handle();
     each_allocation_may_be_refused();
     CHECK(blocks == 0);

@@ -6,6 +6,7 @@ pub mod Copying
 pub mod Corbalocs
 pub mod EndRecords
 pub mod Heads
+pub mod InterfaceFiles
 pub mod Interfaces
 pub mod JsonValues
 pub mod MadeReferences

@@ -2,8 +2,8 @@
 ghost use Rattle.std.specs.Prelude.{◌≡◌, ◌≤◌, ◌^◌, None, length};
 ghost use Rattle.std_alloc.specs.Arc.{arc_value};
 ghost use Rattle.giop_types.specs.JsonForms.DescFromJson.{json_in};
-ghost use Rattle.giop_types.specs.JsonForms.InterfaceFromJson.{interface_told};
 ghost use Rattle.giop_c.specs.Calls.{At};
+ghost use Rattle.giop_c.specs.InterfaceFiles.{interface_said};
 ghost use Rattle.giop_c.specs.Interfaces.{Converts, OpensInterface, parameters_of};
 ghost use Rattle.giop_c.specs.Values.{c_value_form};
 
@@ -18,9 +18,9 @@ use crate::value_form::value_form_of;
 use giop_types::FormFault;
 use std::alloc::Global;
 
-/// Opens a handle: the interface that a JSON text is. What the handle held is let go. It answers
-/// OK; FAULT where the text is refused, and writes the fault; or NO_MEMORY. With both the handle is
-/// as it was.
+/// Opens a handle: the interface that a JSON text says, in which types may have names. What the
+/// handle held is let go. It answers OK; FAULT where the text is refused, and writes the fault; or
+/// NO_MEMORY. With both the handle is as it was.
 #[unsafe(no_mangle)]
 pub extern "C" fn giop_interface_new(
     alloc: Global,
@@ -28,7 +28,7 @@ pub extern "C" fn giop_interface_new(
     json: &[u8],
     fault: &mut TextFault,
 ) -> u32
-    ensures { OpensInterface (interface_told (json_in json.now)) interface.old.value
+    ensures { OpensInterface (interface_said (json_in json.now)) interface.old.value
         interface.new.value fault.old fault.new result }
 {
     match Shared::of_json(alloc, json) {

@@ -1,9 +1,10 @@
 //! What a handle of an interface holds: the interface, which ends that were opened by it share.
 ghost use Rattle.giop_types.specs.JsonForms.DescFromJson.{json_in};
 ghost use Rattle.giop_types.specs.JsonForms.FromJson.{Reads};
-ghost use Rattle.giop_types.specs.JsonForms.InterfaceFromJson.{interface_told};
+ghost use Rattle.giop_c.specs.InterfaceFiles.{interface_said};
 ghost use Rattle.giop_c.specs.Interfaces.{shared_view};
 
+use giop_names::plain_interface;
 use giop_types::{FormFault, Interface};
 use std::alloc::Global;
 use std::sync::Arc;
@@ -15,11 +16,13 @@ pub struct Shared {
 }
 
 impl Shared {
-    /// The interface that a JSON text is. Refused as `Interface::from_json` refuses it.
+    /// The interface that a JSON text says, in which types may have names. Refused as
+    /// `plain_interface` refuses it, or else as `Interface::from_json` refuses its plain form.
     pub fn of_json(alloc: Global, text: &[u8]) -> Result<Shared, FormFault>
-        ensures { Reads shared_view result (interface_told (json_in text.now)) }
+        ensures { Reads shared_view result (interface_said (json_in text.now)) }
     {
-        let interface = Interface::from_json(alloc, text)?;
+        let plain = plain_interface(alloc, text)?;
+        let interface = Interface::from_json(alloc, plain.as_bytes())?;
         match Arc::new(alloc, interface) {
             Ok(interface) => Ok(Shared { interface }),
             Err(_) => Err(FormFault::NoMemory),

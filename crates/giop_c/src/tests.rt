@@ -3,6 +3,7 @@
 
 mod client;
 mod contexts;
+mod interface;
 mod references;
 mod server;
 mod server_entries;

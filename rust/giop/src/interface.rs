@@ -63,7 +63,7 @@ pub struct Interface {
 }
 
 impl Interface {
-    /// The interface that a text of JSON is.
+    /// The interface that a text of JSON says (docs/FORMATS.md). Types may have names in it.
     ///
     /// # Errors
     /// Why the text is refused.
