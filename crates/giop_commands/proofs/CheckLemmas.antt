@@ -19,6 +19,7 @@ use Rattle.giop_session.specs.Calls.CallTable.{Held}
 use Rattle.giop_commands.specs.declared.failure.Failure.{Failure}
 use Rattle.giop_commands.specs.declared.status.Status.{Status}
 use Rattle.giop_commands.specs.declared.status.Status.TheVariants.{Done, Refused, LimitPassed, Usage, InputOutput, Memory}
+use Rattle.giop_types.specs.declared.json.number_form.NumberForm.TheVariants.{Plain}
 use Rattle.giop_commands.specs.declared.form.LineForm.{LineForm}
 use Rattle.giop_commands.specs.declared.form.LineForm.TheVariants.{Text}
 use Rattle.giop_commands.specs.Check.{Checks, ChecksKnown, HeardKnown, Hears, IsChecked, last_status, nothing_read, server_hears, strict_status}
@@ -186,7 +187,7 @@ module _ {S : Type 0} (hears : Msg → S → Result (Unit {0}) SessionFault → 
 -- ---- what is told
 
 pub of_status : (interface : Interface) (limits : Limits) (octets : List ℕ) (old new : Option (List ℕ)) (status : Status)
-    → IsChecked interface limits false Text octets old new status → Checks interface limits octets old new status
+    → IsChecked interface limits false (Text Plain) octets old new status → Checks interface limits octets old new status
 of_status interface limits octets old new Done is = is
 of_status interface limits octets old new Refused is = is
 of_status interface limits octets old new (LimitPassed limit) is = is

@@ -10,7 +10,7 @@ use Rattle.giop_types.specs.declared.json.interface.Interface.{Interface}
 use Rattle.giop_types.specs.declared.json.parameters.Parameter.{Parameter}
 use Rattle.giop_types.specs.Values.Tree.{Tree}
 use Rattle.giop_commands.specs.declared.call.calls.CallLine.{CallLine}
-use Rattle.giop_commands.specs.AnswerForms.{each_fits, fits_outs}
+use Rattle.giop_commands.specs.AnswerForms.{each_fits, fits_outs, list_fits}
 use Rattle.giop_commands.specs.CallForms.{made_of, form_of, each_value, each_call}
 
 -- one part and those behind it
@@ -96,3 +96,9 @@ pub answer_judged : (interface : Interface) (outs : List Parameter) (fit one : B
     → option_map (λ more. (fit && one) && more) (each_fits interface outs (items_view (drop (i + 1) xs))) ≡ total
 answer_judged interface outs fit one xs i x total lt is judged so_far =
     judged_more fit one (each_fits interface outs (items_view (drop (i + 1) xs))) total (rw (left_items xs i x lt is, judged) at so_far)
+
+-- a list of one answer or more
+pub some_fit : (interface : Interface) (outs : List Parameter) (xs : List Json) → 1 ≤ length xs
+    → list_fits interface outs (items_view xs) ≡ each_fits interface outs (items_view xs)
+some_fit interface outs [] le = absurd (omega arith)
+some_fit interface outs (x ∷ xs) le = refl

@@ -9,6 +9,7 @@ use Rattle.giop_session.specs.declared.session_fault.SessionFault.{SessionFault}
 use Rattle.giop_session.specs.Pumping.{Between, between}
 use Rattle.giop_types.specs.declared.json.interface.Interface.{Interface}
 use Rattle.giop_commands.specs.declared.failure.Failure.{Failure}
+use Rattle.giop_types.specs.declared.json.number_form.NumberForm.TheVariants.{Plain}
 use Rattle.giop_commands.specs.declared.form.LineForm.{LineForm}
 use Rattle.giop_commands.specs.declared.form.LineForm.TheVariants.{Text}
 use Rattle.giop_commands.specs.declared.session.ending.Ending.{Ending}
@@ -50,7 +51,7 @@ called asked lines before after old new refused box outgoing unread left fault (
 }
 
 -- by its status
-calls_by : (asked : Asked) (before after : Wire) (old new : Option (List ℕ)) (status : Status) → IsCalled asked Text before after old new status
+calls_by : (asked : Asked) (before after : Wire) (old new : Option (List ℕ)) (status : Status) → IsCalled asked (Text Plain) before after old new status
     → Calls asked before after old new status
 calls_by asked before after old new Done is = is
 calls_by asked before after old new Refused is = is
@@ -60,7 +61,7 @@ calls_by asked before after old new InputOutput is = tt
 calls_by asked before after old new Memory is = tt
 
 -- the same of an ending
-pub calls_told : (asked : Asked) (before after : Wire) (old new : Option (List ℕ)) (ending : Ending) → CallsEnd asked Text before after old new ending
+pub calls_told : (asked : Asked) (before after : Wire) (old new : Option (List ℕ)) (ending : Ending) → CallsEnd asked (Text Plain) before after old new ending
     → Calls asked before after old new ending.status
 calls_told asked before after old new ending end = calls_by asked before after old new ending.status end.called
 
@@ -89,7 +90,7 @@ served number it lines before after was now_passed old new refused outgoing unre
 
 -- by its status
 serves_by : (number : ℕ) (it : Served) (before after : Wire) (was now_passed : List (List ℕ)) (old new : Option (List ℕ)) (status : Status)
-    → IsServed number it Text before after was now_passed old new status → Serves number it before after was now_passed old new status
+    → IsServed number it (Text Plain) before after was now_passed old new status → Serves number it before after was now_passed old new status
 serves_by number it before after was now_passed old new Done is = is
 serves_by number it before after was now_passed old new Refused is = is
 serves_by number it before after was now_passed old new (LimitPassed limit) is = is
@@ -99,7 +100,7 @@ serves_by number it before after was now_passed old new Memory is = tt
 
 -- the same of an ending
 pub serves_told : (number : ℕ) (it : Served) (before after : Wire) (was now_passed : List (List ℕ)) (old new : Option (List ℕ)) (ending : Ending)
-    → ServesEnd number it Text before after was now_passed old new ending → Serves number it before after was now_passed old new ending.status
+    → ServesEnd number it (Text Plain) before after was now_passed old new ending → Serves number it before after was now_passed old new ending.status
 serves_told number it before after was now_passed old new ending end = serves_by number it before after was now_passed old new ending.status end.served
 
 -- a client's turns, where its calls aren't over at first

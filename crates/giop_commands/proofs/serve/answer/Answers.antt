@@ -11,8 +11,8 @@ use Rattle.giop_commands.proofs.ActLemmas.{acts_told}
 use Rattle.giop_commands.proofs.ServingLemmas.{and_passed, due_told}
 use Rattle.giop_commands.proofs.serve.answer.Goals as goal
 
-pub returns-in_ok-reply-in-Reply-clause-answers : goal.returns-in_ok-reply-in-Reply-clause-answers
-returns-in_ok-reply-in-Reply-clause-answers c =
+pub returns-in_ok-pass-in-Reply-clause-answers : goal.returns-in_ok-pass-in-Reply-clause-answers
+returns-in_ok-pass-in-Reply-clause-answers c =
     let it = served_of c.args.serving in
     let entry = c.in-Some.entry.now in
     let s = desk (outbox c.args.end.now.calls c.args.end.now.outgoing) c.args.passed.now.names.items in
@@ -24,4 +24,4 @@ returns-in_ok-reply-in-Reply-clause-answers c =
     (answer_fault it.interface c.args.end.now.limits (question_in entry) reply it.form) (IsAnswer it.interface (question_in entry) reply it.form) s.box t.box
     c.answer.result c.told_of-in-Reply.result (λ why stands. let was = c.answer.ensures.failed why stands in (was.0, ap (λ e. outbox e.calls e.outgoing) was.1))
     (rw (c.in_ok-reply-in-Reply.ensures, ← c.in-Some.ensures, c.requires) at c.answer.ensures.answered) c.told_of-in-Reply.ensures.ok)
-    c.in_ok-pass.ensures)
+    c.in_ok-pass-in-Reply.ensures)
