@@ -17,22 +17,22 @@ _giopctl() {
     done
     case "$path $before" in
         'giopctl dump --interface'|'giopctl check --interface'|'giopctl trace --interface'|'giopctl convert encode --desc'|'giopctl convert decode --desc'|'giopctl call --interface'|'giopctl serve --interface'|'giopctl serve --answers'|'giopctl serve --ior-file') files=yes ;;
-        'giopctl dump --message-limit'|'giopctl dump --gathered-limit'|'giopctl check --message-limit'|'giopctl check --calls-limit'|'giopctl check --gathered-limit'|'giopctl trace --message-limit'|'giopctl call --target'|'giopctl call --timeout'|'giopctl call --piece'|'giopctl call --message-limit'|'giopctl call --calls-limit'|'giopctl call --gathered-limit'|'giopctl locate --target'|'giopctl locate --timeout'|'giopctl ping --target'|'giopctl ping --timeout'|'giopctl serve --port'|'giopctl serve --key'|'giopctl serve --key-text'|'giopctl serve --type-id'|'giopctl serve --connections'|'giopctl serve --piece'|'giopctl serve --message-limit'|'giopctl serve --calls-limit'|'giopctl serve --gathered-limit') return ;;
+        'giopctl dump --json-numbers'|'giopctl dump --message-limit'|'giopctl dump --gathered-limit'|'giopctl check --json-numbers'|'giopctl check --message-limit'|'giopctl check --calls-limit'|'giopctl check --gathered-limit'|'giopctl trace --json-numbers'|'giopctl trace --message-limit'|'giopctl convert decode --json-numbers'|'giopctl call --target'|'giopctl call --json-numbers'|'giopctl call --timeout'|'giopctl call --piece'|'giopctl call --message-limit'|'giopctl call --calls-limit'|'giopctl call --gathered-limit'|'giopctl locate --target'|'giopctl locate --timeout'|'giopctl ping --target'|'giopctl ping --timeout'|'giopctl serve --port'|'giopctl serve --key'|'giopctl serve --key-text'|'giopctl serve --type-id'|'giopctl serve --connections'|'giopctl serve --json-numbers'|'giopctl serve --piece'|'giopctl serve --message-limit'|'giopctl serve --calls-limit'|'giopctl serve --gathered-limit') return ;;
         *)
             case "$path:$word" in
                 'giopctl:-'*) words='-h --help -V --version' ;;
-                'giopctl dump:-'*) words='--interface --json --message-limit --gathered-limit -h --help' ;;
-                'giopctl check:-'*) words='--interface --json --strict --message-limit --calls-limit --gathered-limit -h --help' ;;
-                'giopctl trace:-'*) words='--interface --json --message-limit -h --help' ;;
+                'giopctl dump:-'*) words='--interface --json --json-numbers --message-limit --gathered-limit -h --help' ;;
+                'giopctl check:-'*) words='--interface --json --json-numbers --strict --message-limit --calls-limit --gathered-limit -h --help' ;;
+                'giopctl trace:-'*) words='--interface --json --json-numbers --message-limit -h --help' ;;
                 'giopctl convert:-'*) words='-h --help' ;;
                 'giopctl convert ior:-'*) words='--json -h --help' ;;
                 'giopctl convert corbaloc:-'*) words='--json -h --help' ;;
                 'giopctl convert encode:-'*) words='--desc --little -h --help' ;;
-                'giopctl convert decode:-'*) words='--desc --little -h --help' ;;
-                'giopctl call:-'*) words='--target --interface --json --stream --timeout --piece --little --message-limit --calls-limit --gathered-limit -h --help' ;;
+                'giopctl convert decode:-'*) words='--desc --little --json-numbers -h --help' ;;
+                'giopctl call:-'*) words='--target --interface --json --json-numbers --stream --timeout --piece --little --message-limit --calls-limit --gathered-limit -h --help' ;;
                 'giopctl locate:'*) words='--target --timeout --json --little -h --help' ;;
                 'giopctl ping:'*) words='--target --timeout --json --little -h --help' ;;
-                'giopctl serve:'*) words='--port --interface --answers --key --key-text --ior-file --type-id --connections --json --stream --piece --little --message-limit --calls-limit --gathered-limit -h --help' ;;
+                'giopctl serve:'*) words='--port --interface --answers --key --key-text --ior-file --type-id --connections --json --json-numbers --stream --piece --little --message-limit --calls-limit --gathered-limit -h --help' ;;
                 'giopctl:'*) words='dump check trace convert call locate ping serve help' ;;
                 'giopctl convert:'*) words='ior corbaloc encode decode help' ;;
                 'giopctl help:'*) words='dump check trace convert call locate ping serve' ;;
