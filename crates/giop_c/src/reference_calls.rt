@@ -11,10 +11,10 @@ use crate::end_records::EndFault;
 use crate::records::{Fault, Profile};
 use crate::request_calls::copy_both;
 use crate::status::{FAULT, NO_MEMORY};
-use giop_cdr::{CdrKind, EncodeFault, OctetList};
+use giop_cdr::{CdrKind, EncodeFault};
 use giop_ior::{
     Corbaloc, CorbalocFault, CorbalocKind, IiopProfile, TaggedProfile, corbaloc_from_text,
-    iiop_view, ior_from_text,
+    ior_from_text, profile_body,
 };
 use std::alloc::Global;
 
@@ -77,10 +77,7 @@ pub extern "C" fn giop_iiop_profile(
     ensures { ReadsIiopOrNot (iiop_of octets.now) profile.old profile.new host.old host.new
         key.old key.new fault.old fault.new result }
 {
-    let Ok(octets) = OctetList::from_slice(alloc, octets) else {
-        return NO_MEMORY;
-    };
-    match iiop_view(alloc, &TaggedProfile { tag: 0, octets }) {
+    match profile_body(alloc, octets) {
         Ok(read) => {
             *profile = written(&read);
             copy_both(read.host.as_slice(), read.key.as_slice(), host, key)

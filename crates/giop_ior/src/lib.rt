@@ -13,7 +13,7 @@ pub use addresses::corbaloc_fault::{CorbalocFault, CorbalocKind};
 pub use addresses::corbaloc_reading::corbaloc_from_text;
 pub use addresses::corbaloc_writing::corbaloc_to_text;
 pub use giop_types::IorTextFault;
-pub use references::iiop_reading::iiop_view;
+pub use references::iiop_reading::{iiop_view, profile_body};
 pub use references::iiop_writing::iiop_profile;
 pub use references::ior::{Ior, IorAt};
 pub use references::ior_reading::{read_ior, view_ior};

@@ -19,13 +19,7 @@ type ComponentsAt<'a, 's> = TaggedListAt<'a, SliceOctets<'s>, TaggedComponent>;
 // A profile whose octets lie where they were read, without components in version 1.0.
 type ProfileAt<'a, 's> = IiopProfile<Lies<'a, 's>, Option<ComponentsAt<'a, 's>>>;
 
-/// The profile that the octets of tag 0 are (CORBA 3.3 Part 2, 9.7.2). Octets behind the last field
-/// are passed over.
-///
-/// Refused as the first field that is refused, in reading order. Its offset counts from the first
-/// octet, which is the byte order. That one is refused as Short or BadOrder at 0, a major version
-/// other than 1 as BadLabel at 1, each other field as its own reader says. When out of memory, for
-/// octets that no field refuses, it is NoMemory at 0.
+/// The profile that a profile of tag 0 holds: `profile_body` of its octets.
 pub fn iiop_view(alloc: Global, profile: &TaggedProfile) -> Result<IiopProfile, CdrFault>
     requires tag { profile.now.tag ≡ 0 }
     requires short { length profile.now.octets ≤ 2 ^ 62 }
@@ -38,7 +32,28 @@ pub fn iiop_view(alloc: Global, profile: &TaggedProfile) -> Result<IiopProfile, 
     ensures err { IfErr result (λ e. (iiop_of profile.now.octets ≡ Err e)
         ⊎ ((e ≡ no_memory) × IsOk (iiop_of profile.now.octets))) }
 {
-    iiop_of(alloc, profile.octets.as_slice())
+    profile_body(alloc, profile.octets.as_slice())
+}
+
+/// The profile that the octets of tag 0 are, `profile_data` of the standard (CORBA 3.3 Part 2,
+/// 9.7.2), read where they lie. Octets behind the last field are passed over.
+///
+/// Refused as the first field that is refused, in reading order. Its offset counts from the first
+/// octet, which is the byte order. That one is refused as Short or BadOrder at 0, a major version
+/// other than 1 as BadLabel at 1, each other field as its own reader says. When out of memory, for
+/// octets that no field refuses, it is NoMemory at 0.
+pub fn profile_body(alloc: Global, octets: &[u8]) -> Result<IiopProfile, CdrFault>
+    requires short { length octets.now ≤ 2 ^ 62 }
+    // What is returned is what the octets are, and what they are is returned.
+    ensures found { IfOk result (λ p. IiopOctets p octets.now) }
+    ensures only { (p : _) → IiopOctets p octets.now → IsAnswered result p }
+
+    // Which refusal it is.
+    ensures exact { IfOk result (λ p. iiop_of octets.now ≡ Ok p) }
+    ensures err { IfErr result (λ e. (iiop_of octets.now ≡ Err e)
+        ⊎ ((e ≡ no_memory) × IsOk (iiop_of octets.now))) }
+{
+    iiop_of(alloc, octets)
 }
 
 #[tactic(auto, unfolding(crate::specs::Iiop::iiop_of))]
