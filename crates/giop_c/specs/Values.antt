@@ -10,7 +10,7 @@ use Rattle.giop_types.specs.Values.Tree.{Tree}
 use Rattle.giop_msg.specs.declared.messages.request.Request.{Request}
 use Rattle.giop_msg.specs.Messages.Alone.{octets_alone}
 use Rattle.giop_msg.specs.Messages.Body.{fields_in}
-use Rattle.giop_msg.specs.Messages.Request.{operation_of}
+use Rattle.giop_msg.specs.Messages.Request.{operation_asked}
 use Rattle.giop_c.specs.declared.value_form.ValueForm.{ValueForm}
 use Rattle.giop_c.specs.declared.value_form.ValueForm.TheVariants.{Cdr, Json}
 use Rattle.giop_c.specs.Calls.{no_memory, fault}
@@ -47,4 +47,4 @@ abbrev pub CopiesIns : Interface → Option Request → ValueForm → List ℕ �
     → Type 0
 CopiesIns interface None form = CopiesOctets None
 CopiesIns interface (Some q) form =
-    CopiesInsOf (operation_of interface q.head.operation) q.body form
+    CopiesInsOf (operation_asked interface q.head) q.body form

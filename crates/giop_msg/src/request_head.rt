@@ -2,9 +2,10 @@
 //! request_head_writing.rt writes it, in the order of the fields: change them together.
 #![tactic(auto, unfolding(crate::specs::RequestHead::request_head, crate::specs::RequestHead::request_head_1_2, crate::specs::RequestHead::early_request_head, crate::specs::RequestHead::response_flags, crate::specs::RequestHead::response_expected, crate::specs::RequestHead::reserved_of, crate::specs::RequestHead::reserved_octets, crate::specs::RequestHead::reserved_octet, crate::specs::RequestHead::principal, crate::specs::Meaning::meaning, giop_ior::specs::ServiceContext::service_contexts, giop_ior::specs::ServiceContext::service_context, giop_cdr::specs::Layout::field, giop_cdr::specs::Layout::such, giop_cdr::specs::Layout::number, giop_cdr::specs::Layout::boolean, giop_cdr::specs::Layout::octets, giop_cdr::specs::Layout::text, giop_cdr::specs::Layout::reserved, giop_cdr::specs::Layout::gives, giop_cdr::specs::Layout::sequence, giop_cdr::specs::Layout::tagged, giop_cdr::specs::Reading::Values::such_at, giop_cdr::specs::Reading::View::tagged_at))]
 
-ghost use Rattle.std.specs.Prelude.{◌≡◌, ◌≤◌, ◌^◌, ◌⊎◌, length, Ok, Err, IfOk, IfErr, IsOk};
+ghost use Rattle.std.specs.Prelude.{◌≡◌, ◌≤◌, ◌^◌, ◌⊎◌, length, option_copied, Ok, Err, IfOk, IfErr, IsOk};
 ghost use Rattle.giop_cdr.specs.Reading.Outcome.{Reads, Exactly, Skips};
 ghost use Rattle.giop_msg.specs.Joined.{BeginsWith, body_place, head_of_joined, IsAnswered, no_memory};
+ghost use Rattle.giop_msg.specs.Messages.Request.{operation_asked};
 ghost use Rattle.giop_msg.specs.RequestHead.{response_expected, response_flags, reserved_of, reserved_octets, early_request_head, request_head, request_head_1_2};
 
 use crate::joined::body_place;
@@ -13,6 +14,7 @@ use crate::target::{Target, TargetAt};
 use crate::target_reading::{view_object_key, view_target};
 use crate::version::Version;
 use giop_cdr::{CdrFault, CdrIn, CdrKind, OctetList, Octets, OctetsAt, Order};
+use giop_types::{Interface, Operation};
 use std::alloc::{AllocError, Global};
 
 /// What a Request says before its body (9.4.2): with its octets and contexts on their own, or, as a
@@ -42,6 +44,16 @@ pub type RequestHeadAt<'a, S> = RequestHead<
 >;
 
 impl RequestHead {
+    /// The operation that is asked for, where the interface of the object has it. It takes no
+    /// memory.
+    pub fn operation_asked<'a>(&self, interface: &'a Interface) -> Option<&'a Operation>
+        ensures { option_copied result ≡ operation_asked interface.now self.now }
+    {
+        self.target
+            .interface_in(interface)
+            .operation(self.operation.as_slice())
+    }
+
     /// The head that joined octets begin with, where it lies, and the offset of the body behind it.
     /// In 1.2 that is the first multiple of 8 at or past the end of the fields, whether octets are
     /// there or not; before 1.2 it is the end of the fields. It takes no memory.

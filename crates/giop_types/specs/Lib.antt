@@ -4,3 +4,4 @@ pub mod Coding
 pub mod JsonForms
 pub mod IorTextFault
 pub mod IorText
+pub mod Objects

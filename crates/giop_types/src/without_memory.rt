@@ -8,6 +8,7 @@ ghost use Rattle.std.specs.Str.{bytes_eq};
 ghost use Rattle.giop_cdr.specs.Reading.Outcome.{Passes};
 ghost use Rattle.giop_types.specs.Coding.Decoding.{decode_at};
 ghost use Rattle.giop_types.specs.Descriptions.CheckedShape.{checked_shape};
+ghost use Rattle.giop_types.specs.Objects.{interface_of};
 
 use crate::codec::skip::skip;
 use crate::description::checked_desc::CheckedDesc;
@@ -17,6 +18,17 @@ use giop_cdr::{CdrFault, CdrIn, Octets};
 use std::collections::BTreeMap;
 
 impl Interface {
+    /// The interface of the object at the key that these octets are, wherever they lie. It returns
+    /// what `of_object` returns; its time grows with the number of objects.
+    pub fn of_object_at<S: Octets>(&self, key: &S) -> &Interface
+        ensures { result.now ≡ interface_of self.now (S.octets key.now) }
+    {
+        match value_at(self.objects(), key) {
+            Some(own) => own,
+            None => self,
+        }
+    }
+
     /// The operation of the name that these octets are, wherever they lie. It returns what
     /// `operation` returns; its time grows with the number of operations.
     pub fn operation_at<S: Octets>(&self, name: &S) -> Option<&Operation>

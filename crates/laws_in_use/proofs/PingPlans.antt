@@ -16,7 +16,7 @@ use Rattle.giop_msg.specs.Cut.{CanCut, IsCut}
 use Rattle.giop_msg.specs.Messages.Body.{body_of, fields_in, values}
 use Rattle.giop_msg.specs.Messages.Outcome.{joined_into}
 use Rattle.giop_msg.specs.Messages.Reply.{allowed, completion, no_exception, reply, reply_body, system_exception}
-use Rattle.giop_msg.specs.Messages.Request.{operation_of, request, request_body}
+use Rattle.giop_msg.specs.Messages.Request.{operation_asked, request, request_body}
 use Rattle.giop_msg.specs.Meaning.{meaning}
 use Rattle.giop_msg.specs.ReplyHead.{early_reply_head, reply_head, reply_head_1_2, reply_status}
 use Rattle.giop_msg.specs.RequestHead.{early_request_head, principal, request_head, request_head_1_2, reserved_octet, reserved_octets, reserved_of}
@@ -74,7 +74,7 @@ module _ (interface : Interface) (has : HasPing interface) where
   ping_fits : (request interface V12).fits (ping V12) ≡ true
   unfolding request leads request_head request_head_1_2 response_flags reserved_octets reserved_octet target_layout disposition target_by
       key_target service_contexts service_context tagged chosen field gives number octets reserved sequence signed such text
-  ping_fits = body_fits (operation_of interface (ping V12).head.operation) has.operation has.named has.no_ins
+  ping_fits = body_fits (operation_asked interface (ping V12).head) has.operation has.named has.no_ins
 
   head_holds : (request_head V12).holds (ping V12).head
   unfolding request_head request_head_1_2 response_flags reserved_octets reserved_octet target_layout disposition target_by
@@ -83,7 +83,7 @@ module _ (interface : Interface) (has : HasPing interface) where
 
   ping_holds : (request interface V12).holds (ping V12)
   unfolding request leads
-  ping_holds = (head_holds, body_holds (operation_of interface (ping V12).head.operation) has.operation has.named has.no_ins)
+  ping_holds = (head_holds, body_holds (operation_asked interface (ping V12).head) has.operation has.named has.no_ins)
 
   early_head_holds : (request_head V10).holds (ping V10).head
   unfolding request_head early_request_head response_expected meaning reserved_of object_key principal service_contexts service_context tagged
@@ -93,11 +93,11 @@ module _ (interface : Interface) (has : HasPing interface) where
   -- in 1.0 too
   pub early_ping_holds : (request interface V10).holds (ping V10)
   unfolding request leads
-  early_ping_holds = (early_head_holds, early_body_holds (operation_of interface (ping V10).head.operation) has.operation has.named has.no_ins)
+  early_ping_holds = (early_head_holds, early_body_holds (operation_asked interface (ping V10).head) has.operation has.named has.no_ins)
 
   pub ping_written : request_octets interface (ping V12) Big ≡ ping_front ++ ping_back
   unfolding request leads
-  ping_written = body_written (operation_of interface (ping V12).head.operation) has.operation has.named has.no_ins
+  ping_written = body_written (operation_asked interface (ping V12).head) has.operation has.named has.no_ins
 
   ping_unrefused : (form : Form) → form.order ≡ Big → is_sendable 64 64 V12 36 form.piece ≡ true
       → call_fault interface room None (ping V12) form ≡ None

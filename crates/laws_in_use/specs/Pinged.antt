@@ -4,6 +4,7 @@ use Rattle.std.specs.Prelude.{◌≡◌, ℕ, true, false, List, [], ◌∷◌, 
 use Rattle.giop_cdr.specs.declared.order.Order.TheVariants.{Big}
 use Rattle.giop_types.specs.declared.json.interface.Interface.{Interface}
 use Rattle.giop_types.specs.declared.json.interface.Operation.{Operation}
+use Rattle.giop_types.specs.Objects.{interface_of}
 use Rattle.giop_msg.specs.Cut.{message_of}
 use Rattle.giop_msg.specs.Messages.Request.{operation_of}
 use Rattle.giop_msg.specs.declared.kind.Kind.TheVariants.{Fragment, Reply, Request}
@@ -12,10 +13,11 @@ use Rattle.giop_msg.specs.declared.version.Version.TheVariants.{V12}
 use Rattle.giop_calls.specs.Lane.{Cut}
 use Rattle.giop_session.specs.declared.limits.Limits.{Limits}
 
--- an interface has the operation `ping`, and no in is sent to it
+-- the object `k` of an interface has the operation `ping`, and no in is sent to it
 pub record HasPing (interface : Interface) : Type 0 where
   pub operation : Operation
-  pub named : operation_of interface (codes "ping") ≡ Some operation
+  pub named : operation_of (interface_of interface (codes "k")) (codes "ping")
+      ≡ Some operation
   pub no_ins : operation.ins.list.items ≡ []
 
 -- the octets up to the `g` of its name: the id, the flags and three reserved octets, the target's

@@ -7,13 +7,13 @@ ghost use Rattle.giop_c.specs.Client.Entries.{CopiesMembers, CopiesOuts, CopiesO
 ghost use Rattle.giop_c.specs.Values.{CopiesValues};
 
 use crate::copying::copy_octets;
-use crate::parameters::{members_of, outs_for};
+use crate::parameters::members_of;
 use crate::status::{FAULT, NO_MEMORY, WAITS};
 use crate::value_form::ValueForm;
 use crate::values::copy_values;
 use giop_calls::ClientEntry;
 use giop_ior::{Ior, ior_to_text};
-use giop_msg::{ReplyBody, Request};
+use giop_msg::{ReplyBody, Request, outs_for};
 use giop_types::{Interface, Parameter, Value};
 use std::alloc::Global;
 

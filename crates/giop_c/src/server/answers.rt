@@ -11,14 +11,14 @@ ghost use Rattle.giop_c.specs.Server.Answers.{AnswersForward, AnswersOuts, Answe
 ghost use Rattle.giop_c.specs.Server.Entries.{request_of};
 
 use crate::act_fault::{ActFault, of_end};
-use crate::parameters::{members_of, outs_for};
+use crate::parameters::members_of;
 use crate::server::entries::{request_of, version_asked};
 use crate::server::served::Served;
 use crate::value_form::ValueForm;
 use crate::values::read_values;
 use giop_cdr::OctetList;
 use giop_ior::{Ior, ior_from_text};
-use giop_msg::{Completion, Reply, ReplyBody, ServiceContexts};
+use giop_msg::{Completion, Reply, ReplyBody, ServiceContexts, outs_for};
 use giop_session::{Form, SessionFault};
 use giop_types::ValueList;
 use std::alloc::Global;

@@ -105,7 +105,7 @@ fn copy_ins_of(
     ensures { CopiesIns interface.now (Some request.now) form
         buffer.old buffer.new size.old size.new result }
 {
-    let Some(operation) = interface.operation(request.head.operation.as_slice()) else {
+    let Some(operation) = request.head.operation_asked(interface) else {
         return WAITS;
     };
     copy_values(

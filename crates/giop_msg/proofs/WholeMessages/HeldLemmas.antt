@@ -11,8 +11,8 @@ use Rattle.giop_msg.specs.declared.messages.request.Request.{Request}
 use Rattle.giop_msg.specs.declared.version.Version.{Version}
 use Rattle.giop_msg.specs.declared.version.Version.TheVariants.{V10, V11, V12}
 use Rattle.giop_msg.specs.Messages.Body.{body_of, values}
-use Rattle.giop_msg.specs.Messages.Reply.{allowed, may_answer, outs_for, reply, reply_body, status_of}
-use Rattle.giop_msg.specs.Messages.Request.{operation_of, request, request_body}
+use Rattle.giop_msg.specs.Messages.Reply.{allowed, may_answer, interface_for, outs_for, reply, reply_body, status_of}
+use Rattle.giop_msg.specs.Messages.Request.{operation_asked, request, request_body}
 use Rattle.giop_msg.specs.ReplyHead.{reply_head}
 use Rattle.giop_msg.specs.RequestHead.{request_head}
 use Rattle.giop_msg.proofs.WholeMessages.ReplyWritingLemmas.{answering}
@@ -24,13 +24,12 @@ body_hold V10 parameters ts = tt
 body_hold V11 parameters ts = tt
 body_hold V12 parameters ts = tt
 
-pub request_holds : (interface : Interface) (version : Version) (q : Request) (name : List ℕ) (operation : Operation)
-    → name ≡ q.head.operation → Some operation ≡ operation_of interface name
+pub request_holds : (interface : Interface) (version : Version) (q : Request) (operation : Operation)
+    → Some operation ≡ operation_asked interface q.head
     → (request_head version).holds q.head → (request interface version).holds q
 unfolding request leads request_body made_of
-request_holds interface version q name operation is found held =
-    let there : operation_of interface q.head.operation ≡ Some operation = ap (operation_of interface) (sym is) ∙ sym found in
-    (held, rw there (refl, body_hold version operation.ins.list.items q.body))
+request_holds interface version q operation found held =
+    (held, rw (sym found) (refl, body_hold version operation.ins.list.items q.body))
 
 allowed_hold : {A : Type 0} (may : Bool) (f : Ending A) (v : A) → may ≡ true → f.holds v → (allowed may f).holds v
 unfolding allowed
@@ -41,14 +40,14 @@ pub reply_holds : (interface : Interface) (asked : Option Request) (version : Ve
     (contexts : List ServiceContext)
     → (reply interface asked version).fits r ≡ true → outs ≡ outs_for interface asked → status ≡ status_of r.body → contexts ≡ r.contexts
     → (reply_head version).holds (record { version = r.version; id = r.id; status = status; contexts = contexts })
-    → (body_of version (ended (reply_body interface outs (status_of r.body)))).holds r.body
+    → (body_of version (ended (reply_body (interface_for interface asked) outs (status_of r.body)))).holds r.body
     → (reply interface asked version).holds r
 unfolding reply leads made_of
 reply_holds interface asked version r outs status contexts fit listed told shown head body = (
   rw (told, shown) at head,
   (
     refl,
-    allowed_hold (may_answer asked (status_of r.body)) (body_of version (ended (reply_body interface (outs_for interface asked) (status_of r.body)))) r.body
+    allowed_hold (may_answer asked (status_of r.body)) (body_of version (ended (reply_body (interface_for interface asked) (outs_for interface asked) (status_of r.body)))) r.body
         (answering interface asked version r fit) (rw listed at body),
   ),
 )

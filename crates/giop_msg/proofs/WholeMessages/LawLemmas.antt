@@ -16,7 +16,7 @@ use Rattle.giop_msg.specs.Joined.{joined_from}
 use Rattle.giop_msg.specs.Messages.Laws.{IsWhole, ReplyRefusalsAreTold, RequestRefusalsAreTold, RequestsAreReadBack, RequestsAreRefused}
 use Rattle.giop_msg.specs.Messages.Outcome.{Decodes, joined_into}
 use Rattle.giop_msg.specs.Messages.Reply.{reply}
-use Rattle.giop_msg.specs.Messages.Request.{operation_of, request, request_body}
+use Rattle.giop_msg.specs.Messages.Request.{operation_asked, request, request_body}
 use Rattle.giop_msg.specs.Messages.RequestAnswer.{DecodesRequest, RefusedRequest, body_answer, operation_answer, head_answer, request_of_joined}
 use Rattle.giop_msg.specs.RequestHead.{Head, request_head}
 use Rattle.giop_msg.proofs.RequestHeadLemmas.{request_head_is}
@@ -76,15 +76,15 @@ not_operation (Err d) h = absurd cc
 
 abbrev Behind : Interface → Version → Cursor → Head → Cursor → RequestFault → Type 0
 Behind interface version c head after (Header e) = ⊥
-Behind interface version c head after NoOperation = operation_of interface head.operation ≡ None
+Behind interface version c head after NoOperation = operation_asked interface head ≡ None
 Behind interface version c head after (Body e) =
-    (operation : Operation) × (operation_of interface head.operation ≡ Some operation)
+    (operation : Operation) × (operation_asked interface head ≡ Some operation)
     × (request_body version head (Some operation)).refused after e
 
 -- why nothing is answered behind a head
 why_behind : (interface : Interface) (version : Version) (c : Cursor) (head : Head)
     (after : Cursor) (o : Option Operation)
-    → operation_of interface head.operation ≡ o → (e : RequestFault)
+    → operation_asked interface head ≡ o → (e : RequestFault)
     → operation_answer version head after o ≡ Err e
     → Behind interface version c head after e
 why_behind interface version c head after None is (Header e) h = absurd cc
@@ -116,16 +116,16 @@ whole_why interface version c (Err d) is (Header e) h =
 whole_why interface version c (Err d) is NoOperation h = absurd cc
 whole_why interface version c (Err d) is (Body e) h = absurd cc
 whole_why interface version c (Ok x) is (Header e) h =
-    absurd (why_behind interface version c x.0 x.1 (operation_of interface x.0.operation) refl
+    absurd (why_behind interface version c x.0 x.1 (operation_asked interface x.0) refl
     (Header e) h)
 whole_why interface version c (Ok x) is NoOperation h = (
   x.0,
   x.1,
   ((request_head_is version).exact c).found x.0 x.1 is,
-  why_behind interface version c x.0 x.1 (operation_of interface x.0.operation) refl NoOperation h,
+  why_behind interface version c x.0 x.1 (operation_asked interface x.0) refl NoOperation h,
 )
 whole_why interface version c (Ok x) is (Body e) h =
-    let why = why_behind interface version c x.0 x.1 (operation_of interface x.0.operation) refl
+    let why = why_behind interface version c x.0 x.1 (operation_asked interface x.0) refl
     (Body e) h in
     (x.0, x.1, ((request_head_is version).exact c).found x.0 x.1 is, why.0, why.1, why.2)
 

@@ -19,7 +19,7 @@ use Rattle.giop_msg.specs.declared.messages.request.Request.{Request}
 use Rattle.giop_msg.specs.declared.version.Version.{Version}
 use Rattle.giop_msg.specs.declared.version.Version.TheVariants.{V10, V11, V12}
 use Rattle.giop_msg.specs.Messages.Body.{body_of}
-use Rattle.giop_msg.specs.Messages.Reply.{completion, completion_of, completion_number, status_of, outs_in, id_in, members_in, ior_in, disposition_in, no_exception, user_exception, system_exception, forward, needs_addressing, reply_body, outs_for, may_answer, allowed, head_in, reply}
+use Rattle.giop_msg.specs.Messages.Reply.{completion, completion_of, completion_number, status_of, outs_in, id_in, members_in, ior_in, disposition_in, no_exception, user_exception, system_exception, forward, needs_addressing, reply_body, interface_for, outs_for, may_answer, allowed, head_in, reply}
 use Rattle.giop_msg.specs.ReplyHead.{AnyReplyHead, early_reply_head, last_reply_status, reply_head, reply_head_1_2, reply_status}
 use Rattle.giop_msg.proofs.ReplyHeadLemmas.{reply_head_is}
 use Rattle.giop_msg.proofs.WholeMessages.BodyLemmas.{body_is, values_are}
@@ -155,7 +155,7 @@ its_head version interface outs may head v fits held =
 pub reply_is : (interface : Interface) (request : Option Request) (version : Version) → IsLawfulEnding (reply interface request version)
 unfolding reply
 reply_is interface request version =
-    leads_is _ (λ head v fits _ held. its_head version interface (outs_for interface request) (may_answer request head.status) head v fits held)
+    leads_is _ (λ head v fits _ held. its_head version (interface_for interface request) (outs_for interface request) (may_answer request head.status) head v fits held)
     (reply_head_is version)
     (λ head. made_of_is _ _ (λ body. refl)
-    (allowed_is (may_answer request head.status) (body_is version (ended_is (reply_body_is interface (outs_for interface request) head.status)))))
+    (allowed_is (may_answer request head.status) (body_is version (ended_is (reply_body_is (interface_for interface request) (outs_for interface request) head.status)))))

@@ -23,7 +23,7 @@ use Rattle.giop_msg.specs.declared.messages.request.Request.{Request}
 use Rattle.giop_msg.specs.declared.version.Version.{Version}
 use Rattle.giop_msg.specs.declared.version.Version.TheVariants.{V10, V11, V12}
 use Rattle.giop_msg.specs.Messages.Body.{body_of, fields_in, values}
-use Rattle.giop_msg.specs.Messages.Reply.{allowed, exception_of, head_in, is_known, listed, may_answer, no_exception, outs_for, reply, reply_body, status_of, user_exception}
+use Rattle.giop_msg.specs.Messages.Reply.{allowed, exception_of, head_in, is_known, listed, may_answer, no_exception, interface_for, outs_for, reply, reply_body, status_of, user_exception}
 use Rattle.giop_msg.specs.ReplyHead.{reply_head}
 use Rattle.giop_msg.proofs.WholeMessages.ReplyLemmas.{reply_is}
 
@@ -63,12 +63,12 @@ allowed_fit false f v = refl
 pub reply_fit : (interface : Interface) (request : Option Request) (version : Version) (r : Reply)
     → (reply interface request version).fits r
     ≡ ((reply_head version).fits (head_in r) && (may_answer request (status_of r.body)
-    && (reply_body interface (outs_for interface request) (status_of r.body)).fits r.body))
+    && (reply_body (interface_for interface request) (outs_for interface request) (status_of r.body)).fits r.body))
 unfolding reply leads made_of
 reply_fit interface request version r =
     ap (λ b. (reply_head version).fits (head_in r) && b)
-    (allowed_fit (may_answer request (status_of r.body)) (body_of version (ended (reply_body interface (outs_for interface request) (status_of r.body)))) r.body
-    ∙ ap (λ b. may_answer request (status_of r.body) && b) (body_fit version interface (outs_for interface request) (status_of r.body) r.body))
+    (allowed_fit (may_answer request (status_of r.body)) (body_of version (ended (reply_body (interface_for interface request) (outs_for interface request) (status_of r.body)))) r.body
+    ∙ ap (λ b. may_answer request (status_of r.body) && b) (body_fit version (interface_for interface request) (outs_for interface request) (status_of r.body) r.body))
 
 pub fitting_head : (interface : Interface) (request : Option Request) (version : Version) (r : Reply)
     → (reply interface request version).fits r ≡ true → (reply_head version).fits (head_in r) ≡ true
@@ -76,7 +76,7 @@ fitting_head interface request version r fit = (both _ _ (sym (reply_fit interfa
 
 pub fitting_body : (interface : Interface) (request : Option Request) (version : Version) (r : Reply)
     → (reply interface request version).fits r ≡ true
-    → (reply_body interface (outs_for interface request) (status_of r.body)).fits r.body ≡ true
+    → (reply_body (interface_for interface request) (outs_for interface request) (status_of r.body)).fits r.body ≡ true
 fitting_body interface request version r fit = (both _ _ (both _ _ (sym (reply_fit interface request version r) ∙ fit)).1).1
 
 pub answering : (interface : Interface) (request : Option Request) (version : Version) (r : Reply)
@@ -99,11 +99,11 @@ allowed_written false f v out is = absurd cc
 pub reply_written : (interface : Interface) (request : Option Request) (version : Version) (r : Reply) (out : Output)
     → (reply interface request version).fits r ≡ true
     → (reply interface request version).written r out
-    ≡ (body_of version (ended (reply_body interface (outs_for interface request) (status_of r.body)))).written r.body
+    ≡ (body_of version (ended (reply_body (interface_for interface request) (outs_for interface request) (status_of r.body)))).written r.body
     ((reply_head version).written (head_in r) out)
 unfolding reply leads made_of
 reply_written interface request version r out fit =
-    allowed_written (may_answer request (status_of r.body)) (body_of version (ended (reply_body interface (outs_for interface request) (status_of r.body)))) r.body
+    allowed_written (may_answer request (status_of r.body)) (body_of version (ended (reply_body (interface_for interface request) (outs_for interface request) (status_of r.body)))) r.body
     ((reply_head version).written (head_in r) out) (answering interface request version r fit)
 
 -- the same, of what a call of the writer of the head and one of that of the body were handed
@@ -111,7 +111,7 @@ pub parts_written : (interface : Interface) (request : Option Request) (version 
     (contexts : List ServiceContext)
     → (reply interface request version).fits r ≡ true → outs ≡ outs_for interface request → status ≡ status_of r.body → contexts ≡ r.contexts
     → mid ≡ (reply_head version).written (record { version = r.version; id = r.id; status = status; contexts = contexts }) out
-    → (body_of version (ended (reply_body interface outs (status_of r.body)))).written r.body mid ≡ (reply interface request version).written r out
+    → (body_of version (ended (reply_body (interface_for interface request) outs (status_of r.body)))).written r.body mid ≡ (reply interface request version).written r out
 parts_written interface request version r out mid outs status contexts fit listed told shown put =
     rw (put, listed, told, shown) (sym (reply_written interface request version r out fit))
 
@@ -154,17 +154,17 @@ pub fits_else : (interface : Interface) (request : Option Request) (version : Ve
 fits_else interface request version r status contexts head told shown is fails =
     let its : (reply_head version).fits (head_in r) ≡ head = rw (← told, ← shown) (sym is) in
     fails ∙ sym (reply_fit interface request version r ∙ ap (λ b. b && (may_answer request (status_of r.body)
-    && (reply_body interface (outs_for interface request) (status_of r.body)).fits r.body)) (its ∙ fails))
+    && (reply_body (interface_for interface request) (outs_for interface request) (status_of r.body)).fits r.body)) (its ∙ fails))
 
 pub fits_then : (interface : Interface) (request : Option Request) (version : Version) (r : Reply) (status : ℕ) (contexts : List ServiceContext)
     (outs : List Parameter) (may head body : Bool)
     → status ≡ status_of r.body → contexts ≡ r.contexts → may ≡ may_answer request status → may ≡ true
     → head ≡ (reply_head version).fits (record { version = r.version; id = r.id; status = status; contexts = contexts }) → head ≡ true
-    → outs ≡ outs_for interface request → body ≡ (reply_body interface outs (status_of r.body)).fits r.body
+    → outs ≡ outs_for interface request → body ≡ (reply_body (interface_for interface request) outs (status_of r.body)).fits r.body
     → body ≡ (reply interface request version).fits r
 fits_then interface request version r status contexts outs may head body told shown is may_be well passes listed there =
     let its : (reply_head version).fits (head_in r) ≡ true = rw (← told, ← shown) (sym well ∙ passes) in
     let answers : may_answer request (status_of r.body) ≡ true = ap (may_answer request) (sym told) ∙ sym is ∙ may_be in
-    let rest : Bool = (reply_body interface (outs_for interface request) (status_of r.body)).fits r.body in
-    there ∙ ap (λ (ps : List Parameter). (reply_body interface ps (status_of r.body)).fits r.body) listed
+    let rest : Bool = (reply_body (interface_for interface request) (outs_for interface request) (status_of r.body)).fits r.body in
+    there ∙ ap (λ (ps : List Parameter). (reply_body (interface_for interface request) ps (status_of r.body)).fits r.body) listed
     ∙ sym (reply_fit interface request version r ∙ ap (λ b. b && (may_answer request (status_of r.body) && rest)) its ∙ ap (λ b. b && rest) answers)

@@ -22,7 +22,7 @@ use Rattle.giop_cdr.specs.Writing.Outcome.{Appends, Grows}
 use Rattle.giop_cdr.proofs.Writing.WriterLemmas.{grows_then}
 use Rattle.giop_cdr.proofs.LayoutLemmas.{both}
 use Rattle.giop_msg.specs.Messages.Body.{body_of, fields_in, values}
-use Rattle.giop_msg.specs.Messages.Request.{operation_of, request_body, request}
+use Rattle.giop_msg.specs.Messages.Request.{operation_asked, request_body, request}
 use Rattle.giop_msg.specs.Messages.RequestAnswer.{DecodesRequest, IsRequestTold, body_answer, operation_answer, head_answer, request_of_joined}
 use Rattle.giop_msg.specs.RequestHead.{Head, request_head}
 use Rattle.giop_msg.proofs.RequestHeadLemmas.{request_head_is}
@@ -46,8 +46,8 @@ pub request_is : (interface : Interface) (version : Version)
 unfolding request
 request_is interface version =
     leads_is _ (λ head v _ _ held. its_head version head
-    (operation_of interface head.operation) v held) (request_head_is version)
-    (λ head. request_body_is version head (operation_of interface head.operation))
+    (operation_asked interface head) v held) (request_head_is version)
+    (λ head. request_body_is version head (operation_asked interface head))
 
 pub request_unspelled : (interface : Interface) (version : Version) (q : Request)
     → (request interface version).fits q ≡ false → (order : Order) (at : ℕ)
@@ -77,16 +77,16 @@ told_operation version head after (Some operation) q h = ap body_answer h
 
 answered_head : (interface : Interface) (version : Version) (r : Reading Head) (q : Request)
     → head_answer interface version r ≡ Ok q
-    → (r >>= λ x. (request_body version x.0 (operation_of interface x.0.operation)).read x.1) ≡ Ok q
+    → (r >>= λ x. (request_body version x.0 (operation_asked interface x.0)).read x.1) ≡ Ok q
 answered_head interface version (Ok x) q h =
-    answered_operation version x.0 x.1 (operation_of interface x.0.operation) q h
+    answered_operation version x.0 x.1 (operation_asked interface x.0) q h
 answered_head interface version (Err e) q h = absurd cc
 
 told_head : (interface : Interface) (version : Version) (r : Reading Head) (q : Request)
-    → (r >>= λ x. (request_body version x.0 (operation_of interface x.0.operation)).read x.1)
+    → (r >>= λ x. (request_body version x.0 (operation_asked interface x.0)).read x.1)
     ≡ Ok q → head_answer interface version r ≡ Ok q
 told_head interface version (Ok x) q h =
-    told_operation version x.0 x.1 (operation_of interface x.0.operation) q h
+    told_operation version x.0 x.1 (operation_asked interface x.0) q h
 told_head interface version (Err e) q h = absurd cc
 
 -- what is answered is what the octets spell
@@ -144,86 +144,78 @@ decodes_only interface version order octets (Err e) h q s = elim h [
 
 -- ---- the answer, by its steps
 
-abbrev name_of : Head → List ℕ
-name_of head = head.operation
-
 abbrev request_of : Head → List Tree → Request
 request_of head body = record { head = head; body = body }
 
 -- the interface hasn't the operation
 pub unknown_answer : (interface : Interface) (version : Version) (order : Order) (octets : List ℕ)
-    (head own : Head) (after : Cursor) (name : List ℕ)
+    (head own : Head) (after : Cursor)
     → (request_head version).read (joined_from order octets) ≡ Ok (head, after) → own ≡ head
-    → name ≡ own.operation → None ≡ operation_of interface name
+    → None ≡ operation_asked interface own
     → request_of_joined interface version order octets ≡ Err NoOperation
 unfolding request_of_joined
-unknown_answer interface version order octets head own after name read same is found =
-    let there : operation_of interface head.operation ≡ None
-    = ap (operation_of interface) (sym (is ∙ ap name_of same)) ∙ sym found in
+unknown_answer interface version order octets head own after read same found =
+    let there : operation_asked interface head ≡ None
+    = ap (operation_asked interface) (sym same) ∙ sym found in
     rw (read, there) refl
 
 -- the ins are there
 pub body_told : (interface : Interface) (version : Version) (order : Order) (octets : List ℕ)
-    (head own : Head) (after : Cursor) (name : List ℕ)
+    (head own : Head) (after : Cursor)
     (operation : Operation) (parameters : List Parameter) (body : List Tree)
     → (request_head version).read (joined_from order octets) ≡ Ok (head, after) → own ≡ head
-    → name ≡ own.operation → Some operation ≡ operation_of interface name
+    → Some operation ≡ operation_asked interface own
     → parameters ≡ operation.ins.list.items
     → (body_of version (ended (values parameters))).read after ≡ Ok body
     → request_of_joined interface version order octets ≡ Ok (request_of own body)
 unfolding request_of_joined request_body made_of
-body_told interface version order octets head own after name operation parameters body read same is
+body_told interface version order octets head own after operation parameters body read same
     found listed told =
-    let there : operation_of interface head.operation ≡ Some operation
-    = ap (operation_of interface) (sym (is ∙ ap name_of same)) ∙ sym found in
+    let there : operation_asked interface head ≡ Some operation
+    = ap (operation_asked interface) (sym same) ∙ sym found in
     let ins : (body_of version (ended (values operation.ins.list.items))).read after ≡ Ok body
     = ap (λ ps. (body_of version (ended (values ps))).read after) (sym listed) ∙ told in
     rw (read, there, ins, same) refl
 
 -- they are refused
 pub body_refused : (interface : Interface) (version : Version) (order : Order) (octets : List ℕ)
-    (head own : Head) (after : Cursor) (name : List ℕ)
+    (head own : Head) (after : Cursor)
     (operation : Operation) (parameters : List Parameter) (e : CdrFault)
     → (request_head version).read (joined_from order octets) ≡ Ok (head, after) → own ≡ head
-    → name ≡ own.operation → Some operation ≡ operation_of interface name
+    → Some operation ≡ operation_asked interface own
     → parameters ≡ operation.ins.list.items
     → (body_of version (ended (values parameters))).read after ≡ Err e
     → request_of_joined interface version order octets ≡ Err (Body e)
 unfolding request_of_joined request_body made_of
-body_refused interface version order octets head own after name operation parameters e read same is
+body_refused interface version order octets head own after operation parameters e read same
     found listed told =
-    let there : operation_of interface head.operation ≡ Some operation
-    = ap (operation_of interface) (sym (is ∙ ap name_of same)) ∙ sym found in
+    let there : operation_asked interface head ≡ Some operation
+    = ap (operation_asked interface) (sym same) ∙ sym found in
     let ins : (body_of version (ended (values operation.ins.list.items))).read after ≡ Err e
     = ap (λ ps. (body_of version (ended (values ps))).read after) (sym listed) ∙ told in
     rw (read, there, ins) refl
 
 -- ---- whether a Request fits
 
-pub fits_unknown : (interface : Interface) (version : Version) (q : Request) (name : List ℕ)
-    → name ≡ q.head.operation → None ≡ operation_of interface name
+pub fits_unknown : (interface : Interface) (version : Version) (q : Request)
+    → None ≡ operation_asked interface q.head
     → (request interface version).fits q ≡ false
 unfolding request leads request_body nothing
-fits_unknown interface version q name is found =
-    let there : operation_of interface q.head.operation
-    ≡ None = ap (operation_of interface) (sym is) ∙ sym found in
-    rw there (and_nothing ((request_head version).fits q.head))
+fits_unknown interface version q found =
+    rw (sym found) (and_nothing ((request_head version).fits q.head))
   where
     and_nothing : (b : Bool) → (b && false) ≡ false
     and_nothing true = refl
     and_nothing false = refl
 
-pub fits_known : (interface : Interface) (version : Version) (q : Request) (name : List ℕ)
-    (operation : Operation) → name ≡ q.head.operation
-    → Some operation ≡ operation_of interface name
+pub fits_known : (interface : Interface) (version : Version) (q : Request)
+    (operation : Operation) → Some operation ≡ operation_asked interface q.head
     → (request interface version).fits q
     ≡ ((request_head version).fits q.head
     && fields_fit (fields_in operation.ins.list.items) q.body)
 unfolding request leads request_body made_of
-fits_known interface version q name operation is found =
-    let there : operation_of interface q.head.operation
-    ≡ Some operation = ap (operation_of interface) (sym is) ∙ sym found in
-    rw there (ap (λ b. (request_head version).fits q.head && b)
+fits_known interface version q operation found =
+    rw (sym found) (ap (λ b. (request_head version).fits q.head && b)
     (body_fits version operation.ins.list.items q.body))
 
 pub fits_head : (interface : Interface) (version : Version) (q : Request)
@@ -232,46 +224,38 @@ pub fits_head : (interface : Interface) (version : Version) (q : Request)
 unfolding request leads
 fits_head interface version q fit = (both _ _ fit).0
 
-pub fits_body : (interface : Interface) (version : Version) (q : Request) (name : List ℕ)
-    (operation : Operation) → name ≡ q.head.operation
-    → Some operation ≡ operation_of interface name → (request interface version).fits q ≡ true
+pub fits_body : (interface : Interface) (version : Version) (q : Request)
+    (operation : Operation) → Some operation ≡ operation_asked interface q.head → (request interface version).fits q ≡ true
     → fields_fit (fields_in operation.ins.list.items) q.body ≡ true
-fits_body interface version q name operation is found fit =
-    (both _ _ (sym (fits_known interface version q name operation is found) ∙ fit)).1
+fits_body interface version q operation found fit =
+    (both _ _ (sym (fits_known interface version q operation found) ∙ fit)).1
 
 -- what is written of it
-pub written_unknown : (interface : Interface) (version : Version) (q : Request) (name : List ℕ)
-    (out : Output) → name ≡ q.head.operation
-    → None ≡ operation_of interface name
+pub written_unknown : (interface : Interface) (version : Version) (q : Request)
+    (out : Output) → None ≡ operation_asked interface q.head
     → (request interface version).written q out ≡ (request_head version).written q.head out
 unfolding request leads request_body nothing
-written_unknown interface version q name out is found =
-    let there : operation_of interface q.head.operation
-    ≡ None = ap (operation_of interface) (sym is) ∙ sym found in
-    rw there refl
+written_unknown interface version q out found =
+    rw (sym found) refl
 
-pub written_known : (interface : Interface) (version : Version) (q : Request) (name : List ℕ)
-    (operation : Operation) (out : Output)
-    → name ≡ q.head.operation → Some operation ≡ operation_of interface name
+pub written_known : (interface : Interface) (version : Version) (q : Request)
+    (operation : Operation) (out : Output) → Some operation ≡ operation_asked interface q.head
     → (request interface version).written q out
     ≡ (body_of version (ended (values operation.ins.list.items))).written q.body
     ((request_head version).written q.head out)
 unfolding request leads request_body made_of
-written_known interface version q name operation out is found =
-    let there : operation_of interface q.head.operation
-    ≡ Some operation = ap (operation_of interface) (sym is) ∙ sym found in
-    rw there refl
+written_known interface version q operation out found =
+    rw (sym found) refl
 
-pub parts_written : (interface : Interface) (version : Version) (q : Request) (name : List ℕ)
+pub parts_written : (interface : Interface) (version : Version) (q : Request)
     (operation : Operation) (out mid : Output)
-    (parameters : List Parameter) (body : List Tree) → name ≡ q.head.operation
-    → Some operation ≡ operation_of interface name
+    (parameters : List Parameter) (body : List Tree) → Some operation ≡ operation_asked interface q.head
     → parameters ≡ operation.ins.list.items → body ≡ q.body
     → mid ≡ (request_head version).written q.head out
     → (body_of version (ended (values parameters))).written body mid
     ≡ (request interface version).written q out
-parts_written interface version q name operation out mid parameters body is found listed held head =
-    rw (listed, held, head) (sym (written_known interface version q name operation out is found))
+parts_written interface version q operation out mid parameters body found listed held head =
+    rw (listed, held, head) (sym (written_known interface version q operation out found))
 
 pub appends_then : {X E : Type 0} (r : Result X E) (out mid new done total : Output)
     → Grows out mid → Appends mid r new done → done ≡ total

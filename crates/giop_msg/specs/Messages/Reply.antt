@@ -22,7 +22,7 @@ use Rattle.giop_msg.specs.declared.messages.reply_body.ReplyBody.TheVariants.{No
 use Rattle.giop_msg.specs.declared.messages.request.Request.{Request}
 use Rattle.giop_msg.specs.declared.version.Version.{Version}
 use Rattle.giop_msg.specs.Messages.Body.{body_of, values}
-use Rattle.giop_msg.specs.Messages.Request.{operation_of}
+use Rattle.giop_msg.specs.Messages.Request.{interface_at, operation_asked}
 use Rattle.giop_msg.specs.ReplyHead.{AnyReplyHead, reply_head}
 
 -- the number of a completion
@@ -111,7 +111,13 @@ outs_of None = []
 abbrev pub outs_for : Interface → Option Request → List Parameter
 outs_for interface None = []
 outs_for interface (Some request) =
-    if request.head.flags == 1 then [] else outs_of (operation_of interface request.head.operation)
+    if request.head.flags == 1 then [] else outs_of (operation_asked interface request.head)
+
+-- the interface of the object that a request asked; where it could not be decoded, that of all
+-- objects that have none of their own
+abbrev pub interface_for : Interface → Option Request → Interface
+interface_for interface None = interface
+interface_for interface (Some request) = interface_at interface request.head.target
 
 -- whether a status answers a request: to one that could not be decoded SYSTEM_EXCEPTION alone does
 abbrev pub may_answer : Option Request → ℕ → Bool
@@ -179,4 +185,5 @@ reply interface request version =
       body = body;
     })
     (allowed (may_answer request head.status)
-    (body_of version (ended (reply_body interface (outs_for interface request) head.status))))
+    (body_of version
+    (ended (reply_body (interface_for interface request) (outs_for interface request) head.status))))

@@ -13,7 +13,7 @@ use Rattle.giop_msg.specs.declared.messages.request_fault.RequestFault.{RequestF
 use Rattle.giop_msg.specs.declared.messages.request_fault.RequestFault.TheVariants.{Header, Operation as NoOperation, Body}
 use Rattle.giop_msg.specs.declared.version.Version.{Version}
 use Rattle.giop_msg.specs.Joined.{joined_from, no_memory}
-use Rattle.giop_msg.specs.Messages.Request.{operation_of, request_body}
+use Rattle.giop_msg.specs.Messages.Request.{operation_asked, request_body}
 use Rattle.giop_msg.specs.RequestHead.{Head, request_head}
 
 -- why joined octets are no Request: a field of the head is refused; or a head is there whose
@@ -22,10 +22,10 @@ abbrev pub RefusedRequest : Interface → Version → Cursor → RequestFault �
 RefusedRequest interface version c (Header e) = (request_head version).refused c e
 RefusedRequest interface version c NoOperation =
     (head : Head) × (after : Cursor) × Took (request_head version).spells c head after
-    × (operation_of interface head.operation ≡ None)
+    × (operation_asked interface head ≡ None)
 RefusedRequest interface version c (Body e) =
     (head : Head) × (after : Cursor) × Took (request_head version).spells c head after
-    × (operation : Operation) × (operation_of interface head.operation ≡ Some operation)
+    × (operation : Operation) × (operation_asked interface head ≡ Some operation)
     × (request_body version head (Some operation)).refused after e
 
 -- what reading the body returns
@@ -44,7 +44,7 @@ operation_answer version head after (Some operation) =
 abbrev pub head_answer : Interface → Version → Reading Head → Result Request RequestFault
 head_answer interface version (Err e) = Err (Header e)
 head_answer interface version (Ok x) =
-    operation_answer version x.0 x.1 (operation_of interface x.0.operation)
+    operation_answer version x.0 x.1 (operation_asked interface x.0)
 
 -- the Request that joined octets are, with nothing behind it; or the first fault
 unfoldable pub request_of_joined : Interface → Version → Order → List ℕ

@@ -10,7 +10,7 @@ ghost use Rattle.giop_cdr.specs.Ending.{ended};
 ghost use Rattle.giop_cdr.specs.Layout.{such, text};
 ghost use Rattle.giop_msg.specs.Messages.Body.{body_of};
 ghost use Rattle.giop_msg.specs.Messages.Outcome.{FollowsToEnd};
-ghost use Rattle.giop_msg.specs.Messages.Reply.{completion, exception_of, forward, is_known, listed, may_answer, needs_addressing, no_exception, outs_for, reply_body, system_exception, user_exception};
+ghost use Rattle.giop_msg.specs.Messages.Reply.{completion, exception_of, forward, interface_for, is_known, listed, may_answer, needs_addressing, no_exception, outs_for, reply_body, system_exception, user_exception};
 ghost use Rattle.giop_msg.specs.declared.messages.reply_body.ReplyBody.TheVariants.{Forward, ForwardPerm};
 
 use crate::messages::body::{align_body, no_memory, read_values};
@@ -242,9 +242,20 @@ fn outs_of<'a>(interface: &'a Interface, request: &Request) -> &'a [Parameter]
     if request.head.flags == 1 {
         return &[];
     }
-    match interface.operation(request.head.operation.as_slice()) {
+    match request.head.operation_asked(interface) {
         Some(operation) => operation.outs.as_slice(),
         None => &[],
+    }
+}
+
+/// The interface of the object that a request asked; where it could not be decoded, that of all
+/// objects that have none of their own.
+pub fn interface_for<'a>(interface: &'a Interface, request: Option<&Request>) -> &'a Interface
+    ensures { result.now ≡ interface_for interface.now (option_copied request.entry) }
+{
+    match request {
+        Some(request) => request.head.target.interface_in(interface),
+        None => interface,
     }
 }
 

@@ -1,18 +1,18 @@
 //! Reading a whole Request (9.4.2): its head, and its body by its operation. The layout is
 //! specs/Messages/Request.antt. When out of memory a second pass without memory looks for a fault,
 //! so that a refusal doesn't depend on memory.
-ghost use Rattle.std.specs.Prelude.{◌≡◌, ◌≤◌, ◌^◌, length, IfOk, IfNone, IfSome};
+ghost use Rattle.std.specs.Prelude.{◌≡◌, ◌≤◌, ◌^◌, length, option_copied, IfOk, IfNone, IfSome};
 ghost use Rattle.giop_msg.specs.Messages.Outcome.{Checks};
-ghost use Rattle.giop_msg.specs.Messages.Request.{request};
+ghost use Rattle.giop_msg.specs.Messages.Request.{operation_asked, request};
 ghost use Rattle.giop_msg.specs.Messages.RequestAnswer.{DecodesRequest, FollowsRequest, IsRequestTold, IsWant, IsWholeWant, request_of_joined};
 
 use crate::messages::body::{no_memory, read_body};
 use crate::messages::body_checking::check_body;
 use crate::messages::request_fault::RequestFault;
-use crate::request_head::{RequestHead, view_head};
+use crate::request_head::{RequestHead, RequestHeadAt, view_head};
 use crate::version::Version;
 use giop_cdr::{CdrIn, CdrKind, Octets, Order};
-use giop_types::{Interface, ValueList};
+use giop_types::{Interface, Operation, ValueList};
 use std::alloc::Global;
 
 /// A Request (CORBA 3.3 Part 2, 9.4.2): its head, and the values of its body.
@@ -125,13 +125,25 @@ fn read_request<S: Octets>(
     let Ok(head) = head else {
         return Err(RequestFault::Header(no_memory()));
     };
-    let Some(operation) = interface.operation(head.operation.as_slice()) else {
+    let Some(operation) = head.operation_asked(interface) else {
         return Err(RequestFault::Operation);
     };
     match read_body(alloc, version, operation.ins.as_slice(), &mut input) {
         Ok(body) => Ok(Request { head, body }),
         Err(fault) => Err(RequestFault::Body(fault)),
     }
+}
+
+// The operation that a head asks for, which lies where it was read.
+fn operation_at<'a, S: Octets>(
+    interface: &'a Interface,
+    head: &RequestHeadAt<S>,
+) -> Option<&'a Operation>
+    ensures { option_copied result ≡ operation_asked interface.now head.now }
+{
+    head.target
+        .interface_among(interface)
+        .operation_at(&head.operation)
 }
 
 // The fault of the octets that `read_request` would report if memory were there; none where they
@@ -152,7 +164,7 @@ fn check_request<S: Octets>(
         Ok(head) => head,
         Err(fault) => return Err(RequestFault::Header(fault)),
     };
-    let Some(operation) = interface.operation_at(&head.operation) else {
+    let Some(operation) = operation_at(interface, &head) else {
         return Err(RequestFault::Operation);
     };
     match check_body(version, operation.ins.as_slice(), &mut passed) {

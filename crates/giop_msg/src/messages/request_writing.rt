@@ -22,7 +22,7 @@ impl Request {
     pub fn is_writable(&self, interface: &Interface) -> bool
         ensures { result ≡ (request interface.now self.now.head.version).fits self.now }
     {
-        let Some(operation) = interface.operation(self.head.operation.as_slice()) else {
+        let Some(operation) = self.head.operation_asked(interface) else {
             return false;
         };
         self.head.is_writable() && are_fitting(operation.ins.as_slice(), self.body.as_slice())
@@ -80,7 +80,7 @@ fn append_request(q: &Request, interface: &Interface, out: &mut CdrOut) -> Resul
     ensures held { OnOk result ((request interface.now q.now.head.version).holds q.now) }
 {
     append_head(&q.head, out)?;
-    let Some(operation) = interface.operation(q.head.operation.as_slice()) else {
+    let Some(operation) = q.head.operation_asked(interface) else {
         return Ok(());
     };
     append_body(

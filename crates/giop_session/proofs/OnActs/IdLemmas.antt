@@ -21,7 +21,7 @@ use Rattle.giop_msg.specs.Locate.{AnyLocateRequest, locate_reply_head, locate_re
 use Rattle.giop_msg.specs.Messages.LocateReply.{locate_reply}
 use Rattle.giop_msg.specs.Messages.Outcome.{joined_into}
 use Rattle.giop_msg.specs.Messages.Reply.{reply}
-use Rattle.giop_msg.specs.Messages.Request.{operation_of, request, request_body}
+use Rattle.giop_msg.specs.Messages.Request.{operation_asked, request, request_body}
 use Rattle.giop_msg.specs.ReplyHead.{AnyReplyHead, early_reply_head, reply_head, reply_head_1_2}
 use Rattle.giop_msg.specs.RequestHead.{Head, early_request_head, request_head, request_head_1_2}
 use Rattle.giop_msg.specs.RequestId.{begins_with_contexts, id_behind_contexts, passed_contexts, request_id_layout, request_id_of}
@@ -218,7 +218,7 @@ request_begins interface version order q octets spells =
     let head = spells.first in
     let is : q.head.id ≡ head.id =
     ap (λ (one : Head). one.id)
-    (body_head version head (operation_of interface head.operation) order (12 + length spells.front) q spells.back spells.spells_back) in
+    (body_head version head (operation_asked interface head) order (12 + length spells.front) q spells.back spells.spells_back) in
     subst (λ id. BeginsWithId version message.Request order id octets) (sym is)
     (longer version message.Request order head.id spells.front spells.back octets (head_begins version order head spells.front spells.spells_front)
     spells.whole)

@@ -9,7 +9,7 @@ use Rattle.giop_msg.specs.declared.messages.request.Request.{Request}
 use Rattle.giop_msg.specs.declared.version.Version.{Version}
 use Rattle.giop_msg.specs.Locate.{AnyLocateRequest, locate_request}
 use Rattle.giop_msg.specs.Messages.Outcome.{joined_into}
-use Rattle.giop_msg.specs.Messages.Request.{operation_of, request}
+use Rattle.giop_msg.specs.Messages.Request.{operation_asked, request}
 use Rattle.giop_calls.specs.declared.client.call.Call.{Call}
 use Rattle.giop_calls.specs.declared.client.call.Call.TheVariants as asked
 use Rattle.giop_calls.specs.declared.client.entry.ClientEntry.{ClientEntry}
@@ -54,7 +54,7 @@ is_locate_sendable limits q form =
 abbrev pub begin_fault : Interface → Option ClientEntry → Request → Option CallFault
 begin_fault interface entry q =
     if not (is_free entry) then Some IdInUse
-    else if is_none (operation_of interface q.head.operation) then Some UnknownOperation
+    else if is_none (operation_asked interface q.head) then Some UnknownOperation
     else None
 
 -- why a call is refused, if it is, but for a table that is full

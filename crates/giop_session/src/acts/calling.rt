@@ -276,10 +276,7 @@ fn begin_fault(
 {
     if !is_free(calls, request.head.id) {
         Some(CallFault::IdInUse)
-    } else if interface
-        .operation(request.head.operation.as_slice())
-        .is_none()
-    {
+    } else if request.head.operation_asked(interface).is_none() {
         Some(CallFault::UnknownOperation)
     } else {
         None

@@ -1,6 +1,6 @@
 //! Reading an interface from JSON: first its form, then its descriptions. Both are
 //! specs/JsonForms/InterfaceFromJson.antt.
-ghost use Rattle.std.specs.Prelude.{◌≡◌, map, option_map, IfOk, length};
+ghost use Rattle.std.specs.Prelude.{◌≡◌, [], map, option_map, IfOk, length};
 ghost use Rattle.std.specs.List.{list_any};
 ghost use Rattle.serde_json.specs.Find.{as_object};
 ghost use Rattle.serde_json.specs.View.{view, members_view};
@@ -36,12 +36,14 @@ impl Interface {
     /// before those of exceptions, each in the order of the names, ins before outs. Out of memory,
     /// NoMemory may be returned in place of any.
     pub fn from_json(alloc: Global, text: &[u8]) -> Result<Interface, FormFault>
-        ensures { Reads interface_view result (interface_told (json_in text.now)) }
+        ensures told { Reads interface_view result (interface_told (json_in text.now)) }
+        ensures alone { IfOk result (λ interface. interface.objects.entries ≡ []) }
     {
         let json = parse(alloc, text)?;
         let operations = operation_forms(alloc, &json)?;
         let exceptions = exception_forms(alloc, &json)?;
         Ok(Interface::new(
+            alloc,
             checked_operations(alloc, operations)?,
             checked_exceptions(alloc, exceptions)?,
         ))
