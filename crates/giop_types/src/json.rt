@@ -11,6 +11,7 @@ mod interface_json;
 mod leaves;
 pub mod number_form;
 mod number_text;
+mod objects;
 mod ordinals;
 pub mod parameters;
 mod parse;

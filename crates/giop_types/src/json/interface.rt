@@ -1,13 +1,12 @@
 //! An interface as callers see it: its operations and exceptions, by name and by id.
-//! interface_json.rt makes one of JSON.
-ghost use Rattle.std.specs.Prelude.{◌≡◌, IfOk, [], option_copied, length, true};
-ghost use Rattle.std.specs.BTreeMap.{get_by, insert_entry};
+//! interface_json.rt makes one of JSON, objects.rt has those of objects.
+ghost use Rattle.std.specs.Prelude.{◌≡◌, [], option_copied, length, true};
+ghost use Rattle.std.specs.BTreeMap.{get_by};
 ghost use Rattle.std.specs.Ordering.{nat_cmp};
 ghost use Rattle.std.specs.Cmp.Lexicographic.{slice_cmp};
-ghost use Rattle.giop_types.specs.Objects.{by_octets, interface_of};
 
 use crate::json::parameters::Parameters;
-use std::alloc::{AllocError, Global};
+use std::alloc::Global;
 use std::collections::BTreeMap;
 
 /// An operation: what a request of it carries, and what its reply does (CORBA 3.3 Part 2, 9.4.2,
@@ -32,7 +31,7 @@ pub struct Operation {
 pub struct Interface {
     operations: BTreeMap<Vec<u8>, Operation>,
     exceptions: BTreeMap<Vec<u8>, Parameters>,
-    objects: BTreeMap<Vec<u8>, Interface>,
+    pub(crate) objects: BTreeMap<Vec<u8>, Interface>,
 }
 
 impl Interface {
@@ -51,54 +50,6 @@ impl Interface {
             exceptions,
             objects: BTreeMap::new(alloc),
         }
-    }
-
-    /// An interface without operations and exceptions, to which those of objects are added.
-    pub fn empty(alloc: Global) -> Interface
-        ensures operations { result.operations.entries ≡ [] }
-        ensures exceptions { result.exceptions.entries ≡ [] }
-        ensures alone { result.objects.entries ≡ [] }
-    {
-        Interface::new(alloc, BTreeMap::new(alloc), BTreeMap::new(alloc))
-    }
-
-    /// This interface, and another one for the object at a key. Where the key had one, the new one
-    /// holds.
-    ///
-    /// Refused as AllocError where memory is wanting. Then both interfaces are dropped.
-    pub fn with_object(self, key: Vec<u8>, object: Interface) -> Result<Interface, AllocError>
-        ensures operations { IfOk result (λ all. all.operations ≡ self.operations) }
-        ensures exceptions { IfOk result (λ all. all.exceptions ≡ self.exceptions) }
-        ensures objects { IfOk result (λ all. all.objects.entries
-            ≡ insert_entry by_octets self.objects.entries key object) }
-        ensures own { IfOk result (λ all. interface_of all key.items ≡ object) }
-    {
-        let mut all = self;
-        match all.objects.insert(key, object) {
-            Ok(before) => {
-                drop(before);
-                Ok(all)
-            }
-            Err(refused) => Err(AllocError),
-        }
-    }
-
-    /// The interface of the object at a key: its own, where it has one; else this one. It takes no
-    /// memory. Its time grows with the logarithm of the number of objects.
-    pub fn of_object(&self, key: &[u8]) -> &Interface
-        ensures { result.now ≡ interface_of self.now key.now }
-    {
-        match self.objects.get(key) {
-            Some(own) => own,
-            None => self,
-        }
-    }
-
-    /// The objects that have an interface of their own, in the order of their keys.
-    pub fn objects(&self) -> &BTreeMap<Vec<u8>, Interface>
-        ensures { result.now ≡ self.now.objects }
-    {
-        &self.objects
     }
 
     /// The operation of this name. It takes no memory. Its time grows with the logarithm of the
