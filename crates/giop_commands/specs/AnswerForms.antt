@@ -123,7 +123,7 @@ has_own d name operation = not operation.oneway && is_some (get (text_of name) d
 
 -- how many do
 abbrev pub own_count : Interface → Data → ℕ
-own_count interface d = count_by (λ e. has_own d e.0.items e.1) interface.operations.entries
+own_count interface d = count_by (λ e. has_own d e.0.items e.1) interface.general.operations.entries
 
 -- whether an operation that was looked up is answered: it is there, and not oneway
 abbrev pub is_answered : Option Operation → Bool
@@ -148,7 +148,7 @@ default_formed interface (Some d) = option_map (λ given. true) (given_by interf
 -- whether all that is given fits, in an object that answers no other operation
 abbrev pub all_fit : Interface → Data → Option Bool
 all_fit interface d = in_object (member_count interface d)
-    (λ x. option_and_then (λ formed. are_fit interface x interface.operations.entries)
+    (λ x. option_and_then (λ formed. are_fit interface x interface.general.operations.entries)
     (default_formed interface (default_in x))) d
 
 -- a text that answers the operations

@@ -39,7 +39,7 @@ pub use messages::completion::Completion;
 pub use messages::locate_reply::LocateReply;
 pub use messages::reply::Reply;
 pub use messages::reply_body::ReplyBody;
-pub use messages::reply_reading::{interface_for, outs_for};
+pub use messages::reply_reading::{offer_for, outs_for};
 pub use messages::request::Request;
 pub use messages::request_fault::RequestFault;
 pub use msg::Msg;

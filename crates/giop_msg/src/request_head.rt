@@ -44,13 +44,12 @@ pub type RequestHeadAt<'a, S> = RequestHead<
 >;
 
 impl RequestHead {
-    /// The operation that is asked for, where the interface of the object has it. It takes no
-    /// memory.
+    /// The operation that is asked for, where its object offers it. It takes no memory.
     pub fn operation_asked<'a>(&self, interface: &'a Interface) -> Option<&'a Operation>
         ensures { option_copied result ≡ operation_asked interface.now self.now }
     {
         self.target
-            .interface_in(interface)
+            .offer_in(interface)
             .operation(self.operation.as_slice())
     }
 

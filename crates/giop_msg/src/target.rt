@@ -1,11 +1,11 @@
 //! The target of a Request or a LocateRequest (9.4.2.1). Its layout is specs/Target.antt, read in
 //! target_reading.rt and written in target_writing.rt: change them together.
 ghost use Rattle.std.specs.Prelude.{◌≡◌, IfOk};
-ghost use Rattle.giop_msg.specs.Messages.Request.{interface_at};
+ghost use Rattle.giop_msg.specs.Messages.Request.{offer_at};
 
 use giop_cdr::{OctetList, Octets, OctetsAt};
 use giop_ior::{Ior, IorAt, TaggedProfile};
-use giop_types::Interface;
+use giop_types::{Interface, Offer};
 use std::alloc::{AllocError, Global};
 use std::marker::Model;
 
@@ -69,28 +69,26 @@ impl<'a, S: Octets> ProfileAt<'a, S> {
 }
 
 impl Target {
-    /// The interface of the object that is asked, among those of all objects: that of its key,
-    /// where it has one. A profile and a reference ask the interface of all objects that have none
-    /// of their own.
-    pub fn interface_in<'a>(&self, interface: &'a Interface) -> &'a Interface
-        ensures { result.now ≡ interface_at interface.now self.now }
+    /// What the object offers that is asked: of a key its own offer, where one was given. A profile
+    /// and a reference ask for what is general.
+    pub fn offer_in<'a>(&self, interface: &'a Interface) -> &'a Offer
+        ensures { result.now ≡ offer_at interface.now self.now }
     {
         match self {
             Target::Key(key) => interface.of_object(key.as_slice()),
-            _ => interface,
+            _ => interface.general(),
         }
     }
 }
 
 impl<'a, S: Octets> TargetAt<'a, S> {
-    /// The interface of the object that is asked, as `interface_in` of `Target` says. It takes no
-    /// memory.
-    pub fn interface_among<'b>(&self, interface: &'b Interface) -> &'b Interface
-        ensures { result.now ≡ interface_at interface.now self.now }
+    /// What the object offers that is asked, as `offer_in` of a target on its own says.
+    pub fn offer_among<'b>(&self, interface: &'b Interface) -> &'b Offer
+        ensures { result.now ≡ offer_at interface.now self.now }
     {
         match self {
             Target::Key(key) => interface.of_object_at(key),
-            _ => interface,
+            _ => interface.general(),
         }
     }
 

@@ -1,4 +1,4 @@
--- The interface of an object among those that one connection reaches.
+-- What an object offers, among those that one connection reaches.
 use Rattle.std.specs.Prelude.{ℕ, List, Option, Some, None, Vec}
 use Rattle.std.specs.BTreeMap.{get_by}
 use Rattle.std.specs.Cmp.Lexicographic.{slice_cmp}
@@ -6,16 +6,17 @@ use Rattle.std.specs.declared.alloc.Global.{Global}
 use Rattle.std.specs.declared.cmp.Ordering.{Ordering}
 use Rattle.std.specs.Ordering.{nat_cmp}
 use Rattle.giop_types.specs.declared.json.interface.Interface.{Interface}
+use Rattle.giop_types.specs.declared.json.offer.Offer.{Offer}
 
--- the interface that was given for a key; where none was, that of all other objects
-abbrev pub own_or : Interface → Option Interface → Interface
-own_or other (Some own) = own
-own_or other None = other
+-- the offer that was given for a key; where none was, that of all other objects
+abbrev pub own_or : Offer → Option Offer → Offer
+own_or general (Some own) = own
+own_or general None = general
 
--- the interface of the object at a key
-abbrev pub interface_of : Interface → List ℕ → Interface
-interface_of interface key =
-    own_or interface (get_by (λ k. slice_cmp nat_cmp key k.items) interface.objects)
+-- what the object at a key offers
+abbrev pub offer_of : Interface → List ℕ → Offer
+offer_of interface key =
+    own_or interface.general (get_by (λ k. slice_cmp nat_cmp key k.items) interface.objects)
 
 -- how keys are ordered
 abbrev pub by_octets : Vec ℕ Global → Vec ℕ Global → Ordering

@@ -12,6 +12,7 @@ mod leaves;
 pub mod number_form;
 mod number_text;
 mod objects;
+pub mod offer;
 mod ordinals;
 pub mod parameters;
 mod parse;

@@ -26,6 +26,7 @@ pub use ior_text_fault::IorTextFault;
 pub use json::form_fault::FormFault;
 pub use json::interface::{Interface, Operation};
 pub use json::number_form::NumberForm;
+pub use json::offer::Offer;
 pub use json::parameters::{Parameter, Parameters};
 pub use json::{
     desc_from_json, parse_json, reference_desc, value_from_json, value_to_json, value_to_json_in,

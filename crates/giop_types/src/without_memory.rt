@@ -8,27 +8,30 @@ ghost use Rattle.std.specs.Str.{bytes_eq};
 ghost use Rattle.giop_cdr.specs.Reading.Outcome.{Passes};
 ghost use Rattle.giop_types.specs.Coding.Decoding.{decode_at};
 ghost use Rattle.giop_types.specs.Descriptions.CheckedShape.{checked_shape};
-ghost use Rattle.giop_types.specs.Objects.{interface_of};
+ghost use Rattle.giop_types.specs.Objects.{offer_of};
 
 use crate::codec::skip::skip;
 use crate::description::checked_desc::CheckedDesc;
 use crate::json::interface::{Interface, Operation};
+use crate::json::offer::Offer;
 use crate::json::parameters::Parameters;
 use giop_cdr::{CdrFault, CdrIn, Octets};
 use std::collections::BTreeMap;
 
 impl Interface {
-    /// The interface of the object at the key that these octets are, wherever they lie. It returns
-    /// what `of_object` returns; its time grows with the number of objects.
-    pub fn of_object_at<S: Octets>(&self, key: &S) -> &Interface
-        ensures { result.now ≡ interface_of self.now (S.octets key.now) }
+    /// What the object offers at the key that these octets are, wherever they lie. It returns what
+    /// `of_object` returns; its time grows with the number of objects.
+    pub fn of_object_at<S: Octets>(&self, key: &S) -> &Offer
+        ensures { result.now ≡ offer_of self.now (S.octets key.now) }
     {
         match value_at(self.objects(), key) {
             Some(own) => own,
-            None => self,
+            None => self.general(),
         }
     }
+}
 
+impl Offer {
     /// The operation of the name that these octets are, wherever they lie. It returns what
     /// `operation` returns; its time grows with the number of operations.
     pub fn operation_at<S: Octets>(&self, name: &S) -> Option<&Operation>

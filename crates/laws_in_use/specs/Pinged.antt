@@ -4,9 +4,9 @@ use Rattle.std.specs.Prelude.{◌≡◌, ℕ, true, false, List, [], ◌∷◌, 
 use Rattle.giop_cdr.specs.declared.order.Order.TheVariants.{Big}
 use Rattle.giop_types.specs.declared.json.interface.Interface.{Interface}
 use Rattle.giop_types.specs.declared.json.interface.Operation.{Operation}
-use Rattle.giop_types.specs.Objects.{interface_of}
+use Rattle.giop_types.specs.Objects.{offer_of}
 use Rattle.giop_msg.specs.Cut.{message_of}
-use Rattle.giop_msg.specs.Messages.Request.{operation_of}
+use Rattle.giop_msg.specs.Messages.Request.{operation_in}
 use Rattle.giop_msg.specs.declared.kind.Kind.TheVariants.{Fragment, Reply, Request}
 use Rattle.giop_msg.specs.declared.msg.Msg.{Msg}
 use Rattle.giop_msg.specs.declared.version.Version.TheVariants.{V12}
@@ -16,7 +16,7 @@ use Rattle.giop_session.specs.declared.limits.Limits.{Limits}
 -- the object `k` of an interface has the operation `ping`, and no in is sent to it
 pub record HasPing (interface : Interface) : Type 0 where
   pub operation : Operation
-  pub named : operation_of (interface_of interface (codes "k")) (codes "ping")
+  pub named : operation_in (offer_of interface (codes "k")) (codes "ping")
       ≡ Some operation
   pub no_ins : operation.ins.list.items ≡ []
 

@@ -192,7 +192,7 @@ fn default_formed(alloc: Global, interface: &Interface, json: &Json) -> Result<b
 // Whether what is given for each operation fits.
 fn are_fit(alloc: Global, interface: &Interface, json: &Json) -> Result<bool, FormFault>
     ensures { Shows (λ fit. fit) result
-        (are_fit interface.now (view json.now) interface.now.operations.entries) }
+        (are_fit interface.now (view json.now) interface.now.general.operations.entries) }
 {
     let mut fit = true;
     for (name, operation) in interface.operations().iter() {

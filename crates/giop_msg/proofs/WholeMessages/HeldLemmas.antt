@@ -11,7 +11,7 @@ use Rattle.giop_msg.specs.declared.messages.request.Request.{Request}
 use Rattle.giop_msg.specs.declared.version.Version.{Version}
 use Rattle.giop_msg.specs.declared.version.Version.TheVariants.{V10, V11, V12}
 use Rattle.giop_msg.specs.Messages.Body.{body_of, values}
-use Rattle.giop_msg.specs.Messages.Reply.{allowed, may_answer, interface_for, outs_for, reply, reply_body, status_of}
+use Rattle.giop_msg.specs.Messages.Reply.{allowed, may_answer, offer_for, outs_for, reply, reply_body, status_of}
 use Rattle.giop_msg.specs.Messages.Request.{operation_asked, request, request_body}
 use Rattle.giop_msg.specs.ReplyHead.{reply_head}
 use Rattle.giop_msg.specs.RequestHead.{request_head}
@@ -40,14 +40,14 @@ pub reply_holds : (interface : Interface) (asked : Option Request) (version : Ve
     (contexts : List ServiceContext)
     → (reply interface asked version).fits r ≡ true → outs ≡ outs_for interface asked → status ≡ status_of r.body → contexts ≡ r.contexts
     → (reply_head version).holds (record { version = r.version; id = r.id; status = status; contexts = contexts })
-    → (body_of version (ended (reply_body (interface_for interface asked) outs (status_of r.body)))).holds r.body
+    → (body_of version (ended (reply_body (offer_for interface asked) outs (status_of r.body)))).holds r.body
     → (reply interface asked version).holds r
 unfolding reply leads made_of
 reply_holds interface asked version r outs status contexts fit listed told shown head body = (
   rw (told, shown) at head,
   (
     refl,
-    allowed_hold (may_answer asked (status_of r.body)) (body_of version (ended (reply_body (interface_for interface asked) (outs_for interface asked) (status_of r.body)))) r.body
+    allowed_hold (may_answer asked (status_of r.body)) (body_of version (ended (reply_body (offer_for interface asked) (outs_for interface asked) (status_of r.body)))) r.body
         (answering interface asked version r fit) (rw listed at body),
   ),
 )

@@ -11,6 +11,7 @@ use Rattle.giop_ior.specs.Ior.{Reference as IorValue}
 use Rattle.giop_ior.specs.ServiceContext.{service_contexts}
 use Rattle.giop_ior.proofs.IorLemmas.{ior_is}
 use Rattle.giop_types.specs.declared.json.interface.Interface.{Interface}
+use Rattle.giop_types.specs.declared.json.offer.Offer.{Offer}
 use Rattle.giop_types.specs.declared.json.parameters.Parameter.{Parameter}
 use Rattle.giop_msg.specs.declared.messages.reply.Reply.{Reply}
 use Rattle.giop_msg.specs.declared.messages.reply_body.ReplyBody.{ReplyBody}
@@ -19,7 +20,7 @@ use Rattle.giop_msg.specs.declared.messages.request.Request.{Request}
 use Rattle.giop_msg.specs.declared.version.Version.{Version}
 use Rattle.giop_msg.specs.declared.version.Version.TheVariants.{V10, V11, V12}
 use Rattle.giop_msg.specs.Messages.Body.{body_of}
-use Rattle.giop_msg.specs.Messages.Reply.{completion, completion_of, completion_number, status_of, outs_in, id_in, members_in, ior_in, disposition_in, no_exception, user_exception, system_exception, forward, needs_addressing, reply_body, interface_for, outs_for, may_answer, allowed, head_in, reply}
+use Rattle.giop_msg.specs.Messages.Reply.{completion, completion_of, completion_number, status_of, outs_in, id_in, members_in, ior_in, disposition_in, no_exception, user_exception, system_exception, forward, needs_addressing, reply_body, offer_for, outs_for, may_answer, allowed, head_in, reply}
 use Rattle.giop_msg.specs.ReplyHead.{AnyReplyHead, early_reply_head, last_reply_status, reply_head, reply_head_1_2, reply_status}
 use Rattle.giop_msg.proofs.ReplyHeadLemmas.{reply_head_is}
 use Rattle.giop_msg.proofs.WholeMessages.BodyLemmas.{body_is, values_are}
@@ -40,9 +41,9 @@ no_exception_is : (outs : List Parameter) → IsLawful (no_exception outs)
 unfolding no_exception
 no_exception_is outs = field_is _ (λ _ _ _ _ held. unfold gives in ap outs_in held) (values_are outs) (λ _. gives_is _)
 
-user_exception_is : (interface : Interface) → IsLawful (user_exception interface)
+user_exception_is : (offer : Offer) → IsLawful (user_exception offer)
 unfolding user_exception
-user_exception_is interface =
+user_exception_is offer =
     field_is _ (λ _ _ _ _ held. unfold field gives in ap id_in held.1) (such_is _ _ _ text_is)
     (λ _. field_is _ (λ _ _ _ _ held. unfold gives in ap members_in held) (values_are _) (λ _. gives_is _))
 
@@ -61,47 +62,47 @@ needs_addressing_is : IsLawful needs_addressing
 unfolding needs_addressing
 needs_addressing_is = field_is _ (λ _ _ _ _ held. unfold gives in ap disposition_in held) (signed_is w16 refl) (λ _. gives_is _)
 
-reply_body_is : (interface : Interface) (outs : List Parameter) (status : ℕ) → IsLawful (reply_body interface outs status)
+reply_body_is : (offer : Offer) (outs : List Parameter) (status : ℕ) → IsLawful (reply_body offer outs status)
 unfolding reply_body
-reply_body_is interface outs status =
+reply_body_is offer outs status =
     chosen_is (status == 0) (no_exception_is outs)
-    (chosen_is (status == 1) (user_exception_is interface)
+    (chosen_is (status == 1) (user_exception_is offer)
     (chosen_is (status == 2) system_exception_is
     (chosen_is (status == 3) (forward_is (λ ior. Forward ior) (λ ior. refl))
     (chosen_is (status == 4) (forward_is (λ ior. ForwardPerm ior) (λ ior. refl)) needs_addressing_is))))
 
 -- ---- a body has the status by which it was read
 
-tells : (interface : Interface) (outs : List Parameter) (a b c d e : Bool) (status : ℕ) (v : ReplyBody) → (a ≡ true → 0 ≡ status) → (b ≡ true → 1 ≡ status)
+tells : (offer : Offer) (outs : List Parameter) (a b c d e : Bool) (status : ℕ) (v : ReplyBody) → (a ≡ true → 0 ≡ status) → (b ≡ true → 1 ≡ status)
     → (c ≡ true → 2 ≡ status) → (d ≡ true → 3 ≡ status) → (e ≡ true → 4 ≡ status) → (a ≡ false → b ≡ false → c ≡ false → d ≡ false → e ≡ false → 5 ≡ status)
-    → (chosen a (no_exception outs) (chosen b (user_exception interface) (chosen c system_exception
+    → (chosen a (no_exception outs) (chosen b (user_exception offer) (chosen c system_exception
     (chosen d (forward (λ ior. Forward ior)) (chosen e (forward (λ ior. ForwardPerm ior)) needs_addressing))))).holds v → status_of v ≡ status
 unfolding chosen no_exception user_exception system_exception forward needs_addressing field gives
-tells interface outs true b c d e status v p0 p1 p2 p3 p4 p5 held = ap status_of held.1 ∙ p0 refl
-tells interface outs false true c d e status v p0 p1 p2 p3 p4 p5 held = ap status_of held.1.1 ∙ p1 refl
-tells interface outs false false true d e status v p0 p1 p2 p3 p4 p5 held = ap status_of held.1.1.1 ∙ p2 refl
-tells interface outs false false false true e status v p0 p1 p2 p3 p4 p5 held = ap status_of held.1 ∙ p3 refl
-tells interface outs false false false false true status v p0 p1 p2 p3 p4 p5 held = ap status_of held.1 ∙ p4 refl
-tells interface outs false false false false false status v p0 p1 p2 p3 p4 p5 held = ap status_of held.1 ∙ p5 refl refl refl refl refl
+tells offer outs true b c d e status v p0 p1 p2 p3 p4 p5 held = ap status_of held.1 ∙ p0 refl
+tells offer outs false true c d e status v p0 p1 p2 p3 p4 p5 held = ap status_of held.1.1 ∙ p1 refl
+tells offer outs false false true d e status v p0 p1 p2 p3 p4 p5 held = ap status_of held.1.1.1 ∙ p2 refl
+tells offer outs false false false true e status v p0 p1 p2 p3 p4 p5 held = ap status_of held.1 ∙ p3 refl
+tells offer outs false false false false true status v p0 p1 p2 p3 p4 p5 held = ap status_of held.1 ∙ p4 refl
+tells offer outs false false false false false status v p0 p1 p2 p3 p4 p5 held = ap status_of held.1 ∙ p5 refl refl refl refl refl
 
 is_five : (status : ℕ) → status ≤ 5 → (status == 0) ≡ false → (status == 1) ≡ false → (status == 2) ≡ false → (status == 3) ≡ false → (status == 4) ≡ false
     → 5 ≡ status
 is_five status small a b c d e = grind (arith, nat_tests)
 
-status_told : (interface : Interface) (outs : List Parameter) (status : ℕ) (v : ReplyBody) → status ≤ 5 → (reply_body interface outs status).holds v
+status_told : (offer : Offer) (outs : List Parameter) (status : ℕ) (v : ReplyBody) → status ≤ 5 → (reply_body offer outs status).holds v
     → status_of v ≡ status
 unfolding reply_body
-status_told interface outs status v small held =
-    tells interface outs (status == 0) (status == 1) (status == 2) (status == 3) (status == 4) status v
+status_told offer outs status v small held =
+    tells offer outs (status == 0) (status == 1) (status == 2) (status == 3) (status == 4) status v
     (λ e. sym (eqb-true status 0 e)) (λ e. sym (eqb-true status 1 e)) (λ e. sym (eqb-true status 2 e)) (λ e. sym (eqb-true status 3 e))
     (λ e. sym (eqb-true status 4 e)) (is_five status small) held
 
-body_holds : (version : Version) (interface : Interface) (outs : List Parameter) (status : ℕ) (v : ReplyBody)
-    → (body_of version (ended (reply_body interface outs status))).holds v → (reply_body interface outs status).holds v
+body_holds : (version : Version) (offer : Offer) (outs : List Parameter) (status : ℕ) (v : ReplyBody)
+    → (body_of version (ended (reply_body offer outs status))).holds v → (reply_body offer outs status).holds v
 unfolding body_of from_multiple_of_8 ended
-body_holds V10 interface outs status v held = held
-body_holds V11 interface outs status v held = held
-body_holds V12 interface outs status v held = held
+body_holds V10 offer outs status v held = held
+body_holds V11 offer outs status v held = held
+body_holds V12 offer outs status v held = held
 
 -- a head that fits has a status that there is
 early_fits : (version : Version) (head : AnyReplyHead) → (early_reply_head version).fits head ≡ true → nat_le head.status (last_reply_status version) ≡ true
@@ -140,22 +141,22 @@ allowed_holds true f v held = held
 allowed_holds false f v held = absurd held
 
 -- a Reply tells its head again
-its_head : (version : Version) (interface : Interface) (outs : List Parameter) (may : Bool) (head : AnyReplyHead) (v : Reply)
+its_head : (version : Version) (offer : Offer) (outs : List Parameter) (may : Bool) (head : AnyReplyHead) (v : Reply)
     → (reply_head version).fits head ≡ true
     → (made_of (λ (reply : Reply). reply.body) (λ body. record { version = head.version; id = head.id; contexts = head.contexts; body = body })
-    (allowed may (body_of version (ended (reply_body interface outs head.status))))).holds v → head_in v ≡ head
+    (allowed may (body_of version (ended (reply_body offer outs head.status))))).holds v → head_in v ≡ head
 unfolding made_of
-its_head version interface outs may head v fits held =
-    let told = status_told interface outs head.status v.body (status_fits version head fits)
-    (body_holds version interface outs head.status v.body
-    (allowed_holds may (body_of version (ended (reply_body interface outs head.status))) v.body held.1)) in
+its_head version offer outs may head v fits held =
+    let told = status_told offer outs head.status v.body (status_fits version head fits)
+    (body_holds version offer outs head.status v.body
+    (allowed_holds may (body_of version (ended (reply_body offer outs head.status))) v.body held.1)) in
     ap head_in held.0 ∙ (λ i. record { version = head.version; id = head.id; status = told i; contexts = head.contexts })
 
 -- the table of a Reply is lawful
 pub reply_is : (interface : Interface) (request : Option Request) (version : Version) → IsLawfulEnding (reply interface request version)
 unfolding reply
 reply_is interface request version =
-    leads_is _ (λ head v fits _ held. its_head version (interface_for interface request) (outs_for interface request) (may_answer request head.status) head v fits held)
+    leads_is _ (λ head v fits _ held. its_head version (offer_for interface request) (outs_for interface request) (may_answer request head.status) head v fits held)
     (reply_head_is version)
     (λ head. made_of_is _ _ (λ body. refl)
-    (allowed_is (may_answer request head.status) (body_is version (ended_is (reply_body_is (interface_for interface request) (outs_for interface request) head.status)))))
+    (allowed_is (may_answer request head.status) (body_is version (ended_is (reply_body_is (offer_for interface request) (outs_for interface request) head.status)))))

@@ -11,6 +11,7 @@ use Rattle.giop_cdr.proofs.Writing.WriterLemmas.{grown_back, grows_not, grows_th
 use Rattle.giop_cdr.proofs.EndingLemmas.{never_ends}
 use Rattle.giop_cdr.proofs.LayoutLemmas.{both}
 use Rattle.giop_types.specs.declared.json.interface.Interface.{Interface}
+use Rattle.giop_types.specs.declared.json.offer.Offer.{Offer}
 use Rattle.giop_types.specs.declared.json.parameters.Parameter.{Parameter}
 use Rattle.giop_types.specs.declared.value.Value.{Value}
 use Rattle.giop_types.specs.Values.Fits.{fields_fit}
@@ -23,37 +24,37 @@ use Rattle.giop_msg.specs.declared.messages.request.Request.{Request}
 use Rattle.giop_msg.specs.declared.version.Version.{Version}
 use Rattle.giop_msg.specs.declared.version.Version.TheVariants.{V10, V11, V12}
 use Rattle.giop_msg.specs.Messages.Body.{body_of, fields_in, values}
-use Rattle.giop_msg.specs.Messages.Reply.{allowed, exception_of, head_in, is_known, listed, may_answer, no_exception, interface_for, outs_for, reply, reply_body, status_of, user_exception}
+use Rattle.giop_msg.specs.Messages.Reply.{allowed, exception_in, head_in, is_known, listed, may_answer, no_exception, offer_for, outs_for, reply, reply_body, status_of, user_exception}
 use Rattle.giop_msg.specs.ReplyHead.{reply_head}
 use Rattle.giop_msg.proofs.WholeMessages.ReplyLemmas.{reply_is}
 
 -- the outs fit
-pub outs_fit : (interface : Interface) (outs : List Parameter) (body : ReplyBody) (vs : List Value) → body ≡ NoException (map value_view vs)
-    → (reply_body interface outs (status_of body)).fits body ≡ true → fields_fit (fields_in outs) (map value_view vs) ≡ true
+pub outs_fit : (offer : Offer) (outs : List Parameter) (body : ReplyBody) (vs : List Value) → body ≡ NoException (map value_view vs)
+    → (reply_body offer outs (status_of body)).fits body ≡ true → fields_fit (fields_in outs) (map value_view vs) ≡ true
 unfolding reply_body chosen no_exception field gives values
-outs_fit interface outs body vs is fit =
+outs_fit offer outs body vs is fit =
     let there : (fields_fit (fields_in outs) (map value_view vs) && true) ≡ true
-    = subst (λ (b : ReplyBody). (reply_body interface outs (status_of b)).fits b ≡ true) is fit in
+    = subst (λ (b : ReplyBody). (reply_body offer outs (status_of b)).fits b ≡ true) is fit in
     (both _ _ there).0
 
 -- the members fit
-pub members_fit : (interface : Interface) (id : List ℕ) (members : List Parameter) (vs : List Value)
-    → members ≡ listed (exception_of interface id)
-    → (user_exception interface).fits (UserException id (map value_view vs)) ≡ true → fields_fit (fields_in members) (map value_view vs) ≡ true
+pub members_fit : (offer : Offer) (id : List ℕ) (members : List Parameter) (vs : List Value)
+    → members ≡ listed (exception_in offer id)
+    → (user_exception offer).fits (UserException id (map value_view vs)) ≡ true → fields_fit (fields_in members) (map value_view vs) ≡ true
 unfolding user_exception field gives values
-members_fit interface id members vs is fit =
-    let known : Bool = (such (λ id. is_known (exception_of interface id)) 4 BadLabel text).fits id in
-    let there = (both known (fields_fit (fields_in (listed (exception_of interface id))) (map value_view vs) && true) fit).1 in
+members_fit offer id members vs is fit =
+    let known : Bool = (such (λ id. is_known (exception_in offer id)) 4 BadLabel text).fits id in
+    let there = (both known (fields_fit (fields_in (listed (exception_in offer id))) (map value_view vs) && true) fit).1 in
     ap (λ ps. fields_fit (fields_in ps) (map value_view vs)) is ∙ (both _ _ there).0
 
 -- ---- which Replies fit
 
-body_fit : (version : Version) (interface : Interface) (outs : List Parameter) (status : ℕ) (body : ReplyBody)
-    → (body_of version (ended (reply_body interface outs status))).fits body ≡ (reply_body interface outs status).fits body
+body_fit : (version : Version) (offer : Offer) (outs : List Parameter) (status : ℕ) (body : ReplyBody)
+    → (body_of version (ended (reply_body offer outs status))).fits body ≡ (reply_body offer outs status).fits body
 unfolding body_of ended from_multiple_of_8
-body_fit V10 interface outs status body = refl
-body_fit V11 interface outs status body = refl
-body_fit V12 interface outs status body = refl
+body_fit V10 offer outs status body = refl
+body_fit V11 offer outs status body = refl
+body_fit V12 offer outs status body = refl
 
 allowed_fit : {A : Type 0} (may : Bool) (f : Ending A) (v : A) → (allowed may f).fits v ≡ (may && f.fits v)
 unfolding allowed nothing
@@ -63,12 +64,12 @@ allowed_fit false f v = refl
 pub reply_fit : (interface : Interface) (request : Option Request) (version : Version) (r : Reply)
     → (reply interface request version).fits r
     ≡ ((reply_head version).fits (head_in r) && (may_answer request (status_of r.body)
-    && (reply_body (interface_for interface request) (outs_for interface request) (status_of r.body)).fits r.body))
+    && (reply_body (offer_for interface request) (outs_for interface request) (status_of r.body)).fits r.body))
 unfolding reply leads made_of
 reply_fit interface request version r =
     ap (λ b. (reply_head version).fits (head_in r) && b)
-    (allowed_fit (may_answer request (status_of r.body)) (body_of version (ended (reply_body (interface_for interface request) (outs_for interface request) (status_of r.body)))) r.body
-    ∙ ap (λ b. may_answer request (status_of r.body) && b) (body_fit version (interface_for interface request) (outs_for interface request) (status_of r.body) r.body))
+    (allowed_fit (may_answer request (status_of r.body)) (body_of version (ended (reply_body (offer_for interface request) (outs_for interface request) (status_of r.body)))) r.body
+    ∙ ap (λ b. may_answer request (status_of r.body) && b) (body_fit version (offer_for interface request) (outs_for interface request) (status_of r.body) r.body))
 
 pub fitting_head : (interface : Interface) (request : Option Request) (version : Version) (r : Reply)
     → (reply interface request version).fits r ≡ true → (reply_head version).fits (head_in r) ≡ true
@@ -76,7 +77,7 @@ fitting_head interface request version r fit = (both _ _ (sym (reply_fit interfa
 
 pub fitting_body : (interface : Interface) (request : Option Request) (version : Version) (r : Reply)
     → (reply interface request version).fits r ≡ true
-    → (reply_body (interface_for interface request) (outs_for interface request) (status_of r.body)).fits r.body ≡ true
+    → (reply_body (offer_for interface request) (outs_for interface request) (status_of r.body)).fits r.body ≡ true
 fitting_body interface request version r fit = (both _ _ (both _ _ (sym (reply_fit interface request version r) ∙ fit)).1).1
 
 pub answering : (interface : Interface) (request : Option Request) (version : Version) (r : Reply)
@@ -99,11 +100,11 @@ allowed_written false f v out is = absurd cc
 pub reply_written : (interface : Interface) (request : Option Request) (version : Version) (r : Reply) (out : Output)
     → (reply interface request version).fits r ≡ true
     → (reply interface request version).written r out
-    ≡ (body_of version (ended (reply_body (interface_for interface request) (outs_for interface request) (status_of r.body)))).written r.body
+    ≡ (body_of version (ended (reply_body (offer_for interface request) (outs_for interface request) (status_of r.body)))).written r.body
     ((reply_head version).written (head_in r) out)
 unfolding reply leads made_of
 reply_written interface request version r out fit =
-    allowed_written (may_answer request (status_of r.body)) (body_of version (ended (reply_body (interface_for interface request) (outs_for interface request) (status_of r.body)))) r.body
+    allowed_written (may_answer request (status_of r.body)) (body_of version (ended (reply_body (offer_for interface request) (outs_for interface request) (status_of r.body)))) r.body
     ((reply_head version).written (head_in r) out) (answering interface request version r fit)
 
 -- the same, of what a call of the writer of the head and one of that of the body were handed
@@ -111,7 +112,7 @@ pub parts_written : (interface : Interface) (request : Option Request) (version 
     (contexts : List ServiceContext)
     → (reply interface request version).fits r ≡ true → outs ≡ outs_for interface request → status ≡ status_of r.body → contexts ≡ r.contexts
     → mid ≡ (reply_head version).written (record { version = r.version; id = r.id; status = status; contexts = contexts }) out
-    → (body_of version (ended (reply_body (interface_for interface request) outs (status_of r.body)))).written r.body mid ≡ (reply interface request version).written r out
+    → (body_of version (ended (reply_body (offer_for interface request) outs (status_of r.body)))).written r.body mid ≡ (reply interface request version).written r out
 parts_written interface request version r out mid outs status contexts fit listed told shown put =
     rw (put, listed, told, shown) (sym (reply_written interface request version r out fit))
 
@@ -154,17 +155,17 @@ pub fits_else : (interface : Interface) (request : Option Request) (version : Ve
 fits_else interface request version r status contexts head told shown is fails =
     let its : (reply_head version).fits (head_in r) ≡ head = rw (← told, ← shown) (sym is) in
     fails ∙ sym (reply_fit interface request version r ∙ ap (λ b. b && (may_answer request (status_of r.body)
-    && (reply_body (interface_for interface request) (outs_for interface request) (status_of r.body)).fits r.body)) (its ∙ fails))
+    && (reply_body (offer_for interface request) (outs_for interface request) (status_of r.body)).fits r.body)) (its ∙ fails))
 
 pub fits_then : (interface : Interface) (request : Option Request) (version : Version) (r : Reply) (status : ℕ) (contexts : List ServiceContext)
     (outs : List Parameter) (may head body : Bool)
     → status ≡ status_of r.body → contexts ≡ r.contexts → may ≡ may_answer request status → may ≡ true
     → head ≡ (reply_head version).fits (record { version = r.version; id = r.id; status = status; contexts = contexts }) → head ≡ true
-    → outs ≡ outs_for interface request → body ≡ (reply_body (interface_for interface request) outs (status_of r.body)).fits r.body
+    → outs ≡ outs_for interface request → body ≡ (reply_body (offer_for interface request) outs (status_of r.body)).fits r.body
     → body ≡ (reply interface request version).fits r
 fits_then interface request version r status contexts outs may head body told shown is may_be well passes listed there =
     let its : (reply_head version).fits (head_in r) ≡ true = rw (← told, ← shown) (sym well ∙ passes) in
     let answers : may_answer request (status_of r.body) ≡ true = ap (may_answer request) (sym told) ∙ sym is ∙ may_be in
-    let rest : Bool = (reply_body (interface_for interface request) (outs_for interface request) (status_of r.body)).fits r.body in
-    there ∙ ap (λ (ps : List Parameter). (reply_body (interface_for interface request) ps (status_of r.body)).fits r.body) listed
+    let rest : Bool = (reply_body (offer_for interface request) (outs_for interface request) (status_of r.body)).fits r.body in
+    there ∙ ap (λ (ps : List Parameter). (reply_body (offer_for interface request) ps (status_of r.body)).fits r.body) listed
     ∙ sym (reply_fit interface request version r ∙ ap (λ b. b && (may_answer request (status_of r.body) && rest)) its ∙ ap (λ b. b && rest) answers)

@@ -11,6 +11,7 @@ use Rattle.giop_ior.specs.Ior.{ior_layout}
 use Rattle.giop_ior.specs.Ior.{Reference as IorValue}
 use Rattle.giop_types.specs.declared.json.interface.Interface.{Interface}
 use Rattle.giop_types.specs.declared.json.interface.Operation.{Operation}
+use Rattle.giop_types.specs.declared.json.offer.Offer.{Offer}
 use Rattle.giop_types.specs.declared.json.parameters.Parameter.{Parameter}
 use Rattle.giop_types.specs.declared.json.parameters.Parameters.{Parameters}
 use Rattle.giop_types.specs.Values.Tree.{Tree}
@@ -22,7 +23,7 @@ use Rattle.giop_msg.specs.declared.messages.reply_body.ReplyBody.TheVariants.{No
 use Rattle.giop_msg.specs.declared.messages.request.Request.{Request}
 use Rattle.giop_msg.specs.declared.version.Version.{Version}
 use Rattle.giop_msg.specs.Messages.Body.{body_of, values}
-use Rattle.giop_msg.specs.Messages.Request.{interface_at, operation_asked}
+use Rattle.giop_msg.specs.Messages.Request.{offer_at, operation_asked}
 use Rattle.giop_msg.specs.ReplyHead.{AnyReplyHead, reply_head}
 
 -- the number of a completion
@@ -87,9 +88,13 @@ abbrev pub disposition_in : ReplyBody → ℤ
 disposition_in (NeedsAddressing n) = n
 disposition_in _ = pos 0
 
--- the members of the exception of an id, where an interface has one
+-- the members of the exception of an id, where an object offers one
+abbrev pub exception_in : Offer → List ℕ → Option Parameters
+exception_in offer id = get_by (λ key. slice_cmp nat_cmp id key.items) offer.exceptions
+
+-- the members of the exception of an id that is general
 abbrev pub exception_of : Interface → List ℕ → Option Parameters
-exception_of interface id = get_by (λ key. slice_cmp nat_cmp id key.items) interface.exceptions
+exception_of interface = exception_in interface.general
 
 -- whether there is such an exception
 abbrev pub is_known : Option Parameters → Bool
@@ -113,11 +118,10 @@ outs_for interface None = []
 outs_for interface (Some request) =
     if request.head.flags == 1 then [] else outs_of (operation_asked interface request.head)
 
--- the interface of the object that a request asked; where it could not be decoded, that of all
--- objects that have none of their own
-abbrev pub interface_for : Interface → Option Request → Interface
-interface_for interface None = interface
-interface_for interface (Some request) = interface_at interface request.head.target
+-- what the object offers that a request asked; where it could not be decoded, what is general
+abbrev pub offer_for : Interface → Option Request → Offer
+offer_for interface None = interface.general
+offer_for interface (Some request) = offer_at interface request.head.target
 
 -- whether a status answers a request: to one that could not be decoded SYSTEM_EXCEPTION alone does
 abbrev pub may_answer : Option Request → ℕ → Bool
@@ -128,11 +132,11 @@ may_answer (Some request) status = true
 unfoldable pub no_exception : List Parameter → Layout ReplyBody
 no_exception outs = field outs_in (values outs) λ values. gives (NoException values)
 
--- 1 USER_EXCEPTION: the id of an exception of the interface, and its members
-unfoldable pub user_exception : Interface → Layout ReplyBody
-user_exception interface =
-    field id_in (such (λ id. is_known (exception_of interface id)) 4 BadLabel text) λ id.
-    field members_in (values (listed (exception_of interface id))) λ members.
+-- 1 USER_EXCEPTION: the id of an exception that the object offers, and its members
+unfoldable pub user_exception : Offer → Layout ReplyBody
+user_exception offer =
+    field id_in (such (λ id. is_known (exception_in offer id)) 4 BadLabel text) λ id.
+    field members_in (values (listed (exception_in offer id))) λ members.
     gives (UserException id members)
 
 -- 2 SYSTEM_EXCEPTION: its id, a minor code, and the completion
@@ -152,10 +156,10 @@ unfoldable pub needs_addressing : Layout ReplyBody
 needs_addressing = field disposition_in (signed w16) λ n. gives (NeedsAddressing n)
 
 -- a body by its status
-unfoldable pub reply_body : Interface → List Parameter → ℕ → Layout ReplyBody
-reply_body interface outs status =
+unfoldable pub reply_body : Offer → List Parameter → ℕ → Layout ReplyBody
+reply_body offer outs status =
     chosen (status == 0) (no_exception outs)
-    (chosen (status == 1) (user_exception interface)
+    (chosen (status == 1) (user_exception offer)
     (chosen (status == 2) system_exception
     (chosen (status == 3) (forward (λ ior. Forward ior))
     (chosen (status == 4) (forward (λ ior. ForwardPerm ior)) needs_addressing))))
@@ -186,4 +190,4 @@ reply interface request version =
     })
     (allowed (may_answer request head.status)
     (body_of version
-    (ended (reply_body (interface_for interface request) (outs_for interface request) head.status))))
+    (ended (reply_body (offer_for interface request) (outs_for interface request) head.status))))

@@ -6,7 +6,8 @@ use Rattle.std.specs.Cmp.Lexicographic.{slice_cmp}
 use Rattle.giop_cdr.specs.Ending.{Ending, ended, leads, made_of, nothing}
 use Rattle.giop_types.specs.declared.json.interface.Interface.{Interface}
 use Rattle.giop_types.specs.declared.json.interface.Operation.{Operation}
-use Rattle.giop_types.specs.Objects.{interface_of}
+use Rattle.giop_types.specs.declared.json.offer.Offer.{Offer}
+use Rattle.giop_types.specs.Objects.{offer_of}
 use Rattle.giop_msg.specs.declared.messages.request.Request.{Request}
 use Rattle.giop_msg.specs.declared.target.Target.TheVariants.{Key}
 use Rattle.giop_msg.specs.declared.version.Version.{Version}
@@ -14,21 +15,24 @@ use Rattle.giop_msg.specs.Messages.Body.{body_of, values}
 use Rattle.giop_msg.specs.RequestHead.{Head, request_head}
 use Rattle.giop_msg.specs.Target.{AnyTarget}
 
--- the operation of a name, where an interface has one
+-- the operation of a name, where an object offers one
+abbrev pub operation_in : Offer → List ℕ → Option Operation
+operation_in offer name = get_by (λ key. slice_cmp nat_cmp name key.items) offer.operations
+
+-- the operation of a name that is general
 abbrev pub operation_of : Interface → List ℕ → Option Operation
-operation_of interface name =
-    get_by (λ key. slice_cmp nat_cmp name key.items) interface.operations
+operation_of interface = operation_in interface.general
 
--- the interface of the object that a target asks: that of its key; of a profile and of a reference
--- the interface of all objects that have none of their own
-abbrev pub interface_at : Interface → AnyTarget → Interface
-interface_at interface (Key key) = interface_of interface key
-interface_at interface _ = interface
+-- what the object offers that a target asks: the one at a key its own; a profile and a reference
+-- ask for what is general
+abbrev pub offer_at : Interface → AnyTarget → Offer
+offer_at interface (Key key) = offer_of interface key
+offer_at interface _ = interface.general
 
--- the operation that a head asks for, where its object's interface has it
+-- the operation that a head asks for, where its object offers it
 abbrev pub operation_asked : Interface → Head → Option Operation
 operation_asked interface head =
-    operation_of (interface_at interface head.target) head.operation
+    operation_in (offer_at interface head.target) head.operation
 
 -- behind a head the ins of its operation, with nothing after them; no octets, where the interface
 -- has no such operation

@@ -12,7 +12,7 @@ ghost use Rattle.giop_msg.specs.Messages.Reply.{reply};
 use crate::messages::body::no_memory;
 use crate::messages::reply_body::ReplyBody;
 use crate::messages::reply_checking::check_reply_body;
-use crate::messages::reply_reading::{interface_for, may_answer, outs_for, read_reply_body};
+use crate::messages::reply_reading::{may_answer, offer_for, outs_for, read_reply_body};
 use crate::messages::request::Request;
 use crate::reply_head::view_head;
 use crate::service_contexts::ServiceContexts;
@@ -132,8 +132,8 @@ fn read_reply<S: Octets>(
         return Err(no_memory());
     };
     let outs = outs_for(interface, request);
-    let own = interface_for(interface, request);
-    match read_reply_body(alloc, version, own, outs, head.status, &mut input) {
+    let offer = offer_for(interface, request);
+    match read_reply_body(alloc, version, offer, outs, head.status, &mut input) {
         Ok(body) => Ok(Reply {
             version: head.version,
             id: head.id,
@@ -167,6 +167,6 @@ fn check_reply<S: Octets>(
         });
     }
     let outs = outs_for(interface, request);
-    let own = interface_for(interface, request);
-    check_reply_body(version, own, outs, head.status, &mut input)
+    let offer = offer_for(interface, request);
+    check_reply_body(version, offer, outs, head.status, &mut input)
 }

@@ -9,7 +9,7 @@ ghost use Rattle.giop_cdr.specs.Writing.Output.{padding_out};
 ghost use Rattle.giop_cdr.specs.Writing.Outcome.{Appends};
 ghost use Rattle.giop_types.specs.Values.Views.{value_view};
 ghost use Rattle.giop_msg.specs.Messages.Body.{body_of};
-ghost use Rattle.giop_msg.specs.Messages.Reply.{completion_number, exception_of, listed, no_exception, reply_body, status_of, system_exception, user_exception};
+ghost use Rattle.giop_msg.specs.Messages.Reply.{completion_number, exception_in, listed, no_exception, reply_body, status_of, system_exception, user_exception};
 ghost use Rattle.giop_msg.specs.declared.messages.reply_body.ReplyBody.TheVariants.{NoException, SystemException, UserException};
 
 use crate::messages::body_writing::{append_values, are_fitting};
@@ -20,7 +20,7 @@ use crate::request_head_writing::is_text;
 use crate::target_writing::append_reference;
 use crate::version::Version;
 use giop_cdr::CdrOut;
-use giop_types::{Interface, Parameter, Value};
+use giop_types::{Offer, Parameter, Value};
 use std::alloc::AllocError;
 
 impl ReplyBody {
@@ -50,23 +50,23 @@ fn completion_number(completion: Completion) -> u32
     }
 }
 
-// Whether an exception of the interface has this id, and these members.
-fn is_fitting_exception(interface: &Interface, id: &[u8], members: &[Value]) -> bool
-    ensures { result ≡ (user_exception interface.now).fits
+// Whether an exception that an object offers has this id, and these members.
+fn is_fitting_exception(offer: &Offer, id: &[u8], members: &[Value]) -> bool
+    ensures { result ≡ (user_exception offer.now).fits
         (UserException id.now (map value_view members.now)) }
 {
-    is_text(id) && is_known(interface, id) && are_fitting(members_of(interface, id), members)
+    is_text(id) && is_known(offer, id) && are_fitting(members_of(offer, id), members)
 }
 
-/// Whether octets spell a body. Its values are of their descriptions, an exception of the interface
+/// Whether octets spell a body. Its values are of their descriptions, an exception that an object offers
 /// is known, no null is in an id, and each text and list is short enough for its count.
-pub fn is_fitting_body(interface: &Interface, outs: &[Parameter], body: &ReplyBody) -> bool
-    ensures { result ≡ (reply_body interface.now outs.now (status_of body.now)).fits body.now }
+pub fn is_fitting_body(offer: &Offer, outs: &[Parameter], body: &ReplyBody) -> bool
+    ensures { result ≡ (reply_body offer.now outs.now (status_of body.now)).fits body.now }
 {
     match body {
         ReplyBody::NoException(values) => are_fitting(outs, values.as_slice()),
         ReplyBody::UserException { id, members } => {
-            is_fitting_exception(interface, id.as_slice(), members.as_slice())
+            is_fitting_exception(offer, id.as_slice(), members.as_slice())
         }
         ReplyBody::SystemException { id, .. } => is_text(id.as_slice()),
         ReplyBody::Forward(ior) | ReplyBody::ForwardPerm(ior) => ior.is_writable(),
@@ -74,22 +74,22 @@ pub fn is_fitting_body(interface: &Interface, outs: &[Parameter], body: &ReplyBo
     }
 }
 
-// Appends an exception of the interface: its id and its members.
+// Appends an exception that an object offers: its id and its members.
 fn append_user_exception(
-    interface: &Interface,
+    offer: &Offer,
     id: &[u8],
     members: &[Value],
     out: &mut CdrOut,
 ) -> Result<(), AllocError>
-    requires { (user_exception interface.now).fits
+    requires { (user_exception offer.now).fits
         (UserException id.now (map value_view members.now)) ≡ true }
-    ensures written { Appends out.old result out.new ((user_exception interface.now).written
+    ensures written { Appends out.old result out.new ((user_exception offer.now).written
         (UserException id.now (map value_view members.now)) out.old) }
-    ensures held { OnOk result ((user_exception interface.now).holds
+    ensures held { OnOk result ((user_exception offer.now).holds
         (UserException id.now (map value_view members.now))) }
 {
     out.write_string(id)?;
-    append_values(members_of(interface, id), members, out)
+    append_values(members_of(offer, id), members, out)
 }
 
 // Appends an exception of the broker: its id, its minor code and the completion.
@@ -111,21 +111,21 @@ fn append_system_exception(
 
 // Appends the fields of a body, by its kind. Out of memory, a part of them is left.
 fn append_fields(
-    interface: &Interface,
+    offer: &Offer,
     outs: &[Parameter],
     body: &ReplyBody,
     out: &mut CdrOut,
 ) -> Result<(), AllocError>
-    requires { (reply_body interface.now outs.now (status_of body.now)).fits body.now ≡ true }
+    requires { (reply_body offer.now outs.now (status_of body.now)).fits body.now ≡ true }
     ensures written { Appends out.old result out.new
-        ((reply_body interface.now outs.now (status_of body.now)).written body.now out.old) }
+        ((reply_body offer.now outs.now (status_of body.now)).written body.now out.old) }
     ensures held { OnOk result
-        ((reply_body interface.now outs.now (status_of body.now)).holds body.now) }
+        ((reply_body offer.now outs.now (status_of body.now)).holds body.now) }
 {
     match body {
         ReplyBody::NoException(values) => append_values(outs, values.as_slice(), out),
         ReplyBody::UserException { id, members } => {
-            append_user_exception(interface, id.as_slice(), members.as_slice(), out)
+            append_user_exception(offer, id.as_slice(), members.as_slice(), out)
         }
         ReplyBody::SystemException {
             id,
@@ -140,22 +140,22 @@ fn append_fields(
 // Appends the body from the next multiple of 8 on, and no padding where it takes no octets.
 #[tactic(auto, using(giop_cdr::proofs::Writing::WriterLemmas::grows_then, giop_cdr::proofs::Writing::WriterLemmas::grows_not))]
 fn append_aligned(
-    interface: &Interface,
+    offer: &Offer,
     outs: &[Parameter],
     body: &ReplyBody,
     out: &mut CdrOut,
 ) -> Result<(), AllocError>
-    requires { (reply_body interface.now outs.now (status_of body.now)).fits body.now ≡ true }
+    requires { (reply_body offer.now outs.now (status_of body.now)).fits body.now ≡ true }
     ensures written { Appends out.old result out.new (unless_empty out.old (padding_out 8 out.old)
-        ((reply_body interface.now outs.now (status_of body.now)).written body.now
+        ((reply_body offer.now outs.now (status_of body.now)).written body.now
         (padding_out 8 out.old))) }
     ensures held { OnOk result
-        ((reply_body interface.now outs.now (status_of body.now)).holds body.now) }
+        ((reply_body offer.now outs.now (status_of body.now)).holds body.now) }
 {
     let point = out.checkpoint();
     out.align(8)?;
     let padded = out.as_slice().len();
-    append_fields(interface, outs, body, out)?;
+    append_fields(offer, outs, body, out)?;
     if out.as_slice().len() == padded {
         out.back_to(point);
     }
@@ -166,21 +166,21 @@ fn append_aligned(
 #[tactic(auto, unfolding(crate::specs::Messages::Body::body_of, giop_cdr::specs::Ending::ended, giop_cdr::specs::Ending::from_multiple_of_8))]
 pub fn append_reply_body(
     version: Version,
-    interface: &Interface,
+    offer: &Offer,
     outs: &[Parameter],
     body: &ReplyBody,
     out: &mut CdrOut,
 ) -> Result<(), AllocError>
-    requires { (reply_body interface.now outs.now (status_of body.now)).fits body.now ≡ true }
+    requires { (reply_body offer.now outs.now (status_of body.now)).fits body.now ≡ true }
     ensures written { Appends out.old result out.new
-        ((body_of version (ended (reply_body interface.now outs.now (status_of body.now)))).written
+        ((body_of version (ended (reply_body offer.now outs.now (status_of body.now)))).written
         body.now out.old) }
     ensures held { OnOk result
-        ((body_of version (ended (reply_body interface.now outs.now (status_of body.now)))).holds
+        ((body_of version (ended (reply_body offer.now outs.now (status_of body.now)))).holds
         body.now) }
 {
     match version {
-        Version::V10 | Version::V11 => append_fields(interface, outs, body, out),
-        Version::V12 => append_aligned(interface, outs, body, out),
+        Version::V10 | Version::V11 => append_fields(offer, outs, body, out),
+        Version::V12 => append_aligned(offer, outs, body, out),
     }
 }

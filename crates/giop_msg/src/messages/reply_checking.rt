@@ -10,7 +10,7 @@ ghost use Rattle.giop_cdr.specs.Ending.{ended};
 ghost use Rattle.giop_cdr.specs.Layout.{such, text};
 ghost use Rattle.giop_msg.specs.Messages.Body.{body_of};
 ghost use Rattle.giop_msg.specs.Messages.Outcome.{Checks};
-ghost use Rattle.giop_msg.specs.Messages.Reply.{exception_of, forward, is_known, needs_addressing, no_exception, reply_body, system_exception, user_exception};
+ghost use Rattle.giop_msg.specs.Messages.Reply.{exception_in, forward, is_known, needs_addressing, no_exception, reply_body, system_exception, user_exception};
 ghost use Rattle.giop_msg.specs.declared.messages.reply_body.ReplyBody.TheVariants.{Forward, ForwardPerm};
 
 use crate::messages::body::align_body;
@@ -19,7 +19,7 @@ use crate::messages::reply_reading::read_completion;
 use crate::version::Version;
 use giop_cdr::{CdrFault, CdrIn, CdrKind, Octets, OctetsAt};
 use giop_ior::view_ior;
-use giop_types::{Interface, Parameter};
+use giop_types::{Offer, Parameter};
 
 // Passes over the outs of an operation.
 fn skip_no_exception<S: Octets>(outs: &[Parameter], input: &mut CdrIn<S>) -> Result<(), CdrFault>
@@ -28,17 +28,14 @@ fn skip_no_exception<S: Octets>(outs: &[Parameter], input: &mut CdrIn<S>) -> Res
     skip_values(outs, input)
 }
 
-// Passes over an exception of the interface: its id, at which `input` is, and the members that it
+// Passes over an exception that an object offers: its id, at which `input` is, and the members that it
 // has by that id.
-fn skip_user_exception<S: Octets>(
-    interface: &Interface,
-    input: &mut CdrIn<S>,
-) -> Result<(), CdrFault>
-    ensures { Skips result input.new ((user_exception interface.now).read input.old) }
+fn skip_user_exception<S: Octets>(offer: &Offer, input: &mut CdrIn<S>) -> Result<(), CdrFault>
+    ensures { Skips result input.new ((user_exception offer.now).read input.old) }
 {
     let at = input.place::<4>();
     let id = input.view_string(0)?;
-    let Some(members) = interface.exception_at(&id) else {
+    let Some(members) = offer.exception_at(&id) else {
         return Err(CdrFault {
             at,
             kind: CdrKind::BadLabel,
@@ -83,17 +80,17 @@ fn skip_needs_addressing<S: Octets>(input: &mut CdrIn<S>) -> Result<(), CdrFault
 
 // Passes over a body, by its status.
 fn skip_by_status<S: Octets>(
-    interface: &Interface,
+    offer: &Offer,
     outs: &[Parameter],
     status: u32,
     input: &mut CdrIn<S>,
 ) -> Result<(), CdrFault>
     ensures { Skips result input.new
-        ((reply_body interface.now outs.now status).read input.old) }
+        ((reply_body offer.now outs.now status).read input.old) }
 {
     match status {
         0 => skip_no_exception(outs, input),
-        1 => skip_user_exception(interface, input),
+        1 => skip_user_exception(offer, input),
         2 => skip_system_exception(input),
         3 => skip_forward(input),
         4 => skip_forward_perm(input),
@@ -104,15 +101,15 @@ fn skip_by_status<S: Octets>(
 // Checks a body, and that nothing is behind it.
 #[tactic(auto, unfolding(giop_cdr::specs::Ending::ended))]
 fn check_last<S: Octets>(
-    interface: &Interface,
+    offer: &Offer,
     outs: &[Parameter],
     status: u32,
     input: &mut CdrIn<S>,
 ) -> Result<(), CdrFault>
     ensures { Checks result
-        ((ended (reply_body interface.now outs.now status)).read input.old) }
+        ((ended (reply_body offer.now outs.now status)).read input.old) }
 {
-    skip_by_status(interface, outs, status, input)?;
+    skip_by_status(offer, outs, status, input)?;
     if input.remaining() > 0 {
         return Err(CdrFault {
             at: input.position(),
@@ -126,14 +123,14 @@ fn check_last<S: Octets>(
 #[tactic(auto, using(crate::proofs::WholeMessages::BodyLemmas::body_read))]
 pub fn check_reply_body<S: Octets>(
     version: Version,
-    interface: &Interface,
+    offer: &Offer,
     outs: &[Parameter],
     status: u32,
     input: &mut CdrIn<S>,
 ) -> Result<(), CdrFault>
     ensures { Checks result
-        ((body_of version (ended (reply_body interface.now outs.now status))).read input.old) }
+        ((body_of version (ended (reply_body offer.now outs.now status))).read input.old) }
 {
     align_body(version, input);
-    check_last(interface, outs, status, input)
+    check_last(offer, outs, status, input)
 }

@@ -10,7 +10,7 @@ ghost use Rattle.giop_cdr.specs.Ending.{ended};
 ghost use Rattle.giop_cdr.specs.Layout.{such, text};
 ghost use Rattle.giop_msg.specs.Messages.Body.{body_of};
 ghost use Rattle.giop_msg.specs.Messages.Outcome.{FollowsToEnd};
-ghost use Rattle.giop_msg.specs.Messages.Reply.{completion, exception_of, forward, interface_for, is_known, listed, may_answer, needs_addressing, no_exception, outs_for, reply_body, system_exception, user_exception};
+ghost use Rattle.giop_msg.specs.Messages.Reply.{completion, exception_in, forward, is_known, listed, may_answer, needs_addressing, no_exception, offer_for, outs_for, reply_body, system_exception, user_exception};
 ghost use Rattle.giop_msg.specs.declared.messages.reply_body.ReplyBody.TheVariants.{Forward, ForwardPerm};
 
 use crate::messages::body::{align_body, no_memory, read_values};
@@ -20,7 +20,7 @@ use crate::messages::request::Request;
 use crate::version::Version;
 use giop_cdr::{CdrFault, CdrIn, CdrKind, OctetList, Octets};
 use giop_ior::read_ior;
-use giop_types::{Interface, Parameter};
+use giop_types::{Interface, Offer, Parameter};
 use std::alloc::Global;
 
 // Reads the outs of an operation.
@@ -99,21 +99,21 @@ fn read_forward_perm<S: Octets>(alloc: Global, input: &mut CdrIn<S>) -> Result<R
     Ok(ReplyBody::ForwardPerm(ior))
 }
 
-// Reads the id of an exception, which the interface must have.
+// Reads the id of an exception, which the object must offer.
 fn read_exception_id<S: Octets>(
     alloc: Global,
-    interface: &Interface,
+    offer: &Offer,
     input: &mut CdrIn<S>,
 ) -> Result<OctetList, CdrFault>
     ensures { Follows (λ id. id) result input.new
-        ((such (λ id. is_known (exception_of interface.now id)) 4 BadLabel text).read input.old) }
+        ((such (λ id. is_known (exception_in offer.now id)) 4 BadLabel text).read input.old) }
 {
     let at = input.place::<4>();
     let id = input.view_string(0)?;
     let Ok(id) = id.to_list(alloc) else {
         return Err(no_memory());
     };
-    if !is_known(interface, id.as_slice()) {
+    if !is_known(offer, id.as_slice()) {
         return Err(CdrFault {
             at,
             kind: CdrKind::BadLabel,
@@ -122,40 +122,40 @@ fn read_exception_id<S: Octets>(
     Ok(id)
 }
 
-/// Whether the interface has an exception of this id.
-pub fn is_known(interface: &Interface, id: &[u8]) -> bool
-    ensures { result ≡ is_known (exception_of interface.now id.now) }
+/// Whether an object offers an exception of this id.
+pub fn is_known(offer: &Offer, id: &[u8]) -> bool
+    ensures { result ≡ is_known (exception_in offer.now id.now) }
 {
-    match interface.exception(id) {
+    match offer.exception(id) {
         Some(_) => true,
         None => false,
     }
 }
 
-/// The members of the exception of this id; none where the interface hasn't it.
-pub fn members_of<'a>(interface: &'a Interface, id: &[u8]) -> &'a [Parameter]
-    ensures { result.now ≡ listed (exception_of interface.now id.now) }
+/// The members of the exception of this id; none where the object doesn't offer it.
+pub fn members_of<'a>(offer: &'a Offer, id: &[u8]) -> &'a [Parameter]
+    ensures { result.now ≡ listed (exception_in offer.now id.now) }
 {
-    match interface.exception(id) {
+    match offer.exception(id) {
         Some(members) => members.as_slice(),
         None => &[],
     }
 }
 
-// Reads an exception of the interface: its id, and its members.
+// Reads an exception that an object offers: its id, and its members.
 fn read_user_exception<S: Octets>(
     alloc: Global,
-    interface: &Interface,
+    offer: &Offer,
     input: &mut CdrIn<S>,
 ) -> Result<ReplyBody, CdrFault>
     ensures { Follows (λ body. body) result input.new
-        ((user_exception interface.now).read input.old) }
+        ((user_exception offer.now).read input.old) }
 {
-    let id = match read_exception_id(alloc, interface, input) {
+    let id = match read_exception_id(alloc, offer, input) {
         Ok(id) => id,
         Err(fault) => return Err(fault),
     };
-    match read_values(alloc, members_of(interface, id.as_slice()), input) {
+    match read_values(alloc, members_of(offer, id.as_slice()), input) {
         Ok(members) => Ok(ReplyBody::UserException { id, members }),
         Err(fault) => Err(fault),
     }
@@ -164,17 +164,17 @@ fn read_user_exception<S: Octets>(
 // Reads a body, by its status.
 fn read_by_status<S: Octets>(
     alloc: Global,
-    interface: &Interface,
+    offer: &Offer,
     outs: &[Parameter],
     status: u32,
     input: &mut CdrIn<S>,
 ) -> Result<ReplyBody, CdrFault>
     ensures { Follows (λ body. body) result input.new
-        ((reply_body interface.now outs.now status).read input.old) }
+        ((reply_body offer.now outs.now status).read input.old) }
 {
     match status {
         0 => read_no_exception(alloc, outs, input),
-        1 => read_user_exception(alloc, interface, input),
+        1 => read_user_exception(alloc, offer, input),
         2 => read_system_exception(alloc, input),
         3 => read_forward(alloc, input),
         4 => read_forward_perm(alloc, input),
@@ -186,15 +186,15 @@ fn read_by_status<S: Octets>(
 #[tactic(auto, unfolding(giop_cdr::specs::Ending::ended))]
 fn read_last<S: Octets>(
     alloc: Global,
-    interface: &Interface,
+    offer: &Offer,
     outs: &[Parameter],
     status: u32,
     input: &mut CdrIn<S>,
 ) -> Result<ReplyBody, CdrFault>
     ensures { FollowsToEnd result
-        ((ended (reply_body interface.now outs.now status)).read input.old) }
+        ((ended (reply_body offer.now outs.now status)).read input.old) }
 {
-    let body = match read_by_status(alloc, interface, outs, status, input) {
+    let body = match read_by_status(alloc, offer, outs, status, input) {
         Ok(body) => body,
         Err(fault) => return Err(fault),
     };
@@ -212,16 +212,16 @@ fn read_last<S: Octets>(
 pub fn read_reply_body<S: Octets>(
     alloc: Global,
     version: Version,
-    interface: &Interface,
+    offer: &Offer,
     outs: &[Parameter],
     status: u32,
     input: &mut CdrIn<S>,
 ) -> Result<ReplyBody, CdrFault>
     ensures { FollowsToEnd result
-        ((body_of version (ended (reply_body interface.now outs.now status))).read input.old) }
+        ((body_of version (ended (reply_body offer.now outs.now status))).read input.old) }
 {
     align_body(version, input);
-    read_last(alloc, interface, outs, status, input)
+    read_last(alloc, offer, outs, status, input)
 }
 
 /// The outs that a reply to a request has where there is no exception: none where the flags of the
@@ -248,14 +248,13 @@ fn outs_of<'a>(interface: &'a Interface, request: &Request) -> &'a [Parameter]
     }
 }
 
-/// The interface of the object that a request asked; where it could not be decoded, that of all
-/// objects that have none of their own.
-pub fn interface_for<'a>(interface: &'a Interface, request: Option<&Request>) -> &'a Interface
-    ensures { result.now ≡ interface_for interface.now (option_copied request.entry) }
+/// What the object offers that a request asked; where it could not be decoded, what is general.
+pub fn offer_for<'a>(interface: &'a Interface, request: Option<&Request>) -> &'a Offer
+    ensures { result.now ≡ offer_for interface.now (option_copied request.entry) }
 {
     match request {
-        Some(request) => request.head.target.interface_in(interface),
-        None => interface,
+        Some(request) => request.head.target.offer_in(interface),
+        None => interface.general(),
     }
 }
 

@@ -12,7 +12,7 @@ ghost use Rattle.giop_msg.specs.Messages.Reply.{outs_for, reply};
 use crate::joined::joined_output;
 use crate::messages::reply::Reply;
 use crate::messages::reply_body_writing::{append_reply_body, is_fitting_body};
-use crate::messages::reply_reading::{interface_for, may_answer, outs_for};
+use crate::messages::reply_reading::{may_answer, offer_for, outs_for};
 use crate::messages::request::Request;
 use crate::reply_head_writing::{append_parts, are_writable_parts};
 use giop_cdr::{CdrOut, EncodeFault, Order};
@@ -51,7 +51,7 @@ impl Reply {
             return false;
         }
         are_writable_parts(self.version, status, self.contexts.as_slice())
-            && is_fitting_body(interface_for(interface, request), outs, &self.body)
+            && is_fitting_body(offer_for(interface, request), outs, &self.body)
     }
 
     /// The joined octets of the Reply to a Request of an interface, in a byte order: its head, and
@@ -127,6 +127,6 @@ fn append_reply(
         answer.contexts.as_slice(),
         out,
     )?;
-    let own = interface_for(interface, request);
-    append_reply_body(answer.version, own, outs, &answer.body, out)
+    let offer = offer_for(interface, request);
+    append_reply_body(answer.version, offer, outs, &answer.body, out)
 }

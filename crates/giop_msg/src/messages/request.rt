@@ -142,7 +142,7 @@ fn operation_at<'a, S: Octets>(
     ensures { option_copied result ≡ operation_asked interface.now head.now }
 {
     head.target
-        .interface_among(interface)
+        .offer_among(interface)
         .operation_at(&head.operation)
 }
 

@@ -62,8 +62,8 @@ exceptions_view m = map (λ e. (e.0.items, parameters_view e.1)) m.entries
 -- an interface
 abbrev pub interface_view : Interface → Offer
 interface_view i = record {
-  operations = operations_view i.operations;
-  exceptions = exceptions_view i.exceptions;
+  operations = operations_view i.general.operations;
+  exceptions = exceptions_view i.general.exceptions;
 }
 
 -- ---- the form of a text

@@ -1,10 +1,11 @@
-//! An interface as callers see it: its operations and exceptions, by name and by id.
-//! interface_json.rt makes one of JSON, objects.rt has those of objects.
+//! An interface as callers see it: what the objects of a connection offer. interface_json.rt makes
+//! one of JSON, objects.rt adds what single objects offer.
 ghost use Rattle.std.specs.Prelude.{◌≡◌, [], option_copied, length, true};
 ghost use Rattle.std.specs.BTreeMap.{get_by};
 ghost use Rattle.std.specs.Ordering.{nat_cmp};
 ghost use Rattle.std.specs.Cmp.Lexicographic.{slice_cmp};
 
+use crate::json::offer::Offer;
 use crate::json::parameters::Parameters;
 use std::alloc::Global;
 use std::collections::BTreeMap;
@@ -22,65 +23,62 @@ pub struct Operation {
     pub ghost silent: { oneway ≡ true → length outs.list.items ≡ 0 },
 }
 
-/// What an interface offers: its operations by their names and its exceptions by their ids. No name
-/// and no id is there twice, none has a null, and every description is checked.
-///
-/// One connection may reach several objects. Those that have an interface of their own have it
-/// under their key; this one is of each other.
+/// What the objects of a connection offer: those for which an offer of their own was given that,
+/// by their keys, and all others one that is general.
 #[derive(Debug, Drop)]
 pub struct Interface {
-    operations: BTreeMap<Vec<u8>, Operation>,
-    exceptions: BTreeMap<Vec<u8>, Parameters>,
-    pub(crate) objects: BTreeMap<Vec<u8>, Interface>,
+    pub(crate) general: Offer,
+    pub(crate) objects: BTreeMap<Vec<u8>, Offer>,
 }
 
 impl Interface {
-    /// An interface of these operations and exceptions, and no object with one of its own.
-    pub(crate) fn new(
-        alloc: Global,
-        operations: BTreeMap<Vec<u8>, Operation>,
-        exceptions: BTreeMap<Vec<u8>, Parameters>,
-    ) -> Interface
-        ensures operations { result.operations ≡ operations }
-        ensures exceptions { result.exceptions ≡ exceptions }
+    /// An interface of which each object offers the same.
+    pub(crate) fn new(alloc: Global, general: Offer) -> Interface
+        ensures general { result.general ≡ general }
         ensures alone { result.objects.entries ≡ [] }
     {
         Interface {
-            operations,
-            exceptions,
+            general,
             objects: BTreeMap::new(alloc),
         }
     }
 
-    /// The operation of this name. It takes no memory. Its time grows with the logarithm of the
-    /// number of operations.
-    pub fn operation(&self, name: &[u8]) -> Option<&Operation>
-        ensures { option_copied result
-            ≡ get_by (λ key. slice_cmp nat_cmp name.now key.items) self.now.operations }
+    /// What an object offers for which no offer of its own was given.
+    pub fn general(&self) -> &Offer
+        ensures { result.now ≡ self.now.general }
     {
-        self.operations.get(name)
+        &self.general
     }
 
-    /// The members of the exception of this id. It takes no memory. Its time grows with the
+    /// The general operation of this name. It takes no memory. Its time grows with the logarithm of
+    /// the number of operations.
+    pub fn operation(&self, name: &[u8]) -> Option<&Operation>
+        ensures { option_copied result
+            ≡ get_by (λ key. slice_cmp nat_cmp name.now key.items) self.now.general.operations }
+    {
+        self.general.operation(name)
+    }
+
+    /// The members of the general exception of this id. It takes no memory. Its time grows with the
     /// logarithm of the number of exceptions.
     pub fn exception(&self, id: &[u8]) -> Option<&Parameters>
         ensures { option_copied result
-            ≡ get_by (λ key. slice_cmp nat_cmp id.now key.items) self.now.exceptions }
+            ≡ get_by (λ key. slice_cmp nat_cmp id.now key.items) self.now.general.exceptions }
     {
-        self.exceptions.get(id)
+        self.general.exception(id)
     }
 
-    /// The operations, in the order of their names.
+    /// The general operations, in the order of their names.
     pub fn operations(&self) -> &BTreeMap<Vec<u8>, Operation>
-        ensures { result.now ≡ self.now.operations }
+        ensures { result.now ≡ self.now.general.operations }
     {
-        &self.operations
+        self.general.operations()
     }
 
-    /// The exceptions, in the order of their ids.
+    /// The general exceptions, in the order of their ids.
     pub fn exceptions(&self) -> &BTreeMap<Vec<u8>, Parameters>
-        ensures { result.now ≡ self.now.exceptions }
+        ensures { result.now ≡ self.now.general.exceptions }
     {
-        &self.exceptions
+        self.general.exceptions()
     }
 }

@@ -18,6 +18,7 @@ use crate::json::form_fault::FormFault;
 use crate::json::from_json::is_object_of;
 use crate::json::interface::{Interface, Operation};
 use crate::json::interface_form::{OperationForm, ParametersForm};
+use crate::json::offer::Offer;
 use crate::json::parameters::{Parameter, Parameters};
 use crate::json::parse::parse;
 use crate::json::texts::octets_in;
@@ -44,8 +45,10 @@ impl Interface {
         let exceptions = exception_forms(alloc, &json)?;
         Ok(Interface::new(
             alloc,
-            checked_operations(alloc, operations)?,
-            checked_exceptions(alloc, exceptions)?,
+            Offer::new(
+                checked_operations(alloc, operations)?,
+                checked_exceptions(alloc, exceptions)?,
+            ),
         ))
     }
 }

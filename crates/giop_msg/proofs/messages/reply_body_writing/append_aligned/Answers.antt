@@ -9,6 +9,6 @@ returns-then-as_slice-padded-clause-written c =
     let body = c.args.body.now in
     let pads = c.in_ok-align.ensures in
     let put = c.in_ok-append_fields.ensures.written in
-    pads_back ((reply_body c.args.interface.now c.args.outs.now (status_of body)).written body) c.args.out.now c.align.new.self c.append_fields.new.out
+    pads_back ((reply_body c.args.offer.now c.args.outs.now (status_of body)).written body) c.args.out.now c.align.new.self c.append_fields.new.out
     c.back_to.new.self c.as_slice.result.now c.as_slice-padded.result.now pads.0 pads.1 put.0 put.1 c.as_slice.ensures
     c.as_slice-padded.ensures c.if-as_slice-padded.true (c.back_to.ensures ∙ ap (λ p. back_at p c.append_fields.new.out) c.checkpoint-point.ensures)

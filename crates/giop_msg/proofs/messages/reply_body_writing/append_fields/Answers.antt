@@ -5,5 +5,5 @@ use Rattle.giop_msg.proofs.messages.reply_body_writing.append_fields.Goals as go
 
 pub append_values-requires : goal.append_values-requires
 append_values-requires c =
-    outs_fit c.args.interface.now c.args.outs.now c.args.body.now c.as_slice.result.now
+    outs_fit c.args.offer.now c.args.outs.now c.args.body.now c.as_slice.result.now
     (c.in-NoException.is ∙ ap (λ values. NoException values) (sym c.as_slice.ensures)) c.requires

@@ -3,4 +3,4 @@ use Rattle.giop_msg.proofs.messages.reply_body_writing.append_user_exception.Goa
 
 pub append_values-requires : goal.append_values-requires
 append_values-requires c =
-    members_fit c.args.interface.now c.args.id.now c.members_of.result.now c.args.members.now c.members_of.ensures c.requires
+    members_fit c.args.offer.now c.args.id.now c.members_of.result.now c.args.members.now c.members_of.ensures c.requires
