@@ -11,7 +11,7 @@ pub mod reply;
 pub mod reply_body;
 mod reply_body_writing;
 mod reply_checking;
-mod reply_reading;
+pub mod reply_reading;
 mod reply_writing;
 pub mod request;
 pub mod request_fault;
