@@ -16,13 +16,13 @@ append_parts-requires c =
 pub append_reply_body-requires : goal.append_reply_body-requires
 append_reply_body-requires c =
     let r = c.args.answer.now in
-    rw (c.offer_for.ensures, c.requires.outs) (fitting_body c.args.interface.now (option_copied c.args.request) r.version r c.requires.fits)
+    rw (c.offer_for-offer.ensures, c.requires.outs) (fitting_body c.args.interface.now (option_copied c.args.request) r.version r c.requires.fits)
 
 pub returns-clause-written : goal.returns-clause-written
 returns-clause-written c =
     let r = c.args.answer.now in
     let put = c.in_ok-append_parts.ensures.written in
-    appends_then c.append_reply_body.result c.args.out.now c.append_parts.new.out c.append_reply_body.new.out _ _ put.1 (rw c.offer_for.ensures at c.append_reply_body.ensures.written)
+    appends_then c.append_reply_body.result c.args.out.now c.append_parts.new.out c.append_reply_body.new.out _ _ put.1 (rw c.offer_for-offer.ensures at c.append_reply_body.ensures.written)
     (parts_written c.args.interface.now (option_copied c.args.request) r.version r c.args.out.now c.append_parts.new.out c.args.outs.now
     c.status-status.result c.as_slice.result.now c.requires.fits c.requires.outs c.status-status.ensures c.as_slice.ensures put.0)
 
@@ -36,4 +36,4 @@ returns-clause-held c =
     ((reply interface asked r.version).holds r)
     (reply_holds interface asked r.version r c.args.outs.now c.status-status.result c.as_slice.result.now c.requires.fits c.requires.outs
     c.status-status.ensures c.as_slice.ensures c.in_ok-append_parts.ensures.held)
-    (rw c.offer_for.ensures at c.append_reply_body.ensures.held)
+    (rw c.offer_for-offer.ensures at c.append_reply_body.ensures.held)

@@ -14,7 +14,7 @@ returns-then-are_writable_parts c =
     fits_then c.args.interface.now (option_copied c.args.request) r.version r c.status-status.result c.as_slice.result.now c.args.outs.now
     c.may_answer.result c.are_writable_parts.result c.is_fitting_body.result c.status-status.ensures c.as_slice.ensures c.may_answer.ensures
     c.if-not-may_answer.false (c.are_writable_parts.ensures r.id) c.if-are_writable_parts.true c.requires
-    (rw c.offer_for-then-are_writable_parts.ensures at c.is_fitting_body.ensures)
+    (rw c.offer_for.ensures at c.is_fitting_body.ensures)
 
 pub returns-else-are_writable_parts : goal.returns-else-are_writable_parts
 returns-else-are_writable_parts c =
