@@ -16,8 +16,8 @@ returns-then-is_writable c =
     let known = fits_known c.args.interface.now q.head.version q c.in-Some.operation.now c.in-Some.ensures in
     let head : (request_head q.head.version).fits q.head ≡ true = sym c.is_writable.ensures ∙ c.if-is_writable.true in
     let body : c.are_fitting.result ≡ fields_fit (fields_in c.in-Some.operation.now.ins.list.items) q.body
-    = c.are_fitting.ensures ∙ ap (λ ps. fields_fit (fields_in ps) (map value_view c.as_slice-then-is_writable-2.result.now)) c.as_slice-then-is_writable.ensures.same
-    ∙ ap (fields_fit (fields_in c.in-Some.operation.now.ins.list.items)) c.as_slice-then-is_writable-2.ensures in
+    = c.are_fitting.ensures ∙ ap (λ ps. fields_fit (fields_in ps) (map value_view c.as_slice-then-is_writable.result.now)) c.as_slice.ensures.same
+    ∙ ap (fields_fit (fields_in c.in-Some.operation.now.ins.list.items)) c.as_slice-then-is_writable.ensures in
     body ∙ sym (known ∙ ap (λ b. b && fields_fit (fields_in c.in-Some.operation.now.ins.list.items) q.body) head)
 
 pub returns-else-is_writable : goal.returns-else-is_writable
