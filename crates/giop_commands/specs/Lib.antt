@@ -20,6 +20,8 @@ pub mod IsA
 pub mod InTurn
 pub mod AnswerForms
 pub mod Answering
+pub mod LetOut
+pub mod AnswerFiles
 pub mod Calling
 pub mod Serving
 pub mod Sessions

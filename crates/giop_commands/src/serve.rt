@@ -21,6 +21,7 @@ pub mod general;
 pub mod given;
 pub mod in_turn;
 pub mod is_a;
+pub mod let_out;
 pub mod reference;
 pub mod streaming;
 pub mod table;

@@ -221,6 +221,14 @@ pub fn form(
     place(rt, file, fault, at);
 }
 
+/// Prints the option of the limit that an answer of a file passes, and where that answer stands.
+pub fn unsent(rt: &impl Eprint, file: &str, limit: Limit, at: Option<Place>) {
+    let _ = eprintln!(rt;
+        "giopctl: {file}: an answer is larger than a limit lets out; raise it by {limit}"
+    );
+    place(rt, file, FormFault::Unfit, at);
+}
+
 /// Prints which of some words are no JSON, and where they cease to be.
 pub fn words(rt: &impl Eprint, alloc: Global, words: &[&str]) {
     for word in words {

@@ -199,7 +199,8 @@ fn given(
     }
 }
 
-fn given_body(
+/// The body of a Reply by what is given; a result without values where nothing is.
+pub fn given_body(
     alloc: Global,
     ins: &[Value],
     given: Option<AnswerGiven>,

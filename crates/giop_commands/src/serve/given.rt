@@ -23,6 +23,16 @@ pub struct Serving<'a> {
     ghost bounded: { AreLimits limits },
 }
 
+/// How answers are sent.
+#[derive(Clone, Copy)]
+pub struct Sending {
+    /// The form of what is sent.
+    pub form: Form,
+    /// What the end holds at most.
+    pub limits: Limits,
+    pub ghost sent: { IsForm form },
+}
+
 /// When the calls of a connection are told.
 #[derive(Clone, Copy, Debug, PartialEq, Eq)]
 pub enum Telling {

@@ -4,19 +4,22 @@
 use crate::cli::ServeWords;
 use crate::files::OUTPUT_BUFFER;
 use crate::interface_text::InterfaceText;
-use crate::object_operations::texts_of;
-use crate::places::answers::of_answers;
+use crate::object_operations::{Texts, texts_of};
+use crate::places::answers::{WIDE, of_answers};
 use crate::report;
-use crate::runs::session::{interface_of, linked, read, read_interface, refused_form};
+use crate::runs::session::{
+    interface_of, linked, read, read_interface, refused_form, refused_unsent,
+};
 use giop_commands::failure::Failure;
-use giop_commands::serve::answers::answers_from_json;
-use giop_commands::serve::given::{KeyWord, Telling};
+use giop_commands::serve::answers::{Answers, answers_from_json};
+use giop_commands::serve::given::{KeyWord, Sending, Telling};
 use giop_commands::serve::in_turn::Passed;
 use giop_commands::serve::reference::reference_text;
 use giop_commands::serve::streaming::stream_over;
-use giop_commands::status::Status;
+use giop_commands::status::{Limit, Status};
 use giop_commands::{Ending, Serving, serve_over};
 use giop_names::interface_id;
+use giop_session::Limits;
 use giop_types::{FormFault, Interface};
 use std::alloc::{AllocError, Global};
 use std::io::{BufWriter, Write};
@@ -53,14 +56,7 @@ fn served(rt: &HostRuntime, words: ServeWords) -> Result<Status, Status> {
         Ok(interface) => interface,
         Err(_) => return Err(report::answer(rt, words.interface, Err(Failure::Memory))),
     };
-    let answers = match answers_from_json(rt.alloc(), &interface, texts.answers.as_slice()) {
-        Ok(answers) => answers,
-        Err(fault) => {
-            let (lines, text) = (words.lines, answers.as_slice());
-            let at = of_answers(rt.alloc(), texts.interface.as_slice(), text, fault);
-            return Err(refused_form(rt, lines, words.answers, text, fault, at));
-        }
-    };
+    let answers = answers_of(rt, &words, &interface, &texts, answers.as_slice())?;
     let serving = Serving {
         interface: &interface,
         answers: &answers,
@@ -70,6 +66,56 @@ fn served(rt: &HostRuntime, words: ServeWords) -> Result<Status, Status> {
     };
     let listener = listening(rt, &words, type_id.as_slice(), key.as_slice())?;
     Ok(serve_each(rt, &listener, &words, &serving))
+}
+
+// The answers of these texts, of which that of the file is given too; or the status where they are
+// refused, which is reported.
+fn answers_of(
+    rt: &HostRuntime,
+    words: &ServeWords<'_>,
+    interface: &Interface,
+    texts: &Texts,
+    text: &[u8],
+) -> Result<Answers, Status> {
+    let (alloc, lines, file) = (rt.alloc(), words.lines, words.answers);
+    let answers = texts.answers.as_slice();
+    let sending = within(words, words.limits);
+    let fault = match answers_from_json(alloc, interface, sending, answers) {
+        Ok(answers) => return Ok(answers),
+        Err(fault) => fault,
+    };
+    let wide = within(words, WIDE);
+    if fault == FormFault::Unfit && answers_from_json(alloc, interface, wide, answers).is_ok() {
+        let at = of_answers(alloc, texts.interface.as_slice(), text, sending, fault);
+        let limit = limit_passed(alloc, words, interface, answers);
+        return Err(refused_unsent(rt, lines, file, limit, at));
+    }
+    let at = of_answers(alloc, texts.interface.as_slice(), text, wide, fault);
+    Err(refused_form(rt, lines, file, text, fault, at))
+}
+
+// How answers are sent within limits.
+fn within(words: &ServeWords<'_>, limits: Limits) -> Sending {
+    Sending {
+        form: words.form,
+        limits,
+    }
+}
+
+// The limit that answers pass, of which the text is given: that of a message where a greater one lets
+// them out, else that of octets that are gathered.
+fn limit_passed(
+    alloc: Global,
+    words: &ServeWords<'_>,
+    interface: &Interface,
+    answers: &[u8],
+) -> Limit {
+    let mut limits = words.limits;
+    limits.message = u32::MAX;
+    match answers_from_json(alloc, interface, within(words, limits), answers) {
+        Ok(_) => Limit::Message,
+        Err(_) => Limit::Gathered,
+    }
 }
 
 // The octets of the object's type id: the one of the words, else the interface's own; none where

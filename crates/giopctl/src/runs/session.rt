@@ -5,7 +5,7 @@ use crate::interface_text::InterfaceText;
 use crate::runs::link::Link;
 use crate::{files, report};
 use giop_commands::failure::Failure;
-use giop_commands::status::Status;
+use giop_commands::status::{Limit, Status};
 use giop_commands::{LineForm, form_refusal, refuse_in};
 use giop_lines::RefusalLine;
 use giop_types::{FormFault, Interface};
@@ -57,6 +57,18 @@ pub fn refused_form(
 ) -> Status {
     report::form(rt, rt.alloc(), file, text, fault, at);
     refused_line(rt, lines, file, form_refusal(fault))
+}
+
+/// Reports that an answer of a file passes a limit, and where that answer stands.
+pub fn refused_unsent(
+    rt: &HostRuntime,
+    lines: LineForm,
+    file: &str,
+    limit: Limit,
+    at: Option<Place>,
+) -> Status {
+    report::unsent(rt, file, limit, at);
+    refused_line(rt, lines, file, form_refusal(FormFault::Unfit))
 }
 
 /// Reports that a call by words is refused, and where it is at fault.
