@@ -8,6 +8,7 @@ pub mod Convert
 pub mod CheckJson
 pub mod SessionLines
 pub mod Bodies
+pub mod Shown
 pub mod Table
 pub mod Check
 pub mod Trace

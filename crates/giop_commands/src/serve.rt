@@ -23,6 +23,7 @@ pub mod in_turn;
 pub mod is_a;
 pub mod let_out;
 pub mod reference;
+pub mod shown;
 pub mod streaming;
 pub mod table;
 
