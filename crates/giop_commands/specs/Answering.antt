@@ -13,6 +13,7 @@ use Rattle.giop_msg.specs.declared.messages.request_fault.RequestFault.{RequestF
 use Rattle.giop_msg.specs.declared.messages.request_fault.RequestFault.TheVariants.{Header, Operation, Body}
 use Rattle.giop_msg.specs.declared.target.Target.TheVariants.{Key, Profile, Reference}
 use Rattle.giop_msg.specs.declared.version.Version.{Version}
+use Rattle.giop_msg.specs.Messages.Request.{offer_at}
 use Rattle.giop_msg.specs.Target.{AnyTarget}
 use Rattle.giop_calls.specs.declared.kind.CallKind.{CallKind}
 use Rattle.giop_calls.specs.declared.kind.CallKind.TheVariants as kind
@@ -86,11 +87,11 @@ abbrev pub asked_ins : ServerEntry → List Tree
 asked_ins (Asked request) = request.body
 asked_ins _ = []
 
--- what is given for the operation of a Request, by the answers to the operations of an interface, of
--- which some are passed
+-- what is given for the operation of a Request, by the answers to what its object offers, of which
+-- some are passed
 abbrev pub given_to : Interface → Data → List (List ℕ) → ServerEntry → Option AnswerGiven
 given_to interface answers passed (Asked request) =
-    given_in interface answers passed request.head.operation
+    given_in (offer_at interface request.head.target) answers passed request.head.operation
 given_to interface answers passed _ = None
 
 -- a system exception of an operation that wasn't carried out

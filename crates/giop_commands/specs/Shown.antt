@@ -1,4 +1,4 @@
--- Which object is asked stands behind a line of a server where one object at least has an interface
+-- Which object is asked stands behind a line of a server where one object at least offers something
 -- of its own (CORBA 3.3 Part 2, 9.4.2.1), as far as the target is known.
 use Rattle.std.specs.Prelude.{ℕ, ◌++◌, nat_lt, Bool, List, [], Option, Some, None, codes, if◌then◌else◌}
 use Rattle.std.specs.BTreeMap.{btree_map_len}
@@ -17,7 +17,7 @@ use Rattle.giop_lines.specs.TableJson.{entry_json}
 use Rattle.giop_commands.specs.declared.form.LineForm.{LineForm}
 use Rattle.giop_commands.specs.Forms.{line_in}
 
--- whether an object has an interface of its own, so that objects are told apart
+-- whether an object offers something of its own, so that objects are told apart
 abbrev pub are_told_apart : Interface → Bool
 are_told_apart interface = nat_lt 0 (btree_map_len interface.objects)
 

@@ -192,7 +192,8 @@ fn given(
     match entry {
         ServerEntry::Asked { request } => {
             let name = request.head.operation.as_slice();
-            let given = answers.given(alloc, interface, passed, name)?;
+            let offer = request.head.target.offer_in(interface);
+            let given = answers.given(alloc, offer, passed, name)?;
             given_body(alloc, request.body.as_slice(), given)
         }
         _ => given_body(alloc, &[], None),

@@ -76,7 +76,7 @@ fn target_shown(
     }
 }
 
-// Whether an object has an interface of its own.
+// Whether an object offers something of its own.
 fn are_told_apart(interface: &Interface) -> bool
     ensures { result ≡ are_told_apart interface.now }
 {
