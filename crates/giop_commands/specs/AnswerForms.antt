@@ -15,7 +15,7 @@ use Rattle.giop_commands.specs.declared.serve.answers.AnswerGiven.{AnswerGiven}
 use Rattle.giop_commands.specs.declared.serve.answers.AnswerGiven.TheVariants.{Ok as result, User}
 use Rattle.giop_commands.specs.CallForms.{octets_in, values_in}
 use Rattle.giop_commands.specs.GeneralForms.{general_by}
-use Rattle.giop_commands.specs.InTurn.{due_in, passed_of}
+use Rattle.giop_commands.specs.InTurn.{due_in}
 use Rattle.giop_commands.specs.IsA.{is_a_in}
 use Rattle.giop_msg.specs.Messages.Reply.{exception_in}
 use Rattle.giop_msg.specs.Messages.Request.{operation_in}
@@ -60,11 +60,12 @@ abbrev pub given_under : Offer → List ℕ → Data → ℕ → Operation → O
 given_under offer name d n operation =
     given_of offer operation.outs.list.items n (get (text_of name) d) (default_in d)
 
--- what is given for an operation of this name, where these answers are passed: nothing where it is
--- oneway or the object doesn't offer it, no member stands for it, or what stands there is no answer
-abbrev pub given_in : Offer → Data → List (List ℕ) → List ℕ → Option AnswerGiven
+-- what is given for an operation of this name, where so many of its answers are passed: nothing where
+-- it is oneway or the object doesn't offer it, no member stands for it, or what stands there is no
+-- answer
+abbrev pub given_in : Offer → Data → ℕ → List ℕ → Option AnswerGiven
 given_in offer answers passed name = option_and_then
     (λ operation. if operation.oneway then None
     else option_and_then (λ given. given)
-    (given_under offer name answers (passed_of passed name) operation))
+    (given_under offer name answers passed operation))
     (operation_in offer name)

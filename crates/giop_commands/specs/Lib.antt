@@ -18,6 +18,7 @@ pub mod Turns
 pub mod CallForms
 pub mod GeneralForms
 pub mod IsA
+pub mod Objects
 pub mod InTurn
 pub mod AnswerForms
 pub mod Answering

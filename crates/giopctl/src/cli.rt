@@ -290,7 +290,8 @@ pub fn task_of<'a>(alloc: Global, words: &'a [String]) -> Result<Option<Task<'a>
         return judged(alloc, traced(trace, file_words(alloc, trace, "interface")?));
     }
     if let Some(call) = matches.subcommand_matches("call") {
-        return judged(alloc, called(call, values_of(alloc, call)?));
+        let files = file_words(alloc, call, "interface")?;
+        return judged(alloc, called(call, files, values_of(alloc, call)?));
     }
     if let Some(locate) = matches.subcommand_matches("locate") {
         return judged(alloc, located(locate));
@@ -299,7 +300,8 @@ pub fn task_of<'a>(alloc: Global, words: &'a [String]) -> Result<Option<Task<'a>
         return judged(alloc, pinged(ping));
     }
     if let Some(serve) = matches.subcommand_matches("serve") {
-        return judged(alloc, served(serve));
+        let interfaces = file_words(alloc, serve, "interface")?;
+        return judged(alloc, served(serve, interfaces, file_words(alloc, serve, "answers")?));
     }
     match matches.subcommand_matches("convert") {
         Some(convert) => judged(alloc, conversion(convert)),
@@ -420,9 +422,10 @@ fn traced<'a>(
 
 fn called<'a>(
     matches: &ArgMatches<'a>,
+    interfaces: Files<'a>,
     values: Vec<&'a str>,
 ) -> Result<Option<Task<'a>>, &'static str> {
-    Ok(Some(Task::Call(call_words(matches, values)?)))
+    Ok(Some(Task::Call(call_words(matches, interfaces?, values)?)))
 }
 
 fn located<'a>(matches: &ArgMatches<'a>) -> Result<Option<Task<'a>>, &'static str> {
@@ -433,8 +436,12 @@ fn pinged<'a>(matches: &ArgMatches<'a>) -> Result<Option<Task<'a>>, &'static str
     Ok(Some(Task::Ping(object_words(matches)?)))
 }
 
-fn served<'a>(matches: &ArgMatches<'a>) -> Result<Option<Task<'a>>, &'static str> {
-    Ok(Some(Task::Serve(serve_words(matches)?)))
+fn served<'a>(
+    matches: &ArgMatches<'a>,
+    interfaces: Files<'a>,
+    answers: Files<'a>,
+) -> Result<Option<Task<'a>>, &'static str> {
+    Ok(Some(Task::Serve(serve_words(matches, interfaces?, answers?)?)))
 }
 
 fn converted<'a>(matches: &ArgMatches<'a>, kind: Option<ConvertKind<'a>>) -> Option<Task<'a>> {

@@ -7,6 +7,7 @@ pub mod dump;
 pub mod interfaces;
 pub mod link;
 pub mod object;
+pub mod objects;
 pub mod reach;
 pub mod serve;
 pub mod session;

@@ -12,7 +12,7 @@ ghost use Rattle.giop_commands.specs.AnswerForms.{given_by, given_in, given_unde
 
 use crate::serve::general::general_of;
 use crate::serve::given::Sending;
-use crate::serve::in_turn::{Passed, due_in};
+use crate::serve::in_turn::due_in;
 use crate::serve::is_a::is_a_of;
 use crate::serve::let_out::is_let_out;
 use crate::session::json::{is_object_of, octets_of, values_of};
@@ -63,16 +63,17 @@ pub struct Answers {
 
 impl Answers {
     /// What an operation of this name is answered, by what the object offers for which the answers
-    /// were read, where some are passed. `None` where nothing is given, as for a oneway operation.
+    /// were read, where so many of its answers are passed. `None` where nothing is given, as for a
+    /// oneway operation.
     pub fn given(
         &self,
         alloc: Global,
         offer: &Offer,
-        passed: &Passed,
+        passed: usize,
         name: &[u8],
     ) -> Result<Option<AnswerGiven>, AllocError>
         ensures { IfOk result (λ given. given
-            ≡ given_in offer.now (view self.now.json) passed.now.names.items name.now) }
+            ≡ given_in offer.now (view self.now.json) passed name.now) }
     {
         let operation = match offer.operation(name) {
             Some(operation) if !operation.oneway => operation,
@@ -83,7 +84,7 @@ impl Answers {
             offer,
             name,
             &self.json,
-            passed.of(name),
+            passed,
             operation,
         ) {
             Ok(given) => Ok(given),

@@ -15,6 +15,16 @@ pub struct FileWord<'a> {
     pub file: &'a str,
 }
 
+impl FileWord<'_> {
+    /// The key of its object, where it is of a single one.
+    pub fn key(&self) -> Option<&[u8]> {
+        match &self.key {
+            Some(key) => Some(key.as_slice()),
+            None => None,
+        }
+    }
+}
+
 // What stands before a key, so that it is read as that of a corbaloc.
 const BEFORE: &[u8] = b"corbaloc::h/";
 
@@ -30,6 +40,16 @@ pub fn interfaces<'a>(alloc: Global) -> Arg<'a> {
         .action(ArgAction::Append)
         .value_name("[KEY=]FILE")
         .help("The file of the interface, in JSON; with KEY= that of the object of this key alone")
+}
+
+/// The option of the files of answers.
+pub fn answers<'a>(alloc: Global) -> Arg<'a> {
+    Arg::new(alloc, "answers")
+        .long("answers")
+        .required(true)
+        .action(ArgAction::Append)
+        .value_name("[KEY=]FILE")
+        .help("The file of the answers, in JSON; with KEY= those of the object of this key alone")
 }
 
 /// The files of an option, in their order, or what is wrong with one of its words. What stands before

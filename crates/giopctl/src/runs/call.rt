@@ -5,7 +5,8 @@ use crate::cli::CallWords;
 use crate::files::OUTPUT_BUFFER;
 use crate::places::sessions::{each_json, of_calls, of_words};
 use crate::runs::reach::{connected, endpoint_of, peer_of, target_text};
-use crate::runs::session::{interface_of, read, read_interface, refused_form, refused_words};
+use crate::runs::interfaces::{NOTHING, Offered, interface_of_each, own_of, read_each};
+use crate::runs::session::{refused_form, refused_words};
 use crate::{files, report};
 use giop_commands::call::calls::{CallLine, calls_from_json};
 use giop_commands::call::streaming::call_stream;
@@ -30,13 +31,14 @@ pub fn call(rt: &HostRuntime, words: CallWords) -> Status {
 
 fn called(rt: &HostRuntime, words: CallWords) -> Result<Status, Status> {
     let target = target_text(rt, words.target)?;
-    let offered = read_interface(rt, words.interface)?;
+    let offered = read_each(rt, words.interfaces.as_slice())?;
     let asked = asked_in(rt, &words, offered.as_slice())?;
     let endpoint = endpoint_of(rt, words.lines, words.target, target.as_slice())?;
-    let interface = interface_of(rt, words.lines, words.interface, &offered)?;
+    let interface = interface_of_each(rt, words.lines, offered.as_slice())?;
+    let (own, text) = object_of(rt, offered.as_slice(), endpoint.key.as_slice())?;
     let calls = match asked {
-        Asked::File(text) => calls_in_file(rt, &words, offered.as_slice(), &interface, &text)?,
-        Asked::Words => calls_in_words(rt, &words, offered.as_slice(), &interface)?,
+        Asked::File(calls) => calls_in_file(rt, &words, text, &own, &calls)?,
+        Asked::Words => calls_in_words(rt, &words, text, &own)?,
     };
     let peer = peer_of(rt, words.target, &endpoint)?;
     let calling = Calling {
@@ -59,9 +61,29 @@ enum Asked {
     Words,
 }
 
-// Where the calls stand. One word is the name of a file, unless there is none and the interface of
-// this text has an operation of that name.
-fn asked_in(rt: &HostRuntime, words: &CallWords<'_>, interface: &[u8]) -> Result<Asked, Status> {
+// What the object of a key offers, and the text of that.
+fn object_of<'b>(
+    rt: &HostRuntime,
+    offered: &'b [Offered<'_>],
+    key: &[u8],
+) -> Result<(Interface, &'b [u8]), Status> {
+    let text = match own_of(offered, key) {
+        Some(one) => one.text.as_slice(),
+        None => NOTHING,
+    };
+    match Interface::from_json(rt.alloc(), text) {
+        Ok(interface) => Ok((interface, text)),
+        Err(_) => Err(report::answer(rt, "--interface", Err(Failure::Memory))),
+    }
+}
+
+// Where the calls stand. One word is the name of a file, unless there is none and one of these
+// interfaces has an operation of that name.
+fn asked_in(
+    rt: &HostRuntime,
+    words: &CallWords<'_>,
+    offered: &[Offered<'_>],
+) -> Result<Asked, Status> {
     if !words.values.is_empty() {
         return Ok(Asked::Words);
     }
@@ -69,7 +91,7 @@ fn asked_in(rt: &HostRuntime, words: &CallWords<'_>, interface: &[u8]) -> Result
         Ok(text) => return Ok(Asked::File(text)),
         Err(failure) => failure,
     };
-    match offers(rt, interface, words.file) {
+    match offers(rt, offered, words.file) {
         Ok(offered) if offered && is_missing(&failure) => Ok(Asked::Words),
         Ok(_) => Err(report::answer(rt, words.file, Err(failure))),
         Err(memory) => Err(report::answer(rt, words.file, Err(memory))),
@@ -84,13 +106,16 @@ fn is_missing(failure: &Failure) -> bool {
     }
 }
 
-// Whether the text of an interface has an operation of this name.
-fn offers(rt: &HostRuntime, interface: &[u8], name: &str) -> Result<bool, Failure> {
-    match Interface::from_json(rt.alloc(), interface) {
-        Ok(interface) => Ok(interface.operation(name.as_bytes()).is_some()),
-        Err(FormFault::NoMemory) => Err(Failure::Memory),
-        Err(_) => Ok(false),
+// Whether one of these texts is an interface that has an operation of this name.
+fn offers(rt: &HostRuntime, offered: &[Offered<'_>], name: &str) -> Result<bool, Failure> {
+    for one in offered {
+        match Interface::from_json(rt.alloc(), one.text.as_slice()) {
+            Ok(interface) if interface.operation(name.as_bytes()).is_some() => return Ok(true),
+            Err(FormFault::NoMemory) => return Err(Failure::Memory),
+            _ => {}
+        }
     }
+    Ok(false)
 }
 
 // The calls of a file, or the status where they are refused, which is reported.

@@ -2,7 +2,7 @@
 //! and writer.
 use crate::cli::CheckWords;
 use crate::files::OUTPUT_BUFFER;
-use crate::runs::interfaces::{By, Joined, joined, read_each};
+use crate::runs::interfaces::{By, Joined, join_offers, read_each};
 use crate::{files, report};
 use giop_commands::failure::Failure;
 use giop_commands::status::Status;
@@ -16,7 +16,7 @@ pub fn check(rt: &HostRuntime, words: &CheckWords<'_>) -> Status {
         Ok(offered) => offered,
         Err(status) => return status,
     };
-    let answered = match joined(rt.alloc(), offered.as_slice()) {
+    let answered = match join_offers(rt.alloc(), offered.as_slice()) {
         Ok(Joined::Whole(interface)) => checked(rt, By::Interface(&interface), words),
         Ok(Joined::Refused(one)) => {
             let answered = checked(rt, By::Text(one.text.as_slice()), words);

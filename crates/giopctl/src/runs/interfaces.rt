@@ -4,10 +4,15 @@ use crate::cli::FileWord;
 use crate::files;
 use crate::interface_text::InterfaceText;
 use crate::report;
+use crate::runs::session::refused_interface;
+use giop_commands::LineForm;
 use giop_commands::failure::Failure;
 use giop_commands::status::Status;
 use giop_types::{FormFault, Interface};
 use std::alloc::{AllocError, Global};
+
+/// The text of an interface of an object that offers nothing.
+pub const NOTHING: &[u8] = b"{\"operations\":{}}";
 
 /// A file of an interface that was read.
 #[derive(Drop)]
@@ -51,10 +56,7 @@ pub fn read_each<'a>(
             Err(failure) => return Err(report::answer(rt, word.file, Err(failure))),
         };
         let one = Offered {
-            key: match &word.key {
-                Some(key) => Some(key.as_slice()),
-                None => None,
-            },
+            key: word.key(),
             file: word.file,
             text,
         };
@@ -67,7 +69,7 @@ pub fn read_each<'a>(
 
 /// What these files offer: each object that has one what its own says, and all others what the one
 /// without a key does; nothing where there is none.
-pub fn joined<'b, 'a>(
+pub fn join_offers<'b, 'a>(
     alloc: Global,
     offered: &'b [Offered<'a>],
 ) -> Result<Joined<'b, 'a>, AllocError> {
@@ -88,4 +90,25 @@ pub fn joined<'b, 'a>(
         all = all.with_object(key, interface)?;
     }
     Ok(Joined::Whole(all))
+}
+
+/// What these files offer, as `join_offers` says, or the status where one is refused, which is reported.
+pub fn interface_of_each(
+    rt: &HostRuntime,
+    lines: LineForm,
+    offered: &[Offered<'_>],
+) -> Result<Interface, Status> {
+    match join_offers(rt.alloc(), offered) {
+        Ok(Joined::Whole(interface)) => Ok(interface),
+        Ok(Joined::Refused(one)) => Err(refused_interface(rt, lines, one.file, &one.text)),
+        Err(_) => Err(report::answer(rt, "--interface", Err(Failure::Memory))),
+    }
+}
+
+/// The file of the object of a key: its own, else that of all others; `None` where there is neither.
+pub fn own_of<'b, 'a>(offered: &'b [Offered<'a>], key: &[u8]) -> Option<&'b Offered<'a>> {
+    match offered.iter().find(|one| one.key == Some(key)) {
+        Some(own) => Some(own),
+        None => offered.iter().find(|one| one.key.is_none()),
+    }
 }

@@ -22,26 +22,18 @@ pub fn read(rt: &HostRuntime, file: &str) -> Result<Vec<u8>, Status> {
     }
 }
 
-/// The text of an interface's file, or the status where it can't be read, which is reported.
-pub fn read_interface(rt: &HostRuntime, file: &str) -> Result<InterfaceText, Status> {
-    match files::read_interface(rt, file) {
-        Ok(text) => Ok(text),
-        Err(failure) => Err(report::answer(rt, file, Err(failure))),
-    }
-}
-
-/// The interface that a file's text is, or the status where it is refused, which is reported.
-pub fn interface_of(
+/// Reports that the text of an interface's file is refused, and where it is at fault.
+pub fn refused_interface(
     rt: &HostRuntime,
     lines: LineForm,
     file: &str,
     text: &InterfaceText,
-) -> Result<Interface, Status> {
+) -> Status {
     match Interface::from_json(rt.alloc(), text.as_slice()) {
-        Ok(interface) => Ok(interface),
+        Ok(_) => Status::Done,
         Err(fault) => {
             report::interface(rt, rt.alloc(), file, text);
-            Err(refused_line(rt, lines, file, form_refusal(fault)))
+            refused_line(rt, lines, file, form_refusal(fault))
         }
     }
 }

@@ -3,7 +3,7 @@
 
 use crate::cli::TraceWords;
 use crate::files::OUTPUT_BUFFER;
-use crate::runs::interfaces::{By, Joined, Offered, joined, read_each};
+use crate::runs::interfaces::{By, Joined, Offered, join_offers, read_each};
 use crate::{files, report};
 use giop_commands::failure::Failure;
 use giop_commands::status::Status;
@@ -21,7 +21,7 @@ pub fn trace(rt: &HostRuntime, words: &TraceWords<'_>) -> Status {
         Ok(offered) => offered,
         Err(status) => return status,
     };
-    match joined(rt.alloc(), offered.as_slice()) {
+    match join_offers(rt.alloc(), offered.as_slice()) {
         Ok(Joined::Whole(interface)) => {
             let tracing = Tracing {
                 by: By::Interface(&interface),
