@@ -29,10 +29,11 @@ pub use client_entry::{ClientEntryLine, CompletionText, ReplyText};
 pub use end::{FaultLine, HeadFaultLine, RestLine};
 pub use json::{
     AnswerJson, AnsweredJson, AskedJson, CdrFaultJson, ClientEntryJson, ConnectionJson,
-    CorbalocJson, DirectionEndJson, EntryJson, FaultJson, HeadFaultJson, HexJson, IdJson, IiopJson, InsJson, IorJson,
-    JoinedJson, KeyJson, LocateReplyJson, LocateRequestJson, MessageJson, OutcomeJson, ProfileJson,
-    RefusalJson, RefusedJson, ReplyJson, RequestFaultJson, RequestJson, RestJson, ServerEntryJson,
-    TargetJson, TextJson, TypeJson, UndecodedJson, UnjoinedJson, UnsentJson, WireFaultJson,
+    CorbalocJson, DirectionEndJson, EntryJson, FaultJson, HeadFaultJson, HexJson, IdJson, IiopJson,
+    InsJson, IorJson, JoinedJson, KeyJson, LocateReplyJson, LocateRequestJson, MessageJson,
+    OutcomeJson, ProfileJson, RefusalJson, RefusedJson, ReplyJson, RequestFaultJson, RequestJson,
+    RestJson, ServerEntryJson, TargetJson, TextJson, TypeJson, UndecodedJson, UnjoinedJson,
+    UnsentJson, WireFaultJson,
 };
 pub use locate::{LocateReplyLine, LocateRequestLine};
 pub use message::MessageLine;

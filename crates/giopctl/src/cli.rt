@@ -284,7 +284,10 @@ pub fn task_of<'a>(alloc: Global, words: &'a [String]) -> Result<Option<Task<'a>
         return judged(alloc, dumped(dump));
     }
     if let Some(check) = matches.subcommand_matches("check") {
-        return judged(alloc, checked(check, file_words(alloc, check, "interface")?));
+        return judged(
+            alloc,
+            checked(check, file_words(alloc, check, "interface")?),
+        );
     }
     if let Some(trace) = matches.subcommand_matches("trace") {
         return judged(alloc, traced(trace, file_words(alloc, trace, "interface")?));
@@ -301,7 +304,10 @@ pub fn task_of<'a>(alloc: Global, words: &'a [String]) -> Result<Option<Task<'a>
     }
     if let Some(serve) = matches.subcommand_matches("serve") {
         let interfaces = file_words(alloc, serve, "interface")?;
-        return judged(alloc, served(serve, interfaces, file_words(alloc, serve, "answers")?));
+        return judged(
+            alloc,
+            served(serve, interfaces, file_words(alloc, serve, "answers")?),
+        );
     }
     match matches.subcommand_matches("convert") {
         Some(convert) => judged(alloc, conversion(convert)),

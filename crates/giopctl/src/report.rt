@@ -8,11 +8,13 @@ ghost use Rattle.giopctl.specs.Usage.{usage_status};
 
 mod counted;
 mod open_calls;
+mod path_shown;
 
 use crate::interface_text::InterfaceText;
 use crate::places;
 use crate::report::counted::Counted;
 use crate::report::open_calls::OpenCalls;
+use crate::report::path_shown::PathShown;
 use clap::error::ErrorKind as UsageKind;
 use giop_commands::Ending;
 use giop_commands::failure::Failure;
@@ -223,10 +225,17 @@ pub fn form(
 
 /// Prints the option of the limit that an answer of a file passes, and where that answer stands.
 pub fn unsent(rt: &impl Eprint, file: &str, limit: Limit, at: Option<Place>) {
-    let _ = eprintln!(rt;
-        "giopctl: {file}: an answer is larger than a limit lets out; raise it by {limit}"
-    );
-    place(rt, file, FormFault::Unfit, at);
+    let _ = match at {
+        Some(place) => {
+            let path = PathShown(place.path.as_slice());
+            eprintln!(rt;
+                "giopctl: {file}: at {path}: an answer is larger than its limit; raise it by {limit}"
+            )
+        }
+        None => eprintln!(rt;
+            "giopctl: {file}: an answer is larger than its limit; raise it by {limit}"
+        ),
+    };
 }
 
 /// Prints which of some words are no JSON, and where they cease to be.

@@ -79,14 +79,7 @@ impl Answers {
             Some(operation) if !operation.oneway => operation,
             _ => return Ok(None),
         };
-        match given_under(
-            alloc,
-            offer,
-            name,
-            &self.json,
-            passed,
-            operation,
-        ) {
+        match given_under(alloc, offer, name, &self.json, passed, operation) {
             Ok(given) => Ok(given),
             Err(FormFault::NoMemory) => Err(AllocError),
             Err(_) => Ok(None),
@@ -211,14 +204,7 @@ fn are_fit(
 {
     let mut fit = true;
     for (name, operation) in interface.operations().iter() {
-        let one = is_fit(
-            alloc,
-            interface,
-            sending,
-            json,
-            name.as_slice(),
-            operation,
-        )?;
+        let one = is_fit(alloc, interface, sending, json, name.as_slice(), operation)?;
         fit = fit && one;
     }
     Ok(fit)

@@ -28,9 +28,11 @@ impl FileWord<'_> {
 // What stands before a key, so that it is read as that of a corbaloc.
 const BEFORE: &[u8] = b"corbaloc::h/";
 
-const BAD_KEY: &str = "the KEY of KEY=FILE is as in a corbaloc: other octets are % and two hexadecimal digits";
+const BAD_KEY: &str =
+    "the KEY of KEY=FILE is as in a corbaloc: other octets are % and two hexadecimal digits";
 
-const TWICE: &str = "an object has one file of --interface and one of --answers, and so have all others together";
+const TWICE: &str =
+    "an object has one file of --interface and one of --answers, and so have all others together";
 
 /// The option of the files of interfaces.
 pub fn interfaces<'a>(alloc: Global) -> Arg<'a> {

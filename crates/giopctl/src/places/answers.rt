@@ -216,7 +216,15 @@ fn refused_answer(
     if let Some(values) = answer.get("ok") {
         let none = Json::Array(Vec::new(alloc));
         let outs = operation.get("outs").unwrap_or(&none);
-        return arguments_place(alloc, "ok", outs, values, answer, Role::Answer, sought.number);
+        return arguments_place(
+            alloc,
+            "ok",
+            outs,
+            values,
+            answer,
+            Role::Answer,
+            sought.number,
+        );
     }
     if let Some(id) = answer.get("is_a") {
         return match leaf_place(alloc, "is_a", "string", id, sought.number)? {

@@ -4,8 +4,8 @@
 use crate::cli::CallWords;
 use crate::files::OUTPUT_BUFFER;
 use crate::places::sessions::{each_json, of_calls, of_words};
-use crate::runs::reach::{connected, endpoint_of, peer_of, target_text};
 use crate::runs::interfaces::{NOTHING, Offered, interface_of_each, own_of, read_each};
+use crate::runs::reach::{connected, endpoint_of, peer_of, target_text};
 use crate::runs::session::{refused_form, refused_words};
 use crate::{files, report};
 use giop_commands::call::calls::{CallLine, calls_from_json};

@@ -52,9 +52,7 @@ fn check_from<R: Read>(
         By::Interface(all) => {
             check_stream(alloc, all, limits, strict, form, reader, writer_in, behind)?
         }
-        By::Text(text) => check_text(
-            alloc, text, limits, strict, form, reader, writer_in, behind,
-        )?,
+        By::Text(text) => check_text(alloc, text, limits, strict, form, reader, writer_in, behind)?,
     };
     writer.flush()?;
     Ok(status)

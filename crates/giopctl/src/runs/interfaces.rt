@@ -1,10 +1,9 @@
 //! The files of interfaces: of all objects, and of single ones by their keys.
 
 use crate::cli::FileWord;
-use crate::files;
 use crate::interface_text::InterfaceText;
-use crate::report;
 use crate::runs::session::refused_interface;
+use crate::{files, report};
 use giop_commands::LineForm;
 use giop_commands::failure::Failure;
 use giop_commands::status::Status;

@@ -148,11 +148,7 @@ fn keys_of(alloc: Global, asked: Asked<'_, '_>, key: &[u8]) -> Result<Vec<Vec<u8
 }
 
 // Appends a key, where there is one that isn't among these.
-fn with_key(
-    alloc: Global,
-    keys: &mut Vec<Vec<u8>>,
-    key: Option<&[u8]>,
-) -> Result<(), AllocError> {
+fn with_key(alloc: Global, keys: &mut Vec<Vec<u8>>, key: Option<&[u8]>) -> Result<(), AllocError> {
     match key {
         Some(key) if !keys.iter().any(|other| other.as_slice() == key) => {
             keys.push(Vec::from_slice(alloc, key)?)?;
