@@ -15,6 +15,7 @@ pub mod Steps
 pub mod Acts
 pub mod Turns
 pub mod CallForms
+pub mod CallLines
 pub mod GeneralForms
 pub mod IsA
 pub mod InTurn
@@ -26,6 +27,8 @@ pub mod Sessions
 pub mod StreamLines
 pub mod Streaming
 pub mod CallStreaming
+pub mod CallFeeding
 pub mod Endings
 pub mod Locating
 pub mod Target
+pub mod Following
