@@ -18,3 +18,4 @@ pub mod LocatingLemmas
 pub mod StreamingLemmas
 pub mod AheadLemmas
 pub mod CallStreamingLemmas
+pub mod CallFeedingLemmas

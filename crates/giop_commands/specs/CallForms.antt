@@ -122,6 +122,16 @@ calls_told interface (Some d) = told (call_list interface d)
 abbrev pub calls_in : Interface → List ℕ → Result (List CallLine) FormFault
 calls_in interface bytes = calls_told interface (json_in bytes)
 
+-- ---- a call in a line
+
+-- the call that a JSON text is
+abbrev pub one_call_told : Interface → Option Data → Result CallLine FormFault
+one_call_told interface None = Err BadJson
+one_call_told interface (Some d) = told (call_in interface d)
+
+abbrev pub one_call_in : Interface → List ℕ → Result CallLine FormFault
+one_call_in interface bytes = one_call_told interface (json_in bytes)
+
 -- ---- a call in words
 
 -- the one call of an operation, by its name and its ins, under the id 1

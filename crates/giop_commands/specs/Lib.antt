@@ -16,6 +16,7 @@ pub mod Steps
 pub mod Acts
 pub mod Turns
 pub mod CallForms
+pub mod CallLines
 pub mod GeneralForms
 pub mod IsA
 pub mod Objects
@@ -30,6 +31,8 @@ pub mod Sessions
 pub mod StreamLines
 pub mod Streaming
 pub mod CallStreaming
+pub mod CallFeeding
 pub mod Endings
 pub mod Locating
 pub mod Target
+pub mod Following

@@ -12,7 +12,7 @@ use Rattle.giop_ior.specs.declared.references.tagged_profile.TaggedProfile.{Tagg
 use Rattle.giop_ior.specs.CorbalocReading.{corbaloc_of}
 use Rattle.giop_ior.specs.Iiop.{Profile, iiop_octets, iiop_of}
 use Rattle.giop_ior.specs.Ior.{Reference, ior_layout}
-use Rattle.giop_msg.specs.Version.{version_of}
+use Rattle.giop_msg.specs.Version.{minor_of, version_of}
 use Rattle.giop_types.specs.declared.ior_text_fault.IorTextFault.{IorTextFault}
 use Rattle.giop_types.specs.IorText.{ior_text_of}
 use Rattle.giop_commands.specs.declared.session.target.Endpoint.{Endpoint}
@@ -48,6 +48,10 @@ at_profile (Some p) =
     Ok (record { host = p.host; port = p.port; version = version_of p.minor; key = p.key })
 at_profile None = Err NoIiopProfile
 
+-- where the object of a reference is reached by its first IIOP profile, if it has one
+abbrev pub place_in : Reference → Option Endpoint
+place_in ior = result_ok (at_profile (first_iiop ior.profiles))
+
 -- the object of a reference that was read, or how its text is refused
 abbrev pub by_reference : Result Reference IorTextFault → Result Endpoint RefusalLine
 by_reference (Ok ior) = at_profile (first_iiop ior.profiles)
@@ -81,6 +85,13 @@ abbrev pub at_first : List Address → List ℕ → Result Endpoint RefusalLine
 at_first [] key = Err NoIiopProfile
 at_first (a ∷ more) key =
     Ok (record { host = a.host; port = a.port; version = version_of a.minor; key = key })
+
+-- the corbaloc of an object, of one address
+abbrev pub corbaloc_at : Endpoint → Corbaloc
+corbaloc_at e = record {
+  addresses = (record { major = 1; minor = minor_of e.version; host = e.host; port = e.port }) ∷ [];
+  key = e.key;
+}
 
 -- the object of a corbaloc that was read, or how its text is refused
 abbrev pub by_corbaloc : Result Corbaloc CorbalocFault → Result Endpoint RefusalLine

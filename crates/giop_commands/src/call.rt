@@ -18,7 +18,10 @@ ghost use Rattle.giop_commands.specs.Table.{client_entry_in};
 ghost use Rattle.giop_commands.specs.Turns.{Waits};
 
 pub mod calls;
+pub mod feed;
+pub mod following;
 pub mod given;
+pub mod lines;
 pub mod locating;
 pub mod streaming;
 pub mod table;

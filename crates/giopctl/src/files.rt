@@ -4,6 +4,8 @@ ghost use Rattle.std.specs.Prelude.{◌≡◌, ◌≢◌, IfErr, OnOk, codes};
 use crate::interface_text::InterfaceText;
 use giop_commands::BehindFault;
 use giop_commands::failure::Failure;
+use giop_commands::pieces::PieceBuffer;
+use std::alloc::{AllocError, Global};
 use std::io::Read;
 use std::{fs, io};
 
@@ -55,4 +57,84 @@ fn open(rt: &HostRuntime, file: &str) -> io::Result<(fs::File, BehindFault)> {
         false => BehindFault::Leave,
     };
     Ok((file, behind))
+}
+
+/// A file that is read piece by piece, or the standard input.
+#[derive(Drop)]
+pub enum Pieces {
+    /// A file.
+    File(fs::File),
+    /// The standard input.
+    Input(io::StdinLock<'static>),
+}
+
+impl Read for Pieces {
+    fn read(&mut self, piece: &mut [u8]) -> io::Result<usize> {
+        match self {
+            Pieces::File(file) => file.read(piece),
+            Pieces::Input(input) => input.read(piece),
+        }
+    }
+}
+
+/// A file of which the front is read: its first octets, those behind them, and whether a read of
+/// those may wait.
+#[derive(Drop)]
+pub struct FileFront {
+    /// What is read, up to an octet that is no white space, and what came with it.
+    pub front: Vec<u8>,
+    /// What isn't read yet.
+    pub rest: Pieces,
+    /// Whether a read may wait, as for a pipe; not for a regular file.
+    pub waits: bool,
+}
+
+impl FileFront {
+    /// Whether its first octet that is no white space begins a JSON list.
+    pub fn is_list(&self) -> bool {
+        self.front.iter().find(|octet| !is_white(**octet)) == Some(&b'[')
+    }
+
+    /// All of its octets.
+    pub fn whole(mut self) -> Result<Vec<u8>, Failure> {
+        match self.rest.read_to_end(&mut self.front) {
+            Ok(_) => Ok(self.front),
+            Err(error) => Err(Failure::input(error)),
+        }
+    }
+}
+
+/// A file, or the standard input where it is `-`, read up to an octet that is no white space.
+pub fn front_of(rt: &HostRuntime, file: &str) -> Result<FileFront, Failure> {
+    if file == "-" {
+        return front_at(rt.alloc(), Pieces::Input(rt.reader()), true);
+    }
+    let (file, behind) = opened(rt, file)?;
+    let waits = behind == BehindFault::Leave;
+    front_at(rt.alloc(), Pieces::File(file), waits)
+}
+
+fn front_at(alloc: Global, mut rest: Pieces, waits: bool) -> Result<FileFront, Failure> {
+    let mut buffer = PieceBuffer::new(alloc)?;
+    let mut front = Vec::new(alloc);
+    for _ in 0..u64::MAX {
+        let piece = buffer.fill(&mut rest)?;
+        if extend(&mut front, piece).is_err() {
+            return Err(Failure::Memory);
+        }
+        if piece.is_empty() || !piece.iter().all(|octet| is_white(*octet)) {
+            break;
+        }
+    }
+    Ok(FileFront { front, rest, waits })
+}
+
+fn extend(octets: &mut Vec<u8>, more: &[u8]) -> Result<(), AllocError> {
+    octets.extend_from_slice(more)?;
+    Ok(())
+}
+
+// Whether an octet is white space of JSON.
+fn is_white(octet: u8) -> bool {
+    octet == b' ' || octet == b'\t' || octet == b'\n' || octet == b'\r'
 }

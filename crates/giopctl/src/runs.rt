@@ -4,6 +4,7 @@ pub mod call;
 pub mod check;
 pub mod convert;
 pub mod dump;
+pub mod following;
 pub mod interfaces;
 pub mod link;
 pub mod object;

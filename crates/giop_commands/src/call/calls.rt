@@ -4,7 +4,7 @@ ghost use Rattle.std.specs.Prelude.{◌≡◌, ◌⊎◌, option_map, IfOk, IfEr
 ghost use Rattle.serde_json.specs.View.{view, items_view};
 ghost use Rattle.giop_types.specs.declared.json.form_fault.FormFault.TheVariants.{NoMemory};
 ghost use Rattle.giop_types.specs.JsonForms.FromJson.{Shows};
-ghost use Rattle.giop_commands.specs.CallForms.{call_in, call_list, call_named, call_of, calls_in, each_call};
+ghost use Rattle.giop_commands.specs.CallForms.{call_in, call_list, call_named, call_of, calls_in, each_call, one_call_in};
 
 use crate::session::json::{is_object_of, octets_of, ulong_of, values_of, with_item};
 use giop_cdr::OctetList;
@@ -47,6 +47,25 @@ pub fn calls_from_json(
     let json = parse_json(alloc, text)?;
     match call_list(alloc, interface, &json)? {
         Some(calls) => Ok(calls),
+        None => Err(FormFault::Unfit),
+    }
+}
+
+/// The call that a JSON text is, `{"id":ID,"operation":NAME,"ins":[VALUE,..]}`.
+///
+/// Refused as a list of it alone is by `calls_from_json`.
+pub fn call_from_json(
+    alloc: Global,
+    interface: &Interface,
+    text: &[u8],
+) -> Result<CallLine, FormFault>
+    ensures ok { IfOk result (λ call. one_call_in interface.now text.now ≡ Ok call) }
+    ensures err { IfErr result
+        (λ e. (e ≡ NoMemory) ⊎ (one_call_in interface.now text.now ≡ Err e)) }
+{
+    let json = parse_json(alloc, text)?;
+    match call_of(alloc, interface, &json)? {
+        Some(call) => Ok(call),
         None => Err(FormFault::Unfit),
     }
 }

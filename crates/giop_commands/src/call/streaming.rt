@@ -15,6 +15,8 @@ ghost use Rattle.giop_commands.specs.Sessions.{told, wire};
 ghost use Rattle.giop_commands.specs.Streaming.{over_text};
 ghost use Rattle.giop_commands.specs.Table.{client_entry_in};
 
+pub mod feeding;
+
 use crate::call::calls::CallLine;
 use crate::call::given::Calling;
 use crate::call::{all_well, are_over, call_one, is_well_at};
@@ -410,8 +412,12 @@ fn tell_each_unsent<O: Write>(
     Ok(())
 }
 
-// The status of the calls: whether one was refused, and whether all went well.
-fn stream_status(refused: Option<SessionFault>, fault: Option<SessionFault>, done: bool) -> Status
+/// The status of calls: whether one was refused at this end, and whether all went well.
+pub fn stream_status(
+    refused: Option<SessionFault>,
+    fault: Option<SessionFault>,
+    done: bool,
+) -> Status
     ensures { result ≡ stream_status refused fault done }
 {
     match (refused, fault) {

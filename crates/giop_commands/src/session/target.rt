@@ -2,24 +2,26 @@
 //! corbaloc (7.6.10.1). Its meaning is specs/Target.antt: change both.
 ghost use Rattle.std.specs.Prelude.{◌≡◌, IfOk, IfErr};
 ghost use Rattle.giop_ior.specs.CorbalocReading.{corbaloc_of};
+ghost use Rattle.giop_ior.specs.CorbalocWriting.{corbaloc_text};
 ghost use Rattle.giop_ior.specs.Ior.{ior_layout};
 ghost use Rattle.giop_msg.specs.Version.{version_of};
 ghost use Rattle.giop_types.specs.IorText.{ior_text_of};
 ghost use Rattle.giop_commands.specs.declared.failure.Failure.TheVariants.{Memory};
-ghost use Rattle.giop_commands.specs.Target.{at_first, at_profile, by_corbaloc, by_reference, first_iiop, iiop_in, is_reference, said, target_of};
+ghost use Rattle.giop_commands.specs.Target.{at_first, at_profile, by_corbaloc, by_reference, corbaloc_at, first_iiop, iiop_in, is_reference, place_in, said, target_of};
 
 use crate::convert::reference::ior_refusal;
 use crate::failure::Failure;
 use giop_cdr::{CdrKind, OctetList};
 use giop_ior::{
-    Address, CorbalocKind, IiopProfile, TaggedProfile, corbaloc_from_text, iiop_view, ior_from_text,
+    Address, Corbaloc, CorbalocKind, IiopProfile, Ior, Sequence, TaggedProfile, corbaloc_from_text,
+    corbaloc_to_text, iiop_view, ior_from_text,
 };
 use giop_lines::RefusalLine;
 use giop_msg::Version;
-use std::alloc::Global;
+use std::alloc::{AllocError, Global};
 
 /// Where an object is reached, in which version, and by which key.
-#[derive(Debug, Drop)]
+#[derive(Debug, Drop, PartialEq, Eq)]
 pub struct Endpoint {
     /// The host's name or its address, in octets.
     pub host: OctetList,
@@ -72,6 +74,36 @@ fn by_reference(alloc: Global, text: &[u8]) -> Result<Targeted, Failure>
         Ok(ior) => Ok(at_profile(first_iiop(alloc, ior.profiles.as_slice())?)),
         Err(fault) => Ok(Targeted::Refused(ior_refusal(fault)?)),
     }
+}
+
+/// Where the object of a reference is reached, by the first IIOP profile that can be read, if it has
+/// one.
+pub fn place_in(alloc: Global, ior: &Ior) -> Result<Option<Endpoint>, Failure>
+    ensures ok { IfOk result (λ place. place ≡ place_in ior.now) }
+    ensures err { IfErr result (λ failure. failure ≡ Memory) }
+{
+    match at_profile(first_iiop(alloc, ior.profiles.as_slice())?) {
+        Targeted::At(endpoint) => Ok(Some(endpoint)),
+        Targeted::Refused(_) => Ok(None),
+    }
+}
+
+/// The text of the corbaloc of an object.
+pub fn endpoint_text(alloc: Global, endpoint: &Endpoint) -> Result<Vec<u8>, AllocError>
+    ensures { IfOk result (λ text. text.items ≡ corbaloc_text (corbaloc_at endpoint.now)) }
+{
+    let mut addresses = Vec::with_capacity(alloc, 1)?;
+    addresses.push(Address {
+        major: 1,
+        minor: endpoint.version.minor(),
+        host: OctetList::from_slice(alloc, endpoint.host.as_slice())?,
+        port: endpoint.port,
+    })?;
+    let corbaloc = Corbaloc {
+        addresses: Sequence::from(addresses),
+        key: OctetList::from_slice(alloc, endpoint.key.as_slice())?,
+    };
+    corbaloc_to_text(alloc, &corbaloc)
 }
 
 // Where the object of an IIOP profile is reached; refused where there is none.

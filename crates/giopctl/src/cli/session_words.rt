@@ -31,6 +31,8 @@ pub struct CallWords<'a> {
     pub values: Vec<&'a str>,
     /// When the calls are told.
     pub telling: Telling,
+    /// Whether forwards are followed; not where calls are told when they are over.
+    pub follow: bool,
     /// The form of their lines.
     pub lines: LineForm,
     /// For how many seconds nothing may come or go, 1 to 86,400; any number where it is `None`.
@@ -97,6 +99,13 @@ With --stream a call is made as soon as there is room for it, each call is shown
 over, and then it is forgotten, so that a connection may have any number of calls. At the end the
 calls that are still open have their lines, and those that weren't made:
   Unsent                nothing of it was sent
+The file may then have a call a line, in place of a list, and be a pipe that doesn't end:
+  {\"id\":1,\"operation\":\"add\",\"ins\":[2,5]}
+Such lines are read as there is room for their calls; of a pipe, when no call is open. A line that is
+refused ends them: the calls before it are told, then why it is refused, and its number.
+With --follow a call that is forwarded is made again where the first IIOP profile of the reference
+says, up to five times, over a connection of its own; its line says what it came to there, and
+standard error where it was forwarded to. --follow and --stream exclude each other.
 With --json each call is {\"id\":ID,\"what\":WHAT,..}, in which WHAT is result, user_exception,
 system_exception, forward, forward_perm, needs_addressing, oneway, undecoded, sending, waiting,
 gathering or unsent; the fault is {\"fault\":{..}}.
@@ -174,6 +183,7 @@ pub fn call<'a>(alloc: Global) -> Result<Command<'a>, AllocError> {
         .arg(json(alloc))?
         .arg(json_numbers(alloc))?
         .arg(stream(alloc))?
+        .arg(follow(alloc))?
         .arg(timeout(alloc))?;
     sent(alloc, command)?.arg(file)?.arg(values)
 }
@@ -249,6 +259,13 @@ fn stream<'a>(alloc: Global) -> Arg<'a> {
         .help("Each call is shown as soon as it is over, and forgotten")
 }
 
+fn follow<'a>(alloc: Global) -> Arg<'a> {
+    Arg::new(alloc, "follow")
+        .long("follow")
+        .action(ArgAction::SetTrue)
+        .help("A call that is forwarded is made again there, up to five times")
+}
+
 /// The option of the object that is called.
 pub fn target<'a>(alloc: Global) -> Arg<'a> {
     Arg::new(alloc, "target")
@@ -307,12 +324,17 @@ pub fn call_words<'a>(
         apart_from(interfaces.as_slice(), reference)?;
         apart(reference, file)?;
     }
+    let (telling, follow) = (telling_of(matches), matches.get_flag("follow"));
+    if follow && telling == Telling::WhenOver {
+        return Err("--follow and --stream exclude each other");
+    }
     Ok(CallWords {
         target,
         interfaces,
         file,
         values,
-        telling: telling_of(matches),
+        telling,
+        follow,
         lines: lines_of(matches),
         timeout: timeout_of(matches)?,
         form,

@@ -21,6 +21,20 @@ pub fn of_calls(alloc: Global, interface: &[u8], calls: &[u8], fault: FormFault)
     }
 }
 
+/// Where the texts of an interface and of one call of it, which is refused with this fault, have it.
+pub fn of_call(alloc: Global, interface: &[u8], call: &[u8], fault: FormFault) -> Option<Place> {
+    let (Ok(offered), Ok(call)) = (parse_json(alloc, interface), parse_json(alloc, call)) else {
+        return None;
+    };
+    let Ok(checked) = Interface::from_json(alloc, interface) else {
+        return None;
+    };
+    match call_place(alloc, &checked, &offered, &call, fault_code(fault)) {
+        Ok(place) => Some(place),
+        Err(_) => None,
+    }
+}
+
 /// Where a call by words, which is refused with this fault, has it: by the texts of an interface and
 /// of each value, and the name of the operation.
 pub fn of_words(

@@ -1,0 +1,139 @@
+//! `call --stream` with calls that come as lines: they are read while the session goes on, so memory
+//! is taken for the open calls and for what one read gave. Its meaning is specs/CallFeeding.antt:
+//! change both.
+ghost use Rattle.std.specs.Prelude.{◌≡◌, [], None, IfOk, OnOk};
+ghost use Rattle.giop_session.specs.Pumping.{between};
+ghost use Rattle.giop_commands.specs.CallFeeding.{FedEnd, FedStreams, Feeds, fed};
+ghost use Rattle.giop_commands.specs.CallLines.{feed, so_far};
+ghost use Rattle.giop_commands.specs.Calling.{asked_of};
+ghost use Rattle.giop_commands.specs.Sessions.{wire};
+
+use crate::call::feed::LineFeed;
+use crate::call::given::Calling;
+use crate::call::streaming::{call_next, is_done, take_turn, tell_end, tell_open, tell_turn};
+use crate::failure::Failure;
+use crate::form::LineForm;
+use crate::session::TURNS;
+use crate::session::ending::Ending;
+use giop_session::{ClientEnd, SessionFault};
+use giop_types::Interface;
+use std::alloc::Global;
+use std::io::{Read, Write};
+
+/// Calls as `call_stream` does, with the calls of lines of JSON, a call a line. Where no call is left
+/// that came, lines are read, until one is there: whenever there is room, or where a read may wait,
+/// when no call is open. What one read gave is held, and the octets of a line that hasn't ended.
+///
+/// A line that is refused ends the lines. The calls before it are made, and told as any; then `feed`
+/// says why it is refused. At the end there are the lines of the calls that are open, and of those
+/// that came and weren't made.
+///
+/// It is `Done` where all calls went well and the lines are over, else as `call_stream` is. Where
+/// something fails, what failed is returned, and what is left has its lines before; where that is
+/// reading the lines, it is `Input`.
+pub fn call_fed<S: Read + Drop, R: Read, W: Write, O: Write>(
+    alloc: Global,
+    calling: Calling<'_>,
+    source: &mut LineFeed<S>,
+    lines: LineForm,
+    reader: &mut R,
+    writer: &mut W,
+    out: &mut O,
+) -> Result<Ending, Failure>
+    ensures { IfOk result (FedEnd (asked_of calling.entry []) lines source.old.waits
+        (feed (S.remaining source.old.source) (so_far source.old.lines))
+        (feed (S.remaining source.new.source) (so_far source.new.lines))
+        (wire (R.remaining reader.old) (W.contents writer.old))
+        (wire (R.remaining reader.new) (W.contents writer.new))
+        (O.contents out.old) (O.contents out.new)) }
+{
+    let mut end = ClientEnd::new(alloc, calling.interface, calling.limits);
+    let mut well = true;
+    match converse(
+        alloc, &mut end, calling, lines, source, &mut well, reader, writer, out,
+    ) {
+        Ok(refused) => tell_end(
+            alloc,
+            lines,
+            calling.interface,
+            &end,
+            &source.lines.calls,
+            well && source.lines.is_over,
+            refused,
+            out,
+        ),
+        Err(failure) => {
+            tell_open(
+                alloc,
+                lines,
+                calling.interface,
+                &end,
+                &source.lines.calls,
+                None,
+                out,
+            )?;
+            Err(failure)
+        }
+    }
+}
+
+// Reads lines, makes calls, takes turns, and tells the calls that are over, until none is left and
+// the lines are over, the input ends or the end fails. Returns the fault of a call that was refused,
+// at which it stops.
+fn converse<S: Read + Drop, R: Read, W: Write, O: Write>(
+    alloc: Global,
+    end: &mut ClientEnd<'_>,
+    calling: Calling<'_>,
+    lines: LineForm,
+    source: &mut LineFeed<S>,
+    well: &mut bool,
+    reader: &mut R,
+    writer: &mut W,
+    out: &mut O,
+) -> Result<Option<SessionFault>, Failure>
+    requires interface { end.old.interface.now ≡ calling.interface.now }
+    requires limits { end.old.limits ≡ calling.limits }
+    requires fault { end.old.fault ≡ None }
+    ensures { IfOk result (λ refused. FedStreams (asked_of calling.entry []) lines source.old.waits
+        (fed (between (R.remaining reader.old) (W.contents writer.old) end.old.outgoing
+        end.old.framer end.old.calls end.old.fault) (O.contents out.old)
+        (feed (S.remaining source.old.source) (so_far source.old.lines)) well.old)
+        refused
+        (fed (between (R.remaining reader.new) (W.contents writer.new) end.new.outgoing
+        end.new.framer end.new.calls end.new.fault) (O.contents out.new)
+        (feed (S.remaining source.new.source) (so_far source.new.lines)) well.new)) }
+{
+    'turns: for done in 0..TURNS {
+        feed_next(alloc, end, calling.interface, source)?;
+        if is_done(alloc, end, &source.lines.calls)? {
+            return Ok(None);
+        }
+        if let Some(fault) = call_next(alloc, end, calling, &mut source.lines.calls)? {
+            return Ok(Some(fault));
+        }
+        if !take_turn(alloc, end, reader, writer)? {
+            return Ok(None);
+        }
+        *well = tell_turn(alloc, lines, calling.interface, end, *well, out)?;
+    }
+    Err(Failure::TurnsSpent)
+}
+
+// Reads lines until a call is there, or they are over; where a read may wait, only while no call is
+// open.
+fn feed_next<S: Read + Drop>(
+    alloc: Global,
+    end: &ClientEnd<'_>,
+    interface: &Interface,
+    source: &mut LineFeed<S>,
+) -> Result<(), Failure>
+    ensures feeds { OnOk result (Feeds interface.now source.old.waits end.now.calls
+        (feed (S.remaining source.old.source) (so_far source.old.lines))
+        (feed (S.remaining source.new.source) (so_far source.new.lines))) }
+    ensures waits { source.new.waits ≡ source.old.waits }
+{
+    if source.waits && !end.ids(alloc)?.is_empty() {
+        return Ok(());
+    }
+    source.read_on(alloc, interface)
+}
