@@ -10,7 +10,8 @@ use Rattle.giop_types.specs.declared.json.interface.Interface.{Interface}
 use Rattle.giop_types.specs.declared.json.parameters.Parameter.{Parameter}
 use Rattle.giop_types.specs.Values.Tree.{Tree}
 use Rattle.giop_commands.specs.declared.call.calls.CallLine.{CallLine}
-use Rattle.giop_commands.specs.AnswerForms.{each_fits, fits_outs, list_fits}
+use Rattle.giop_commands.specs.declared.serve.given.Sending.{Sending}
+use Rattle.giop_commands.specs.AnswerFiles.{each_fits, fits_outs, list_fits}
 use Rattle.giop_commands.specs.CallForms.{made_of, form_of, each_value, each_call}
 
 -- one part and those behind it
@@ -90,15 +91,15 @@ judged_more true one (Some more) total so_far = so_far
 judged_more false one None total so_far = so_far
 judged_more false one (Some more) total so_far = so_far
 
-pub answer_judged : (interface : Interface) (outs : List Parameter) (fit one : Bool) (xs : List Json) (i : ℕ) (x : Json) (total : Option Bool)
-    → i < length xs → x ≡ get_or xs i x → fits_outs interface outs (view x) ≡ Some one
-    → option_map (λ more. fit && more) (each_fits interface outs (items_view (drop i xs))) ≡ total
-    → option_map (λ more. (fit && one) && more) (each_fits interface outs (items_view (drop (i + 1) xs))) ≡ total
-answer_judged interface outs fit one xs i x total lt is judged so_far =
-    judged_more fit one (each_fits interface outs (items_view (drop (i + 1) xs))) total (rw (left_items xs i x lt is, judged) at so_far)
+pub answer_judged : (interface : Interface) (sending : Sending) (name : List ℕ) (outs : List Parameter) (fit one : Bool) (xs : List Json) (i : ℕ) (x : Json) (total : Option Bool)
+    → i < length xs → x ≡ get_or xs i x → fits_outs interface sending name outs (view x) ≡ Some one
+    → option_map (λ more. fit && more) (each_fits interface sending name outs (items_view (drop i xs))) ≡ total
+    → option_map (λ more. (fit && one) && more) (each_fits interface sending name outs (items_view (drop (i + 1) xs))) ≡ total
+answer_judged interface sending name outs fit one xs i x total lt is judged so_far =
+    judged_more fit one (each_fits interface sending name outs (items_view (drop (i + 1) xs))) total (rw (left_items xs i x lt is, judged) at so_far)
 
 -- a list of one answer or more
-pub some_fit : (interface : Interface) (outs : List Parameter) (xs : List Json) → 1 ≤ length xs
-    → list_fits interface outs (items_view xs) ≡ each_fits interface outs (items_view xs)
-some_fit interface outs [] le = absurd (omega arith)
-some_fit interface outs (x ∷ xs) le = refl
+pub some_fit : (interface : Interface) (sending : Sending) (name : List ℕ) (outs : List Parameter) (xs : List Json) → 1 ≤ length xs
+    → list_fits interface sending name outs (items_view xs) ≡ each_fits interface sending name outs (items_view xs)
+some_fit interface sending name outs [] le = absurd (omega arith)
+some_fit interface sending name outs (x ∷ xs) le = refl

@@ -4,8 +4,9 @@ use Rattle.serde_json.specs.Data.{Data}
 use Rattle.serde_json.specs.Find.{get}
 use Rattle.giop_types.specs.declared.json.interface.Interface.{Interface}
 use Rattle.giop_types.specs.declared.json.interface.Operation.{Operation}
+use Rattle.giop_types.specs.declared.json.offer.Offer.{Offer}
 use Rattle.giop_types.specs.declared.json.parameters.Parameters.{Parameters}
-use Rattle.giop_msg.specs.Messages.Reply.{exception_of}
+use Rattle.giop_msg.specs.Messages.Reply.{exception_in}
 use Rattle.giop_msg.specs.Messages.Request.{operation_of}
 use Rattle.giop_commands.specs.CallForms.{octets_in, call_of, call_named}
 use Rattle.giop_commands.specs.AnswerForms.{raised, raised_in}
@@ -17,7 +18,7 @@ pub call_found : (interface : Interface) (id name ins : Data) (octets slice : Li
 call_found interface id name ins octets slice o is same found = rw (is, found, same) refl
 
 -- an exception by the members that were found
-pub raised_found : (interface : Interface) (id d members : Data) (octets slice : List ℕ) (o : Option Parameters)
-    → octets_in id ≡ Some octets → get (codes "members") d ≡ Some members → slice ≡ octets → o ≡ exception_of interface slice
-    → raised_in interface id d ≡ raised octets members o
-raised_found interface id d members octets slice o is there same found = rw (is, there, found, same) refl
+pub raised_found : (offer : Offer) (id d members : Data) (octets slice : List ℕ) (o : Option Parameters)
+    → octets_in id ≡ Some octets → get (codes "members") d ≡ Some members → slice ≡ octets → o ≡ exception_in offer slice
+    → raised_in offer id d ≡ raised octets members o
+raised_found offer id d members octets slice o is there same found = rw (is, there, found, same) refl

@@ -11,6 +11,7 @@ pub mod FitLemmas
 pub mod FoundLemmas
 pub mod TurnLemmas
 pub mod TargetLemmas
+pub mod ObjectLemmas
 pub mod ServingLemmas
 pub mod SessionsLemmas
 pub mod LocatingLemmas

@@ -6,6 +6,7 @@ use Rattle.giop_session.specs.declared.limits.Limits.{Limits}
 use Rattle.giop_session.specs.declared.session_fault.SessionFault.{SessionFault}
 use Rattle.giop_session.specs.Pumping.{Between}
 use Rattle.giop_session.specs.Calls.Sending.{entry_of}
+use Rattle.giop_commands.specs.declared.serve.in_turn.AnswerName.{AnswerName}
 use Rattle.giop_commands.specs.declared.serve.answering.Due.{Due}
 use Rattle.giop_commands.specs.declared.failure.Failure.{Failure}
 use Rattle.giop_commands.specs.Answering.{due_to}
@@ -22,13 +23,13 @@ none_answered it limits fault id s none = subst (λ e. Answers it limits fault i
 
 -- something does, and this is due to it
 pub due_answered : (it : Served) (limits : Limits) (fault : Option SessionFault) (id : ℕ) (s t : Desk) (entry : ServerEntry) (due : Due)
-    (refused : Option SessionFault) → entry_of (finite.get s.box.calls.table id) ≡ Some entry → due ≡ due_to it.key entry
+    (refused : Option SessionFault) → entry_of (finite.get s.box.calls.table id) ≡ Some entry → due ≡ due_to it.objects entry
     → SendsDue it limits fault id entry due s refused t → AnswersOne it limits fault id s refused t
 due_answered it limits fault id s t entry due refused there is sends =
     subst (λ e. Answers it limits fault id e s refused t) (sym there) (subst (λ d. SendsDue it limits fault id entry d s refused t) is sends)
 
 pub due_told : (it : Served) (limits : Limits) (fault : Option SessionFault) (id : ℕ) (s t : Desk) (entry : ServerEntry) (due : Due)
-    (r : Result (Option SessionFault) Failure) → entry_of (finite.get s.box.calls.table id) ≡ Some entry → due ≡ due_to it.key entry
+    (r : Result (Option SessionFault) Failure) → entry_of (finite.get s.box.calls.table id) ≡ Some entry → due ≡ due_to it.objects entry
     → IfOk r (λ refused. SendsDue it limits fault id entry due s refused t) → IfOk r (λ refused. AnswersOne it limits fault id s refused t)
 due_told it limits fault id s t entry due (Ok refused) there is sends = due_answered it limits fault id s t entry due refused there is sends
 due_told it limits fault id s t entry due (Err failure) there is sends = tt
@@ -40,7 +41,7 @@ and_passed Does Passes (Ok refused) does passes = (does, passes)
 and_passed Does Passes (Err failure) does passes = tt
 
 -- a turn and the answers behind it
-pub turn_answered : (it : Served) (limits : Limits) (s mid : Between ServerCalls) (passed : List (List ℕ)) (left : Desk) (refused : Option SessionFault)
+pub turn_answered : (it : Served) (limits : Limits) (s mid : Between ServerCalls) (passed : List AnswerName) (left : Desk) (refused : Option SessionFault)
     → GoesOn (server_hears it.interface) s (Ok true) mid → AnswersAll it limits mid.state.fault (desk_of mid passed) refused left
     → TurnAnswers it limits (session s passed) refused (with_desk mid left)
 turn_answered it limits s mid passed left refused turn answers = record { mid = mid; turn = turn; left = left; answers = answers; others = refl }

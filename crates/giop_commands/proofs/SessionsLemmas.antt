@@ -8,6 +8,7 @@ use Rattle.giop_msg.specs.Stream.{Unread}
 use Rattle.giop_session.specs.declared.session_fault.SessionFault.{SessionFault}
 use Rattle.giop_session.specs.Pumping.{Between, between}
 use Rattle.giop_types.specs.declared.json.interface.Interface.{Interface}
+use Rattle.giop_commands.specs.declared.serve.in_turn.AnswerName.{AnswerName}
 use Rattle.giop_commands.specs.declared.failure.Failure.{Failure}
 use Rattle.giop_types.specs.declared.json.number_form.NumberForm.TheVariants.{Plain}
 use Rattle.giop_commands.specs.declared.form.LineForm.{LineForm}
@@ -66,7 +67,7 @@ pub calls_told : (asked : Asked) (before after : Wire) (old new : Option (List �
 calls_told asked before after old new ending end = calls_by asked before after old new ending.status end.called
 
 -- the connection of a server's end: its number, its table and its fault
-pub served : (number : ℕ) (it : Served) (lines : LineForm) (before after : Wire) (was now_passed : List (List ℕ)) (old new : Option (List ℕ)) (refused : Option SessionFault) (outgoing : List ℕ)
+pub served : (number : ℕ) (it : Served) (lines : LineForm) (before after : Wire) (was now_passed : List AnswerName) (old new : Option (List ℕ)) (refused : Option SessionFault) (outgoing : List ℕ)
     (unread : Unread) (left : ServerCalls) (fault : Option SessionFault) (r : Result Ending Failure)
     → serving.Converses it it.limits (session (new_server it.limits before.input before.output) was) refused
     (session (between after.input after.output outgoing unread left fault) now_passed)
@@ -89,7 +90,7 @@ served number it lines before after was now_passed old new refused outgoing unre
 }
 
 -- by its status
-serves_by : (number : ℕ) (it : Served) (before after : Wire) (was now_passed : List (List ℕ)) (old new : Option (List ℕ)) (status : Status)
+serves_by : (number : ℕ) (it : Served) (before after : Wire) (was now_passed : List AnswerName) (old new : Option (List ℕ)) (status : Status)
     → IsServed number it (Text Plain) before after was now_passed old new status → Serves number it before after was now_passed old new status
 serves_by number it before after was now_passed old new Done is = is
 serves_by number it before after was now_passed old new Refused is = is
@@ -99,7 +100,7 @@ serves_by number it before after was now_passed old new InputOutput is = tt
 serves_by number it before after was now_passed old new Memory is = tt
 
 -- the same of an ending
-pub serves_told : (number : ℕ) (it : Served) (before after : Wire) (was now_passed : List (List ℕ)) (old new : Option (List ℕ)) (ending : Ending)
+pub serves_told : (number : ℕ) (it : Served) (before after : Wire) (was now_passed : List AnswerName) (old new : Option (List ℕ)) (ending : Ending)
     → ServesEnd number it (Text Plain) before after was now_passed old new ending → Serves number it before after was now_passed old new ending.status
 serves_told number it before after was now_passed old new ending end = serves_by number it before after was now_passed old new ending.status end.served
 

@@ -17,6 +17,7 @@ use Rattle.giop_calls.specs.declared.server.rule.ServerRule.{ServerRule}
 use Rattle.giop_calls.specs.ServerTable.{is_closed}
 use Rattle.giop_msg.specs.declared.msg.Msg.{Msg}
 use Rattle.giop_session.specs.Pumping.{Between, Feeds, State, between}
+use Rattle.giop_commands.specs.declared.serve.in_turn.AnswerName.{AnswerName}
 use Rattle.giop_commands.specs.declared.failure.Failure.{Failure}
 use Rattle.giop_commands.specs.declared.form.LineForm.{LineForm}
 use Rattle.giop_commands.specs.declared.session.ending.Ending.{Ending}
@@ -118,7 +119,7 @@ streamed it limits lines n s mid t refused before few ends = record {
 }
 
 -- the whole of it
-pub is_streamed : (number : ℕ) (it : Served) (lines : LineForm) (before after : Wire) (was now_passed : List (List ℕ)) (old named text new : Option (List ℕ)) (refused : Option SessionFault)
+pub is_streamed : (number : ℕ) (it : Served) (lines : LineForm) (before after : Wire) (was now_passed : List AnswerName) (old named text new : Option (List ℕ)) (refused : Option SessionFault)
     (outgoing : List ℕ) (unread : Unread) (left : ServerCalls) (fault : Option SessionFault) (r : Result Ending Failure)
     → Appends old named (ended (connection_in lines number))
     → Streams it it.limits lines (shown (session (new_server it.limits before.input before.output) was) named) refused

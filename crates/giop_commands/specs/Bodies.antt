@@ -9,8 +9,8 @@ use Rattle.giop_ior.specs.Ior.{Reference, ior_layout}
 use Rattle.giop_msg.specs.declared.messages.reply_body.ReplyBody.{ReplyBody}
 use Rattle.giop_msg.specs.declared.messages.reply_body.ReplyBody.TheVariants.{NoException, UserException, SystemException, Forward, ForwardPerm, NeedsAddressing}
 use Rattle.giop_msg.specs.declared.messages.request.Request.{Request}
-use Rattle.giop_msg.specs.Messages.Reply.{exception_of, listed, outs_of}
-use Rattle.giop_msg.specs.Messages.Request.{operation_of}
+use Rattle.giop_msg.specs.Messages.Reply.{exception_in, listed, outs_of}
+use Rattle.giop_msg.specs.Messages.Request.{offer_at, operation_asked}
 use Rattle.giop_calls.specs.declared.server.entry.ServerEntry.{ServerEntry}
 use Rattle.giop_calls.specs.declared.server.entry.ServerEntry.TheVariants as server
 use Rattle.giop_calls.specs.declared.client.entry.ClientEntry.{ClientEntry}
@@ -27,10 +27,10 @@ abbrev pub ins_of : Option Operation → List Parameter
 ins_of (Some operation) = operation.ins.list.items
 ins_of None = []
 
--- the ins of a Request
+-- the ins of a Request, by what its object offers
 abbrev pub request_ins : NumberForm → Interface → Request → List ℕ
 request_ins numbers interface request =
-    values_text numbers (ins_of (operation_of interface request.head.operation)) request.body
+    values_text numbers (ins_of (operation_asked interface request.head)) request.body
 
 -- the ins of the Request that stands at a server, where one was decoded and isn't answered
 abbrev pub ins_text : NumberForm → Interface → ServerEntry → List ℕ
@@ -38,13 +38,14 @@ ins_text numbers interface (server.Asked request) = request_ins numbers interfac
 ins_text numbers interface (server.Delivered request) = request_ins numbers interface request
 ins_text numbers interface _ = []
 
--- what a Reply to a Request brought: the outs of its operation, the members of an exception, or a
--- reference
+-- what a Reply to a Request brought, by what its object offers: the outs of its operation, the
+-- members of an exception, or a reference
 abbrev pub brought_by : NumberForm → Interface → Request → ReplyBody → List ℕ
 brought_by numbers interface request (NoException outs) =
-    values_text numbers (outs_of (operation_of interface request.head.operation)) outs
+    values_text numbers (outs_of (operation_asked interface request.head)) outs
 brought_by numbers interface request (UserException id members) =
-    values_text numbers (listed (exception_of interface id)) members
+    values_text numbers
+    (listed (exception_in (offer_at interface request.head.target) id)) members
 brought_by numbers interface request (SystemException id minor completed) = []
 brought_by numbers interface request (Forward ior) = forward_text ior
 brought_by numbers interface request (ForwardPerm ior) = forward_text ior

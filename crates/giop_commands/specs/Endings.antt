@@ -9,6 +9,7 @@ use Rattle.giop_calls.specs.ServerTable as server
 use Rattle.giop_msg.specs.Stream.{Unread}
 use Rattle.giop_session.specs.declared.calls.slot.Slot.{Slot}
 use Rattle.giop_session.specs.declared.session_fault.SessionFault.{SessionFault}
+use Rattle.giop_commands.specs.declared.serve.in_turn.AnswerName.{AnswerName}
 use Rattle.giop_commands.specs.declared.failure.Failure.{Failure}
 use Rattle.giop_commands.specs.declared.form.LineForm.{LineForm}
 use Rattle.giop_commands.specs.declared.session.ending.Ending.{Ending}
@@ -65,7 +66,7 @@ pub record CallsStreamEnd (asked : Asked) (lines : LineForm) (before after : Wir
 -- what `serve` did with a connection, told in a form, and how it ended; before and behind it these
 -- answers of lists are passed
 pub record ServesEnd (number : ℕ) (it : Served) (lines : LineForm) (before after : Wire)
-    (old_passed new_passed : List (List ℕ)) (old new : Option (List ℕ)) (ending : Ending) : Type 0 where
+    (old_passed new_passed : List AnswerName) (old new : Option (List ℕ)) (ending : Ending) : Type 0 where
   pub served : IsServed number it lines before after old_passed new_passed old new ending.status
   pub ends :
       Ends server.is_closed (told served.refused served.fault) served.left.table served.unread
@@ -73,7 +74,7 @@ pub record ServesEnd (number : ℕ) (it : Served) (lines : LineForm) (before aft
 
 -- the same of `serve --stream`
 pub record ServesStreamEnd (number : ℕ) (it : Served) (lines : LineForm) (before after : Wire)
-    (old_passed new_passed : List (List ℕ)) (old new : Option (List ℕ)) (ending : Ending) : Type 0 where
+    (old_passed new_passed : List AnswerName) (old new : Option (List ℕ)) (ending : Ending) : Type 0 where
   pub streamed : serving.IsStreamed number it lines before after old_passed new_passed old new ending.status
   pub ends :
       Ends server.is_closed (told streamed.refused streamed.fault) streamed.left.table

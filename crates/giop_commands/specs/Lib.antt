@@ -8,6 +8,7 @@ pub mod Convert
 pub mod CheckJson
 pub mod SessionLines
 pub mod Bodies
+pub mod Shown
 pub mod Table
 pub mod Check
 pub mod Trace
@@ -18,9 +19,12 @@ pub mod CallForms
 pub mod CallLines
 pub mod GeneralForms
 pub mod IsA
+pub mod Objects
 pub mod InTurn
 pub mod AnswerForms
 pub mod Answering
+pub mod LetOut
+pub mod AnswerFiles
 pub mod Calling
 pub mod Serving
 pub mod Sessions

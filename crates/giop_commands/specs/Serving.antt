@@ -1,9 +1,7 @@
 -- What the program of `serve` does at its end: after each read it answers what waits for an answer,
 -- in ascending order of the ids, and puts every piece out (CORBA 3.3 Part 2, 9.4).
-use Rattle.std.specs.Prelude.{◌≡◌, ℕ, ◌<◌, true, false, List, [], length, Option, Some, None, Ok}
+use Rattle.std.specs.Prelude.{◌≡◌, ℕ, ◌<◌, true, false, List, [], length, map, Option, Some, None, Ok}
 use Rattle.std.specs.FinMap as finite
-use Rattle.serde_json.specs.Data.{Data}
-use Rattle.serde_json.specs.View.{view}
 use Rattle.giop_types.specs.declared.json.interface.Interface.{Interface}
 use Rattle.giop_msg.specs.declared.messages.reply.Reply.{Reply as AnyReply}
 use Rattle.giop_calls.specs.declared.server.entry.ServerEntry.{ServerEntry}
@@ -22,10 +20,12 @@ use Rattle.giop_session.specs.Acts.ServerAnswers.{IsAnswer, IsLocateAnswer, answ
 use Rattle.giop_commands.specs.declared.serve.answering.Due.{Due}
 use Rattle.giop_commands.specs.declared.serve.answering.Due.TheVariants.{Nothing, Locate, Reply}
 use Rattle.giop_commands.specs.declared.serve.given.Serving.{Serving}
+use Rattle.giop_commands.specs.declared.serve.in_turn.AnswerName.{AnswerName}
 use Rattle.giop_commands.specs.Acts.{ActsOrTells, Outbox, SendsAll, outbox}
 use Rattle.giop_commands.specs.Answering.{due_to, reply_of}
 use Rattle.giop_commands.specs.Check.{nothing_read, server_hears}
 use Rattle.giop_commands.specs.InTurn.{passed_behind}
+use Rattle.giop_commands.specs.Objects.{Object, object_of}
 use Rattle.giop_commands.specs.Steps.{AndThen, Each, Upto}
 use Rattle.giop_commands.specs.Turns.{GoesOn, most_turns}
 
@@ -39,20 +39,17 @@ abbrev pub AnswersSent : Option SessionFault → Outbox ServerCalls → Option S
 AnswersSent fault =
     SendsAll (λ rule. server_step) (λ rule. is_closed) is_gathering in_call event.Send fault left_of
 
--- what is served: the object of a key, with answers to the operations of an interface, in a form,
--- by an end with these limits
+-- what is served: objects by what they offer, in a form, by an end with these limits
 pub record Served : Type 0 where
   pub interface : Interface
-  pub answers : Data
-  pub key : List ℕ
+  pub objects : List Object
   pub form : Form
   pub limits : Limits
 
 abbrev pub served_of : Serving → Served
 served_of serving = record {
   interface = serving.interface.now;
-  answers = view serving.answers.now.json;
-  key = serving.key.now;
+  objects = map object_of serving.objects.now;
   form = serving.form;
   limits = serving.limits;
 }
@@ -60,9 +57,9 @@ served_of serving = record {
 -- the calls of an end and its outgoing octets, and which answers of lists are passed
 pub record Desk : Type 0 where
   pub box : Outbox ServerCalls
-  pub passed : List (List ℕ)
+  pub passed : List AnswerName
 
-abbrev pub desk : Outbox ServerCalls → List (List ℕ) → Desk
+abbrev pub desk : Outbox ServerCalls → List AnswerName → Desk
 desk box passed = record { box = box; passed = passed }
 
 -- an end with these limits, at which this fault stands, if one does
@@ -83,14 +80,14 @@ module _ (served : Served) (limits : Limits) (fault : Option SessionFault) where
       (IsLocateAnswer id here served.form.order (locate_in here entry)) s.box refused t.box
       × (t.passed ≡ s.passed)
   SendsDue id entry (Reply version answer) s refused t =
-      Replies entry (reply_of served.interface served.answers s.passed id entry version answer)
+      Replies entry (reply_of served.interface served.objects s.passed id entry version answer)
       s.box refused t.box
-      × (t.passed ≡ passed_behind served.answers s.passed entry answer)
+      × (t.passed ≡ passed_behind served.objects s.passed entry answer)
 
   -- what is stored for an id is answered, where something is
   abbrev pub Answers : ℕ → Option ServerEntry → Desk → Option SessionFault → Desk → Type 0
   Answers id None s refused t = (refused ≡ None) × (t ≡ s)
-  Answers id (Some entry) s refused t = SendsDue id entry (due_to served.key entry) s refused t
+  Answers id (Some entry) s refused t = SendsDue id entry (due_to served.objects entry) s refused t
 
   abbrev pub AnswersOne : ℕ → Desk → Option SessionFault → Desk → Type 0
   AnswersOne id s = Answers id (entry_of (finite.get s.box.calls.table id)) s
@@ -107,13 +104,13 @@ module _ (served : Served) (limits : Limits) (fault : Option SessionFault) where
 -- an end between a reader and a writer, and which answers of lists are passed
 pub record Session : Type 0 where
   pub end : Between ServerCalls
-  pub passed : List (List ℕ)
+  pub passed : List AnswerName
 
-abbrev pub session : Between ServerCalls → List (List ℕ) → Session
+abbrev pub session : Between ServerCalls → List AnswerName → Session
 session end passed = record { end = end; passed = passed }
 
 -- its calls and its outgoing octets, and what is passed
-abbrev pub desk_of : Between ServerCalls → List (List ℕ) → Desk
+abbrev pub desk_of : Between ServerCalls → List AnswerName → Desk
 desk_of s passed = desk (outbox s.state.calls s.outgoing) passed
 
 -- the same end with others of these

@@ -16,6 +16,7 @@ use Rattle.giop_session.specs.Pumping.{between}
 use Rattle.giop_session.specs.Calls.Sending.{entry_of}
 use Rattle.giop_lines.specs.SessionJson.{connection_json}
 use Rattle.giop_lines.specs.TableLines.{connection_line}
+use Rattle.giop_commands.specs.declared.serve.in_turn.AnswerName.{AnswerName}
 use Rattle.giop_commands.specs.declared.form.LineForm.{LineForm}
 use Rattle.giop_types.specs.declared.json.number_form.NumberForm.TheVariants.{Plain}
 use Rattle.giop_commands.specs.declared.form.LineForm.TheVariants.{Text}
@@ -126,7 +127,7 @@ serve_status None = Done
 -- what is printed of it in a form is its number, the table that its calls are left with, its fault,
 -- and this status. Before and behind it these answers of lists are passed
 pub record IsServed (number : ℕ) (served : Served) (lines : LineForm) (before after : Wire)
-    (old_passed new_passed : List (List ℕ)) (old new : Option (List ℕ)) (status : Status) : Type 0 where
+    (old_passed new_passed : List AnswerName) (old new : Option (List ℕ)) (status : Status) : Type 0 where
   pub refused : Option SessionFault
   pub outgoing : List ℕ
   pub unread : Unread
@@ -142,7 +143,7 @@ pub record IsServed (number : ℕ) (served : Served) (lines : LineForm) (before 
   pub is : status ≡ serve_status (told refused fault)
 
 -- what `serve` did, told as text, by the status that the connection ends with
-abbrev pub Serves : ℕ → Served → Wire → Wire → List (List ℕ) → List (List ℕ)
+abbrev pub Serves : ℕ → Served → Wire → Wire → List AnswerName → List AnswerName
     → Option (List ℕ) → Option (List ℕ) → Status → Type 0
 Serves number served before after old_passed new_passed old new InputOutput = ⊤
 Serves number served before after old_passed new_passed old new Memory = ⊤

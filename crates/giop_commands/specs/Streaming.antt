@@ -12,6 +12,7 @@ use Rattle.giop_session.specs.declared.session_fault.SessionFault.{SessionFault}
 use Rattle.giop_session.specs.Calls.Sending.{entry_of}
 use Rattle.giop_session.specs.Pumping.{Between, between}
 use Rattle.giop_calls.specs.ServerTable.{is_closed}
+use Rattle.giop_commands.specs.declared.serve.in_turn.AnswerName.{AnswerName}
 use Rattle.giop_commands.specs.declared.form.LineForm.{LineForm}
 use Rattle.giop_commands.specs.declared.status.Status.{Status}
 use Rattle.giop_commands.specs.Dump.{ended}
@@ -101,7 +102,7 @@ left_text served lines left fault unread =
 -- number, each call when it is over, and then what is left, and the last line. Before and behind it
 -- these answers of lists are passed
 pub record IsStreamed (number : ℕ) (served : Served) (lines : LineForm) (before after : Wire)
-    (old_passed new_passed : List (List ℕ)) (old new : Option (List ℕ)) (status : Status) : Type 0 where
+    (old_passed new_passed : List AnswerName) (old new : Option (List ℕ)) (status : Status) : Type 0 where
   pub named : Option (List ℕ)
   pub name : Appends old named (ended (connection_in lines number))
   pub refused : Option SessionFault

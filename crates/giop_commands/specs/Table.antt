@@ -1,5 +1,5 @@
 -- The table of the calls of an end, and what `check` prints of an end.
-use Rattle.std.specs.Prelude.{ℕ, List, [], Option, Some, None}
+use Rattle.std.specs.Prelude.{ℕ, ◌++◌, List, [], Option, Some, None}
 use Rattle.std.specs.List.{flat_map}
 use Rattle.std.specs.FinMap as finite
 use Rattle.giop_ids.specs.ById.{ById}
@@ -12,15 +12,19 @@ use Rattle.giop_commands.specs.Bodies.{brought_text, ins_text}
 use Rattle.giop_commands.specs.declared.form.LineForm.{LineForm}
 use Rattle.giop_commands.specs.Dump.{ended}
 use Rattle.giop_commands.specs.Forms.{line_in, numbers_of}
+use Rattle.giop_commands.specs.Shown.{entry_object, entry_shown}
 use Rattle.giop_lines.specs.SessionJson.{client_json}
-use Rattle.giop_lines.specs.TableJson.{server_json}
 use Rattle.giop_lines.specs.TableLines.{client_line, server_line}
 
--- the line of what is stored for an id at a server of an interface, and at a client, in a form
+-- the line of what is stored for an id at a server of an interface, with its target where objects
+-- are told apart, and at a client, in a form
 abbrev pub server_entry_in : LineForm → Interface → ℕ → ServerEntry → List ℕ
 server_entry_in lines interface id entry =
-    line_in lines (server_line id entry (ins_text (numbers_of lines) interface entry))
-    (server_json id entry (ins_text (numbers_of lines) interface entry))
+    line_in lines
+    (server_line id entry (ins_text (numbers_of lines) interface entry)
+    ++ entry_shown lines interface entry)
+    (entry_object id entry (ins_text (numbers_of lines) interface entry)
+    (entry_shown lines interface entry))
 
 abbrev pub client_entry_in : LineForm → Interface → ℕ → ClientEntry → List ℕ
 client_entry_in lines interface id entry =

@@ -1,8 +1,7 @@
 //! `serve`: a server's end between a reader and a writer. Its meaning is specs/Serving.antt, and
 //! specs/Sessions.antt for what is printed: change both.
-ghost use Rattle.std.specs.Prelude.{◌≡◌, ◌++◌, IfOk, OnOk};
+ghost use Rattle.std.specs.Prelude.{◌≡◌, ◌++◌, map, IfOk, OnOk};
 ghost use Rattle.std.specs.Io.KnownBytes.{Appends};
-ghost use Rattle.serde_json.specs.View.{view};
 ghost use Rattle.giop_session.specs.Acts.Form.{IsForm};
 ghost use Rattle.giop_session.specs.Pumping.{between};
 ghost use Rattle.giop_calls.specs.ServerTable.{is_closed};
@@ -10,6 +9,7 @@ ghost use Rattle.giop_commands.specs.Acts.{outbox};
 ghost use Rattle.giop_commands.specs.Check.{default_limits};
 ghost use Rattle.giop_commands.specs.Dump.{ended};
 ghost use Rattle.giop_commands.specs.Endings.{Ends, ServesEnd};
+ghost use Rattle.giop_commands.specs.Objects.{object_of};
 ghost use Rattle.giop_commands.specs.Serving.{AnswersAll, AnswersOne, Converses, desk, served_of, session};
 ghost use Rattle.giop_commands.specs.Sessions.{Serves, connection_in, serve_status, session_text, wire};
 ghost use Rattle.giop_commands.specs.Steps.{Upto};
@@ -21,15 +21,17 @@ pub mod general;
 pub mod given;
 pub mod in_turn;
 pub mod is_a;
+pub mod let_out;
+pub mod objects;
 pub mod reference;
+pub mod shown;
 pub mod streaming;
 pub mod table;
 
 use crate::failure::Failure;
 use crate::form::{LineForm, write_line};
 use crate::serve::answering::{Due, due_to, reply_to};
-use crate::serve::answers::Answers;
-use crate::serve::given::Serving;
+use crate::serve::given::{ServedObject, Serving};
 use crate::serve::in_turn::Passed;
 use crate::session::ending::{Ending, ending_of};
 use crate::session::sending::send_all;
@@ -43,14 +45,15 @@ use std::io::{Read, Write};
 
 /// Serves a connection of this number by a new server's end with the default limits. After each
 /// read, what waits for an answer is answered in a form, in ascending order of the ids. A Request
-/// whose target is this key is answered by what is given for its operation, else by the exception
-/// that says what is wrong with it. A LocateRequest is answered by whether its target is this key.
+/// whose target is the key of an object is answered by what is given for its operation, else by the
+/// exception that says what is wrong with it. A LocateRequest is answered by whether its target is
+/// the key of an object.
 /// Then the pieces that are left are put out, one of each id in turn. At the end of the input, or
 /// at a fault, the line of the connection is written to `out`, the table, and the fault, where
 /// there is one.
 ///
 /// Of an operation's answers in turn the first that isn't passed is given, and is passed where another
-/// stands behind it.
+/// stands behind it. Each object passes its own.
 ///
 /// A peer that breaks the protocol is sent a MessageError. An answer that can't be sent, such as
 /// one that passes a limit, ends the session with its fault.
@@ -63,9 +66,8 @@ pub fn serve_session<R: Read, W: Write, O: Write>(
     alloc: Global,
     number: u32,
     interface: &Interface,
-    answers: &Answers,
+    objects: &[ServedObject<'_>],
     passed: &mut Passed,
-    key: &[u8],
     form: Form,
     reader: &mut R,
     writer: &mut W,
@@ -74,8 +76,7 @@ pub fn serve_session<R: Read, W: Write, O: Write>(
     requires { IsForm form }
     ensures { Serves number (record {
       interface = interface.now;
-      answers = view answers.now.json;
-      key = key.now;
+      objects = map object_of objects.now;
       form = form;
       limits = default_limits;
     })
@@ -86,8 +87,7 @@ pub fn serve_session<R: Read, W: Write, O: Write>(
 {
     let serving = Serving {
         interface,
-        answers,
-        key,
+        objects,
         form,
         limits: Limits::default(),
     };
@@ -288,15 +288,15 @@ fn answer(
     let Some(entry) = end.entry(id) else {
         return Ok(None);
     };
-    match due_to(serving.key, entry) {
+    match due_to(serving.objects, entry) {
         Due::Nothing => Ok(None),
         Due::Locate { here } => told_of(end.answer_locate(id, here, serving.form.order)),
         Due::Reply { version, answer } => {
-            let (interface, answers) = (serving.interface, serving.answers);
+            let (interface, objects) = (serving.interface, serving.objects);
             let reply = reply_to(
-                alloc, interface, answers, passed, id, entry, version, answer,
+                alloc, interface, objects, passed, id, entry, version, answer,
             )?;
-            passed.pass(alloc, answers, entry, answer)?;
+            passed.pass(alloc, objects, entry, answer)?;
             told_of(end.answer(reply, serving.form))
         }
     }

@@ -16,11 +16,11 @@ mod target;
 
 use crate::HexText;
 use crate::traced::DirectionText;
-pub use answered::{AnsweredJson, ConnectionJson};
+pub use answered::{AnswerJson, AnsweredJson, ConnectionJson};
 pub use body::{InsJson, JoinedJson, RequestFaultJson, UndecodedJson, UnjoinedJson};
 pub use call::{ClientEntryJson, OutcomeJson, UnsentJson};
 pub use end::{FaultJson, RestJson};
-pub use entry::{AskedJson, ServerEntryJson};
+pub use entry::{AskedJson, EntryJson, ServerEntryJson};
 use giop_cdr::CdrFault;
 use giop_msg::WireFault;
 use giop_trace::Direction;

@@ -28,11 +28,12 @@ pub use cdr_fault::CdrFaultText;
 pub use client_entry::{ClientEntryLine, CompletionText, ReplyText};
 pub use end::{FaultLine, HeadFaultLine, RestLine};
 pub use json::{
-    AnsweredJson, AskedJson, CdrFaultJson, ClientEntryJson, ConnectionJson, CorbalocJson,
-    DirectionEndJson, FaultJson, HeadFaultJson, HexJson, IdJson, IiopJson, InsJson, IorJson,
-    JoinedJson, KeyJson, LocateReplyJson, LocateRequestJson, MessageJson, OutcomeJson, ProfileJson,
-    RefusalJson, RefusedJson, ReplyJson, RequestFaultJson, RequestJson, RestJson, ServerEntryJson,
-    TargetJson, TextJson, TypeJson, UndecodedJson, UnjoinedJson, UnsentJson, WireFaultJson,
+    AnswerJson, AnsweredJson, AskedJson, CdrFaultJson, ClientEntryJson, ConnectionJson,
+    CorbalocJson, DirectionEndJson, EntryJson, FaultJson, HeadFaultJson, HexJson, IdJson, IiopJson,
+    InsJson, IorJson, JoinedJson, KeyJson, LocateReplyJson, LocateRequestJson, MessageJson,
+    OutcomeJson, ProfileJson, RefusalJson, RefusedJson, ReplyJson, RequestFaultJson, RequestJson,
+    RestJson, ServerEntryJson, TargetJson, TextJson, TypeJson, UndecodedJson, UnjoinedJson,
+    UnsentJson, WireFaultJson,
 };
 pub use locate::{LocateReplyLine, LocateRequestLine};
 pub use message::MessageLine;

@@ -4,11 +4,14 @@
 ghost use Rattle.std.specs.Prelude.{◌≤◌, ◌^◌};
 ghost use Rattle.giop_commands.specs.Check.{AreLimits};
 
+mod file_words;
 mod form_words;
 mod limit_words;
 mod object_words;
 mod session_words;
 
+pub use crate::cli::file_words::FileWord;
+use crate::cli::file_words::{apart_from, file_words, interfaces};
 use crate::cli::form_words::{json, json_numbers, lines_of, numbers_of, plain_lines_of};
 use crate::cli::limit_words::{
     gathered_limit, gathered_limit_of, limited, limits_of, message_limit, message_limit_of,
@@ -69,10 +72,10 @@ pub struct DumpWords<'a> {
 }
 
 /// What `check` is asked for.
-#[derive(Clone, Copy, Debug)]
+#[derive(Debug, Drop)]
 pub struct CheckWords<'a> {
-    /// The name of the interface's file, or `-` for the standard input.
-    pub interface: &'a str,
+    /// The files of interfaces.
+    pub interfaces: Vec<FileWord<'a>>,
     /// The file's name, or `-` for the standard input.
     pub file: &'a str,
     /// What the end that hears it holds at most.
@@ -85,10 +88,10 @@ pub struct CheckWords<'a> {
 }
 
 /// What `trace` is asked for.
-#[derive(Clone, Copy, Debug)]
+#[derive(Debug, Drop)]
 pub struct TraceWords<'a> {
-    /// The name of the interface's file, or `-` for the standard input.
-    pub interface: &'a str,
+    /// The files of interfaces.
+    pub interfaces: Vec<FileWord<'a>>,
     /// The name of the file of what the client sent, or `-` for the standard input.
     pub client: &'a str,
     /// The name of the file of what the server sent, if it is given.
@@ -281,13 +284,17 @@ pub fn task_of<'a>(alloc: Global, words: &'a [String]) -> Result<Option<Task<'a>
         return judged(alloc, dumped(dump));
     }
     if let Some(check) = matches.subcommand_matches("check") {
-        return judged(alloc, checked(check));
+        return judged(
+            alloc,
+            checked(check, file_words(alloc, check, "interface")?),
+        );
     }
     if let Some(trace) = matches.subcommand_matches("trace") {
-        return judged(alloc, traced(trace));
+        return judged(alloc, traced(trace, file_words(alloc, trace, "interface")?));
     }
     if let Some(call) = matches.subcommand_matches("call") {
-        return judged(alloc, called(call, values_of(alloc, call)?));
+        let files = file_words(alloc, call, "interface")?;
+        return judged(alloc, called(call, files, values_of(alloc, call)?));
     }
     if let Some(locate) = matches.subcommand_matches("locate") {
         return judged(alloc, located(locate));
@@ -296,7 +303,11 @@ pub fn task_of<'a>(alloc: Global, words: &'a [String]) -> Result<Option<Task<'a>
         return judged(alloc, pinged(ping));
     }
     if let Some(serve) = matches.subcommand_matches("serve") {
-        return judged(alloc, served(serve));
+        let interfaces = file_words(alloc, serve, "interface")?;
+        return judged(
+            alloc,
+            served(serve, interfaces, file_words(alloc, serve, "answers")?),
+        );
     }
     match matches.subcommand_matches("convert") {
         Some(convert) => judged(alloc, conversion(convert)),
@@ -367,16 +378,22 @@ fn dumped<'a>(matches: &ArgMatches<'a>) -> Result<Option<Task<'a>>, &'static str
     })))
 }
 
-fn checked<'a>(matches: &ArgMatches<'a>) -> Result<Option<Task<'a>>, &'static str> {
+// The files of an option, or what is wrong with one of its words.
+type Files<'a> = Result<Vec<FileWord<'a>>, &'static str>;
+
+fn checked<'a>(
+    matches: &ArgMatches<'a>,
+    interfaces: Files<'a>,
+) -> Result<Option<Task<'a>>, &'static str> {
     let limits = limits_of(matches)?;
-    let (Some(interface), Some(file)) = (matches.get_str("interface"), matches.get_str("FILE"))
-    else {
+    let interfaces = interfaces?;
+    let Some(file) = matches.get_str("FILE") else {
         return Ok(None);
     };
-    apart(interface, file)?;
+    apart_from(interfaces.as_slice(), file)?;
     let strict = matches.get_flag("strict");
     Ok(Some(Task::Check(CheckWords {
-        interface,
+        interfaces,
         file,
         limits,
         strict,
@@ -384,21 +401,24 @@ fn checked<'a>(matches: &ArgMatches<'a>) -> Result<Option<Task<'a>>, &'static st
     })))
 }
 
-fn traced<'a>(matches: &ArgMatches<'a>) -> Result<Option<Task<'a>>, &'static str> {
+fn traced<'a>(
+    matches: &ArgMatches<'a>,
+    interfaces: Files<'a>,
+) -> Result<Option<Task<'a>>, &'static str> {
     let limit = message_limit_of(matches)?;
-    let (Some(interface), Some(client)) = (matches.get_str("interface"), matches.get_str("CLIENT"))
-    else {
+    let interfaces = interfaces?;
+    let Some(client) = matches.get_str("CLIENT") else {
         return Ok(None);
     };
     let server = matches.get_str("SERVER");
-    apart(interface, client)?;
+    apart_from(interfaces.as_slice(), client)?;
     if let Some(server) = server {
-        apart(interface, server)?;
+        apart_from(interfaces.as_slice(), server)?;
         apart(client, server)?;
     }
     let form = lines_of(matches);
     Ok(Some(Task::Trace(TraceWords {
-        interface,
+        interfaces,
         client,
         server,
         limit,
@@ -408,9 +428,10 @@ fn traced<'a>(matches: &ArgMatches<'a>) -> Result<Option<Task<'a>>, &'static str
 
 fn called<'a>(
     matches: &ArgMatches<'a>,
+    interfaces: Files<'a>,
     values: Vec<&'a str>,
 ) -> Result<Option<Task<'a>>, &'static str> {
-    Ok(Some(Task::Call(call_words(matches, values)?)))
+    Ok(Some(Task::Call(call_words(matches, interfaces?, values)?)))
 }
 
 fn located<'a>(matches: &ArgMatches<'a>) -> Result<Option<Task<'a>>, &'static str> {
@@ -421,8 +442,12 @@ fn pinged<'a>(matches: &ArgMatches<'a>) -> Result<Option<Task<'a>>, &'static str
     Ok(Some(Task::Ping(object_words(matches)?)))
 }
 
-fn served<'a>(matches: &ArgMatches<'a>) -> Result<Option<Task<'a>>, &'static str> {
-    Ok(Some(Task::Serve(serve_words(matches)?)))
+fn served<'a>(
+    matches: &ArgMatches<'a>,
+    interfaces: Files<'a>,
+    answers: Files<'a>,
+) -> Result<Option<Task<'a>>, &'static str> {
+    Ok(Some(Task::Serve(serve_words(matches, interfaces?, answers?)?)))
 }
 
 fn converted<'a>(matches: &ArgMatches<'a>, kind: Option<ConvertKind<'a>>) -> Option<Task<'a>> {
@@ -480,11 +505,6 @@ fn dump<'a>(alloc: Global) -> Result<Command<'a>, AllocError> {
 }
 
 fn check<'a>(alloc: Global) -> Result<Command<'a>, AllocError> {
-    let interface = Arg::new(alloc, "interface")
-        .long("interface")
-        .required(true)
-        .value_name("FILE")
-        .help("The file of the interface, in JSON");
     let strict = Arg::new(alloc, "strict")
         .long("strict")
         .action(ArgAction::SetTrue)
@@ -495,7 +515,7 @@ fn check<'a>(alloc: Global) -> Result<Command<'a>, AllocError> {
     let command = Command::new(alloc, "check")
         .about("Shows what becomes of the calls of a file")
         .after_help(CHECK_HELP)
-        .arg(interface)?
+        .arg(interfaces(alloc))?
         .arg(json(alloc))?
         .arg(json_numbers(alloc))?
         .arg(strict)?;
@@ -503,11 +523,6 @@ fn check<'a>(alloc: Global) -> Result<Command<'a>, AllocError> {
 }
 
 fn trace<'a>(alloc: Global) -> Result<Command<'a>, AllocError> {
-    let interface = Arg::new(alloc, "interface")
-        .long("interface")
-        .required(true)
-        .value_name("FILE")
-        .help("The file of the interface, in JSON");
     let client = Arg::new(alloc, "CLIENT").required(true).help(
         "A file of what the client sent, or - for the standard input",
     );
@@ -515,7 +530,7 @@ fn trace<'a>(alloc: Global) -> Result<Command<'a>, AllocError> {
     Command::new(alloc, "trace")
         .about("Shows each call of a connection, and what it came to")
         .after_help(TRACE_HELP)
-        .arg(interface)?
+        .arg(interfaces(alloc))?
         .arg(json(alloc))?
         .arg(json_numbers(alloc))?
         .arg(message_limit(alloc))?

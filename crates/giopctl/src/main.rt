@@ -26,13 +26,13 @@ fn run(rt: &HostRuntime) -> Status {
     };
     match cli::task_of(rt.alloc(), words.as_slice()) {
         Ok(Some(Task::Dump(words))) => runs::dump::dump(rt, words),
-        Ok(Some(Task::Check(words))) => runs::check::check(rt, words),
-        Ok(Some(Task::Trace(words))) => runs::trace::trace(rt, words),
+        Ok(Some(Task::Check(words))) => runs::check::check(rt, &words),
+        Ok(Some(Task::Trace(words))) => runs::trace::trace(rt, &words),
         Ok(Some(Task::Convert { file, kind })) => runs::convert::convert(rt, file, kind),
         Ok(Some(Task::Call(words))) => runs::call::call(rt, words),
         Ok(Some(Task::Locate(words))) => runs::object::locate(rt, words),
         Ok(Some(Task::Ping(words))) => runs::object::ping(rt, words),
-        Ok(Some(Task::Serve(words))) => runs::serve::serve(rt, words),
+        Ok(Some(Task::Serve(words))) => runs::serve::serve(rt, &words),
         Ok(None) => Status::Usage,
         Err(error) => report::usage(rt, &error),
     }

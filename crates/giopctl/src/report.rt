@@ -8,11 +8,13 @@ ghost use Rattle.giopctl.specs.Usage.{usage_status};
 
 mod counted;
 mod open_calls;
+mod path_shown;
 
 use crate::interface_text::InterfaceText;
 use crate::places;
 use crate::report::counted::Counted;
 use crate::report::open_calls::OpenCalls;
+use crate::report::path_shown::PathShown;
 use clap::error::ErrorKind as UsageKind;
 use giop_commands::Ending;
 use giop_commands::failure::Failure;
@@ -219,6 +221,21 @@ pub fn form(
         );
     }
     place(rt, file, fault, at);
+}
+
+/// Prints the option of the limit that an answer of a file passes, and where that answer stands.
+pub fn unsent(rt: &impl Eprint, file: &str, limit: Limit, at: Option<Place>) {
+    let _ = match at {
+        Some(place) => {
+            let path = PathShown(place.path.as_slice());
+            eprintln!(rt;
+                "giopctl: {file}: at {path}: an answer is larger than its limit; raise it by {limit}"
+            )
+        }
+        None => eprintln!(rt;
+            "giopctl: {file}: an answer is larger than its limit; raise it by {limit}"
+        ),
+    };
 }
 
 /// Prints which of some words are no JSON, and where they cease to be.

@@ -3,8 +3,8 @@
 ghost use Rattle.std.specs.Prelude.{◌≡◌, map, IfOk};
 ghost use Rattle.std.specs.String.{string_bytes};
 ghost use Rattle.giop_types.specs.Values.Views.{value_view};
-ghost use Rattle.giop_msg.specs.Messages.Reply.{exception_of, listed, outs_of};
-ghost use Rattle.giop_msg.specs.Messages.Request.{operation_of};
+ghost use Rattle.giop_msg.specs.Messages.Reply.{exception_in, listed, outs_of};
+ghost use Rattle.giop_msg.specs.Messages.Request.{operation_asked};
 ghost use Rattle.giop_types.specs.JsonForms.ValuesText.{values_text};
 ghost use Rattle.giop_commands.specs.Bodies.{brought_by, brought_text};
 
@@ -16,7 +16,7 @@ use giop_calls::{ClientEntry, ClientRule};
 use giop_cdr::OctetList;
 use giop_lines::{ClientEntryJson, ClientEntryLine};
 use giop_msg::{ReplyBody, Request};
-use giop_types::{Interface, NumberForm, Value, values_to_text};
+use giop_types::{Interface, NumberForm, Offer, Value, values_to_text};
 use std::alloc::{AllocError, Global};
 use std::io::Write;
 
@@ -80,7 +80,8 @@ pub fn brought_by(
             outs.as_slice(),
         ),
         ReplyBody::UserException { id, members } => {
-            members_text(alloc, numbers, interface, id, members.as_slice())
+            let offer = request.head.target.offer_in(interface);
+            members_text(alloc, numbers, offer, id, members.as_slice())
         }
         ReplyBody::SystemException { .. } => Ok(String::new(alloc)),
         ReplyBody::Forward(ior) => forward_text(alloc, ior),
@@ -97,10 +98,10 @@ fn outs_text(
     values: &[Value],
 ) -> Result<String, AllocError>
     ensures { IfOk result (λ text. string_bytes text ≡ values_text numbers
-        (outs_of (operation_of interface.now request.now.head.operation))
+        (outs_of (operation_asked interface.now request.now.head))
         (map value_view values.now)) }
 {
-    match interface.operation(request.head.operation.as_slice()) {
+    match request.head.operation_asked(interface) {
         Some(operation) => values_to_text(alloc, numbers, operation.outs.as_slice(), values),
         None => values_to_text(alloc, numbers, &[], values),
     }
@@ -109,14 +110,14 @@ fn outs_text(
 fn members_text(
     alloc: Global,
     numbers: NumberForm,
-    interface: &Interface,
+    offer: &Offer,
     id: &OctetList,
     values: &[Value],
 ) -> Result<String, AllocError>
     ensures { IfOk result (λ text. string_bytes text ≡ values_text numbers
-        (listed (exception_of interface.now id.now)) (map value_view values.now)) }
+        (listed (exception_in offer.now id.now)) (map value_view values.now)) }
 {
-    match interface.exception(id.as_slice()) {
+    match offer.exception(id.as_slice()) {
         Some(members) => values_to_text(alloc, numbers, members.as_slice(), values),
         None => values_to_text(alloc, numbers, &[], values),
     }

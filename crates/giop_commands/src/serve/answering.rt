@@ -1,18 +1,20 @@
 //! What `serve` answers to what is stored for an id. Its meaning is `due_to` and `reply_of` in
 //! specs/Answering.antt: change both.
-ghost use Rattle.std.specs.Prelude.{◌≡◌, map, IfOk};
-ghost use Rattle.serde_json.specs.View.{view};
+ghost use Rattle.std.specs.Prelude.{◌≡◌, map, option_map, IfOk};
 ghost use Rattle.giop_types.specs.Values.Views.{value_view};
-ghost use Rattle.giop_commands.specs.Answering.{answer_to, asked_ins, due_to, due_to_undecoded, fault_answer, given_body, given_to, is_object, not_done, reply_of, result_for};
+ghost use Rattle.giop_commands.specs.Answering.{answer_to, asked_ins, due_to, due_to_undecoded, fault_answer, given_at, given_body, given_to, is_object, not_done, reply_of, result_for};
+ghost use Rattle.giop_commands.specs.Objects.{object_of};
 
 use crate::failure::Failure;
-use crate::serve::answers::{AnswerGiven, Answers};
+use crate::serve::answers::AnswerGiven;
+use crate::serve::given::ServedObject;
 use crate::serve::in_turn::Passed;
 use crate::serve::is_a::is_a_body;
+use crate::serve::objects::{object_at, object_for};
 use giop_calls::{CallKind, ServerEntry};
 use giop_cdr::OctetList;
 use giop_msg::{Completion, Reply, ReplyBody, RequestFault, ServiceContexts, Target, Version};
-use giop_types::{Interface, Value, ValueList};
+use giop_types::{Interface, Offer, Value, ValueList};
 use std::alloc::{AllocError, Global};
 
 /// What is answered to a Request.
@@ -52,32 +54,32 @@ pub enum Due {
     },
 }
 
-/// What is due to what is stored for an id, where the object of a key is served.
-pub fn due_to(key: &[u8], entry: &ServerEntry) -> Due
-    ensures { result ≡ due_to key.now entry.now }
+/// What is due to what is stored for an id, where these objects are served.
+pub fn due_to(objects: &[ServedObject<'_>], entry: &ServerEntry) -> Due
+    ensures { result ≡ due_to (map object_of objects.now) entry.now }
 {
     match entry {
         ServerEntry::Asked { request } => {
             let head = &request.head;
-            let answer = answer_to(key, head.flags, &head.target);
+            let answer = answer_to(objects, head.flags, &head.target);
             let version = head.version;
             Due::Reply { version, answer }
         }
         ServerEntry::Undecoded { call } => due_to_undecoded(call.expects, call.version, call.fault),
         ServerEntry::LocateAsked { request } => {
-            let here = is_object(key, &request.target);
+            let here = is_object(objects, &request.target);
             Due::Locate { here }
         }
         _ => Due::Nothing,
     }
 }
 
-fn answer_to(key: &[u8], flags: u8, target: &Target) -> Answer
-    ensures { result ≡ answer_to key.now flags target.now }
+fn answer_to(objects: &[ServedObject<'_>], flags: u8, target: &Target) -> Answer
+    ensures { result ≡ answer_to (map object_of objects.now) flags target.now }
 {
     match target {
-        Target::Key(object_key) => {
-            if object_key.as_slice() == key {
+        Target::Key(key) => {
+            if object_at(objects, key.as_slice()).is_some() {
                 let quiet = flags == 1;
                 Answer::Given { quiet }
             } else {
@@ -89,14 +91,10 @@ fn answer_to(key: &[u8], flags: u8, target: &Target) -> Answer
     }
 }
 
-fn is_object(key: &[u8], target: &Target) -> bool
-    ensures { result ≡ is_object key.now target.now }
+fn is_object(objects: &[ServedObject<'_>], target: &Target) -> bool
+    ensures { result ≡ is_object (map object_of objects.now) target.now }
 {
-    match target {
-        Target::Key(object_key) => object_key.as_slice() == key,
-        Target::Profile(_) => false,
-        Target::Reference { .. } => false,
-    }
+    object_for(objects, target).is_some()
 }
 
 fn due_to_undecoded(expects: Option<CallKind>, version: Version, fault: RequestFault) -> Due
@@ -122,11 +120,12 @@ fn fault_answer(fault: RequestFault) -> Answer
     }
 }
 
-/// The Reply to what is stored for an id, by an interface and its answers, of which some are passed.
+/// The Reply to what is stored for an id, by what objects offer and their answers, of which some are
+/// passed.
 pub fn reply_to(
     alloc: Global,
     interface: &Interface,
-    answers: &Answers,
+    objects: &[ServedObject<'_>],
     passed: &Passed,
     id: u32,
     entry: &ServerEntry,
@@ -134,14 +133,14 @@ pub fn reply_to(
     answer: Answer,
 ) -> Result<Reply, Failure>
     ensures { IfOk result (λ reply. reply
-        ≡ reply_of interface.now (view answers.now.json) passed.now.names.items id entry.now
+        ≡ reply_of interface.now (map object_of objects.now) passed.now.names.items id entry.now
         version answer) }
 {
     let body = match answer {
         Answer::Given { quiet } => result_for(
             alloc,
             quiet,
-            given(alloc, interface, answers, passed, entry)?,
+            given(alloc, interface, objects, passed, entry)?,
         ),
         Answer::NoObject => not_done(alloc, b"IDL:omg.org/CORBA/OBJECT_NOT_EXIST:1.0")?,
         Answer::BadOperation => not_done(alloc, b"IDL:omg.org/CORBA/BAD_OPERATION:1.0")?,
@@ -182,24 +181,47 @@ fn result_for(alloc: Global, quiet: bool, body: ReplyBody) -> ReplyBody
 fn given(
     alloc: Global,
     interface: &Interface,
-    answers: &Answers,
+    objects: &[ServedObject<'_>],
     passed: &Passed,
     entry: &ServerEntry,
 ) -> Result<ReplyBody, AllocError>
     ensures { IfOk result (λ body. body ≡ given_body (asked_ins entry.now)
-        (given_to interface.now (view answers.now.json) passed.now.names.items entry.now)) }
+        (given_to interface.now (map object_of objects.now) passed.now.names.items entry.now)) }
 {
     match entry {
         ServerEntry::Asked { request } => {
+            let target = &request.head.target;
+            let (offer, object) = (target.offer_in(interface), object_for(objects, target));
             let name = request.head.operation.as_slice();
-            let given = answers.given(alloc, interface, passed, name)?;
+            let given = given_at(alloc, offer, object, passed, name)?;
             given_body(alloc, request.body.as_slice(), given)
         }
         _ => given_body(alloc, &[], None),
     }
 }
 
-fn given_body(
+// What an object gives for an operation by what it offers; nothing where it isn't served.
+fn given_at(
+    alloc: Global,
+    offer: &Offer,
+    object: Option<ServedObject<'_>>,
+    passed: &Passed,
+    name: &[u8],
+) -> Result<Option<AnswerGiven>, AllocError>
+    ensures { IfOk result (λ given. given
+        ≡ given_at offer.now (option_map object_of object.entry) passed.now.names.items name.now) }
+{
+    match object {
+        Some(object) => {
+            let passed = passed.of(object.key, name);
+            object.answers.given(alloc, offer, passed, name)
+        }
+        None => Ok(None),
+    }
+}
+
+/// The body of a Reply by what is given; a result without values where nothing is.
+pub fn given_body(
     alloc: Global,
     ins: &[Value],
     given: Option<AnswerGiven>,

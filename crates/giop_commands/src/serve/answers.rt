@@ -1,21 +1,27 @@
 //! The answers that a file gives `serve`, in JSON (docs/FORMATS.md, "Calls and answers"). Their
-//! form is `answers_in` in specs/AnswerForms.antt: change both.
+//! form is `answers_in` in specs/AnswerFiles.antt, and that of one specs/AnswerForms.antt: change
+//! both.
 ghost use Rattle.std.specs.Prelude.{◌≡◌, ◌&&◌, ◌⊎◌, codes, IfOk, IfErr, string_bytes};
 ghost use Rattle.serde_json.specs.Find.{as_array, get};
 ghost use Rattle.serde_json.specs.View.{items_view, view};
 ghost use Rattle.giop_types.specs.declared.json.form_fault.FormFault.TheVariants.{NoMemory};
 ghost use Rattle.giop_types.specs.JsonForms.FromJson.{Shows};
 ghost use Rattle.giop_types.specs.JsonForms.JsonText.{text_of};
-ghost use Rattle.giop_commands.specs.AnswerForms.{answers_in, are_fit, default_count, default_formed, each_fits, fits_outs, given_by, given_in, given_under, has_own, is_fit, list_fits, member_count, member_fits, own_count, raised, raised_in, result_in};
+ghost use Rattle.giop_commands.specs.AnswerFiles.{answers_in, are_fit, default_count, default_formed, each_fits, fits_outs, has_own, is_fit, list_fits, member_count, member_fits, own_count};
+ghost use Rattle.giop_commands.specs.AnswerForms.{given_by, given_in, given_under, raised, raised_in, result_in};
 
 use crate::serve::general::general_of;
-use crate::serve::in_turn::{Passed, due_in};
+use crate::serve::given::Sending;
+use crate::serve::in_turn::due_in;
 use crate::serve::is_a::is_a_of;
+use crate::serve::let_out::is_let_out;
 use crate::session::json::{is_object_of, octets_of, values_of};
 use giop_cdr::OctetList;
 use giop_ior::Ior;
 use giop_msg::Completion;
-use giop_types::{FormFault, Interface, Operation, Parameter, Parameters, ValueList, parse_json};
+use giop_types::{
+    FormFault, Interface, Offer, Operation, Parameter, Parameters, ValueList, parse_json,
+};
 use serde_json::Value as Json;
 use std::alloc::{AllocError, Global};
 
@@ -56,30 +62,24 @@ pub struct Answers {
 }
 
 impl Answers {
-    /// What an operation of this name is answered, by the interface for which the answers were
-    /// read, where some are passed. `None` where nothing is given, as for a oneway operation.
+    /// What an operation of this name is answered, by what the object offers for which the answers
+    /// were read, where so many of its answers are passed. `None` where nothing is given, as for a
+    /// oneway operation.
     pub fn given(
         &self,
         alloc: Global,
-        interface: &Interface,
-        passed: &Passed,
+        offer: &Offer,
+        passed: usize,
         name: &[u8],
     ) -> Result<Option<AnswerGiven>, AllocError>
         ensures { IfOk result (λ given. given
-            ≡ given_in interface.now (view self.now.json) passed.now.names.items name.now) }
+            ≡ given_in offer.now (view self.now.json) passed name.now) }
     {
-        let operation = match interface.operation(name) {
+        let operation = match offer.operation(name) {
             Some(operation) if !operation.oneway => operation,
             _ => return Ok(None),
         };
-        match given_under(
-            alloc,
-            interface,
-            name,
-            &self.json,
-            passed.of(name),
-            operation,
-        ) {
+        match given_under(alloc, offer, name, &self.json, passed, operation) {
             Ok(given) => Ok(given),
             Err(FormFault::NoMemory) => Err(AllocError),
             Err(_) => Ok(None),
@@ -106,23 +106,26 @@ impl Answers {
 /// - BadShape, where it, or a part of it, has another form, or an exception isn't in the interface.
 /// - Unfit, where a value doesn't fit, or there are more or fewer values than outs or members, or
 ///   `is_a` answers an operation whose outs aren't one boolean, a minor code is no unsigned long, a
-///   completion is above 2, or octets spell no reference of a corbaloc.
+///   completion is above 2, or octets spell no reference of a corbaloc; or where the Reply of an
+///   answer to a Request that wants its outs is one that no version lets out, in this form and
+///   within these limits.
 pub fn answers_from_json(
     alloc: Global,
     interface: &Interface,
+    sending: Sending,
     text: &[u8],
 ) -> Result<Answers, FormFault>
-    ensures ok { IfOk result (λ answers. answers_in interface.now text.now
+    ensures ok { IfOk result (λ answers. answers_in interface.now sending text.now
         ≡ Ok (view answers.json)) }
     ensures err { IfErr result
-        (λ e. (e ≡ NoMemory) ⊎ (answers_in interface.now text.now ≡ Err e)) }
+        (λ e. (e ≡ NoMemory) ⊎ (answers_in interface.now sending text.now ≡ Err e)) }
 {
     let json = parse_json(alloc, text)?;
     if !is_object_of(member_count(alloc, interface, &json)?, &json) {
         return Err(FormFault::BadShape);
     }
     default_formed(alloc, interface, &json)?;
-    if are_fit(alloc, interface, &json)? {
+    if are_fit(alloc, interface, sending, &json)? {
         Ok(Answers { json })
     } else {
         Err(FormFault::Unfit)
@@ -184,19 +187,24 @@ fn default_formed(alloc: Global, interface: &Interface, json: &Json) -> Result<b
         (default_formed interface.now (get (codes "*") (view json.now))) }
 {
     if let Some(given) = json.get("*") {
-        given_of(alloc, interface, &[], given)?;
+        given_of(alloc, interface.general(), &[], given)?;
     }
     Ok(true)
 }
 
 // Whether what is given for each operation fits.
-fn are_fit(alloc: Global, interface: &Interface, json: &Json) -> Result<bool, FormFault>
+fn are_fit(
+    alloc: Global,
+    interface: &Interface,
+    sending: Sending,
+    json: &Json,
+) -> Result<bool, FormFault>
     ensures { Shows (λ fit. fit) result
-        (are_fit interface.now (view json.now) interface.now.general.operations.entries) }
+        (are_fit interface.now sending (view json.now) interface.now.general.operations.entries) }
 {
     let mut fit = true;
     for (name, operation) in interface.operations().iter() {
-        let one = is_fit(alloc, interface, json, name.as_slice(), operation)?;
+        let one = is_fit(alloc, interface, sending, json, name.as_slice(), operation)?;
         fit = fit && one;
     }
     Ok(fit)
@@ -206,12 +214,13 @@ fn are_fit(alloc: Global, interface: &Interface, json: &Json) -> Result<bool, Fo
 fn is_fit(
     alloc: Global,
     interface: &Interface,
+    sending: Sending,
     json: &Json,
     name: &[u8],
     operation: &Operation,
 ) -> Result<bool, FormFault>
     ensures { Shows (λ fit. fit) result
-        (is_fit interface.now (view json.now) name.now operation.now) }
+        (is_fit interface.now sending (view json.now) name.now operation.now) }
 {
     if operation.oneway {
         return Ok(true);
@@ -219,10 +228,10 @@ fn is_fit(
     let wanted = operation.outs.as_slice();
     let key = text_of(alloc, name)?;
     if let Some(own) = json.get(key.as_str()) {
-        return member_fits(alloc, interface, wanted, own);
+        return member_fits(alloc, interface, sending, name, wanted, own);
     }
     match json.get("*") {
-        Some(given) => fits_outs(alloc, interface, wanted, given),
+        Some(given) => fits_outs(alloc, interface, sending, name, wanted, given),
         None => Err(FormFault::BadShape),
     }
 }
@@ -231,30 +240,34 @@ fn is_fit(
 fn member_fits(
     alloc: Global,
     interface: &Interface,
+    sending: Sending,
+    name: &[u8],
     outs: &[Parameter],
     json: &Json,
 ) -> Result<bool, FormFault>
     ensures { Shows (λ fit. fit) result
-        (member_fits interface.now outs.now (view json.now) (as_array (view json.now))) }
+        (member_fits interface.now sending name.now outs.now (view json.now) (as_array (view json.now))) }
 {
     match json.as_array() {
-        None => fits_outs(alloc, interface, outs, json),
-        Some(list) => list_fits(alloc, interface, outs, list.as_slice()),
+        None => fits_outs(alloc, interface, sending, name, outs, json),
+        Some(list) => list_fits(alloc, interface, sending, name, outs, list.as_slice()),
     }
 }
 
 fn list_fits(
     alloc: Global,
     interface: &Interface,
+    sending: Sending,
+    name: &[u8],
     outs: &[Parameter],
     list: &[Json],
 ) -> Result<bool, FormFault>
     ensures { Shows (λ fit. fit) result
-        (list_fits interface.now outs.now (items_view list.now)) }
+        (list_fits interface.now sending name.now outs.now (items_view list.now)) }
 {
     match list {
         [] => Err(FormFault::BadShape),
-        _ => each_fits(alloc, interface, outs, list),
+        _ => each_fits(alloc, interface, sending, name, outs, list),
     }
 }
 
@@ -262,15 +275,17 @@ fn list_fits(
 fn each_fits(
     alloc: Global,
     interface: &Interface,
+    sending: Sending,
+    name: &[u8],
     outs: &[Parameter],
     list: &[Json],
 ) -> Result<bool, FormFault>
     ensures { Shows (λ fit. fit) result
-        (each_fits interface.now outs.now (items_view list.now)) }
+        (each_fits interface.now sending name.now outs.now (items_view list.now)) }
 {
     let mut all = true;
     for json in list {
-        let one = fits_outs(alloc, interface, outs, json)?;
+        let one = fits_outs(alloc, interface, sending, name, outs, json)?;
         all = both(all, one);
     }
     Ok(all)
@@ -282,31 +297,35 @@ fn both(one: bool, other: bool) -> bool
     one && other
 }
 
-// Whether an answer fits an operation with these outs.
+// Whether an answer fits an operation with these outs, and goes out.
 fn fits_outs(
     alloc: Global,
     interface: &Interface,
+    sending: Sending,
+    name: &[u8],
     outs: &[Parameter],
     json: &Json,
 ) -> Result<bool, FormFault>
-    ensures { Shows (λ fit. fit) result (fits_outs interface.now outs.now (view json.now)) }
+    ensures { Shows (λ fit. fit) result (fits_outs interface.now sending name.now outs.now (view json.now)) }
 {
-    let given = given_of(alloc, interface, outs, json)?;
-    Ok(given.is_some())
+    match given_of(alloc, interface.general(), outs, json)? {
+        Some(given) => Ok(is_let_out(alloc, interface, sending, name, given)?),
+        None => Ok(false),
+    }
 }
 
 // What an operation is answered behind so many answers of its list, by the member of its name, else
 // by the default.
 fn given_under(
     alloc: Global,
-    interface: &Interface,
+    offer: &Offer,
     name: &[u8],
     json: &Json,
     n: usize,
     operation: &Operation,
 ) -> Result<Option<AnswerGiven>, FormFault>
     ensures { Shows (λ given. given) result
-        (given_under interface.now name.now (view json.now) n operation.now) }
+        (given_under offer.now name.now (view json.now) n operation.now) }
 {
     let outs = operation.outs.as_slice();
     let key = text_of(alloc, name)?;
@@ -315,7 +334,7 @@ fn given_under(
         None => json.get("*"),
     };
     match given {
-        Some(given) => given_of(alloc, interface, outs, given),
+        Some(given) => given_of(alloc, offer, outs, given),
         None => Err(FormFault::BadShape),
     }
 }
@@ -324,12 +343,12 @@ fn given_under(
 // doesn't fit.
 fn given_of(
     alloc: Global,
-    interface: &Interface,
+    offer: &Offer,
     outs: &[Parameter],
     json: &Json,
 ) -> Result<Option<AnswerGiven>, FormFault>
     ensures { Shows (λ given. given) result
-        (given_by interface.now outs.now (view json.now)) }
+        (given_by offer.now outs.now (view json.now)) }
 {
     if let Some(values) = json.get("ok") {
         if !is_object_of(1, json) {
@@ -341,7 +360,7 @@ fn given_of(
         if !is_object_of(2, json) {
             return Err(FormFault::BadShape);
         }
-        return exception_of(alloc, interface, id, json);
+        return exception_of(alloc, offer, id, json);
     }
     if let Some(id) = json.get("is_a") {
         return is_a_of(alloc, outs, id, json);
@@ -366,18 +385,18 @@ fn result_of(
 // An exception of the interface, by its id and the object that has its members.
 fn exception_of(
     alloc: Global,
-    interface: &Interface,
+    offer: &Offer,
     id: &Json,
     json: &Json,
 ) -> Result<Option<AnswerGiven>, FormFault>
     ensures { Shows (λ given. given) result
-        (raised_in interface.now (view id.now) (view json.now)) }
+        (raised_in offer.now (view id.now) (view json.now)) }
 {
     let id = octets_of(alloc, id)?;
     let Some(members) = json.get("members") else {
         return Err(FormFault::BadShape);
     };
-    match interface.exception(id.as_slice()) {
+    match offer.exception(id.as_slice()) {
         Some(parameters) => raised(alloc, parameters, id, members),
         None => Err(FormFault::BadShape),
     }

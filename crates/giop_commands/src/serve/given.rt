@@ -6,21 +6,38 @@ use crate::serve::answers::Answers;
 use giop_session::{Form, Limits};
 use giop_types::Interface;
 
-/// The object that is served, how, and within which limits.
+/// An object that is served.
+#[derive(Clone, Copy)]
+pub struct ServedObject<'a> {
+    /// Its key.
+    pub key: &'a [u8],
+    /// What its operations are answered.
+    pub answers: &'a Answers,
+}
+
+/// The objects that are served, how, and within which limits.
 #[derive(Clone, Copy)]
 pub struct Serving<'a> {
-    /// The operations of the object.
+    /// What the objects offer.
     pub interface: &'a Interface,
-    /// What the operations are answered.
-    pub answers: &'a Answers,
-    /// The key of the object.
-    pub key: &'a [u8],
+    /// The objects; of those of one key the first.
+    pub objects: &'a [ServedObject<'a>],
     /// The form of what is sent.
     pub form: Form,
     /// What the end holds at most.
     pub limits: Limits,
     ghost sent: { IsForm form },
     ghost bounded: { AreLimits limits },
+}
+
+/// How answers are sent.
+#[derive(Clone, Copy)]
+pub struct Sending {
+    /// The form of what is sent.
+    pub form: Form,
+    /// What the end holds at most.
+    pub limits: Limits,
+    pub ghost sent: { IsForm form },
 }
 
 /// When the calls of a connection are told.

@@ -1,22 +1,34 @@
 //! Which of an operation's answers were given, where a file lists several. Its meaning is
 //! specs/InTurn.antt: change both.
-ghost use Rattle.std.specs.Prelude.{◌≡◌, ◌++◌, ◌∷◌, [], option_map, IfOk, OnOk};
+ghost use Rattle.std.specs.Prelude.{◌≡◌, ◌++◌, ◌∷◌, [], map, option_map, IfOk, OnOk};
 ghost use Rattle.serde_json.specs.View.{view};
-ghost use Rattle.giop_commands.specs.InTurn.{due_in, has_next, passed_behind, passed_by, passed_for, passed_of};
+ghost use Rattle.giop_commands.specs.InTurn.{due_in, has_next, passed_at, passed_behind, passed_by, passed_for, passed_of};
+ghost use Rattle.giop_commands.specs.Objects.{object_of};
 
 use crate::serve::answering::Answer;
-use crate::serve::answers::{Answers, text_of};
+use crate::serve::answers::text_of;
+use crate::serve::given::ServedObject;
+use crate::serve::objects::object_for;
 use giop_calls::ServerEntry;
 use giop_cdr::OctetList;
 use giop_msg::Request;
 use serde_json::Value as Json;
 use std::alloc::{AllocError, Global};
 
+/// Whose an answer is.
+#[derive(Debug, Drop)]
+pub struct AnswerName {
+    /// The key of the object.
+    pub key: OctetList,
+    /// The name of the operation.
+    pub operation: OctetList,
+}
+
 /// Which answers of lists were given and have another behind them.
 #[derive(Debug, Drop)]
 pub struct Passed {
-    /// For each of them the name of its operation.
-    pub names: Vec<OctetList>,
+    /// For each of them whose it is.
+    pub names: Vec<AnswerName>,
 }
 
 impl Passed {
@@ -29,14 +41,14 @@ impl Passed {
         }
     }
 
-    /// How many of an operation's are passed.
-    pub fn of(&self, name: &[u8]) -> usize
-        ensures { result ≡ passed_of self.now.names.items name.now }
+    /// How many are passed of an operation of the object of a key.
+    pub fn of(&self, key: &[u8], name: &[u8]) -> usize
+        ensures { result ≡ passed_of self.now.names.items key.now name.now }
     {
         let names = self.names.as_slice();
         let mut count: usize = 0;
         for other in names {
-            if other.as_slice() == name {
+            if other.key.as_slice() == key && other.operation.as_slice() == name {
                 count += 1;
             }
         }
@@ -48,15 +60,15 @@ impl Passed {
     pub fn pass(
         &mut self,
         alloc: Global,
-        answers: &Answers,
+        objects: &[ServedObject<'_>],
         entry: &ServerEntry,
         answer: Answer,
     ) -> Result<(), AllocError>
         ensures { OnOk result (self.new.names.items
-            ≡ passed_behind (view answers.now.json) self.old.names.items entry.now answer) }
+            ≡ passed_behind (map object_of objects.now) self.old.names.items entry.now answer) }
     {
         match entry {
-            ServerEntry::Asked { request } => self.pass_for(alloc, answers, request, answer),
+            ServerEntry::Asked { request } => self.pass_for(alloc, objects, request, answer),
             _ => Ok(()),
         }
     }
@@ -65,44 +77,73 @@ impl Passed {
     fn pass_for(
         &mut self,
         alloc: Global,
-        answers: &Answers,
+        objects: &[ServedObject<'_>],
         request: &Request,
         answer: Answer,
     ) -> Result<(), AllocError>
         ensures { OnOk result (self.new.names.items
-            ≡ passed_for (view answers.now.json) self.old.names.items request.now answer) }
+            ≡ passed_for (map object_of objects.now) self.old.names.items request.now answer) }
     {
         match answer {
             Answer::Given { .. } => {
+                let object = object_for(objects, &request.head.target);
                 let name = request.head.operation.as_slice();
-                self.pass_one(alloc, answers, name)
+                self.pass_at(alloc, object, name)
             }
             _ => Ok(()),
         }
     }
 
-    // Passes the answer that is due to an operation, where another stands behind it.
-    fn pass_one(&mut self, alloc: Global, answers: &Answers, name: &[u8]) -> Result<(), AllocError>
+    // Passes the answer that is due to an operation of an object, where that is served and another
+    // answer stands behind it.
+    fn pass_at(
+        &mut self,
+        alloc: Global,
+        object: Option<ServedObject<'_>>,
+        name: &[u8],
+    ) -> Result<(), AllocError>
         ensures { OnOk result (self.new.names.items
-            ≡ passed_by (view answers.now.json) self.old.names.items name.now) }
+            ≡ passed_at (option_map object_of object.entry) self.old.names.items name.now) }
     {
-        if self.has_next(alloc, answers, name)? {
-            let name = OctetList::from_slice(alloc, name)?;
-            self.names.push(name)?;
+        match object {
+            Some(object) => self.pass_one(alloc, object, name),
+            None => Ok(()),
+        }
+    }
+
+    // Passes the answer that is due to an operation, where another stands behind it.
+    fn pass_one(
+        &mut self,
+        alloc: Global,
+        object: ServedObject<'_>,
+        name: &[u8],
+    ) -> Result<(), AllocError>
+        ensures { OnOk result (self.new.names.items
+            ≡ passed_by (object_of object.entry) self.old.names.items name.now) }
+    {
+        if self.has_next(alloc, object, name)? {
+            let key = OctetList::from_slice(alloc, object.key)?;
+            let operation = OctetList::from_slice(alloc, name)?;
+            self.names.push(AnswerName { key, operation })?;
         }
         Ok(())
     }
 
     // Whether an answer stands behind that which is due to an operation.
-    fn has_next(&self, alloc: Global, answers: &Answers, name: &[u8]) -> Result<bool, AllocError>
+    fn has_next(
+        &self,
+        alloc: Global,
+        object: ServedObject<'_>,
+        name: &[u8],
+    ) -> Result<bool, AllocError>
         ensures { IfOk result (λ next. next
-            ≡ has_next (view answers.now.json) self.now.names.items name.now) }
+            ≡ has_next (object_of object.entry) self.now.names.items name.now) }
     {
-        let key = text_of(alloc, name)?;
-        let Some(own) = answers.json.get(key.as_str()) else {
+        let text = text_of(alloc, name)?;
+        let Some(own) = object.answers.json.get(text.as_str()) else {
             return Ok(false);
         };
-        match self.of(name).checked_add(1) {
+        match self.of(object.key, name).checked_add(1) {
             Some(next) => Ok(own.get(next).is_some()),
             None => Err(AllocError),
         }

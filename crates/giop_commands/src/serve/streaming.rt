@@ -19,6 +19,7 @@ use crate::failure::Failure;
 use crate::form::{LineForm, write_line};
 use crate::serve::given::Serving;
 use crate::serve::in_turn::Passed;
+use crate::serve::shown::{AnsweredObject, AnsweredShownLine, question_shown};
 use crate::serve::table::request_ins;
 use crate::serve::{answer_all, serve_status, write_connection};
 use crate::session::ending::{Ending, ending_of};
@@ -75,20 +76,23 @@ fn write_answered<W: Write>(
     let ins = question_ins(alloc, lines.numbers(), interface, asked)?;
     let brought = question_brought(alloc, lines.numbers(), interface, asked, body)?;
     let (ins, brought) = (ins.as_str(), brought.as_str());
-    let text = AnsweredLine {
+    let shown = question_shown(alloc, lines, interface, asked)?;
+    let line = AnsweredLine {
         id,
         asked,
         ins,
         body,
         brought,
     };
-    let json = AnsweredJson {
+    let object = AnsweredJson {
         id,
         asked,
         ins,
         body,
         brought,
     };
+    let text = AnsweredShownLine(line, shown.as_str());
+    let json = AnsweredObject(object, shown.as_str());
     write_line(lines, text, json, writer)
 }
 

@@ -6,9 +6,10 @@ ghost use Rattle.giop_commands.specs.Bodies.{ins_text, request_ins};
 
 use crate::failure::Failure;
 use crate::form::{LineForm, write_line};
+use crate::serve::shown::{EntryObject, EntryShownLine, entry_shown};
 use crate::session::table::Tabled;
 use giop_calls::{ServerEntry, ServerRule};
-use giop_lines::{ServerEntryJson, ServerEntryLine};
+use giop_lines::ServerEntryLine;
 use giop_msg::Request;
 use giop_types::{Interface, NumberForm, values_to_text};
 use std::alloc::{AllocError, Global};
@@ -29,10 +30,16 @@ impl Tabled for ServerRule {
     ) -> Result<(), Failure> {
         let ins = ins_text(alloc, lines.numbers(), interface, entry)?;
         let ins = ins.as_str();
-        let (text, json) = (
-            ServerEntryLine { id, entry, ins },
-            ServerEntryJson { id, entry, ins },
-        );
+        let shown = entry_shown(alloc, lines, interface, entry)?;
+        let shown = shown.as_str();
+        let line = ServerEntryLine { id, entry, ins };
+        let text = EntryShownLine(line, shown);
+        let json = EntryObject {
+            id,
+            entry,
+            ins,
+            shown,
+        };
         write_line(lines, text, json, writer)
     }
 }
@@ -63,7 +70,7 @@ pub fn request_ins(
     ensures { IfOk result (λ text. string_bytes text ≡ request_ins numbers interface.now request.now) }
 {
     let values = request.body.as_slice();
-    match interface.operation(request.head.operation.as_slice()) {
+    match request.head.operation_asked(interface) {
         Some(operation) => values_to_text(alloc, numbers, operation.ins.as_slice(), values),
         None => values_to_text(alloc, numbers, &[], values),
     }

@@ -2,10 +2,11 @@
 //! program (tests/cases/serving).
 use crate::tests::session_files::interface;
 use giop_commands::serve::answers::{Answers, answers_from_json};
+use giop_commands::serve::given::{Sending, ServedObject};
 use giop_commands::serve::in_turn::Passed;
 use giop_commands::serve_session;
 use giop_commands::status::Status;
-use giop_session::Form;
+use giop_session::{Form, Limits};
 use giop_types::Interface;
 use std::alloc::Global;
 use std::io;
@@ -17,7 +18,12 @@ const KEY: &[u8] = b"k";
 const ANSWERS: &str = "{\"ping\":{\"ok\":[]},\"add\":{\"ok\":[7]},\"list\":{\"ok\":[]}}";
 
 fn answers(alloc: Global, interface: &Interface, text: &str) -> Result<Answers, Fail> {
-    match answers_from_json(alloc, interface, text.as_bytes()) {
+    let form = Form::default();
+    if !form.is_valid() {
+        return Err(Fail::new("the form is none"));
+    }
+    let limits = Limits::default();
+    match answers_from_json(alloc, interface, Sending { form, limits }, text.as_bytes()) {
         Ok(answers) => Ok(answers),
         Err(_) => Err(Fail::new("the answers are refused")),
     }
@@ -56,14 +62,17 @@ fn served<R: Read, W: Write>(
         return Err(Fail::new("the form is none"));
     }
     let mut passed = Passed::new(alloc);
+    let objects = [ServedObject {
+        key: KEY,
+        answers: &answers,
+    }];
     let mut out: Vec<u8> = Vec::new(alloc);
     Ok(serve_session(
         alloc,
         1,
         &interface,
-        &answers,
+        &objects,
         &mut passed,
-        KEY,
         form,
         reader,
         writer,

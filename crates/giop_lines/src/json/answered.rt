@@ -37,9 +37,9 @@ impl fmt::Display for AnsweredJson<'_> {
     }
 }
 
-// That it was answered, and the members behind that.
+/// That it was answered, and the members behind that.
 #[derive(Clone, Copy)]
-struct AnswerJson<'a>(AnsweredJson<'a>);
+pub struct AnswerJson<'a>(pub AnsweredJson<'a>);
 
 impl fmt::Display for AnswerJson<'_> {
     ghost use Rattle.std.specs.Prelude.{Some};

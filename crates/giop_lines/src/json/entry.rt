@@ -32,9 +32,10 @@ impl fmt::Display for ServerEntryJson<'_> {
     }
 }
 
-// What an entry is, and the members behind that.
+/// What an entry is, with the ins of a Request that was decoded as a JSON list, and the members
+/// behind that.
 #[derive(Clone, Copy)]
-struct EntryJson<'a>(&'a ServerEntry, &'a str);
+pub struct EntryJson<'a>(pub &'a ServerEntry, pub &'a str);
 
 impl fmt::Display for EntryJson<'_> {
     ghost use Rattle.std.specs.Prelude.{Some};

@@ -4,6 +4,7 @@ ghost use Rattle.std.specs.Prelude.{IfOk};
 ghost use Rattle.giop_session.specs.Acts.Form.{IsForm};
 ghost use Rattle.giop_commands.specs.Check.{AreLimits};
 
+use crate::cli::file_words::{FileWord, answers, apart_from, interfaces};
 use crate::cli::form_words::{json, json_numbers, lines_of};
 use crate::cli::limit_words::{limited, limits_of};
 use crate::files::apart;
@@ -21,8 +22,8 @@ pub struct CallWords<'a> {
     /// The text of the object's reference, or a corbaloc; behind `@` the name of a file of it, or `-`
     /// for the standard input.
     pub target: &'a str,
-    /// The name of the interface's file, or `-` for the standard input.
-    pub interface: &'a str,
+    /// The files of interfaces.
+    pub interfaces: Vec<FileWord<'a>>,
     /// The name of the file of the calls, or `-` for the standard input; or that of an operation,
     /// where there are values of its ins, or no such file.
     pub file: &'a str,
@@ -45,14 +46,14 @@ pub struct CallWords<'a> {
 }
 
 /// What `serve` is asked for.
-#[derive(Clone, Copy, Debug)]
+#[derive(Debug, Drop)]
 pub struct ServeWords<'a> {
     /// The port, 1 to 65,535; 0 for one that is free.
     pub port: u16,
-    /// The name of the interface's file, or `-` for the standard input.
-    pub interface: &'a str,
-    /// The name of the file of the answers, or `-` for the standard input.
-    pub answers: &'a str,
+    /// The files of interfaces.
+    pub interfaces: Vec<FileWord<'a>>,
+    /// The files of answers.
+    pub answers: Vec<FileWord<'a>>,
     /// The object key.
     pub key: KeyWord<'a>,
     /// The name of the file that the object's reference is written to, if one is given.
@@ -178,7 +179,7 @@ pub fn call<'a>(alloc: Global) -> Result<Command<'a>, AllocError> {
         .about("Calls operations of an object, and shows the replies")
         .after_help(CALL_HELP)
         .arg(target(alloc))?
-        .arg(interface(alloc))?
+        .arg(interfaces(alloc))?
         .arg(json(alloc))?
         .arg(json_numbers(alloc))?
         .arg(stream(alloc))?
@@ -196,11 +197,6 @@ pub fn serve<'a>(alloc: Global) -> Result<Command<'a>, AllocError> {
     )
     .required(true)
     .value_parser(ValueParser::Unsigned(0, 65_535));
-    let answers = Arg::new(alloc, "answers")
-        .long("answers")
-        .required(true)
-        .value_name("FILE")
-        .help("The file of the answers, in JSON");
     let connections = number(
         alloc,
         "connections",
@@ -220,8 +216,8 @@ pub fn serve<'a>(alloc: Global) -> Result<Command<'a>, AllocError> {
         .about("Answers the calls of one object")
         .after_help(SERVE_HELP)
         .arg(port)?
-        .arg(interface(alloc))?
-        .arg(answers)?
+        .arg(interfaces(alloc))?
+        .arg(answers(alloc))?
         .arg(key(alloc))?
         .arg(key_text(alloc))?
         .group(one_key(alloc)?)?
@@ -288,14 +284,6 @@ pub fn timeout<'a>(alloc: Global) -> Arg<'a> {
         .help("Gives up, with status 3, where nothing comes or goes for so long")
 }
 
-fn interface<'a>(alloc: Global) -> Arg<'a> {
-    Arg::new(alloc, "interface")
-        .long("interface")
-        .required(true)
-        .value_name("FILE")
-        .help("The file of the interface, in JSON")
-}
-
 fn number<'a>(alloc: Global, name: &'a str, help: &'a str) -> Arg<'a> {
     Arg::new(alloc, name).long(name).value_name("N").help(help)
 }
@@ -320,23 +308,20 @@ pub fn little<'a>(alloc: Global) -> Arg<'a> {
         .help("Messages are sent little-endian, not big-endian")
 }
 
-/// What `call` is asked for with these values, or what is wrong with a word.
+/// What `call` is asked for with these files and values, or what is wrong with a word.
 pub fn call_words<'a>(
     matches: &ArgMatches<'a>,
+    interfaces: Vec<FileWord<'a>>,
     values: Vec<&'a str>,
 ) -> Result<CallWords<'a>, &'static str> {
     let form = form_of(matches)?;
     let limits = limits_of(matches)?;
-    let (Some(target), Some(interface), Some(file)) = (
-        matches.get_str("target"),
-        matches.get_str("interface"),
-        matches.get_str("FILE"),
-    ) else {
-        return Err("--target, --interface and FILE are wanted");
+    let (Some(target), Some(file)) = (matches.get_str("target"), matches.get_str("FILE")) else {
+        return Err("--target and FILE are wanted");
     };
-    apart(interface, file)?;
+    apart_from(interfaces.as_slice(), file)?;
     if let Some(reference) = target.strip_prefix('@') {
-        apart(reference, interface)?;
+        apart_from(interfaces.as_slice(), reference)?;
         apart(reference, file)?;
     }
     let (telling, follow) = (telling_of(matches), matches.get_flag("follow"));
@@ -345,7 +330,7 @@ pub fn call_words<'a>(
     }
     Ok(CallWords {
         target,
-        interface,
+        interfaces,
         file,
         values,
         telling,
@@ -365,8 +350,12 @@ pub fn values_of<'a>(alloc: Global, matches: &ArgMatches<'a>) -> Result<Vec<&'a 
     }
 }
 
-/// What `serve` is asked for, or what is wrong with a word.
-pub fn serve_words<'a>(matches: &ArgMatches<'a>) -> Result<ServeWords<'a>, &'static str> {
+/// What `serve` is asked for with these files, or what is wrong with a word.
+pub fn serve_words<'a>(
+    matches: &ArgMatches<'a>,
+    interfaces: Vec<FileWord<'a>>,
+    answers: Vec<FileWord<'a>>,
+) -> Result<ServeWords<'a>, &'static str> {
     let form = form_of(matches)?;
     let limits = limits_of(matches)?;
     let Some(port) = port_of(matches) else {
@@ -375,16 +364,13 @@ pub fn serve_words<'a>(matches: &ArgMatches<'a>) -> Result<ServeWords<'a>, &'sta
     let Some(connections) = connections_of(matches) else {
         return Err("--connections is a number from 1 to 65535, in decimal digits");
     };
-    let (Some(interface), Some(answers)) = (
-        matches.get_str("interface"),
-        matches.get_str("answers"),
-    ) else {
-        return Err("--interface and --answers are wanted");
-    };
-    apart(interface, answers)?;
+    for answer in &answers {
+        apart_from(interfaces.as_slice(), answer.file)?;
+    }
+    apart_from(answers.as_slice(), "")?;
     Ok(ServeWords {
         port,
-        interface,
+        interfaces,
         answers,
         key: key_of(matches)?,
         ior_file: matches.get_str("ior-file"),

@@ -3,6 +3,8 @@
 
 use crate::places::sessions::{arguments_place, key, leaf_place, whole};
 use giop_commands::serve::answers::answers_from_json;
+use giop_commands::serve::given::Sending;
+use giop_session::Limits;
 use giop_types::{FormFault, Interface, parse_json};
 use giop_where::{NoPlace, Part, Place, Role, Step, fault_code};
 use serde_json::{Value as Json, json};
@@ -18,18 +20,38 @@ const GENERAL_PARTS: [(&str, Role, &str); 5] = [
     ("system", Role::Value, "string"),
 ];
 
-/// Where the texts of an interface and of answers, which are refused with this fault, have it.
+/// Limits that no answer passes.
+pub const WIDE: Limits = Limits {
+    calls: u32::MAX,
+    message: u32::MAX,
+    gathered: u64::MAX,
+};
+
+// The number of the fault that is sought, and how answers are sent.
+#[derive(Clone, Copy)]
+struct Sought {
+    number: u8,
+    sending: Sending,
+}
+
+/// Where the texts of an interface and of answers, which are sent so and are refused with
+/// this fault, have it.
 pub fn of_answers(
     alloc: Global,
     interface: &[u8],
     answers: &[u8],
+    sending: Sending,
     fault: FormFault,
 ) -> Option<Place> {
     let (Ok(offered), Ok(answers)) = (parse_json(alloc, interface), parse_json(alloc, answers))
     else {
         return None;
     };
-    match answers_place(alloc, &offered, &answers, fault_code(fault)) {
+    let sought = Sought {
+        number: fault_code(fault),
+        sending,
+    };
+    match answers_place(alloc, &offered, &answers, sought) {
         Ok(place) => Some(place),
         Err(_) => None,
     }
@@ -39,17 +61,17 @@ fn answers_place(
     alloc: Global,
     offered: &Json,
     answers: &Json,
-    number: u8,
+    sought: Sought,
 ) -> Result<Place, NoPlace> {
     let Some(object) = answers.as_object() else {
-        return whole(alloc, Role::Answers, answers, number);
+        return whole(alloc, Role::Answers, answers, sought.number);
     };
     for (name, answer) in object.iter() {
-        if let Some(place) = member_place(alloc, offered, answers, name.as_str(), answer, number)? {
+        if let Some(place) = member_place(alloc, offered, answers, name.as_str(), answer, sought)? {
             return Ok(place.under(Step::Key(name.clone()?))?);
         }
     }
-    whole(alloc, Role::Answers, answers, number)
+    whole(alloc, Role::Answers, answers, sought.number)
 }
 
 // Where the member of a name has the fault, if the answer there is refused with it.
@@ -59,16 +81,16 @@ fn member_place(
     answers: &Json,
     name: &str,
     answer: &Json,
-    number: u8,
+    sought: Sought,
 ) -> Result<Option<Place>, NoPlace> {
     let none = json!(in alloc; {})?;
     let operations = offered.get("operations").unwrap_or(&none);
     match operations.get(name) {
-        Some(operation) => answer_place(alloc, offered, name, operation, answer, number),
-        None if name == "*" => default_place(alloc, offered, operations, answers, answer, number),
+        Some(operation) => answer_place(alloc, offered, name, operation, answer, sought),
+        None if name == "*" => default_place(alloc, offered, operations, answers, answer, sought),
         None => {
             let name = Json::try_from_str(alloc, name)?;
-            Ok(Some(whole(alloc, Role::Offered, &name, number)?))
+            Ok(Some(whole(alloc, Role::Offered, &name, sought.number)?))
         }
     }
 }
@@ -81,10 +103,10 @@ fn default_place(
     operations: &Json,
     answers: &Json,
     answer: &Json,
-    number: u8,
+    sought: Sought,
 ) -> Result<Option<Place>, NoPlace> {
     if answer.is_array() {
-        return default_list(alloc, answer, number);
+        return default_list(alloc, answer, sought.number);
     }
     if let Some(operations) = operations.as_object() {
         for (name, operation) in operations.iter() {
@@ -93,17 +115,17 @@ fn default_place(
                 continue;
             }
             let (name, operation) = (name.as_str(), operation);
-            let place = answer_place(alloc, offered, name, operation, answer, number)?;
+            let place = answer_place(alloc, offered, name, operation, answer, sought)?;
             if place.is_some() {
                 return Ok(place);
             }
         }
     }
-    if number != fault_code(FormFault::BadShape) {
+    if sought.number != fault_code(FormFault::BadShape) {
         return Ok(None);
     }
     let none = json!(in alloc; {})?;
-    answer_place(alloc, offered, "", &none, answer, number)
+    answer_place(alloc, offered, "", &none, answer, sought)
 }
 
 // Where a list of answers has the fault that stands as a default.
@@ -122,20 +144,21 @@ fn answer_place(
     name: &str,
     operation: &Json,
     answer: &Json,
-    number: u8,
+    sought: Sought,
 ) -> Result<Option<Place>, NoPlace> {
-    if answer_refusal(alloc, offered, name, operation, answer)? != number {
+    let sending = sought.sending;
+    if answer_refusal(alloc, offered, name, operation, answer, sending)? != sought.number {
         return Ok(None);
     }
     if let Some(list) = answer.as_array() {
         for (i, one) in list.as_slice().iter().enumerate() {
-            if item_refusal(alloc, offered, name, operation, one)? == number {
-                let place = refused_answer(alloc, offered, operation, one, number)?;
+            if item_refusal(alloc, offered, name, operation, one, sending)? == sought.number {
+                let place = refused_answer(alloc, offered, operation, one, sought)?;
                 return Ok(Some(place.under(Step::Index(i))?));
             }
         }
     }
-    Ok(Some(refused_answer(alloc, offered, operation, answer, number)?))
+    Ok(Some(refused_answer(alloc, offered, operation, answer, sought)?))
 }
 
 // The number of the fault of an answer of a list, of which none is a list itself.
@@ -145,11 +168,12 @@ fn item_refusal(
     name: &str,
     operation: &Json,
     answer: &Json,
+    sending: Sending,
 ) -> Result<u8, AllocError> {
     if answer.is_array() {
         return Ok(fault_code(FormFault::BadShape));
     }
-    answer_refusal(alloc, offered, name, operation, answer)
+    answer_refusal(alloc, offered, name, operation, answer, sending)
 }
 
 // The number of the fault of an answer to an operation that stands alone in its interface, 0 where
@@ -160,6 +184,7 @@ fn answer_refusal(
     name: &str,
     operation: &Json,
     answer: &Json,
+    sending: Sending,
 ) -> Result<u8, AllocError> {
     let interface = match offered.get("exceptions") {
         Some(exceptions) => {
@@ -170,7 +195,7 @@ fn answer_refusal(
     let interface = interface.to_string(alloc)?;
     let text = json!(in alloc; {(name): answer})?.to_string(alloc)?;
     match Interface::from_json(alloc, interface.as_bytes()) {
-        Ok(interface) => match answers_from_json(alloc, &interface, text.as_bytes()) {
+        Ok(interface) => match answers_from_json(alloc, &interface, sending, text.as_bytes()) {
             Ok(_) => Ok(0),
             Err(FormFault::NoMemory) => Err(AllocError),
             Err(fault) => Ok(fault_code(fault)),
@@ -186,22 +211,30 @@ fn refused_answer(
     offered: &Json,
     operation: &Json,
     answer: &Json,
-    number: u8,
+    sought: Sought,
 ) -> Result<Place, NoPlace> {
     if let Some(values) = answer.get("ok") {
         let none = Json::Array(Vec::new(alloc));
         let outs = operation.get("outs").unwrap_or(&none);
-        return arguments_place(alloc, "ok", outs, values, answer, Role::Answer, number);
+        return arguments_place(
+            alloc,
+            "ok",
+            outs,
+            values,
+            answer,
+            Role::Answer,
+            sought.number,
+        );
     }
     if let Some(id) = answer.get("is_a") {
-        return match leaf_place(alloc, "is_a", "string", id, number)? {
+        return match leaf_place(alloc, "is_a", "string", id, sought.number)? {
             Some(place) => Ok(place),
-            None => whole(alloc, Role::Answer, answer, number),
+            None => whole(alloc, Role::Answer, answer, sought.number),
         };
     }
     match answer.get("user") {
-        Some(id) => raised_place(alloc, offered, id, answer, number),
-        None => general_place(alloc, answer, number),
+        Some(id) => raised_place(alloc, offered, id, answer, sought),
+        None => general_place(alloc, answer, sought),
     }
 }
 
@@ -211,10 +244,10 @@ fn raised_place(
     offered: &Json,
     id: &Json,
     answer: &Json,
-    number: u8,
+    sought: Sought,
 ) -> Result<Place, NoPlace> {
     let Some(values) = answer.get("members") else {
-        return whole(alloc, Role::Answer, answer, number);
+        return whole(alloc, Role::Answer, answer, sought.number);
     };
     match exception_of(offered, id) {
         Some(members) => {
@@ -225,11 +258,11 @@ fn raised_place(
                 values,
                 answer,
                 Role::Answer,
-                number,
+                sought.number,
             )
         }
         None => {
-            let place = whole(alloc, Role::Raised, id, number)?;
+            let place = whole(alloc, Role::Raised, id, sought.number)?;
             Ok(place.under(key(alloc, "user")?)?)
         }
     }
@@ -237,32 +270,41 @@ fn raised_place(
 
 // Where an answer that any operation may have has the fault: at the first of its parts that is
 // refused with it in the smallest answer that holds it, or as a whole.
-fn general_place(alloc: Global, answer: &Json, number: u8) -> Result<Place, NoPlace> {
+fn general_place(alloc: Global, answer: &Json, sought: Sought) -> Result<Place, NoPlace> {
     for (name, role, desc) in GENERAL_PARTS {
         if let Some(json) = answer.get(name) {
-            if general_refusal(alloc, name, json)? == number {
+            if general_refusal(alloc, name, json, sought.sending)? == sought.number {
                 let beside = Json::try_from_str(alloc, desc)?;
                 let part = Part {
                     role,
                     beside: &beside,
                     json,
                 };
-                let place = Place::find(alloc, part, number)?;
+                let place = Place::find(alloc, part, sought.number)?;
                 return Ok(place.under(key(alloc, name)?)?);
             }
         }
     }
-    whole(alloc, Role::Answer, answer, number)
+    whole(alloc, Role::Answer, answer, sought.number)
 }
 
 // The number of the fault of a part of such an answer, in the smallest answer that holds it.
-fn general_refusal(alloc: Global, name: &str, json: &Json) -> Result<u8, AllocError> {
+fn general_refusal(
+    alloc: Global,
+    name: &str,
+    json: &Json,
+    sending: Sending,
+) -> Result<u8, AllocError> {
     let answer = match name {
         "completion" | "minor" => json!(in alloc; {"system": "", (name): json})?,
         _ => json!(in alloc; {(name): json})?,
     };
     let none = json!(in alloc; {})?;
-    answer_refusal(alloc, &none, "", &none, &answer)
+    let wide = Sending {
+        form: sending.form,
+        limits: WIDE,
+    };
+    answer_refusal(alloc, &none, "", &none, &answer, wide)
 }
 
 // The members of the exception of this id, as JSON, where the interface has it.

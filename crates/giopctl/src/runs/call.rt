@@ -5,8 +5,9 @@ use crate::cli::CallWords;
 use crate::files::{FileFront, OUTPUT_BUFFER};
 use crate::places::sessions::{each_json, of_call, of_calls, of_words};
 use crate::runs::following::followed;
+use crate::runs::interfaces::{NOTHING, Offered, interface_of_each, own_of, read_each};
 use crate::runs::reach::{connected, endpoint_of, peer_of, target_text};
-use crate::runs::session::{interface_of, read, read_interface, refused_form, refused_words};
+use crate::runs::session::{refused_form, refused_words};
 use crate::{files, report};
 use giop_commands::call::calls::{CallLine, calls_from_json};
 use giop_commands::call::feed::LineFeed;
@@ -34,22 +35,23 @@ pub fn call(rt: &HostRuntime, words: CallWords) -> Status {
 
 fn called(rt: &HostRuntime, words: CallWords) -> Result<Status, Status> {
     let target = target_text(rt, words.target)?;
-    let offered = read_interface(rt, words.interface)?;
+    let offered = read_each(rt, words.interfaces.as_slice())?;
     let asked = asked_in(rt, &words, offered.as_slice())?;
     let endpoint = endpoint_of(rt, words.lines, words.target, target.as_slice())?;
-    let interface = interface_of(rt, words.lines, words.interface, &offered)?;
-    let offered = Offered {
-        text: offered.as_slice(),
+    interface_of_each(rt, words.lines, offered.as_slice())?;
+    let (interface, text) = object_of(rt, offered.as_slice(), endpoint.key.as_slice())?;
+    let object = Object {
+        text,
         interface: &interface,
     };
     let given = match asked {
-        Asked::Lines(file) => return call_lines(rt, file, offered, &endpoint, &words),
+        Asked::Lines(file) => return call_lines(rt, file, object, &endpoint, &words),
         Asked::Given(given) => given,
     };
     if words.follow {
-        return followed(rt, &words, offered, &given, &endpoint);
+        return followed(rt, &words, object, &given, &endpoint);
     }
-    let calls = calls_given(rt, &words, offered, &given)?;
+    let calls = calls_given(rt, &words, object, &given)?;
     let peer = peer_of(rt, words.target, &endpoint)?;
     let answered = call_at(
         rt,
@@ -76,10 +78,10 @@ pub fn calling_of<'a>(
     }
 }
 
-/// An interface, and its text.
+/// What the object that is called offers, also where it forwards calls to.
 #[derive(Clone, Copy)]
-pub struct Offered<'a> {
-    /// Its text.
+pub struct Object<'a> {
+    /// The text of its interface.
     pub text: &'a [u8],
     /// What that says.
     pub interface: &'a Interface,
@@ -103,9 +105,29 @@ pub enum Given {
     Words,
 }
 
-// Where the calls stand. One word is the name of a file, unless there is none and the interface of
-// this text has an operation of that name.
-fn asked_in(rt: &HostRuntime, words: &CallWords<'_>, interface: &[u8]) -> Result<Asked, Status> {
+// What the object of a key offers, and the text of that.
+fn object_of<'b>(
+    rt: &HostRuntime,
+    offered: &'b [Offered<'_>],
+    key: &[u8],
+) -> Result<(Interface, &'b [u8]), Status> {
+    let text = match own_of(offered, key) {
+        Some(one) => one.text.as_slice(),
+        None => NOTHING,
+    };
+    match Interface::from_json(rt.alloc(), text) {
+        Ok(interface) => Ok((interface, text)),
+        Err(_) => Err(report::answer(rt, "--interface", Err(Failure::Memory))),
+    }
+}
+
+// Where the calls stand. One word is the name of a file, unless there is none and one of these
+// interfaces has an operation of that name.
+fn asked_in(
+    rt: &HostRuntime,
+    words: &CallWords<'_>,
+    offered: &[Offered<'_>],
+) -> Result<Asked, Status> {
     if !words.values.is_empty() {
         return Ok(Asked::Given(Given::Words));
     }
@@ -113,7 +135,7 @@ fn asked_in(rt: &HostRuntime, words: &CallWords<'_>, interface: &[u8]) -> Result
         Ok(asked) => return Ok(asked),
         Err(failure) => failure,
     };
-    match offers(rt, interface, words.file) {
+    match offers(rt, offered, words.file) {
         Ok(offered) if offered && is_missing(&failure) => Ok(Asked::Given(Given::Words)),
         Ok(_) => Err(report::answer(rt, words.file, Err(failure))),
         Err(memory) => Err(report::answer(rt, words.file, Err(memory))),
@@ -141,25 +163,28 @@ fn is_missing(failure: &Failure) -> bool {
     }
 }
 
-// Whether the text of an interface has an operation of this name.
-fn offers(rt: &HostRuntime, interface: &[u8], name: &str) -> Result<bool, Failure> {
-    match Interface::from_json(rt.alloc(), interface) {
-        Ok(interface) => Ok(interface.operation(name.as_bytes()).is_some()),
-        Err(FormFault::NoMemory) => Err(Failure::Memory),
-        Err(_) => Ok(false),
+// Whether one of these texts is an interface that has an operation of this name.
+fn offers(rt: &HostRuntime, offered: &[Offered<'_>], name: &str) -> Result<bool, Failure> {
+    for one in offered {
+        match Interface::from_json(rt.alloc(), one.text.as_slice()) {
+            Ok(interface) if interface.operation(name.as_bytes()).is_some() => return Ok(true),
+            Err(FormFault::NoMemory) => return Err(Failure::Memory),
+            _ => {}
+        }
     }
+    Ok(false)
 }
 
 /// The calls that are given, or the status where they are refused, which is reported.
 pub fn calls_given(
     rt: &HostRuntime,
     words: &CallWords<'_>,
-    offered: Offered<'_>,
+    object: Object<'_>,
     given: &Given,
 ) -> Result<Vec<CallLine>, Status> {
     match given {
-        Given::File(text) => calls_in_file(rt, words, offered, text.as_slice()),
-        Given::Words => calls_in_words(rt, words, offered),
+        Given::File(text) => calls_in_file(rt, words, object, text.as_slice()),
+        Given::Words => calls_in_words(rt, words, object),
     }
 }
 
@@ -167,13 +192,13 @@ pub fn calls_given(
 fn calls_in_file(
     rt: &HostRuntime,
     words: &CallWords<'_>,
-    offered: Offered<'_>,
+    object: Object<'_>,
     text: &[u8],
 ) -> Result<Vec<CallLine>, Status> {
-    match calls_from_json(rt.alloc(), offered.interface, text) {
+    match calls_from_json(rt.alloc(), object.interface, text) {
         Ok(calls) => Ok(calls),
         Err(fault) => {
-            let at = of_calls(rt.alloc(), offered.text, text, fault);
+            let at = of_calls(rt.alloc(), object.text, text, fault);
             Err(refused_form(rt, words.lines, words.file, text, fault, at))
         }
     }
@@ -183,17 +208,17 @@ fn calls_in_file(
 fn calls_in_words(
     rt: &HostRuntime,
     words: &CallWords<'_>,
-    offered: Offered<'_>,
+    object: Object<'_>,
 ) -> Result<Vec<CallLine>, Status> {
     let (name, values) = (words.file, words.values.as_slice());
     let called = match each_json(rt.alloc(), values) {
-        Ok(ins) => call_from_words(rt.alloc(), offered.interface, name, ins),
+        Ok(ins) => call_from_words(rt.alloc(), object.interface, name, ins),
         Err(fault) => Err(fault),
     };
     match called {
         Ok(calls) => Ok(calls),
         Err(fault) => {
-            let at = of_words(rt.alloc(), offered.text, name, values, fault);
+            let at = of_words(rt.alloc(), object.text, name, values, fault);
             Err(refused_words(rt, words.lines, name, values, fault, at))
         }
     }
@@ -223,7 +248,7 @@ fn call_at(
 fn call_lines(
     rt: &HostRuntime,
     file: FileFront,
-    offered: Offered<'_>,
+    object: Object<'_>,
     endpoint: &Endpoint,
     words: &CallWords<'_>,
 ) -> Result<Status, Status> {
@@ -233,13 +258,13 @@ fn call_lines(
         Ok(feed) => feed,
         Err(_) => return Err(report::answer(rt, words.file, Err(Failure::Memory))),
     };
-    let calling = calling_of(words, offered.interface, endpoint);
+    let calling = calling_of(words, object.interface, endpoint);
     let status = match call_lines_at(rt, &mut feed, endpoint, words, calling) {
         Err(Failure::Input(error)) => { report::answer(rt, words.file, Err(Failure::Input(error))) }
         answered => report::called(rt, peer.as_str(), words.timeout, answered),
     };
     match feed.lines.refused {
-        Some(fault) => Ok(refused_line(rt, words, offered.text, &feed.lines, fault, status)),
+        Some(fault) => Ok(refused_line(rt, words, object.text, &feed.lines, fault, status)),
         None => Ok(status),
     }
 }

@@ -2,53 +2,58 @@
 //! and writer.
 use crate::cli::CheckWords;
 use crate::files::OUTPUT_BUFFER;
+use crate::runs::interfaces::{By, Joined, join_offers, read_each};
 use crate::{files, report};
 use giop_commands::failure::Failure;
 use giop_commands::status::Status;
-use giop_commands::{BehindFault, check_text};
+use giop_commands::{BehindFault, check_stream, check_text};
 use std::io;
 use std::io::{BufWriter, Read, Write};
 
-/// Reads the file of the interface, then checks the other one piece by piece.
-pub fn check(rt: &HostRuntime, words: CheckWords) -> Status {
-    let text = match files::read_interface(rt, words.interface) {
-        Ok(text) => text,
-        Err(failure) => return report::answer(rt, words.interface, Err(failure)),
+/// Reads the files of interfaces, then checks the other one piece by piece.
+pub fn check(rt: &HostRuntime, words: &CheckWords<'_>) -> Status {
+    let offered = match read_each(rt, words.interfaces.as_slice()) {
+        Ok(offered) => offered,
+        Err(status) => return status,
     };
-    let answered = checked(rt, text.as_slice(), words);
-    if let Ok(Status::Refused) = &answered {
-        report::interface(rt, rt.alloc(), words.interface, &text);
-    }
+    let answered = match join_offers(rt.alloc(), offered.as_slice()) {
+        Ok(Joined::Whole(interface)) => checked(rt, By::Interface(&interface), words),
+        Ok(Joined::Refused(one)) => {
+            let answered = checked(rt, By::Text(one.text.as_slice()), words);
+            if let Ok(Status::Refused) = &answered {
+                report::interface(rt, rt.alloc(), one.file, &one.text);
+            }
+            answered
+        }
+        Err(_) => Err(Failure::Memory),
+    };
     report::answer(rt, words.file, answered)
 }
 
-fn checked(rt: &HostRuntime, interface: &[u8], words: CheckWords) -> Result<Status, Failure> {
+fn checked(rt: &HostRuntime, by: By<'_>, words: &CheckWords<'_>) -> Result<Status, Failure> {
     if words.file == "-" {
-        return check_from(rt, interface, words, &mut rt.reader(), BehindFault::Leave);
+        return check_from(rt, by, words, &mut rt.reader(), BehindFault::Leave);
     }
     let (mut file, behind) = files::opened(rt, words.file)?;
-    check_from(rt, interface, words, &mut file, behind)
+    check_from(rt, by, words, &mut file, behind)
 }
 
 fn check_from<R: Read>(
     rt: &HostRuntime,
-    interface: &[u8],
-    words: CheckWords,
+    by: By<'_>,
+    words: &CheckWords<'_>,
     reader: &mut R,
     behind: BehindFault,
 ) -> Result<Status, Failure> {
     let mut writer = BufWriter::with_capacity(rt.alloc(), OUTPUT_BUFFER, io::writer(rt))?;
     let (limits, strict, form) = (words.limits, words.strict, words.form);
-    let status = check_text(
-        rt.alloc(),
-        interface,
-        limits,
-        strict,
-        form,
-        reader,
-        &mut writer,
-        behind,
-    )?;
+    let (alloc, writer_in) = (rt.alloc(), &mut writer);
+    let status = match by {
+        By::Interface(all) => {
+            check_stream(alloc, all, limits, strict, form, reader, writer_in, behind)?
+        }
+        By::Text(text) => check_text(alloc, text, limits, strict, form, reader, writer_in, behind)?,
+    };
     writer.flush()?;
     Ok(status)
 }

@@ -4,7 +4,7 @@
 use crate::cli::CallWords;
 use crate::files::OUTPUT_BUFFER;
 use crate::report;
-use crate::runs::call::{Given, Offered, calling_of, calls_given};
+use crate::runs::call::{Given, Object, calling_of, calls_given};
 use crate::runs::reach::{connected, peer_of};
 use giop_commands::Endpoint;
 use giop_commands::call::calls::CallLine;
@@ -53,26 +53,26 @@ impl Sessions<'_> {
 pub fn followed(
     rt: &HostRuntime,
     words: &CallWords<'_>,
-    offered: Offered<'_>,
+    object: Object<'_>,
     given: &Given,
     endpoint: &Endpoint,
 ) -> Result<Status, Status> {
-    let calls = calls_given(rt, words, offered, given)?;
+    let calls = calls_given(rt, words, object, given)?;
     let mut sessions = Sessions {
         ends: Vec::new(rt.alloc()),
         refused: None,
         failed: None,
     };
-    session_at(rt, words, offered.interface, endpoint, calls, &mut sessions)?;
+    session_at(rt, words, object.interface, endpoint, calls, &mut sessions)?;
     for done in 0..=MOST_FORWARDS {
         let forwards = forwards_in(rt, words, &sessions)?;
         if done == MOST_FORWARDS {
             say_left(rt, forwards.as_slice());
         } else {
-            follow(rt, words, offered, given, forwards, &mut sessions)?;
+            follow(rt, words, object, given, forwards, &mut sessions)?;
         }
     }
-    Ok(tell(rt, words, offered.interface, sessions))
+    Ok(tell(rt, words, object.interface, sessions))
 }
 
 // The calls that are to be made again; none where no session may follow.
@@ -94,7 +94,7 @@ fn forwards_in(
 fn follow<'a>(
     rt: &HostRuntime,
     words: &CallWords<'_>,
-    offered: Offered<'a>,
+    object: Object<'a>,
     given: &Given,
     mut forwards: Vec<Forward>,
     sessions: &mut Sessions<'a>,
@@ -109,8 +109,8 @@ fn follow<'a>(
             Err(_) => return Err(report::answer(rt, words.target, Err(Failure::Memory))),
         };
         say(rt, ids.as_slice(), &first.to);
-        let calls = calls_of(calls_given(rt, words, offered, given)?, ids.as_slice());
-        session_at(rt, words, offered.interface, &first.to, calls, sessions)?;
+        let calls = calls_of(calls_given(rt, words, object, given)?, ids.as_slice());
+        session_at(rt, words, object.interface, &first.to, calls, sessions)?;
     }
     Ok(())
 }

@@ -3,22 +3,17 @@
 
 use crate::cli::ServeWords;
 use crate::files::OUTPUT_BUFFER;
-use crate::interface_text::InterfaceText;
-use crate::object_operations::texts_of;
-use crate::places::answers::of_answers;
 use crate::report;
-use crate::runs::session::{interface_of, linked, read, read_interface, refused_form};
+use crate::runs::interfaces::{interface_of_each, read_each};
+use crate::runs::objects::{Asked, objects_of, read_answers};
+use crate::runs::session::linked;
 use giop_commands::failure::Failure;
-use giop_commands::serve::answers::answers_from_json;
-use giop_commands::serve::given::{KeyWord, Telling};
+use giop_commands::serve::given::{KeyWord, ServedObject, Telling};
 use giop_commands::serve::in_turn::Passed;
 use giop_commands::serve::reference::reference_text;
 use giop_commands::serve::streaming::stream_over;
 use giop_commands::status::Status;
 use giop_commands::{Ending, Serving, serve_over};
-use giop_names::interface_id;
-use giop_types::{FormFault, Interface};
-use std::alloc::{AllocError, Global};
 use std::io::{BufWriter, Write};
 use std::net::{Ipv4Addr, TcpListener, TcpStream};
 use std::{fs, io};
@@ -26,87 +21,45 @@ use std::{fs, io};
 // The address that is listened at, as standard error has it.
 const HERE: &str = "127.0.0.1";
 
-/// Reads the file of the interface and that of the answers, listens at a port of 127.0.0.1, and
-/// serves so many connections one after the other. The status is the greatest of theirs. What is
-/// refused is reported before the port is bound: the interface, then the answers.
-pub fn serve(rt: &HostRuntime, words: ServeWords) -> Status {
+/// Reads the files of interfaces and those of answers, listens at a port of 127.0.0.1, and serves so
+/// many connections one after the other. The status is the greatest of theirs. What is refused is
+/// reported before the port is bound: the interfaces, then the answers.
+pub fn serve(rt: &HostRuntime, words: &ServeWords<'_>) -> Status {
     match served(rt, words) {
         Ok(status) => status,
         Err(status) => status,
     }
 }
 
-fn served(rt: &HostRuntime, words: ServeWords) -> Result<Status, Status> {
-    let offered = read_interface(rt, words.interface)?;
-    let answers = read(rt, words.answers)?;
+fn served(rt: &HostRuntime, words: &ServeWords<'_>) -> Result<Status, Status> {
+    let offered = read_each(rt, words.interfaces.as_slice())?;
+    let given = read_answers(rt, words.answers.as_slice())?;
     let key = key_of(rt, words.key)?;
-    let _ = interface_of(rt, words.lines, words.interface, &offered)?;
-    let type_id = or_memory(rt, words.answers, type_id_of(rt.alloc(), &words, &offered))?;
-    let texts = texts_of(
-        rt.alloc(),
-        offered.as_slice(),
-        type_id.as_slice(),
-        answers.as_slice(),
-    );
-    let texts = or_memory(rt, words.answers, texts)?;
-    let interface = match Interface::from_json(rt.alloc(), texts.interface.as_slice()) {
-        Ok(interface) => interface,
-        Err(_) => return Err(report::answer(rt, words.interface, Err(Failure::Memory))),
+    let interface = interface_of_each(rt, words.lines, offered.as_slice())?;
+    let asked = Asked {
+        words,
+        offered: offered.as_slice(),
+        given: given.as_slice(),
     };
-    let answers = match answers_from_json(rt.alloc(), &interface, texts.answers.as_slice()) {
-        Ok(answers) => answers,
-        Err(fault) => {
-            let (lines, text) = (words.lines, answers.as_slice());
-            let at = of_answers(rt.alloc(), texts.interface.as_slice(), text, fault);
-            return Err(refused_form(rt, lines, words.answers, text, fault, at));
+    let all = objects_of(rt, asked, key.as_slice(), interface)?;
+    let mut objects = Vec::new(rt.alloc());
+    for object in all.objects.as_slice() {
+        let one = ServedObject {
+            key: object.key.as_slice(),
+            answers: &object.answers,
+        };
+        if objects.push(one).is_err() {
+            return Err(report::answer(rt, "--key", Err(Failure::Memory)));
         }
-    };
+    }
     let serving = Serving {
-        interface: &interface,
-        answers: &answers,
-        key: key.as_slice(),
+        interface: &all.interface,
+        objects: objects.as_slice(),
         form: words.form,
         limits: words.limits,
     };
-    let listener = listening(rt, &words, type_id.as_slice(), key.as_slice())?;
-    Ok(serve_each(rt, &listener, &words, &serving))
-}
-
-// The octets of the object's type id: the one of the words, else the interface's own; none where
-// there is neither.
-fn type_id_of(
-    alloc: Global,
-    words: &ServeWords<'_>,
-    offered: &InterfaceText,
-) -> Result<Vec<u8>, AllocError> {
-    if let Some(type_id) = words.type_id {
-        return Vec::from_slice(alloc, type_id.as_bytes());
-    }
-    match interface_id(alloc, offered.given()) {
-        Ok(Some(id)) => octets_of(alloc, id.as_str()),
-        Err(FormFault::NoMemory) => Err(AllocError),
-        _ => Ok(Vec::new(alloc)),
-    }
-}
-
-// The octets that a text stands for; none where it stands for no string's.
-fn octets_of(alloc: Global, text: &str) -> Result<Vec<u8>, AllocError> {
-    let mut octets = Vec::with_capacity(alloc, text.len())?;
-    for sign in text.chars() {
-        match u8::try_from(u32::from(sign)) {
-            Ok(octet) if octet > 0 => octets.push(octet)?,
-            _ => return Ok(Vec::new(alloc)),
-        }
-    }
-    Ok(octets)
-}
-
-// What was made, or the status where it is out of memory, which is reported.
-fn or_memory<T>(rt: &HostRuntime, file: &str, made: Result<T, AllocError>) -> Result<T, Status> {
-    match made {
-        Ok(made) => Ok(made),
-        Err(_) => Err(report::answer(rt, file, Err(Failure::Memory))),
-    }
+    let listener = listening(rt, words, all.type_id.as_slice(), key.as_slice())?;
+    Ok(serve_each(rt, &listener, words, &serving))
 }
 
 // The octets of an object key.

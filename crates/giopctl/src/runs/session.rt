@@ -5,7 +5,7 @@ use crate::interface_text::InterfaceText;
 use crate::runs::link::Link;
 use crate::{files, report};
 use giop_commands::failure::Failure;
-use giop_commands::status::Status;
+use giop_commands::status::{Limit, Status};
 use giop_commands::{LineForm, form_refusal, refuse_in};
 use giop_lines::RefusalLine;
 use giop_types::{FormFault, Interface};
@@ -22,26 +22,18 @@ pub fn read(rt: &HostRuntime, file: &str) -> Result<Vec<u8>, Status> {
     }
 }
 
-/// The text of an interface's file, or the status where it can't be read, which is reported.
-pub fn read_interface(rt: &HostRuntime, file: &str) -> Result<InterfaceText, Status> {
-    match files::read_interface(rt, file) {
-        Ok(text) => Ok(text),
-        Err(failure) => Err(report::answer(rt, file, Err(failure))),
-    }
-}
-
-/// The interface that a file's text is, or the status where it is refused, which is reported.
-pub fn interface_of(
+/// Reports that the text of an interface's file is refused, and where it is at fault.
+pub fn refused_interface(
     rt: &HostRuntime,
     lines: LineForm,
     file: &str,
     text: &InterfaceText,
-) -> Result<Interface, Status> {
+) -> Status {
     match Interface::from_json(rt.alloc(), text.as_slice()) {
-        Ok(interface) => Ok(interface),
+        Ok(_) => Status::Done,
         Err(fault) => {
             report::interface(rt, rt.alloc(), file, text);
-            Err(refused_line(rt, lines, file, form_refusal(fault)))
+            refused_line(rt, lines, file, form_refusal(fault))
         }
     }
 }
@@ -57,6 +49,18 @@ pub fn refused_form(
 ) -> Status {
     report::form(rt, rt.alloc(), file, text, fault, at);
     refused_line(rt, lines, file, form_refusal(fault))
+}
+
+/// Reports that an answer of a file passes a limit, and where that answer stands.
+pub fn refused_unsent(
+    rt: &HostRuntime,
+    lines: LineForm,
+    file: &str,
+    limit: Limit,
+    at: Option<Place>,
+) -> Status {
+    report::unsent(rt, file, limit, at);
+    refused_line(rt, lines, file, form_refusal(FormFault::Unfit))
 }
 
 /// Reports that a call by words is refused, and where it is at fault.

@@ -17,7 +17,7 @@ returns-in_ok-pass-in-Reply-clause-answers c =
     let entry = c.in-Some.entry.now in
     let s = desk (outbox c.args.end.now.calls c.args.end.now.outgoing) c.args.passed.now.names.items in
     let t = desk (outbox c.answer.new.self.calls c.answer.new.self.outgoing) c.pass.new.self.names.items in
-    let reply = reply_of it.interface it.answers c.args.passed.now.names.items c.args.id entry c.in-Reply.version c.in-Reply.answer in
+    let reply = reply_of it.interface it.objects c.args.passed.now.names.items c.args.id entry c.in-Reply.version c.in-Reply.answer in
     due_told it c.args.end.now.limits c.args.end.now.fault c.args.id s t entry (Reply c.in-Reply.version c.in-Reply.answer) c.told_of-in-Reply.result
     (sym c.in-Some.ensures) c.in-Reply.ensures
     (and_passed _ _ _ (acts_told (rules_of server_step is_closed is_gathering) in_call c.args.end.now.fault c.args.id
