@@ -83,10 +83,14 @@ module _ (asked : Asked) where
 
 -- ---- what is told
 
--- the line of each call, ascending, by what it came to where it was made last
+-- the line of a call, by what it came to where it was made last
+abbrev pub latest_at : LineForm → Interface → List ClientSide → ℕ → List ℕ
+latest_at lines interface ends id =
+    entry_text (client_entry_in lines interface id) (latest ends id)
+
+-- the line of each, ascending
 abbrev pub latest_text : LineForm → Interface → List ClientSide → List ℕ
-latest_text lines interface ends =
-    flat_map (λ id. entry_text (client_entry_in lines interface id) (latest ends id)) (ids_of ends)
+latest_text lines interface ends = flat_map (latest_at lines interface ends) (ids_of ends)
 
 -- and the fault that ended the last session, where one did
 abbrev pub followed_text : LineForm → Interface → List ClientSide → Option SessionFault → List ℕ

@@ -8,9 +8,8 @@ ghost use Rattle.std.specs.Io.KnownBytes.{Appends};
 ghost use Rattle.giop_session.specs.Pumping.{between};
 ghost use Rattle.giop_commands.specs.CallStreaming.{stream_status};
 ghost use Rattle.giop_commands.specs.Calling.{asked_of};
-ghost use Rattle.giop_commands.specs.Following.{CallsAt, body_place, calls_of, entry_place, followed_text, forward_at, forwards_of, ids_of, is_one_of, latest, latest_text, latest_well};
+ghost use Rattle.giop_commands.specs.Following.{CallsAt, body_place, calls_of, entry_place, followed_text, forward_at, forwards_of, ids_of, is_one_of, latest, latest_at, latest_well};
 ghost use Rattle.giop_commands.specs.Sessions.{is_well, told};
-ghost use Rattle.giop_commands.specs.Table.{client_entry_in, entry_text};
 
 use crate::call::calls::CallLine;
 use crate::call::given::Calling;
@@ -199,8 +198,7 @@ fn write_latest<O: Write>(
     out: &mut O,
 ) -> Result<(), Failure>
     ensures { OnOk result (Appends (O.contents out.old) (O.contents out.new)
-        (flat_map (λ id. entry_text (client_entry_in lines interface.now id) (latest ends.now id))
-        ids.now)) }
+        (flat_map (latest_at lines interface.now ends.now) ids.now)) }
 {
     for id in ids {
         write_one(alloc, lines, interface, ends, *id, out)?;
@@ -218,7 +216,7 @@ fn write_one<O: Write>(
     out: &mut O,
 ) -> Result<(), Failure>
     ensures { OnOk result (Appends (O.contents out.old) (O.contents out.new)
-        (entry_text (client_entry_in lines interface.now id) (latest ends.now id))) }
+        (latest_at lines interface.now ends.now id)) }
 {
     match latest(ends, id) {
         Some(entry) => ClientRule::write_entry(alloc, lines, interface, id, entry, out),
