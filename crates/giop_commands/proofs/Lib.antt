@@ -19,3 +19,4 @@ pub mod StreamingLemmas
 pub mod AheadLemmas
 pub mod CallStreamingLemmas
 pub mod CallFeedingLemmas
+pub mod FollowingLemmas

@@ -1,7 +1,7 @@
 //! `call --stream` with calls that come as lines: they are read while the session goes on, so memory
 //! is taken for the open calls and for what one read gave. Its meaning is specs/CallFeeding.antt:
 //! change both.
-ghost use Rattle.std.specs.Prelude.{◌≡◌, [], None, IfOk, OnOk};
+ghost use Rattle.std.specs.Prelude.{◌≡◌, ◌&&◌, [], None, IfOk, OnOk};
 ghost use Rattle.giop_session.specs.Pumping.{between};
 ghost use Rattle.giop_commands.specs.CallFeeding.{FedEnd, FedStreams, Feeds, fed};
 ghost use Rattle.giop_commands.specs.CallLines.{feed, so_far};
@@ -10,6 +10,7 @@ ghost use Rattle.giop_commands.specs.Sessions.{wire};
 
 use crate::call::feed::LineFeed;
 use crate::call::given::Calling;
+use crate::call::lines::CallLines;
 use crate::call::streaming::{call_next, is_done, take_turn, tell_end, tell_open, tell_turn};
 use crate::failure::Failure;
 use crate::form::LineForm;
@@ -58,7 +59,7 @@ pub fn call_fed<S: Read + Drop, R: Read, W: Write, O: Write>(
             calling.interface,
             &end,
             &source.lines.calls,
-            well && source.lines.is_over,
+            ended_well(well, &source.lines),
             refused,
             out,
         ),
@@ -75,6 +76,13 @@ pub fn call_fed<S: Read + Drop, R: Read, W: Write, O: Write>(
             Err(failure)
         }
     }
+}
+
+// Whether all calls that were told went well, and the lines are over.
+fn ended_well(well: bool, lines: &CallLines) -> bool
+    ensures { result ≡ (well && lines.now.is_over) }
+{
+    well && lines.is_over
 }
 
 // Reads lines, makes calls, takes turns, and tells the calls that are over, until none is left and
