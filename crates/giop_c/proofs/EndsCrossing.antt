@@ -51,13 +51,13 @@ offer_shared_row : IsSync Offer.the_row
 offer_shared_row = search (offer_shared_field, sendable) depth 10
 
 interface_field : IsSend (Interface.the_field).row
-interface_field = search (offer_row, crosses, maps, sendable) depth 60 fits 20000
+interface_field = search (offer_field, offer_row, crosses, maps, sendable) depth 60 fits 20000
 
 interface_row : IsSend Interface.the_row
 interface_row = search (interface_field, sendable) depth 10
 
 interface_shared_field : IsSync (Interface.the_field).row
-interface_shared_field = search (offer_shared_row, crosses, maps, sendable) depth 60 fits 20000
+interface_shared_field = search (offer_shared_field, offer_shared_row, crosses, maps, sendable) depth 60 fits 20000
 
 interface_shared_row : IsSync Interface.the_row
 interface_shared_row = search (interface_shared_field, sendable) depth 10
