@@ -53,16 +53,20 @@ pub fn call_fed<S: Read + Drop, R: Read, W: Write, O: Write>(
     match converse(
         alloc, &mut end, calling, lines, source, &mut well, reader, writer, out,
     ) {
-        Ok(refused) => tell_end(
-            alloc,
-            lines,
-            calling.interface,
-            &end,
-            &source.lines.calls,
-            ended_well(well, &source.lines),
-            refused,
-            out,
-        ),
+        Ok(refused) => {
+            let all = ended_well(well, &source.lines);
+            let left = &source.lines.calls;
+            tell_end(
+                alloc,
+                lines,
+                calling.interface,
+                &end,
+                left,
+                all,
+                refused,
+                out,
+            )
+        }
         Err(failure) => {
             tell_open(
                 alloc,

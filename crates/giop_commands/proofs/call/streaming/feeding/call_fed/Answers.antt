@@ -15,4 +15,4 @@ returns-in-Ok g c =
     (g.O.Write.contents c.converse.new.out) (g.O.Write.contents c.tell_end.new.out) c.in-Ok.refused c.converse.new.end.outgoing
     c.converse.new.end.framer c.converse.new.end.calls c.converse.new.end.fault c.converse.new.well c.tell_end.result
     (rw (c.new-end.ensures.fault, c.new-end.ensures.calls, c.new-end.ensures.outgoing, c.new-end.ensures.unread) at c.in-Ok.ensures)
-    c.tell_end.ensures.text (rw c.ended_well.ensures at c.tell_end.ensures.ok) c.tell_end.ensures.ends
+    c.tell_end.ensures.text (rw c.ended_well-all.ensures at c.tell_end.ensures.ok) c.tell_end.ensures.ends
