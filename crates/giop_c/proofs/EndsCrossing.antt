@@ -8,6 +8,7 @@ use Rattle.std.proofs.MapsCrossing.{crosses as maps}
 use Rattle.giop_types.proofs.description.desc.Desc.TheLaws.TheKnot as desc
 use Rattle.giop_types.proofs.value.Value.TheLaws.TheKnot as value
 use Rattle.giop_types.specs.contracts.json.interface.Interface as Interface
+use Rattle.giop_types.specs.contracts.json.offer.Offer as Offer
 use Rattle.giop_msg.proofs.framer.Framer.TheSendSync as framer
 use Rattle.giop_msg.proofs.target.Target.TheSendSync as target
 use Rattle.giop_msg.specs.contracts.messages.locate_reply.LocateReply as LocateReply
@@ -36,15 +37,27 @@ use Rattle.giop_c.specs.contracts.client.caller.Caller as Caller
 use Rattle.giop_c.specs.contracts.server.served.Served as Served
 use Rattle.giop_c.specs.contracts.shared.Shared as Shared
 
--- ---- an interface, which several ends share
+-- ---- what objects offer, and an interface, which several ends share
+offer_field : IsSend (Offer.the_field).row
+offer_field = search (crosses, maps, desc.crosses_both, sendable) depth 60 fits 20000
+
+offer_row : IsSend Offer.the_row
+offer_row = search (offer_field, sendable) depth 10
+
+offer_shared_field : IsSync (Offer.the_field).row
+offer_shared_field = search (crosses, maps, desc.crosses_both, sendable) depth 60 fits 20000
+
+offer_shared_row : IsSync Offer.the_row
+offer_shared_row = search (offer_shared_field, sendable) depth 10
+
 interface_field : IsSend (Interface.the_field).row
-interface_field = search (crosses, maps, desc.crosses_both, sendable) depth 60 fits 20000
+interface_field = search (offer_field, offer_row, crosses, maps, sendable) depth 60 fits 20000
 
 interface_row : IsSend Interface.the_row
 interface_row = search (interface_field, sendable) depth 10
 
 interface_shared_field : IsSync (Interface.the_field).row
-interface_shared_field = search (crosses, maps, desc.crosses_both, sendable) depth 60 fits 20000
+interface_shared_field = search (offer_shared_field, offer_shared_row, crosses, maps, sendable) depth 60 fits 20000
 
 interface_shared_row : IsSync Interface.the_row
 interface_shared_row = search (interface_shared_field, sendable) depth 10

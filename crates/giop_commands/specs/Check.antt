@@ -141,6 +141,7 @@ abbrev pub ChecksText : List ℕ → Limits → Bool → LineForm → Option (Li
     → Option (List ℕ) → Status → Type 0
 ChecksText text limits strict form octets old new status =
     ((interface : Interface) × (interface_told (json_in text) ≡ Ok (interface_view interface))
+    × (interface.objects.entries ≡ [])
     × ChecksKnown interface limits strict form octets old new status)
     ⊎ ((status ≡ Refused) × ((e : FormFault) × (interface_told (json_in text) ≡ Err e)
     × Appends old new (ended (refused_in form (Form e)))))

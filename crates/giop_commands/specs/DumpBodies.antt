@@ -99,6 +99,7 @@ abbrev pub DumpsText : List ℕ → ℕ → ℕ → LineForm → Option (List �
     → Option (List ℕ) → Status → Type 0
 DumpsText text limit gathered form octets old new status =
     ((interface : Interface) × (interface_told (json_in text) ≡ Ok (interface_view interface))
+    × (interface.objects.entries ≡ [])
     × DumpsKnown (telling_by (Some interface) form gathered) limit octets old new status)
     ⊎ ((status ≡ Refused) × ((e : FormFault) × (interface_told (json_in text) ≡ Err e)
     × Appends old new (ended (refused_in form (Form e)))))

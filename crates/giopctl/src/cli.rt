@@ -155,6 +155,10 @@ undecoded, locate_asked or cancelled; the last line is {\"rest\":N} or {\"fault\
 The interface is a JSON object of operations, each with its ins and outs:
   {\"operations\":{\"add\":{
     \"ins\":[[\"a\",\"long\"],[\"b\",\"long\"]],\"outs\":[[\"sum\",\"long\"]]}}}
+--interface KEY=FILE, any number of times, is the interface of the object of a key alone. KEY is as
+in a corbaloc, with % and two hexadecimal digits for what isn't plain. It is what stands before the
+first =; of =FILE there is none. Each line ends then with the object, as far as it is known:
+  key HEX, profile TAG or reference INDEX
 
 Exit statuses:
   0  no octets are left, or the client closed the connection
@@ -192,6 +196,9 @@ what each is; the last lines are {\"end\":\"client\",\"rest\":N} or
 {\"end\":\"client\",\"fault\":{..}}, and of \"server\" the same.
 After each message of CLIENT those of SERVER are read up to the first Reply to a call whose request
 hasn't been read; that one waits.
+--interface KEY=FILE, any number of times, is the interface of the object of a key alone. KEY is as
+in a corbaloc, with % and two hexadecimal digits for what isn't plain. It is what stands before the
+first =; of =FILE there is none.
 
 Exit statuses:
   0  both directions are messages and nothing else

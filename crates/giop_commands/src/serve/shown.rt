@@ -136,7 +136,8 @@ impl fmt::Display for AnsweredShownLine<'_> {
         l.0.brought.now ++ l.1.now) };
 
     fn fmt<W: fmt::Write>(&self, f: &mut fmt::Formatter<W>) -> fmt::Result {
-        write!(f, "{}{}", self.0, self.1)
+        let (line, shown) = (self.0, self.1);
+        write!(f, "{line}{shown}")
     }
 }
 

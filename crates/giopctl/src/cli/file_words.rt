@@ -40,8 +40,8 @@ pub fn interfaces<'a>(alloc: Global) -> Arg<'a> {
         .long("interface")
         .required(true)
         .action(ArgAction::Append)
-        .value_name("[KEY=]FILE")
-        .help("The file of the interface, in JSON; with KEY= that of the object of this key alone")
+        .value_name("FILE")
+        .help("The file of the interface, in JSON; KEY=FILE is that of one object alone")
 }
 
 /// The option of the files of answers.
@@ -50,8 +50,8 @@ pub fn answers<'a>(alloc: Global) -> Arg<'a> {
         .long("answers")
         .required(true)
         .action(ArgAction::Append)
-        .value_name("[KEY=]FILE")
-        .help("The file of the answers, in JSON; with KEY= those of the object of this key alone")
+        .value_name("FILE")
+        .help("The file of the answers, in JSON; KEY=FILE is that of one object alone")
 }
 
 /// The files of an option, in their order, or what is wrong with one of its words. What stands before

@@ -109,6 +109,9 @@ standard error where it was forwarded to. --follow and --stream exclude each oth
 With --json each call is {\"id\":ID,\"what\":WHAT,..}, in which WHAT is result, user_exception,
 system_exception, forward, forward_perm, needs_addressing, oneway, undecoded, sending, waiting,
 gathering or unsent; the fault is {\"fault\":{..}}.
+--interface KEY=FILE, any number of times, is the interface of the object of a key alone. KEY is as
+in a corbaloc, with % and two hexadecimal digits for what isn't plain. It is what stands before the
+first =; of =FILE there is none. The target says which object is called.
 Where the server hangs up while calls are open, standard error says how many. With --timeout the
 connection is given up where nothing comes or goes for so many seconds, and each call has its line.
 
@@ -132,7 +135,12 @@ a JSON object with a member for each operation that isn't oneway: its result, in
 parameters, or an exception of the interface and its members:
   {\"ping\":{\"ok\":[]},\"add\":{\"ok\":[7]},\"list\":{\"user\":\"IDL:Demo/Bad:1.0\",\"members\":[]}}
 A list of answers in place of one is given in turn, one to a call; the last stays.
-A Request of the object of the key is answered so, one of another object by OBJECT_NOT_EXIST, an
+An answer that passes the limits in every version is refused with the file.
+--interface KEY=FILE, any number of times, is the interface of the object of a key alone. KEY is as
+in a corbaloc, with % and two hexadecimal digits for what isn't plain. It is what stands before the
+first =; of =FILE there is none. So it is with --answers, and each KEY is an object that is served
+too. Lines end then with the object, as by giopctl check.
+A Request of an object that is served is answered so, one of another object by OBJECT_NOT_EXIST, an
 unknown operation by BAD_OPERATION, and one that can't be decoded by MARSHAL. A LocateRequest is told
 whether its object is here. With --type-id, or by the id of the interface's file, an object answers
 _is_a and _non_existent by itself, where the answers say nothing of them.

@@ -237,7 +237,9 @@ fn tell(
         Ok(status) => status,
         Err(failure) => return report::answer(rt, words.target, Err(failure)),
     };
-    match sessions.failed {
+    let Sessions { ends, failed, .. } = sessions;
+    drop(ends);
+    match failed {
         Some((peer, failure)) => report::called(rt, peer.as_str(), words.timeout, Err(failure)),
         None => report::answer(rt, words.target, Ok(status)),
     }

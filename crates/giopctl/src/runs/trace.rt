@@ -3,7 +3,7 @@
 
 use crate::cli::TraceWords;
 use crate::files::OUTPUT_BUFFER;
-use crate::runs::interfaces::{By, Joined, Offered, join_offers, read_each};
+use crate::runs::interfaces::{By, Joined, join_offers, read_each};
 use crate::{files, report};
 use giop_commands::failure::Failure;
 use giop_commands::status::Status;
@@ -22,89 +22,66 @@ pub fn trace(rt: &HostRuntime, words: &TraceWords<'_>) -> Status {
         Err(status) => return status,
     };
     match join_offers(rt.alloc(), offered.as_slice()) {
-        Ok(Joined::Whole(interface)) => {
-            let tracing = Tracing {
-                by: By::Interface(&interface),
-                words,
-                refused: None,
-            };
-            from_client(rt, tracing)
-        }
+        Ok(Joined::Whole(interface)) => from_client(rt, By::Interface(&interface), words),
         Ok(Joined::Refused(one)) => {
-            let tracing = Tracing {
-                by: By::Text(one.text.as_slice()),
-                words,
-                refused: Some(one),
-            };
-            from_client(rt, tracing)
+            let status = from_client(rt, By::Text(one.text.as_slice()), words);
+            if status == Status::Refused {
+                report::interface(rt, rt.alloc(), one.file, &one.text);
+            }
+            status
         }
         Err(_) => report::answer(rt, EITHER, Err(Failure::Memory)),
     }
 }
 
-// What is traced, and by what; the file of an interface that is refused, if one is.
-#[derive(Clone, Copy)]
-struct Tracing<'b, 'a> {
-    by: By<'b>,
-    words: &'b TraceWords<'a>,
-    refused: Option<&'b Offered<'a>>,
-}
-
-fn from_client(rt: &HostRuntime, tracing: Tracing<'_, '_>) -> Status {
-    let client = tracing.words.client;
-    if client == "-" {
-        return by_client(rt, tracing, &mut rt.reader());
+// Opens what the client sent.
+fn from_client(rt: &HostRuntime, by: By<'_>, words: &TraceWords<'_>) -> Status {
+    if words.client == "-" {
+        return by_client(rt, by, words, &mut rt.reader());
     }
-    match files::opened(rt, client) {
-        Ok((mut file, _)) => by_client(rt, tracing, &mut file),
-        Err(failure) => report::answer(rt, client, Err(failure)),
+    match files::opened(rt, words.client) {
+        Ok((mut file, _)) => by_client(rt, by, words, &mut file),
+        Err(failure) => report::answer(rt, words.client, Err(failure)),
     }
 }
 
 // Traces what a client sent, and what the server did where that is given.
-fn by_client<C: Read>(rt: &HostRuntime, tracing: Tracing<'_, '_>, client: &mut C) -> Status {
-    let Some(server) = tracing.words.server else {
+fn by_client<C: Read>(
+    rt: &HostRuntime,
+    by: By<'_>,
+    words: &TraceWords<'_>,
+    client: &mut C,
+) -> Status {
+    let Some(server) = words.server else {
         let mut nothing = [0u8; 0].as_slice();
-        let answered = traced(rt, tracing, Heard::Client, client, &mut nothing);
-        return reported(rt, tracing, tracing.words.client, answered);
+        let answered = traced(rt, by, words, Heard::Client, client, &mut nothing);
+        return report::answer(rt, words.client, answered);
     };
     if server == "-" {
-        let answered = traced(rt, tracing, Heard::Both, client, &mut rt.reader());
-        return reported(rt, tracing, EITHER, answered);
+        let answered = traced(rt, by, words, Heard::Both, client, &mut rt.reader());
+        return report::answer(rt, EITHER, answered);
     }
     match files::opened(rt, server) {
         Ok((mut file, _)) => {
-            let answered = traced(rt, tracing, Heard::Both, client, &mut file);
-            reported(rt, tracing, EITHER, answered)
+            let answered = traced(rt, by, words, Heard::Both, client, &mut file);
+            report::answer(rt, EITHER, answered)
         }
         Err(failure) => report::answer(rt, server, Err(failure)),
     }
 }
 
-// Says what is wrong with an interface that is refused, or names what failed.
-fn reported(
-    rt: &HostRuntime,
-    tracing: Tracing<'_, '_>,
-    input: &str,
-    answered: Result<Status, Failure>,
-) -> Status {
-    if let (Ok(Status::Refused), Some(one)) = (&answered, tracing.refused) {
-        report::interface(rt, rt.alloc(), one.file, &one.text);
-    }
-    report::answer(rt, input, answered)
-}
-
 fn traced<C: Read, S: Read>(
     rt: &HostRuntime,
-    tracing: Tracing<'_, '_>,
+    by: By<'_>,
+    words: &TraceWords<'_>,
     heard: Heard,
     client: &mut C,
     server: &mut S,
 ) -> Result<Status, Failure> {
     let mut writer = BufWriter::with_capacity(rt.alloc(), OUTPUT_BUFFER, io::writer(rt))?;
-    let (alloc, limit, form) = (rt.alloc(), tracing.words.limit, tracing.words.form);
+    let (alloc, limit, form) = (rt.alloc(), words.limit, words.form);
     let out = &mut writer;
-    let status = match tracing.by {
+    let status = match by {
         By::Interface(all) => trace_stream(alloc, all, limit, form, heard, client, server, out)?,
         By::Text(text) => trace_text(alloc, text, limit, form, heard, client, server, out)?,
     };
