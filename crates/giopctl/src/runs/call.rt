@@ -1,5 +1,6 @@
 //! `call` over files, a connection and the standard output. What it sends, reads and prints is
 //! commands/call.rt, over any reader and writer; here are the files and the socket.
+ghost use Rattle.std.specs.Prelude.{◌≡◌};
 
 use crate::cli::CallWords;
 use crate::files::{FileFront, OUTPUT_BUFFER};
@@ -68,7 +69,10 @@ pub fn calling_of<'a>(
     words: &CallWords<'_>,
     interface: &'a Interface,
     endpoint: &'a Endpoint,
-) -> Calling<'a> {
+) -> Calling<'a>
+    ensures interface { result.interface.now ≡ interface.now }
+    ensures limits { result.limits ≡ words.now.limits }
+{
     Calling {
         interface,
         key: endpoint.key.as_slice(),

@@ -1,5 +1,6 @@
 //! `call --follow`: calls that are forwarded are made again where the reference says, over a
 //! connection of their own. What is sent and told is call/following.rt of giop_commands.
+ghost use Rattle.std.specs.Prelude.{◌≡◌};
 
 use crate::cli::CallWords;
 use crate::files::OUTPUT_BUFFER;
@@ -166,7 +167,10 @@ fn call_there(
     endpoint: &Endpoint,
     calls: Vec<CallLine>,
     end: &mut ClientEnd<'_>,
-) -> Result<Option<SessionFault>, Failure> {
+) -> Result<Option<SessionFault>, Failure>
+    requires interface { end.old.interface.now ≡ interface.now }
+    requires limits { end.old.limits ≡ words.now.limits }
+{
     let link = connected(rt, endpoint, words.timeout)?;
     let (mut reader, mut writer) = (&link, &link);
     let calling = calling_of(words, interface, endpoint);
