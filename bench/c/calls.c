@@ -2,14 +2,14 @@
  *
  * Usage: calls LOOP [CALLS]     LOOP is one of
  *   server        a server's end alone: Requests of `ping` and `add` in turn over 512 ids, each heard, answered,
- *                 written and taken out; the loop `session-calls` of giop_bench
+ *                 written and taken out
  *   memory-1      both ends, one call at a time; what one sends is fed to the other
  *   memory-16     the same, 16 calls at a time
  *   loopback-1    the same over a connection on 127.0.0.1, one at a time
- *   loopback-16   16 at a time; the loop `session-loopback` of giop_bench
+ *   loopback-16   16 at a time
  *
- * It prints a checksum of what the calls came to. Built with -DCOUNTS and with malloc, realloc, memcpy and memmove
- * wrapped, it prints behind it how many allocations there were, and how many octets were fed, taken out and copied. */
+ * It prints a checksum of all that it saw of the calls: each field of each entry, and the octets that came of it. The
+ * loops `c-server`, `c-memory-1` and so on of giop_bench are the same in Rattle: change both. */
 #define _POSIX_C_SOURCE 200809L
 #include <arpa/inet.h>
 #include <giop.h>
@@ -40,43 +40,6 @@ static void must(int went_well) {
         exit(1);
     }
 }
-
-/* ---- counting ---- */
-
-static unsigned long fed, sent;
-
-#ifdef COUNTS
-static unsigned long allocations, copied;
-
-void *__real_malloc(size_t size);
-void *__real_realloc(void *old, size_t size);
-void *__real_memcpy(void *to, const void *from, size_t size);
-void *__real_memmove(void *to, const void *from, size_t size);
-void *__wrap_malloc(size_t size);
-void *__wrap_realloc(void *old, size_t size);
-void *__wrap_memcpy(void *to, const void *from, size_t size);
-void *__wrap_memmove(void *to, const void *from, size_t size);
-
-void *__wrap_malloc(size_t size) {
-    allocations++;
-    return __real_malloc(size);
-}
-
-void *__wrap_realloc(void *old, size_t size) {
-    allocations++;
-    return __real_realloc(old, size);
-}
-
-void *__wrap_memcpy(void *to, const void *from, size_t size) {
-    copied += size;
-    return __real_memcpy(to, from, size);
-}
-
-void *__wrap_memmove(void *to, const void *from, size_t size) {
-    copied += size;
-    return __real_memmove(to, from, size);
-}
-#endif
 
 /* ---- the ends ---- */
 
@@ -111,13 +74,29 @@ static void calls(uint32_t id) {
          == GIOP_OK);
 }
 
+/* All fields of an entry in one number. */
+static uint64_t all_of(const giop_server_entry *entry) {
+    uint64_t sizes = entry->operation ^ entry->key << 8 ^ entry->contexts << 16 ^ entry->at << 24;
+    uint32_t numbers = entry->number ^ entry->left << 8 ^ entry->status << 16;
+    uint32_t call = (uint32_t)entry->part ^ (uint32_t)entry->kind << 4 ^ (uint32_t)entry->awaits << 8;
+    uint32_t end = (uint32_t)entry->over ^ (uint32_t)entry->outcome << 4 ^ (uint32_t)entry->flags << 8;
+    return sizes ^ (uint64_t)numbers << 8 ^ (uint64_t)call << 32 ^ (uint64_t)end << 44;
+}
+
+/* Looks at all of an entry. Its kind. */
+static uint8_t looks(uint32_t id) {
+    giop_server_entry entry;
+    must(giop_server_entry_of(&server, id, &entry) == GIOP_OK);
+    mixed(all_of(&entry));
+    return entry.kind;
+}
+
 /* Answers the call of an id, by the sum of its ins. How many octets these were. */
 static size_t answers(uint32_t id) {
-    giop_server_entry entry;
     giop_end_fault fault;
-    uint8_t ins[8], outs[4];
+    uint8_t ins[8], outs[4] = {0};
     size_t size;
-    must(giop_server_entry_of(&server, id, &entry) == GIOP_OK && entry.kind == GIOP_ASKED);
+    must(looks(id) == GIOP_ASKED);
     must(giop_server_ins(&server, id, 0, ins, 8, &size) == GIOP_OK);
     if (size == 8) {
         big(outs, of_big(ins) + of_big(ins + 4));
@@ -142,28 +121,19 @@ static uint8_t PING[48] = "GIOP\1\2\0\0\0\0\0\44\0\0\0\1\3\0\0\0\0\0\0\0\0\0\0\1
 static uint8_t ADD[56] = "GIOP\1\2\0\0\0\0\0\54\0\0\0\4\3\0\0\0\0\0\0\0\0\0\0\1k\0\0\0\0\0\0\4add\0\0\0\0\0\0\0\0"
                          "\0\0\0\0\2\0\0\0\5";
 
-/* What `session-calls` sees of a call: its id, its operation's length, each long, and what is written. */
-static void serves(uint32_t id, int is_add) {
+/* Serves the call of an id: it looks at its entry, answers and writes, looks again and takes it out. */
+static void serves(uint32_t id) {
     giop_end_fault fault;
-    giop_server_entry entry;
     uint8_t octets[64];
     size_t size;
-    must(giop_server_entry_of(&server, id, &entry) == GIOP_OK);
-    mixed(id);
-    mixed(entry.operation);
-    size = answers(id);
-    if (is_add && size == 8) {
-        mixed(2);
-        mixed(5);
-    }
+    looks(id);
+    mixed(answers(id));
     must(giop_server_outgoing(&server, octets, sizeof octets, &size) == GIOP_OK && size <= sizeof octets);
     mixed(octets[size - 1]);
     must(giop_server_wrote(&server, size) == GIOP_OK);
-    sent += size;
     mixed(size);
-    must(giop_server_entry_of(&server, id, &entry) == GIOP_OK);
+    looks(id);
     must(giop_server_take(&server, id, &fault) == GIOP_OK);
-    mixed(entry.left);
 }
 
 static void server_alone(uint32_t count) {
@@ -174,8 +144,7 @@ static void server_alone(uint32_t count) {
         size_t size = k % 2 ? sizeof ADD : sizeof PING;
         big(asked + 12, k % 512);
         must(giop_server_feed(&server, asked, size, &fault) == GIOP_OK);
-        fed += size;
-        serves(k % 512, k % 2);
+            serves(k % 512);
     }
     must(giop_server_rest(&server, &rest) == GIOP_OK);
     mixed(rest);
@@ -198,7 +167,6 @@ static void passes(int to_server, size_t wanted) {
         must(write(sockets[!to_server], octets, size) == (ssize_t)size);
     }
     must((to_server ? giop_client_wrote(&client, size) : giop_server_wrote(&server, size)) == GIOP_OK);
-    sent += size;
     for (size_t left = wanted; left > 0; left -= size) {
         if (sockets[0] >= 0) {
             ssize_t n = read(sockets[to_server], octets, sizeof octets);
@@ -208,8 +176,7 @@ static void passes(int to_server, size_t wanted) {
         must((to_server ? giop_server_feed(&server, octets, size, &fault)
                         : giop_client_feed(&client, octets, size, &fault))
              == GIOP_OK);
-        fed += size;
-    }
+        }
 }
 
 static void both_ends(uint32_t count, uint32_t at_once) {
@@ -263,8 +230,5 @@ int main(int argc, char **argv) {
     giop_client_free(&client);
     giop_server_free(&server);
     printf("%llu\n", (unsigned long long)checksum);
-#ifdef COUNTS
-    printf("allocations %lu fed %lu sent %lu copied %lu\n", allocations, fed, sent, copied);
-#endif
     return 0;
 }

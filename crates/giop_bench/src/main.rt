@@ -5,6 +5,7 @@
 
 ghost use Rattle.std.specs.Prelude.{◌<◌};
 
+mod c_calls;
 mod frag;
 mod ior;
 mod loopback;
@@ -26,6 +27,7 @@ or giop_bench types-(structs|longs)-(read|write) or types-json-(write|again)[-10
 or giop_bench msg-(add|put)-(read|write) or msg-cut or msg-join,
 or giop_bench ior-(text|corbaloc)[-10],
 or giop_bench session-calls[-512], session-pieces or session-loopback,
+or giop_bench c-(server|(memory|loopback)-(1|16)) CALLS,
 or giop_bench (read|write)-VALUES-(big|little) TIMES, where VALUES is ulong, string, octets or widths";
 
 // The checksum of a loop over CDR, or none where it isn't one or fails.
@@ -101,6 +103,9 @@ fn main(rt: HostRuntime) -> io::Result<()> {
     match name.as_ref().map_or("", |name| name.as_str()) {
         "mux" => println!(rt; "{}", mux::run(rt.alloc())),
         "session-loopback" => told(&rt, loopback::run(&rt)),
-        name => told(&rt, named(rt.alloc(), name, times)),
+        name => match name.strip_prefix("c-") {
+            Some(name) => told(&rt, c_calls::run(&rt, name, times)),
+            None => told(&rt, named(rt.alloc(), name, times)),
+        },
     }
 }

@@ -35,14 +35,14 @@ const LIMITS: Limits = Limits {
     gathered: 8 << 20,
 };
 
-// A Request of `ping`.
-const PING: [u8; 48] = [
+/// A Request of `ping`.
+pub const PING: [u8; 48] = [
     0x47, 0x49, 0x4F, 0x50, 1, 2, 0, 0, 0, 0, 0, 0x24, 0, 0, 0, 1, 3, 0, 0, 0, 0, 0, 0, 0, 0, 0, 0,
     1, 0x6B, 0, 0, 0, 0, 0, 0, 5, 0x70, 0x69, 0x6E, 0x67, 0, 0, 0, 0, 0, 0, 0, 0,
 ];
 
-// A Request of `add` of 2 and 5.
-const ADD: [u8; 56] = [
+/// A Request of `add` of 2 and 5.
+pub const ADD: [u8; 56] = [
     0x47, 0x49, 0x4F, 0x50, 1, 2, 0, 0, 0, 0, 0, 0x2C, 0, 0, 0, 4, 3, 0, 0, 0, 0, 0, 0, 0, 0, 0, 0,
     1, 0x6B, 0, 0, 0, 0, 0, 0, 4, 0x61, 0x64, 0x64, 0, 0, 0, 0, 0, 0, 0, 0, 0, 0, 0, 0, 2, 0, 0, 0,
     5,
@@ -123,7 +123,8 @@ fn serve(alloc: Global, end: &mut ServerEnd<'_>, id: u32, sum: u64) -> Option<u6
     }
 }
 
-fn set_id(message: &mut [u8], id: u32)
+/// Writes the request id of a message.
+pub fn set_id(message: &mut [u8], id: u32)
     requires { 16 ≤ length message.old }
     ensures { length message.new ≡ length message.old }
 {
