@@ -1,20 +1,10 @@
 //! Service contexts (CORBA 3.3 Part 2, 7.7), as C asks for them: one after the other.
 ghost use Rattle.std.specs.Prelude.{◌≡◌, option_copied};
-ghost use Rattle.giop_c.specs.Contexts.{CopiesContext, context_at, count_in};
+ghost use Rattle.giop_c.specs.Contexts.{CopiesContext, context_at};
 
 use crate::copying::copy_octets;
 use giop_ior::ServiceContext;
 use giop_msg::ServiceContexts;
-
-/// How many contexts a message has; 0 where there is none.
-pub fn count_in(contexts: Option<&ServiceContexts>) -> usize
-    ensures { result ≡ count_in (option_copied contexts.entry) }
-{
-    match contexts {
-        Some(contexts) => contexts.len(),
-        None => 0,
-    }
-}
 
 /// The context at an index, the first at 0, where there is one.
 pub fn context_at(contexts: Option<&ServiceContexts>, index: usize) -> Option<&ServiceContext>

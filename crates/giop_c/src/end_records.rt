@@ -1,13 +1,10 @@
 //! The structs of an end that cross to C by value. `include/giop.h` declares them too: change both.
 ghost use Rattle.std.specs.Prelude.{◌≡◌};
-ghost use Rattle.giop_calls.specs.Outcomes.{copied};
-ghost use Rattle.giop_c.specs.EndRecords.{c_end_fault, c_order_of, end_id, end_part, end_place, end_status, outcome_number};
+ghost use Rattle.giop_c.specs.EndRecords.{c_end_fault, c_order_of, end_id, end_part, end_place, end_status};
 ghost use Rattle.giop_c.specs.Acts.{IsTold, form_of};
 
 use crate::status::{FAULT, NO_MEMORY, OK};
-use giop_calls::Outcome;
 use giop_cdr::Order;
-use giop_msg::Reply;
 use giop_session::{Form, SessionFault};
 
 /// What an end may hold at most, as C says it: `giop_limits`.
@@ -134,19 +131,5 @@ pub fn form_of(form: &SendForm) -> Form
     Form {
         order: order_of(form.little_endian),
         piece: form.piece,
-    }
-}
-
-/// The number of what a call came to, 0 to 5.
-pub fn outcome_number(outcome: Outcome<&Reply>) -> u8
-    ensures { result ≡ outcome_number (copied outcome.entry) }
-{
-    match outcome {
-        Outcome::Pending => 0,
-        Outcome::Cancelled => 1,
-        Outcome::OneWay => 2,
-        Outcome::Replied(_) => 3,
-        Outcome::Located(_) => 4,
-        Outcome::Undecoded => 5,
     }
 }

@@ -134,6 +134,15 @@ c_client_row entry = record {
   outcome = came_to entry;
 }
 
+-- what a body says, in a row that has zeros else
+abbrev pub row_of_body : ReplyBody → ClientRow
+row_of_body body = record (c_client_row None) {
+  exception = size_in (exception_of_body body);
+  minor = minor_in body;
+  completion = completion_number (completion_in body);
+  addressing = disposition_in body;
+}
+
 -- the outs of a body that has no exception are copied
 abbrev pub CopiesOutsOf : List Parameter → ReplyBody → ValueForm → List ℕ → List ℕ → ℕ → ℕ → ℕ
     → Type 0

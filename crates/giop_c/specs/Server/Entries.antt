@@ -1,5 +1,6 @@
 -- What is stored for the id of a call at a server, as C sees it.
 use Rattle.std.specs.Prelude.{ℕ, if◌then◌else◌, Option, Some, None, List, length}
+use Rattle.giop_cdr.specs.declared.fault.CdrFault.{CdrFault}
 use Rattle.giop_cdr.specs.Faults.{cdr_kind_number}
 use Rattle.giop_ior.specs.declared.references.service_context.ServiceContext.{ServiceContext}
 use Rattle.giop_msg.specs.declared.messages.request.Request.{Request}
@@ -180,6 +181,38 @@ c_server_row entry = record {
   outcome = came_to entry;
   flags = flags_in (request_of entry);
 }
+
+-- ---- what an entry says but for its kind, in a row that has zeros else
+
+-- what a Request says
+abbrev pub row_of_request : Request → ServerRow
+row_of_request q = record (c_server_row None) {
+  operation = length q.head.operation;
+  key = length (key_of q.head.target);
+  contexts = length q.head.contexts;
+  flags = q.head.flags;
+}
+
+-- what is wrong in a part of a call
+abbrev pub row_of_part : ℕ → CdrFault → ServerRow
+row_of_part part e = record (c_server_row None) {
+  part = part;
+  number = cdr_kind_number e.kind;
+  at = e.at;
+}
+
+-- what is wrong with a call that can't be decoded
+abbrev pub row_of_fault : RequestFault → ServerRow
+row_of_fault (wrong.Header e) = row_of_part 1 e
+row_of_fault wrong.Operation = record (c_server_row None) { part = 2 }
+row_of_fault (wrong.Body e) = row_of_part 3 e
+
+-- what an answered call was
+abbrev pub row_of_question : Question → ServerRow
+row_of_question (question.Request q) = row_of_request q
+row_of_question (question.Undecoded e) = row_of_fault e
+
+-- ---- what an answer needs
 
 -- the version in which a call is answered; 1.2 where none waits for a Reply
 abbrev pub version_in : ServerEntry → Version

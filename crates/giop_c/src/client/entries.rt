@@ -1,14 +1,13 @@
 //! What is stored for the id of a call at a client, as C sees it.
-ghost use Rattle.std.specs.Prelude.{◌≡◌, option_copied};
+ghost use Rattle.std.specs.Prelude.{◌≡◌, Some, option_copied};
 ghost use Rattle.std.specs.Option.{option_map};
-ghost use Rattle.giop_msg.specs.Messages.Reply.{completion_in, completion_number, disposition_in, minor_in};
-ghost use Rattle.giop_c.specs.Client.Entries.{addressing_told, body_in, body_of, c_client_row, came_to, completion_told, contexts_in, contexts_of, exception_in, exception_of_body, forward_in, forward_of_body, kind_of, left, minor_told, number_told, over, place_told, reply_status, size_in};
+ghost use Rattle.giop_msg.specs.Messages.Reply.{completion_number};
+ghost use Rattle.giop_calls.specs.declared.client.entry.ClientEntry.TheVariants.{Cancelled, Done};
+ghost use Rattle.giop_c.specs.Client.Entries.{body_in, body_of, c_client_row, contexts_in, contexts_of, exception_in, exception_of_body, forward_in, forward_of_body, row_of_body};
 
-use crate::contexts::count_in;
-use crate::end_records::outcome_number;
-use giop_calls::ClientEntry;
+use giop_calls::{ClientEntry, Late};
 use giop_ior::Ior;
-use giop_msg::{Completion, ReplyBody, ServiceContexts};
+use giop_msg::{Completion, Reply, ReplyBody, Request, ServiceContexts};
 
 /// What is stored for the id of a call at a client, as C sees it: `giop_client_entry`.
 #[repr(C)]
@@ -40,26 +39,131 @@ pub struct ClientRow {
     pub outcome: u8,
 }
 
+// Nothing is stored. Each kind of entry is a row that says what it has, and has these zeros else.
+const NOTHING: ClientRow = ClientRow {
+    exception: 0,
+    contexts: 0,
+    at: 0,
+    number: 0,
+    left: 0,
+    status: 0,
+    minor: 0,
+    completion: 0,
+    addressing: 0,
+    kind: 0,
+    over: 0,
+    outcome: 0,
+};
+
 impl ClientRow {
     /// What is stored. It takes no memory.
     pub fn of(entry: Option<&ClientEntry>) -> ClientRow
         ensures { result ≡ c_client_row (option_copied entry.entry) }
     {
-        let body = body_of(entry);
-        ClientRow {
-            exception: size_in(exception_in(body)),
-            contexts: count_in(contexts_of(entry)),
-            at: place_told(entry),
-            number: number_told(entry),
-            left: left(entry),
-            status: reply_status(entry),
-            minor: minor_told(body),
-            completion: completion_told(body),
-            addressing: addressing_told(body),
-            kind: kind_of(entry),
-            over: over(entry),
-            outcome: came_to(entry),
+        match entry {
+            Some(entry) => row_in(entry),
+            None => NOTHING,
         }
+    }
+}
+
+// The row of an entry, by one look at its kind.
+fn row_in(entry: &ClientEntry) -> ClientRow
+    ensures { result ≡ c_client_row (Some entry.now) }
+{
+    match entry {
+        ClientEntry::Sending { left, .. } => ClientRow {
+            kind: 9,
+            left: *left,
+            ..NOTHING
+        },
+        ClientEntry::Waiting { .. } => ClientRow {
+            kind: 10,
+            ..NOTHING
+        },
+        ClientEntry::Gathering { .. } => ClientRow { kind: 1, ..NOTHING },
+        ClientEntry::Done { request, reply } => row_of_done(request, reply),
+        ClientEntry::LocateDone { reply, .. } => ClientRow {
+            kind: 12,
+            over: 1,
+            outcome: 4,
+            status: reply.head.status,
+            ..NOTHING
+        },
+        ClientEntry::Undecoded { fault, .. } => ClientRow {
+            kind: 3,
+            over: 1,
+            outcome: 5,
+            number: u32::from(fault.number()),
+            at: fault.at,
+            ..NOTHING
+        },
+        ClientEntry::OnewaySent { .. } => ClientRow {
+            kind: 13,
+            over: 1,
+            outcome: 2,
+            ..NOTHING
+        },
+        ClientEntry::Cancelled { late } => row_of_cancelled(*late),
+    }
+}
+
+// A Request whose Reply came.
+fn row_of_done(request: &Request, reply: &Reply) -> ClientRow
+    ensures { result ≡ c_client_row (Some (Done request.now reply.now)) }
+{
+    ClientRow {
+        kind: 11,
+        over: 1,
+        outcome: 3,
+        contexts: reply.contexts.len(),
+        status: reply.body.status(),
+        ..row_of_body(&reply.body)
+    }
+}
+
+// What a Reply brought, in a row of no kind.
+fn row_of_body(body: &ReplyBody) -> ClientRow
+    ensures { result ≡ row_of_body body.now }
+{
+    match body {
+        ReplyBody::NoException(_) => NOTHING,
+        ReplyBody::UserException { id, .. } => ClientRow {
+            exception: id.len(),
+            ..NOTHING
+        },
+        ReplyBody::SystemException {
+            id,
+            minor,
+            completion,
+        } => ClientRow {
+            exception: id.len(),
+            minor: *minor,
+            completion: completion_number(*completion),
+            ..NOTHING
+        },
+        ReplyBody::Forward(_) => NOTHING,
+        ReplyBody::ForwardPerm(_) => NOTHING,
+        ReplyBody::NeedsAddressing(disposition) => ClientRow {
+            addressing: *disposition,
+            ..NOTHING
+        },
+    }
+}
+
+// A cancelled call is over where its reply came all the same.
+fn row_of_cancelled(late: Late) -> ClientRow
+    ensures { result ≡ c_client_row (Some (Cancelled late)) }
+{
+    let row = ClientRow {
+        kind: 8,
+        outcome: 1,
+        ..NOTHING
+    };
+    match late {
+        Late::None => row,
+        Late::Begun => row,
+        Late::Seen => ClientRow { over: 1, ..row },
     }
 }
 
@@ -129,33 +233,6 @@ fn forward_of_body(body: &ReplyBody) -> Option<&Ior>
     }
 }
 
-fn size_in(octets: Option<&[u8]>) -> usize
-    ensures { result ≡ size_in (option_map (λ octets. octets.now) octets.entry) }
-{
-    match octets {
-        Some(octets) => octets.len(),
-        None => 0,
-    }
-}
-
-fn minor_told(body: Option<&ReplyBody>) -> u32
-    ensures { result ≡ minor_told (option_copied body.entry) }
-{
-    match body {
-        Some(ReplyBody::SystemException { minor, .. }) => *minor,
-        _ => 0,
-    }
-}
-
-fn completion_told(body: Option<&ReplyBody>) -> u32
-    ensures { result ≡ completion_told (option_copied body.entry) }
-{
-    match body {
-        Some(ReplyBody::SystemException { completion, .. }) => completion_number(*completion),
-        _ => 0,
-    }
-}
-
 fn completion_number(completion: Completion) -> u32
     ensures { result ≡ completion_number completion }
 {
@@ -163,85 +240,5 @@ fn completion_number(completion: Completion) -> u32
         Completion::Yes => 0,
         Completion::No => 1,
         Completion::Maybe => 2,
-    }
-}
-
-fn addressing_told(body: Option<&ReplyBody>) -> i16
-    ensures { result ≡ addressing_told (option_copied body.entry) }
-{
-    match body {
-        Some(ReplyBody::NeedsAddressing(disposition)) => *disposition,
-        _ => 0,
-    }
-}
-
-fn place_told(entry: Option<&ClientEntry>) -> usize
-    ensures { result ≡ place_told (option_copied entry.entry) }
-{
-    match entry {
-        Some(ClientEntry::Undecoded { fault, .. }) => fault.at,
-        _ => 0,
-    }
-}
-
-fn number_told(entry: Option<&ClientEntry>) -> u32
-    ensures { result ≡ number_told (option_copied entry.entry) }
-{
-    match entry {
-        Some(ClientEntry::Undecoded { fault, .. }) => u32::from(fault.number()),
-        _ => 0,
-    }
-}
-
-fn kind_of(entry: Option<&ClientEntry>) -> u8
-    ensures { result ≡ kind_of (option_copied entry.entry) }
-{
-    match entry {
-        None => 0,
-        Some(ClientEntry::Gathering { .. }) => 1,
-        Some(ClientEntry::Undecoded { .. }) => 3,
-        Some(ClientEntry::Cancelled { .. }) => 8,
-        Some(ClientEntry::Sending { .. }) => 9,
-        Some(ClientEntry::Waiting { .. }) => 10,
-        Some(ClientEntry::Done { .. }) => 11,
-        Some(ClientEntry::LocateDone { .. }) => 12,
-        Some(ClientEntry::OnewaySent { .. }) => 13,
-    }
-}
-
-fn reply_status(entry: Option<&ClientEntry>) -> u32
-    ensures { result ≡ reply_status (option_copied entry.entry) }
-{
-    match entry {
-        Some(ClientEntry::Done { reply, .. }) => reply.body.status(),
-        Some(ClientEntry::LocateDone { reply, .. }) => reply.head.status,
-        _ => 0,
-    }
-}
-
-fn over(entry: Option<&ClientEntry>) -> u8
-    ensures { result ≡ over (option_copied entry.entry) }
-{
-    match entry {
-        Some(entry) if entry.is_closed() => 1,
-        _ => 0,
-    }
-}
-
-fn left(entry: Option<&ClientEntry>) -> u32
-    ensures { result ≡ left (option_copied entry.entry) }
-{
-    match entry {
-        Some(entry) => entry.left(),
-        None => 0,
-    }
-}
-
-fn came_to(entry: Option<&ClientEntry>) -> u8
-    ensures { result ≡ came_to (option_copied entry.entry) }
-{
-    match entry {
-        Some(entry) => outcome_number(entry.outcome()),
-        None => 0,
     }
 }

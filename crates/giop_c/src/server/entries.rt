@@ -2,12 +2,12 @@
 ghost use Rattle.std.specs.Prelude.{◌≡◌, option_copied, Some};
 ghost use Rattle.std.specs.Option.{option_map};
 ghost use Rattle.giop_msg.specs.Target.{key_of};
-ghost use Rattle.giop_c.specs.Server.Entries.{awaits, awaits_undecoded, c_server_row, came_to, contexts_in, fault_asked, fault_in, fault_of, flags_in, key_in, key_size, kind_of, left, number_told, operation_in, operation_size, over, part_told, place_told, reply_status, request_asked, request_in, request_of, target_asked, target_in, target_of, version_asked, version_in};
+ghost use Rattle.giop_calls.specs.declared.server.entry.ServerEntry.TheVariants.{Answered, Cancelled, Undecoded};
+ghost use Rattle.giop_c.specs.Server.Entries.{c_server_row, contexts_in, key_in, key_size, operation_in, request_asked, request_in, request_of, row_of_fault, row_of_part, row_of_question, row_of_request, target_asked, target_in, target_of, version_asked, version_in};
 
-use crate::contexts::count_in;
-use crate::end_records::outcome_number;
-use giop_calls::{Aside, CallKind, Question, ServerEntry};
-use giop_msg::{Request, RequestFault, ServiceContexts, Target, Version};
+use giop_calls::{Aside, CallKind, Question, ServerEntry, UndecodedCall};
+use giop_cdr::CdrFault;
+use giop_msg::{Reply, Request, RequestFault, ServiceContexts, Target, Version};
 
 /// What is stored for the id of a call at a server, as C sees it: `giop_server_entry`.
 #[repr(C)]
@@ -41,27 +41,167 @@ pub struct ServerRow {
     pub flags: u8,
 }
 
+// Nothing is stored. Each kind of entry is a row that says what it has, and has these zeros else.
+const NOTHING: ServerRow = ServerRow {
+    operation: 0,
+    key: 0,
+    contexts: 0,
+    at: 0,
+    number: 0,
+    left: 0,
+    status: 0,
+    part: 0,
+    kind: 0,
+    awaits: 0,
+    over: 0,
+    outcome: 0,
+    flags: 0,
+};
+
 impl ServerRow {
     /// What is stored. It takes no memory.
     pub fn of(entry: Option<&ServerEntry>) -> ServerRow
         ensures { result ≡ c_server_row (option_copied entry.entry) }
     {
-        let (request, fault) = (request_of(entry), fault_of(entry));
-        ServerRow {
-            operation: operation_size(request),
-            key: key_size(target_of(entry)),
-            contexts: count_in(contexts_in(request)),
-            at: place_told(fault),
-            number: number_told(fault),
-            left: left(entry),
-            status: reply_status(entry),
-            part: part_told(fault),
-            kind: kind_of(entry),
-            awaits: awaits(entry),
-            over: over(entry),
-            outcome: came_to(entry),
-            flags: flags_in(request),
+        match entry {
+            Some(entry) => row_in(entry),
+            None => NOTHING,
         }
+    }
+}
+
+// The row of an entry, by one look at its kind.
+fn row_in(entry: &ServerEntry) -> ServerRow
+    ensures { result ≡ c_server_row (Some entry.now) }
+{
+    match entry {
+        ServerEntry::Gathering { .. } => ServerRow { kind: 1, ..NOTHING },
+        ServerEntry::Asked { request } => ServerRow {
+            kind: 2,
+            awaits: 1,
+            ..row_of_request(request)
+        },
+        ServerEntry::Undecoded { call } => row_of_undecoded(call),
+        ServerEntry::LocateAsked { request } => ServerRow {
+            kind: 4,
+            awaits: 2,
+            key: key_of(&request.target).len(),
+            ..NOTHING
+        },
+        ServerEntry::Answered { asked, reply, left } => row_of_answered(asked, reply, *left),
+        ServerEntry::LocateAnswered { target, here } => ServerRow {
+            kind: 6,
+            over: 1,
+            outcome: 4,
+            status: u32::from(*here),
+            key: key_size(target_located(target)),
+            ..NOTHING
+        },
+        ServerEntry::Delivered { request } => ServerRow {
+            kind: 7,
+            over: 1,
+            outcome: 2,
+            ..row_of_request(request)
+        },
+        ServerEntry::Cancelled { answered, left } => row_of_cancelled(*answered, *left),
+    }
+}
+
+// What a Request says, in a row of no kind.
+fn row_of_request(request: &Request) -> ServerRow
+    ensures { result ≡ row_of_request request.now }
+{
+    ServerRow {
+        operation: request.head.operation.len(),
+        key: key_of(&request.head.target).len(),
+        contexts: request.head.contexts.len(),
+        flags: request.head.flags,
+        ..NOTHING
+    }
+}
+
+// What is wrong with a call that can't be decoded, in a row of no kind.
+fn row_of_fault(fault: RequestFault) -> ServerRow
+    ensures { result ≡ row_of_fault fault }
+{
+    match fault {
+        RequestFault::Header(fault) => row_of_part(1, fault),
+        RequestFault::Operation => ServerRow { part: 2, ..NOTHING },
+        RequestFault::Body(fault) => row_of_part(3, fault),
+    }
+}
+
+// What is wrong in a part of a call, in a row of no kind.
+fn row_of_part(part: u8, fault: CdrFault) -> ServerRow
+    ensures { result ≡ row_of_part part fault }
+{
+    ServerRow {
+        part,
+        number: u32::from(fault.number()),
+        at: fault.at,
+        ..NOTHING
+    }
+}
+
+// What an answered call was, in a row of no kind.
+fn row_of_question(asked: &Question) -> ServerRow
+    ensures { result ≡ row_of_question asked.now }
+{
+    match asked {
+        Question::Request(request) => row_of_request(request),
+        Question::Undecoded(fault) => row_of_fault(*fault),
+    }
+}
+
+// A call that can't be decoded is over where no reply is expected.
+fn row_of_undecoded(call: &UndecodedCall) -> ServerRow
+    ensures { result ≡ c_server_row (Some (Undecoded call.now)) }
+{
+    let row = ServerRow {
+        kind: 3,
+        ..row_of_fault(call.fault)
+    };
+    match call.expects {
+        None => ServerRow {
+            over: 1,
+            outcome: 5,
+            ..row
+        },
+        Some(CallKind::Request) => ServerRow { awaits: 1, ..row },
+        Some(CallKind::Locate) => ServerRow { awaits: 2, ..row },
+    }
+}
+
+// An answered call is over where no piece of its reply is left.
+fn row_of_answered(asked: &Question, reply: &Reply, left: u32) -> ServerRow
+    ensures { result ≡ c_server_row (Some (Answered asked.now reply.now left)) }
+{
+    let row = ServerRow {
+        kind: 5,
+        status: reply.body.status(),
+        left,
+        ..row_of_question(asked)
+    };
+    if left == 0 {
+        return ServerRow {
+            over: 1,
+            outcome: 3,
+            ..row
+        };
+    }
+    row
+}
+
+// A cancelled call is over where no piece of its reply is left.
+fn row_of_cancelled(answered: bool, left: u32) -> ServerRow
+    ensures { result ≡ c_server_row (Some (Cancelled answered left)) }
+{
+    ServerRow {
+        kind: 8,
+        left,
+        over: u8::from(left == 0),
+        outcome: 1,
+        ..NOTHING
     }
 }
 
@@ -170,161 +310,12 @@ fn key_of(target: &Target) -> &[u8]
     }
 }
 
-fn operation_size(request: Option<&Request>) -> usize
-    ensures { result ≡ operation_size (option_copied request.entry) }
-{
-    match request {
-        Some(request) => request.head.operation.len(),
-        None => 0,
-    }
-}
-
 fn key_size(target: Option<&Target>) -> usize
     ensures { result ≡ key_size (option_copied target.entry) }
 {
     match target {
         Some(target) => key_of(target).len(),
         None => 0,
-    }
-}
-
-// Why the call under an id couldn't be decoded, where it couldn't.
-fn fault_of(entry: Option<&ServerEntry>) -> Option<RequestFault>
-    ensures { result ≡ fault_of (option_copied entry.entry) }
-{
-    fault_in(entry?)
-}
-
-fn fault_in(entry: &ServerEntry) -> Option<RequestFault>
-    ensures { result ≡ fault_in entry.now }
-{
-    match entry {
-        ServerEntry::Undecoded { call } => Some(call.fault),
-        ServerEntry::Answered { asked, .. } => fault_asked(asked),
-        _ => None,
-    }
-}
-
-fn fault_asked(asked: &Question) -> Option<RequestFault>
-    ensures { result ≡ fault_asked asked.now }
-{
-    match asked {
-        Question::Request(_) => None,
-        Question::Undecoded(fault) => Some(*fault),
-    }
-}
-
-fn part_told(fault: Option<RequestFault>) -> u8
-    ensures { result ≡ part_told fault }
-{
-    match fault {
-        None => 0,
-        Some(RequestFault::Header(_)) => 1,
-        Some(RequestFault::Operation) => 2,
-        Some(RequestFault::Body(_)) => 3,
-    }
-}
-
-fn number_told(fault: Option<RequestFault>) -> u32
-    ensures { result ≡ number_told fault }
-{
-    match fault {
-        Some(RequestFault::Header(fault)) => u32::from(fault.number()),
-        Some(RequestFault::Body(fault)) => u32::from(fault.number()),
-        _ => 0,
-    }
-}
-
-fn place_told(fault: Option<RequestFault>) -> usize
-    ensures { result ≡ place_told fault }
-{
-    match fault {
-        Some(RequestFault::Header(fault)) => fault.at,
-        Some(RequestFault::Body(fault)) => fault.at,
-        _ => 0,
-    }
-}
-
-fn flags_in(request: Option<&Request>) -> u8
-    ensures { result ≡ flags_in (option_copied request.entry) }
-{
-    match request {
-        Some(request) => request.head.flags,
-        None => 0,
-    }
-}
-
-fn kind_of(entry: Option<&ServerEntry>) -> u8
-    ensures { result ≡ kind_of (option_copied entry.entry) }
-{
-    match entry {
-        None => 0,
-        Some(ServerEntry::Gathering { .. }) => 1,
-        Some(ServerEntry::Asked { .. }) => 2,
-        Some(ServerEntry::Undecoded { .. }) => 3,
-        Some(ServerEntry::LocateAsked { .. }) => 4,
-        Some(ServerEntry::Answered { .. }) => 5,
-        Some(ServerEntry::LocateAnswered { .. }) => 6,
-        Some(ServerEntry::Delivered { .. }) => 7,
-        Some(ServerEntry::Cancelled { .. }) => 8,
-    }
-}
-
-fn awaits(entry: Option<&ServerEntry>) -> u8
-    ensures { result ≡ awaits (option_copied entry.entry) }
-{
-    match entry {
-        Some(ServerEntry::Asked { .. }) => 1,
-        Some(ServerEntry::LocateAsked { .. }) => 2,
-        Some(ServerEntry::Undecoded { call }) => awaits_undecoded(call.expects),
-        _ => 0,
-    }
-}
-
-fn awaits_undecoded(expects: Option<CallKind>) -> u8
-    ensures { result ≡ awaits_undecoded expects }
-{
-    match expects {
-        None => 0,
-        Some(CallKind::Request) => 1,
-        Some(CallKind::Locate) => 2,
-    }
-}
-
-fn over(entry: Option<&ServerEntry>) -> u8
-    ensures { result ≡ over (option_copied entry.entry) }
-{
-    match entry {
-        Some(entry) if entry.is_closed() => 1,
-        _ => 0,
-    }
-}
-
-fn left(entry: Option<&ServerEntry>) -> u32
-    ensures { result ≡ left (option_copied entry.entry) }
-{
-    match entry {
-        Some(entry) => entry.left(),
-        None => 0,
-    }
-}
-
-fn came_to(entry: Option<&ServerEntry>) -> u8
-    ensures { result ≡ came_to (option_copied entry.entry) }
-{
-    match entry {
-        Some(entry) => outcome_number(entry.outcome()),
-        None => 0,
-    }
-}
-
-fn reply_status(entry: Option<&ServerEntry>) -> u32
-    ensures { result ≡ reply_status (option_copied entry.entry) }
-{
-    match entry {
-        Some(ServerEntry::Answered { reply, .. }) => reply.body.status(),
-        Some(ServerEntry::LocateAnswered { here, .. }) => u32::from(*here),
-        _ => 0,
     }
 }
 
