@@ -3,5 +3,6 @@ pub mod CorbalocLemmas
 pub mod Crossing
 pub mod EndsCrossing
 pub mod HandleRows
+pub mod IiopMemory
 pub mod ValueLoops
 pub mod ValuesFit

@@ -75,12 +75,12 @@ ReadsIiop (Ok p) r r' host host' key key' f f' status =
 ReadsIiop (Err e) r r' host host' key key' f f' status =
     (status ≡ fault) × (r' ≡ r) × (f' ≡ c_cdr_fault e) × (host' ≡ host) × (key' ≡ key)
 
--- so, or memory ran out and nothing is written
+-- so; or memory ran out for octets that are a profile, and nothing is written
 abbrev pub ReadsIiopOrNot : Result iiop.Profile CdrFault → Profile → Profile → List ℕ → List ℕ
     → List ℕ → List ℕ → Fault → Fault → ℕ → Type 0
 ReadsIiopOrNot read r r' host host' key key' f f' status =
     ReadsIiop read r r' host host' key key' f f' status
-    ⊎ ((status ≡ no_memory) × (r' ≡ r) × (f' ≡ f) × (host' ≡ host) × (key' ≡ key))
+    ⊎ (IsOk read × (status ≡ no_memory) × (r' ≡ r) × (f' ≡ f) × (host' ≡ host) × (key' ≡ key))
 
 -- ---- a corbaloc (7.6.10.1)
 

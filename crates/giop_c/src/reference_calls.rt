@@ -61,7 +61,8 @@ fn copy_profile(
 
 /// Reads the octets of an IIOP profile, and copies its host and its key into the buffers. It answers
 /// OK; SMALL, where one of them has no room, and copies nothing; FAULT, and writes the fault; or
-/// NO_MEMORY, and writes nothing. With OK and SMALL the profile is written.
+/// NO_MEMORY, only where the octets are a profile, and writes nothing. With OK and SMALL the profile
+/// is written.
 ///
 /// Places are counted from the first of the octets, which is the byte order.
 #[unsafe(no_mangle)]

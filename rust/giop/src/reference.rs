@@ -238,7 +238,7 @@ impl IiopProfile {
     /// The profile that the octets of tag 0 are.
     ///
     /// # Errors
-    /// Where and why they are refused; or `NoMemory`.
+    /// Where and why they are refused; or `NoMemory`, of octets that are a profile.
     pub fn read(octets: &[u8]) -> Result<IiopProfile, ProfileError> {
         let mut fault = CFault { at: 0, number: 0 };
         let mut profile = CProfile { host: 0, key: 0, components: 0, port: 0, minor: 0 };
