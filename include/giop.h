@@ -134,6 +134,16 @@ uint32_t giop_framer_payload(giop_framer *framer, uint8_t *buffer, size_t room, 
 /* Writes how many octets are unread to *rest. Answers GIOP_OK or GIOP_CLOSED. */
 uint32_t giop_framer_rest(giop_framer *framer, size_t *rest);
 
+/* Reads the header at the front of octets, which is the first twelve, and the request id behind it. limit is the
+ * greatest message size that is accepted, which doesn't count the header; of at most 2^62 octets those beyond the
+ * message aren't looked at. It takes no handle and no memory. Answers
+ *   GIOP_OK: *message is written, as giop_framer_next writes it where the whole message is there; where some of it
+ *     is wanting, has_id is 0 until the octets up to the id are there;
+ *   GIOP_WAITS: fewer than twelve octets are there;
+ *   GIOP_FAULT: they are no header, and *fault says why.
+ * Each is written with its own status alone. octets may be NULL where size is 0. */
+uint32_t giop_header(const uint8_t *octets, size_t size, uint32_t limit, giop_message *message, giop_fault *fault);
+
 /* Reads the head of a Request out of its payload, and copies the operation's name, without a null, and the
  * object's key to the fronts of two buffers. message is the header that giop_framer_next wrote, whose kind
  * is GIOP_REQUEST and whose more is 0; payload is its payload, of at most 2^62 octets. It takes no handle
@@ -279,7 +289,7 @@ uint32_t giop_reference_profile(const uint8_t *text, size_t size, size_t index, 
  *   GIOP_SMALL: *profile is written, one of the buffers has fewer octets than it says, and neither is changed;
  *   GIOP_FAULT: they are refused, and *fault says why, by the GIOP_CDR_ numbers, and where, from the first of
  *     them on;
- *   GIOP_NO_MEMORY: nothing is written.
+ *   GIOP_NO_MEMORY: they are a profile, and nothing is written.
  * *fault is written with GIOP_FAULT alone. */
 uint32_t giop_iiop_profile(const uint8_t *octets, size_t size, giop_profile *profile,
                            uint8_t *host, size_t host_room, uint8_t *key, size_t key_room, giop_fault *fault);
@@ -560,6 +570,11 @@ uint32_t giop_server_error_message(giop_server *server, uint8_t *buffer, size_t 
 
 /* Writes how many octets are unread to *rest. Answers GIOP_OK or GIOP_CLOSED. */
 uint32_t giop_server_rest(giop_server *server, size_t *rest);
+
+/* Writes how many blocks of 512 octets the end has taken for pieces of Requests to *count: at most the limit
+ * gathered over 512, and one more for each entry that there may be. They serve the pieces to come until the
+ * handle is freed. Answers GIOP_OK or GIOP_CLOSED. */
+uint32_t giop_server_blocks(giop_server *server, size_t *count);
 
 /* Frees what the handle holds, which holds nothing then. A second call does nothing. */
 void giop_server_free(giop_server *server);

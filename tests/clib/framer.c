@@ -117,6 +117,41 @@ static const struct refused {
     {{'G', 'I', 'O', 'P', 1, 1, 2, 0, 0, 0, 0, 8}, 6, GIOP_NOT_FRAGMENTABLE},
 };
 
+/* The same headers out of the caller's octets, and the id as soon as its octets are there: at 12 to 15 of these. */
+static void a_header_is_read_without_a_handle(void) {
+    uint8_t stream[STREAM_SIZE];
+    make_stream(stream);
+    size_t begins = 0;
+    for (size_t number = 0; number < 4; begins += 12 + HEADS[number].size, number++) {
+        for (size_t size = 0; size <= STREAM_SIZE - begins; size++) {
+            giop_message head = {9, 9, 9, 9, 9, 9, 9}, wanted = HEADS[number];
+            giop_fault fault = {77, 77};
+            uint32_t status = giop_header(size == 0 ? NULL : stream + begins, size, 36, &head, &fault);
+            CHECK(status == (size < 12 ? GIOP_WAITS : GIOP_OK) && fault.at == 77 && fault.number == 77);
+            if (size < 16) {
+                wanted.id = wanted.has_id = 0;
+            }
+            CHECK(size < 12 ? head.minor == 9 && head.has_id == 9 : same_head(head, wanted));
+        }
+    }
+}
+
+/* A Reply of 1.0, big endian, of id 7 behind a context of 4 octets, which ends at 28 (9.4.3.1): its id is there with
+ * 32 octets; and one whose count of contexts is more than its octets, which has none. */
+static void an_early_id_stands_behind_the_contexts(void) {
+    uint8_t reply[36] = {'G', 'I', 'O', 'P', 1, 0, 0, 1, 0, 0, 0, 24, 0, 0, 0, 1, 0, 0,
+                         0,   1,   0,   0,   0, 4, 8, 8, 8, 8, 0, 0, 0, 7, 0, 0, 0, 0};
+    giop_message head = {9, 9, 9, 9, 9, 9, 9};
+    giop_fault fault = {77, 77};
+    CHECK(giop_header(reply, 31, 24, &head, &fault) == GIOP_OK && head.has_id == 0 && head.id == 0);
+    CHECK(giop_header(reply, 32, 24, &head, &fault) == GIOP_OK && head.has_id == 1 && head.id == 7);
+    CHECK(head.kind == GIOP_REPLY && head.size == 24 && head.minor == 0 && head.more == 0);
+    CHECK(giop_header(reply, 36, 23, &head, &fault) == GIOP_FAULT && fault.at == 8 && fault.number == GIOP_TOO_LARGE);
+    CHECK(head.kind == GIOP_REPLY && head.size == 24 && head.id == 7);
+    reply[15] = 9;
+    CHECK(giop_header(reply, 36, 24, &head, &fault) == GIOP_OK && head.has_id == 0 && head.id == 0);
+}
+
 static void headers_are_refused_at_their_place(void) {
     for (size_t i = 0; i < sizeof REFUSED / sizeof *REFUSED; i++) {
         giop_framer framer = GIOP_FRAMER_CLOSED;
@@ -136,6 +171,9 @@ static void headers_are_refused_at_their_place(void) {
         }
         CHECK(giop_framer_rest(&framer, &rest) == GIOP_OK && rest == 12);
         giop_framer_free(&framer);
+        fault.at = fault.number = 77;
+        CHECK(giop_header(REFUSED[i].octets, 12, 100, &head, &fault) == GIOP_FAULT);
+        CHECK(fault.at == REFUSED[i].at && fault.number == REFUSED[i].number && same_head(head, HEADS[3]));
     }
 }
 
@@ -373,6 +411,8 @@ int main(void) {
     a_request_id_is_found_in_each_version();
     each_cut_gives_the_same_messages();
     octets_may_come_one_by_one();
+    a_header_is_read_without_a_handle();
+    an_early_id_stands_behind_the_contexts();
     headers_are_refused_at_their_place();
     a_small_buffer_is_told_the_size();
     a_closed_handle_answers_closed();

@@ -63,6 +63,7 @@ static void each_call_of_a_server_is_closed(giop_server *server) {
     CHECK(giop_server_close(server, &fault) == GIOP_CLOSED);
     CHECK(giop_server_error_message(server, NULL, 0, &size) == GIOP_CLOSED);
     CHECK(giop_server_rest(server, &size) == GIOP_CLOSED);
+    CHECK(giop_server_blocks(server, &size) == GIOP_CLOSED);
     CHECK(is(&fault, 77, 77) && size == 99 && service == 99);
     giop_server_free(server);
 }

@@ -329,6 +329,26 @@ static void a_reply_goes_out_in_pieces(void) {
     CHECK(blocks == 0);
 }
 
+static void blocks_are_taken_for_pieces(void) {
+    giop_interface interface = {0};
+    giop_server server = {0};
+    giop_limits limits = GIOP_LIMITS;
+    giop_text_fault why;
+    giop_end_fault fault = UNWRITTEN;
+    uint8_t first[24];
+    size_t count = 99;
+    memcpy(first, ASK, 24);
+    first[6] = 2, first[11] = 12;
+    CHECK(giop_interface_new(&interface, (const uint8_t *)ADD, strlen(ADD), &why) == GIOP_OK);
+    CHECK(giop_server_new(&server, &interface, &limits) == GIOP_OK);
+    CHECK(giop_server_blocks(&server, &count) == GIOP_OK && count == 0);
+    CHECK(giop_server_feed(&server, first, 24, &fault) == GIOP_OK && entry_of(&server, 1).kind == GIOP_GATHERING);
+    CHECK(giop_server_blocks(&server, &count) == GIOP_OK && count == 1);
+    giop_server_free(&server);
+    giop_interface_free(&interface);
+    CHECK(blocks == 0);
+}
+
 static void a_fault_fails_the_end(void) {
     giop_server server = {0};
     giop_end_fault fault = UNWRITTEN;
@@ -379,6 +399,7 @@ static void a_closed_handle_answers_closed(void) {
     CHECK(giop_server_close(&server, &fault) == GIOP_CLOSED);
     CHECK(giop_server_error_message(&server, buffer, 4, &size) == GIOP_CLOSED);
     CHECK(giop_server_rest(&server, &size) == GIOP_CLOSED);
+    CHECK(giop_server_blocks(&server, &size) == GIOP_CLOSED);
     CHECK(is_unwritten(fault) && size == 99 && server.at == NULL);
     giop_server_free(&server);
     CHECK(giop_interface_new(&interface, (const uint8_t *)ADD, strlen(ADD), &why) == GIOP_OK);
@@ -426,6 +447,7 @@ int main(void) {
     what_cant_be_decoded_is_told();
     other_calls_are_told_apart();
     a_reply_goes_out_in_pieces();
+    blocks_are_taken_for_pieces();
     a_fault_fails_the_end();
     a_closed_handle_answers_closed();
     each_allocation_may_be_refused();

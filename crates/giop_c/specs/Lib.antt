@@ -5,6 +5,7 @@ pub mod Contexts
 pub mod Copying
 pub mod Corbalocs
 pub mod EndRecords
+pub mod Headers
 pub mod Heads
 pub mod InterfaceFiles
 pub mod Interfaces

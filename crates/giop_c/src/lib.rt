@@ -11,6 +11,7 @@ mod corbaloc_calls;
 mod end_records;
 mod framer_calls;
 mod framer_handle;
+mod header_calls;
 mod interface_calls;
 mod interface_handle;
 mod json_values;

@@ -47,8 +47,8 @@ impl Message {
     }
 }
 
-// The request id that was read; 0 where none was.
-fn id_told(id: &Option<Result<u32, CdrFault>>) -> u32
+/// The request id that was read; 0 where none was.
+pub fn id_told(id: &Option<Result<u32, CdrFault>>) -> u32
     ensures { result ≡ id_told id.now }
 {
     match id {
@@ -57,8 +57,8 @@ fn id_told(id: &Option<Result<u32, CdrFault>>) -> u32
     }
 }
 
-// 1 where a request id was read, else 0.
-fn has_id(id: &Option<Result<u32, CdrFault>>) -> u8
+/// 1 where a request id was read, else 0.
+pub fn has_id(id: &Option<Result<u32, CdrFault>>) -> u8
     ensures { result ≡ has_id id.now }
 {
     match id {

@@ -14,6 +14,7 @@ use crate::framer_calls::{
     giop_framer_feed, giop_framer_free, giop_framer_new, giop_framer_next, giop_framer_payload,
     giop_framer_rest,
 };
+use crate::header_calls::giop_header;
 use crate::request_calls::giop_request_head;
 use crate::status::{CLOSED, FAULT, OK, SMALL, WAITS};
 use crate::{Fault, FramerHandle, Message, Request};
@@ -30,6 +31,32 @@ const UNWRITTEN: Message = Message {
     id: 9,
     has_id: 9,
 };
+
+#[test]
+fn a_header_is_read_without_a_handle(rt: HostRuntime) {
+    let (mut message, mut fault) = (UNWRITTEN, Fault { at: 77, number: 77 });
+    assert_eq!(rt;
+        giop_header(&CANCEL[..11], 4, &mut message, &mut fault),
+        WAITS
+    );
+    assert_eq!(rt; message, UNWRITTEN);
+    assert_eq!(rt; giop_header(&CANCEL[..15], 4, &mut message, &mut fault), OK);
+    let header = Message {
+        minor: 0,
+        little_endian: 1,
+        more: 0,
+        kind: 2,
+        size: 4,
+        id: 0,
+        has_id: 0,
+    };
+    assert_eq!(rt; message, header);
+    assert_eq!(rt; giop_header(&CANCEL, 4, &mut message, &mut fault), OK);
+    assert_eq!(rt; (message.id, message.has_id), (7, 1));
+    assert_eq!(rt; fault, Fault { at: 77, number: 77 });
+    assert_eq!(rt; giop_header(&CANCEL, 3, &mut message, &mut fault), FAULT);
+    assert_eq!(rt; fault, Fault { at: 8, number: 5 });
+}
 
 #[test]
 fn a_message_is_taken_and_its_payload_copied(rt: HostRuntime) {

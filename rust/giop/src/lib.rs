@@ -76,6 +76,13 @@ extern "C" {
     fn giop_framer_payload(framer: *mut Handle, buffer: *mut u8, room: usize, size: *mut usize) -> u32;
     fn giop_framer_rest(framer: *mut Handle, rest: *mut usize) -> u32;
     fn giop_framer_free(framer: *mut Handle);
+    fn giop_header(
+        octets: *const u8,
+        size: usize,
+        limit: u32,
+        message: *mut Head,
+        fault: *mut CFault,
+    ) -> u32;
     fn giop_reply_head(
         message: *const Head,
         payload: *const u8,
@@ -253,8 +260,8 @@ pub enum Kind {
     Fragment,
 }
 
-/// A message that was taken: what its header says, and its payload. It borrows the framer, so the next
-/// call of the framer ends it.
+/// A message: what its header says, and its payload. One that was taken borrows the framer, so the next call of the
+/// framer ends it; one that was [split off](Message::split_from) borrows the octets.
 #[derive(Clone, Copy)]
 pub struct Message<'a> {
     head: Head,
@@ -262,6 +269,34 @@ pub struct Message<'a> {
 }
 
 impl<'a> Message<'a> {
+    /// The message at the front of octets, where all of it is there, and the octets behind it. Its size, which
+    /// doesn't count the header, is at most the limit. It copies nothing.
+    ///
+    /// ```
+    /// use giop::{Kind, Message};
+    ///
+    /// let octets = b"GIOP\x01\x02\x01\x05\0\0\0\0GIOP";
+    /// let (message, behind) = Message::split_from(octets, 1_048_576)?.expect("a whole message");
+    /// assert_eq!((message.kind(), behind), (Kind::CloseConnection, &b"GIOP"[..]));
+    /// assert!(Message::split_from(behind, 1_048_576)?.is_none());
+    /// # Ok::<(), giop::Fault>(())
+    /// ```
+    ///
+    /// # Errors
+    /// Why no header stands there, as soon as its twelve octets are there.
+    pub fn split_from(octets: &'a [u8], limit: u32) -> Result<Option<(Message<'a>, &'a [u8])>, Fault> {
+        let mut head = Head { minor: 0, little_endian: 0, more: 0, kind: 0, size: 0, id: 0, has_id: 0 };
+        let mut fault = CFault { at: 0, number: 0 };
+        // SAFETY: the slice is that long, and both structs may be written.
+        match unsafe { giop_header(octets.as_ptr(), octets.len(), limit, &mut head, &mut fault) } {
+            OK => Ok(octets.get(12..12 + head.size as usize).map(|payload| {
+                (Message { head, payload }, &octets[12 + payload.len()..])
+            })),
+            WAITS => Ok(None),
+            _ => Err(Fault::of(&fault)),
+        }
+    }
+
     /// The minor number of the version: 0, 1 or 2.
     pub fn minor(&self) -> u8 {
         self.head.minor

@@ -165,6 +165,7 @@ extern "C" {
     fn giop_server_close(server: *mut Handle, fault: *mut EndFault) -> u32;
     fn giop_server_error_message(server: *mut Handle, buffer: *mut u8, room: usize, size: *mut usize) -> u32;
     fn giop_server_rest(server: *mut Handle, rest: *mut usize) -> u32;
+    fn giop_server_blocks(server: *mut Handle, count: *mut usize) -> u32;
     fn giop_server_free(server: *mut Handle);
 }
 
@@ -469,6 +470,14 @@ impl Server {
         // SAFETY: the handle was opened, and the number is written.
         unsafe { giop_server_rest(&mut self.handle, &mut rest) };
         rest
+    }
+
+    /// How many blocks of 512 octets the end has taken for pieces of Requests.
+    pub fn blocks(&mut self) -> usize {
+        let mut count = 0;
+        // SAFETY: the handle was opened, and the number is written.
+        unsafe { giop_server_blocks(&mut self.handle, &mut count) };
+        count
     }
 }
 

@@ -1,5 +1,5 @@
 //! Octets worked by hand from CORBA 3.3 Part 2, 9.4.1.
-use giop::{Error, Fault, FaultKind, Framer, Kind};
+use giop::{Error, Fault, FaultKind, Framer, Kind, Message};
 use std::error::Error as _;
 
 /// A Request of 1.2, big endian, id 1, to the key "k", of the operation "ping" (9.4.2).
@@ -20,6 +20,22 @@ fn a_request_in_two_pieces() -> Result<(), Error> {
         assert_eq!((message.request_id(), message.payload()), (Some(1), &PING[12..]));
         assert_eq!(framer.rest(), 0);
     }
+    Ok(())
+}
+
+#[test]
+fn a_message_is_split_off_where_all_of_it_is_there() -> Result<(), Fault> {
+    let two = [PING, PING].concat();
+    for size in 0..two.len() {
+        let Some((message, behind)) = Message::split_from(&two[..size], 36)? else {
+            assert!(size < PING.len());
+            continue;
+        };
+        assert_eq!((message.kind(), message.request_id()), (Kind::Request, Some(1)));
+        assert_eq!((message.payload(), behind), (&PING[12..], &two[PING.len()..size]));
+    }
+    let fault = Fault { at: 8, kind: FaultKind::TooLarge };
+    assert_eq!(Message::split_from(&PING[..12], 35).unwrap_err(), fault);
     Ok(())
 }
 

@@ -1,6 +1,6 @@
 //! The exported functions of a server's end. Each takes what the handle holds, calls it and puts it
 //! back. Those that read an entry are entry_calls.rt, and those that answer answer_calls.rt.
-ghost use Rattle.std.specs.Prelude.{◌≡◌, ◌⊎◌, None, length};
+ghost use Rattle.std.specs.Prelude.{◌≡◌, ◌≤◌, ◌+◌, ◌/◌, ◌⊎◌, None, length};
 ghost use Rattle.std.specs.FinMap as finite;
 ghost use Rattle.giop_session.specs.Calls.SessionFaults.{error_message_of};
 ghost use Rattle.giop_c.specs.Acts.{Tells};
@@ -251,6 +251,25 @@ pub extern "C" fn giop_server_ids(
         Ok(()) => OK,
         Err(_) => NO_MEMORY,
     }
+}
+
+/// Writes how many blocks of 512 octets the end has taken for pieces. It answers OK or CLOSED.
+#[unsafe(no_mangle)]
+pub extern "C" fn giop_server_blocks(
+    alloc: Global,
+    server: &mut ServerHandle,
+    count: &mut usize,
+) -> u32
+    ensures { At server.old.value server.new.value result (count.new ≡ count.old)
+        (λ old new. (result ≡ ok) × (new ≡ old)
+        × (count.new ≤ old.end.calls.room / 512 + old.end.calls.calls)) }
+{
+    let Some(served) = server.take(alloc) else {
+        return CLOSED;
+    };
+    *count = served.blocks();
+    *server = ServerHandle::of(served);
+    OK
 }
 
 /// Frees what the handle holds. A handle that holds nothing stays so.

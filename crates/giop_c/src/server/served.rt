@@ -1,5 +1,5 @@
 //! What a handle of a server's end holds, and its calls, each a call of giop_session at the end.
-ghost use Rattle.std.specs.Prelude.{◌≡◌, ◌≤◌, ◌^◌, length, OnOk, OnErr};
+ghost use Rattle.std.specs.Prelude.{◌≡◌, ◌≤◌, ◌+◌, ◌/◌, ◌^◌, length, OnOk, OnErr};
 ghost use Rattle.std.specs.FinMap as finite;
 ghost use Rattle.std_alloc.specs.Arc.{arc_value};
 ghost use Rattle.giop_session.specs.Calls.SessionFaults.{error_message_of};
@@ -122,6 +122,13 @@ impl Served {
         ensures value { result ≡ length self.now.end.framer.octets }
     {
         self.end.rest()
+    }
+
+    /// How many blocks of 512 octets the end has taken for pieces. It takes no memory.
+    pub fn blocks(&self) -> usize
+        ensures within { result ≤ self.now.end.calls.room / 512 + self.now.end.calls.calls }
+    {
+        self.end.blocks()
     }
 
     /// The MessageError that the fault of the end asks for, if it does. It takes no memory.

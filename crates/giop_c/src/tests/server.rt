@@ -6,9 +6,9 @@ use crate::server::answer_calls::{
     giop_server_answer_user,
 };
 use crate::server::calls::{
-    giop_server_close, giop_server_error_message, giop_server_feed, giop_server_free,
-    giop_server_ids, giop_server_new, giop_server_outgoing, giop_server_rest, giop_server_send,
-    giop_server_take, giop_server_wrote,
+    giop_server_blocks, giop_server_close, giop_server_error_message, giop_server_feed,
+    giop_server_free, giop_server_ids, giop_server_new, giop_server_outgoing, giop_server_rest,
+    giop_server_send, giop_server_take, giop_server_wrote,
 };
 use crate::server::entry_calls::{
     giop_server_entry_of, giop_server_ins, giop_server_key, giop_server_operation,
@@ -96,6 +96,8 @@ fn a_request_is_heard_answered_and_taken_out(rt: HostRuntime) {
     );
     assert_eq!(rt; giop_server_rest(alloc, &mut server, &mut size), OK);
     assert_eq!(rt; size, 55);
+    assert_eq!(rt; giop_server_blocks(alloc, &mut server, &mut size), OK);
+    assert_eq!(rt; size, 0);
     assert_eq!(rt; giop_server_entry_of(alloc, &mut server, 1, &mut row), OK);
     assert_eq!(rt; row.kind, 0);
     assert_eq!(rt;
