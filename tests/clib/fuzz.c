@@ -5,7 +5,8 @@
  *
  * Usage: fuzz [TURNS]              so many streams, a few by default
  *        fuzz write FOLDER N       writes N streams, for `giopctl check` to read too
- *        fuzz read FILE..          prints of each what a server's end makes of it
+ *        fuzz read LIMITS FILE..   prints of each what a server's end makes of it, within the limits of a message, of
+ *                                  calls and of gathered octets, as 1048576,1024,- where - stands for the default
  *
  * Without `write` and `read` it prints what failed and ends with status 1, or prints how many passed. */
 #include "check.h"
@@ -327,13 +328,23 @@ static void print_fault(const giop_end_fault *fault) {
     printf("\n");
 }
 
-static int read_stream(const char *name) {
+/* The limits that a word says. */
+static giop_limits limits_of(char *word) {
+    giop_limits limits = GIOP_LIMITS;
+    char *message = strtok(word, ","), *calls = strtok(NULL, ","), *gathered = strtok(NULL, ",");
+    limits.message = *message == '-' ? limits.message : (uint32_t)strtoul(message, NULL, 10);
+    limits.calls = *calls == '-' ? limits.calls : (uint32_t)strtoul(calls, NULL, 10);
+    limits.gathered = *gathered == '-' ? limits.gathered : (uint64_t)strtoull(gathered, NULL, 10);
+    return limits;
+}
+
+static int read_stream(const char *name, const giop_limits *limits) {
     static struct octets stream;
     giop_server server = {0};
     giop_end_fault fault;
     size_t rest = 0;
     FILE *file = fopen(name, "rb");
-    if (!file || opens(&server, &LIMITS) != GIOP_OK) {
+    if (!file || opens(&server, limits) != GIOP_OK) {
         return 1;
     }
     stream.size = fread(stream.at, 1, sizeof stream.at, file);
@@ -354,11 +365,12 @@ int main(int argc, char **argv) {
     if (argc == 4 && strcmp(argv[1], "write") == 0) {
         return write_streams(argv[2], (uint32_t)atoi(argv[3]));
     }
-    if (argc > 2 && strcmp(argv[1], "read") == 0) {
+    if (argc > 3 && strcmp(argv[1], "read") == 0) {
+        const giop_limits limits = limits_of(argv[2]);
         int wrong = 0;
-        for (int i = 2; i < argc; i++) {
+        for (int i = 3; i < argc; i++) {
             printf("%s\n", argv[i]);
-            wrong |= read_stream(argv[i]);
+            wrong |= read_stream(argv[i], &limits);
         }
         return wrong;
     }
