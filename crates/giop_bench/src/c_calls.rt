@@ -1,6 +1,8 @@
 //! The loops of `bench/c/calls.c` in Rattle: what a program in C does by libgiop's functions, with
 //! the same octets, the same looks at entries and the same copies, and so the same checksums. What
 //! both take more is what C's interface costs.
+ghost use Rattle.std.specs.Prelude.{◌≡◌, ◌≤◌, length, IfSome};
+
 mod answering;
 mod asking;
 mod both_ends;
@@ -32,7 +34,10 @@ fn of_big(octets: [u8; 8]) -> (u32, u32) {
 }
 
 // Copies octets to the front of a buffer, where it has room for them. How many they are.
-fn copied(octets: &[u8], buffer: &mut [u8]) -> Option<usize> {
+fn copied(octets: &[u8], buffer: &mut [u8]) -> Option<usize>
+    ensures size { IfSome result (λ n. n ≡ length octets.now) }
+    ensures room { IfSome result (λ n. n ≤ length buffer.new) }
+{
     if octets.len() > buffer.len() {
         return None;
     }
