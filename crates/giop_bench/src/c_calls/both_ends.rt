@@ -47,17 +47,21 @@ fn taken_out<R: Hearing>(
     Some(())
 }
 
-// Feeds an end from a connection, until so many octets were read.
-fn read_in<R: Hearing>(end: &mut End<'_, R>, from: &TcpStream, wanted: usize) -> Option<()> {
-    let mut octets = [0u8; ROOM];
+// Feeds an end from a connection by way of a buffer, until so many octets were read.
+fn read_in<R: Hearing>(
+    end: &mut End<'_, R>,
+    octets: &mut [u8],
+    wanted: usize,
+    from: &TcpStream,
+) -> Option<()> {
     let mut reader = from;
     let mut left = wanted;
     for _ in 0..wanted {
-        let n = reader.read(&mut octets).ok()?;
+        let n = reader.read(octets).ok()?;
         if n == 0 {
             return None;
         }
-        end.feed(&octets[..n]).ok()?;
+        end.feed(octets.get(..n)?).ok()?;
         if n >= left {
             return Some(());
         }
@@ -66,21 +70,21 @@ fn read_in<R: Hearing>(end: &mut End<'_, R>, from: &TcpStream, wanted: usize) ->
     None
 }
 
-// What one end has to send goes to the other: so many octets.
+// What one end has to send goes to the other by way of a buffer: so many octets.
 fn passes<A: Hearing, B: Hearing>(
     one: &mut End<'_, A>,
     other: &mut End<'_, B>,
     wire: Option<(&TcpStream, &TcpStream)>,
+    octets: &mut [u8],
     wanted: usize,
 ) -> Option<()> {
-    let mut octets = [0u8; ROOM];
     match wire {
         Some((to, from)) => {
-            taken_out(one, &mut octets, wanted, Some(to))?;
-            read_in(other, from, wanted)
+            taken_out(one, octets, wanted, Some(to))?;
+            read_in(other, octets, wanted, from)
         }
         None => {
-            taken_out(one, &mut octets, wanted, None)?;
+            taken_out(one, octets, wanted, None)?;
             other.feed(octets.get(..wanted)?).ok()
         }
     }
@@ -93,6 +97,7 @@ fn wave(
     client: &mut ClientEnd<'_>,
     server: &mut ServerEnd<'_>,
     wires: Option<&Wires<'_>>,
+    octets: &mut [u8],
     at_once: usize,
     sum: u64,
 ) -> Option<u64>
@@ -100,10 +105,10 @@ fn wave(
 {
     call_all(alloc, interface, client, at_once)?;
     let way = wires.map(|wires| (wires.client, wires.server));
-    passes(client, server, way, REQUEST * at_once)?;
+    passes(client, server, way, octets, REQUEST * at_once)?;
     let sum = answer_all(alloc, interface, server, at_once, sum)?;
     let way = wires.map(|wires| (wires.server, wires.client));
-    passes(server, client, way, REPLY * at_once)?;
+    passes(server, client, way, octets, REPLY * at_once)?;
     take_all(alloc, interface, client, at_once, sum)
 }
 
@@ -166,6 +171,7 @@ fn waves(
 {
     let mut client = ClientEnd::new(alloc, interface, LIMITS);
     let mut server = ServerEnd::new(alloc, interface, LIMITS);
+    let mut octets = [0u8; ROOM];
     let mut sum = 0;
     for _ in 0..count {
         sum = wave(
@@ -174,6 +180,7 @@ fn waves(
             &mut client,
             &mut server,
             wires,
+            &mut octets,
             at_once,
             sum,
         )?;
