@@ -66,7 +66,7 @@ pub profile_told : (form : LineForm) (old middle comma new : Option (List ℕ)) 
 profile_told form old middle comma new before after p first is leading told between more =
     subst (Appends old new)
     (ap (λ b. profiles_in form true before ++ (comma_in form b ++ profile_in form p)) leading
-      ∙ sym (ap (profiles_in form true) is ∙ profiles_more form true before p))
+    ∙ sym (ap (profiles_in form true) is ∙ profiles_more form true before p))
     (Appends-append old middle new (profiles_in form true before) (comma_in form first ++ profile_in form p) told
     (Appends-append middle comma new (comma_in form first) (profile_in form p) between more))
 

@@ -33,9 +33,9 @@ next first no_items n = refl
 next first (item second more) zero = ap suc (sym (place_zero more))
 next first (item second more) (suc n) = pushed (is_some (get_item (suc (place more n)) (item second more))) (place more n) ∙ ap suc (next second more n)
   where
-  pushed : (b : Bool) (k : ℕ) → cond b (suc (suc k)) (suc k) ≡ suc (cond b (suc k) k)
-  pushed true k = refl
-  pushed false k = refl
+    pushed : (b : Bool) (k : ℕ) → cond b (suc (suc k)) (suc k) ≡ suc (cond b (suc k) k)
+    pushed true k = refl
+    pushed false k = refl
 
 one : (n : ℕ) → n + 1 ≡ suc n
 one n = omega arith
@@ -63,7 +63,7 @@ apart key name passed other differs false = refl
 apart key name passed other differs true =
     counted (is_of key name) passed (record { key = key; operation = other })
     ∙ ap (λ b. count_by (is_of key name) passed + cond b 1 0)
-      (ap (λ b. b && pointwise nat_eq other name) (same_octets key) ∙ differs)
+    (ap (λ b. b && pointwise nat_eq other name) (same_octets key) ∙ differs)
     ∙ omega arith
 
 -- one of this
@@ -74,7 +74,7 @@ own key name passed false = refl
 own key name passed true =
     counted (is_of key name) passed (record { key = key; operation = name })
     ∙ ap (λ b. count_by (is_of key name) passed + cond b 1 0)
-      (ap (λ b. b && pointwise nat_eq name name) (same_octets key) ∙ same_octets name)
+    (ap (λ b. b && pointwise nat_eq name name) (same_octets key) ∙ same_octets name)
 
 module _ (object : Object) (name : List ℕ) (first : Data) (more : Items)
     (listed : get (text_of name) object.answers ≡ Some (array (item first more))) where
@@ -84,7 +84,7 @@ module _ (object : Object) (name : List ℕ) (first : Data) (more : Items)
   passes passed n is =
       own object.key name passed (has_next object passed name)
       ∙ ap (λ found. cond (is_some (option_and_then (at (passed_of passed object.key name + 1)) found))
-          (passed_of passed object.key name + 1) (passed_of passed object.key name)) listed
+      (passed_of passed object.key name + 1) (passed_of passed object.key name)) listed
       ∙ ap (λ k. cond (is_some (get_item (k + 1) (item first more))) (k + 1) k) is
       ∙ ap (λ k. cond (is_some (get_item k (item first more))) k (place more n)) (one (place more n))
       ∙ next first more n
@@ -133,11 +133,11 @@ in_turn object name first more calls listed = in_turn_at object name first more 
 pub objects_apart : ObjectsPassApart
 objects_apart object other passed name called differs = by_next (has_next other passed called)
   where
-  by_next : (b : Bool)
-      → passed_of (cond b (passed ++ (record { key = other.key; operation = called }) ∷ []) passed) object.key name
-      ≡ passed_of passed object.key name
-  by_next false = refl
-  by_next true =
-      counted (is_of object.key name) passed (record { key = other.key; operation = called })
-      ∙ ap (λ b. passed_of passed object.key name + cond (b && pointwise nat_eq called name) 1 0) differs
-      ∙ omega arith
+    by_next : (b : Bool)
+        → passed_of (cond b (passed ++ (record { key = other.key; operation = called }) ∷ []) passed) object.key name
+        ≡ passed_of passed object.key name
+    by_next false = refl
+    by_next true =
+        counted (is_of object.key name) passed (record { key = other.key; operation = called })
+        ∙ ap (λ b. passed_of passed object.key name + cond (b && pointwise nat_eq called name) 1 0) differs
+        ∙ omega arith

@@ -29,9 +29,9 @@ ghost use Rattle.laws_in_use.specs.Locating.{door};
 
 use giop_msg::laws::{
     cuts_are_undone, every_stream_splits, faults_stand, header_round_trip,
-    locate_reply_heads_are_spelled, objects_are_apart, one_split, refusals_are_told, replies_are_spelled,
-    reply_heads_are_spelled, request_heads_are_spelled, request_ids, requests_are_spelled,
-    split_on, whole_locate_requests_are_spelled,
+    locate_reply_heads_are_spelled, objects_are_apart, one_split, refusals_are_told,
+    replies_are_spelled, reply_heads_are_spelled, request_heads_are_spelled, request_ids,
+    requests_are_spelled, split_on, whole_locate_requests_are_spelled,
 };
 
 /// Twelve octets are a header, and the header is these octets; the id of a message is what its

@@ -7,4 +7,4 @@ use Rattle.giop_commands.proofs.serve.answers.are_fit.Given as goal
 abbrev pub invariant-loop-name : goal.invariant-loop-name
 invariant-loop-name l =
     option_map (λ more. l.fit && more) (are_fit l.interface l.sending (view l.json) l.name-iterator) ≡ are_fit l.interface l.sending (view l.json)
-      l.interface.general.operations.entries
+    l.interface.general.operations.entries

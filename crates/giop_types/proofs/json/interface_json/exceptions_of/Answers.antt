@@ -27,5 +27,5 @@ returns c =
     let start : c.into_iter-key-iterator.result ≡ c.in_ok-exceptions.exceptions.now.entries = cc in
     tabled parameters_in (view c.args.json.now) c.in_ok-exceptions.exceptions.now.entries _ c.in_ok-exceptions.ensures
     (rw start at (members_made parameters_in (map exception_entry l.forms.items) l.key-iterator
-      (entries_in parameters_in (members_view c.into_iter-key-iterator.result))
+    (entries_in parameters_in (members_view c.into_iter-key-iterator.result))
     none l.invariant))

@@ -9,4 +9,4 @@ use Rattle.giop_types.proofs.json.interface_json.operations_of.Given as goal
 abbrev pub invariant-loop-key : goal.invariant-loop-key
 invariant-loop-key l =
     with_front (map operation_entry l.forms.items) (entries_in signature_in (members_view l.key-iterator)) ≡ entries_in signature_in
-      (members_view l.initial.key-iterator)
+    (members_view l.initial.key-iterator)
