@@ -42,7 +42,8 @@ unmatched fit front (p ∷ ps) (d ∷ ds) h differ = absurd (omega arith)
 pub as_many_differ : (fit : Bool) (front : List Tree) (ps : List Parameter) (ds : List Json) (i : ℕ) (total : Result (List Tree) FormFault)
     → i ≡ min (length ds) (length ps) → length ds ≢ length ps → behind fit front (told_from i ps ds) ≡ total → total ≡ Err Unfit
 as_many_differ fit front ps ds i total is differ so_far =
-    sym so_far ∙ unmatched fit front (drop i ps) (drop i ds) (omega (arith, length-drop i ps, length-drop i ds)) (omega (arith, length-drop i ps, length-drop i ds))
+    sym so_far ∙ unmatched fit front (drop i ps) (drop i ds) (omega (arith, length-drop i ps, length-drop i ds))
+    (omega (arith, length-drop i ps, length-drop i ds))
 
 past_unfit : (front : List Tree) (ps : List Parameter) (ds : List Json) → min (length ds) (length ps) ≡ 0
     → behind false front (each_told ps (items_view ds)) ≡ Err Unfit

@@ -52,7 +52,8 @@ each_fit [] no_items trees is = let none : trees ≡ [] = cc in rw none refl
 each_fit [] (item d ds) trees is = absurd cc
 each_fit (p ∷ ps) no_items trees is = absurd cc
 each_fit (p ∷ ps) (item d ds) trees is =
-    front_fit p ps (from_data (checked_shape p.desc) d) (each_told ps ds) trees (λ t ok. fitting_fits (checked_shape p.desc) (shown (checked_shape p.desc) d) t ok)
+    front_fit p ps (from_data (checked_shape p.desc) d) (each_told ps ds) trees
+    (λ t ok. fitting_fits (checked_shape p.desc) (shown (checked_shape p.desc) d) t ok)
     (λ ts ok. each_fit ps ds ts ok) is
 
 list_fit : (ps : List Parameter) (ds : Option Items) (trees : List Tree) → list_told ps ds ≡ Ok trees → fields_fit (fields_in ps) trees ≡ true

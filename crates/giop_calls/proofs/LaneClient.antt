@@ -265,7 +265,8 @@ module _ (codec : Codec) where
       )
 
   send_rest : (call : Call) (left : ℕ) (n : Cut) (before rest : List Piece) (got : List Piece) (uses : ℕ)
-      (us ts : List Message) (s : Server) (ws tc : List Message) → CutsCall codec call (pieces_of n) → before ++ rest ≡ n.first ∷ n.rest → us ≡ fragments rest → length rest ≡ left
+      (us ts : List Message) (s : Server) (ws tc : List Message) → CutsCall codec call (pieces_of n) → before ++ rest ≡ n.first ∷ n.rest
+      → us ≡ fragments rest → length rest ≡ left
       → (left == 0) ≡ false → Quiet codec s ts ws tc (at (at_server.Gathering (kind_of call)) before uses)
       → Goes codec (sends codec (lane_of (Some (at_client.Sending call left)) got uses us ts s ws tc))
   send_rest call left n before [] got uses us ts s ws tc fit a u l z r = never (nothing left l) z

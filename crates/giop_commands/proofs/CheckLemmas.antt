@@ -196,7 +196,8 @@ of_status interface limits octets old new InputOutput is = tt
 of_status interface limits octets old new Memory is = tt
 
 -- the table and the last line of an end that heard what a reader gave
-pub checked : (interface : Interface) (limits : Limits) (strict : Bool) (form : LineForm) (all old middle new : Option (List ℕ)) (fault : Option SessionFault) (left : Unread)
+pub checked : (interface : Interface) (limits : Limits) (strict : Bool) (form : LineForm) (all old middle new : Option (List ℕ))
+    (fault : Option SessionFault) (left : Unread)
     (calls : Held ServerRule ServerEntry) (s : Status) (r : Result Status Failure)
     → HeardKnown (server_hears interface) all (nothing_read limits) (no_calls (record {}) limits) fault left calls
     → Appends old middle (table_text (server_entry_in form interface) calls.table)

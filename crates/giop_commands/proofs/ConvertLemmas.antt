@@ -65,7 +65,8 @@ pub profile_told : (form : LineForm) (old middle comma new : Option (List ℕ)) 
     → Appends old new (profiles_in form true after)
 profile_told form old middle comma new before after p first is leading told between more =
     subst (Appends old new)
-    (ap (λ b. profiles_in form true before ++ (comma_in form b ++ profile_in form p)) leading ∙ sym (ap (profiles_in form true) is ∙ profiles_more form true before p))
+    (ap (λ b. profiles_in form true before ++ (comma_in form b ++ profile_in form p)) leading
+    ∙ sym (ap (profiles_in form true) is ∙ profiles_more form true before p))
     (Appends-append old middle new (profiles_in form true before) (comma_in form first ++ profile_in form p) told
     (Appends-append middle comma new (comma_in form first) (profile_in form p) between more))
 

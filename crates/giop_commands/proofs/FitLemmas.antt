@@ -91,7 +91,8 @@ judged_more true one (Some more) total so_far = so_far
 judged_more false one None total so_far = so_far
 judged_more false one (Some more) total so_far = so_far
 
-pub answer_judged : (interface : Interface) (sending : Sending) (name : List ℕ) (outs : List Parameter) (fit one : Bool) (xs : List Json) (i : ℕ) (x : Json) (total : Option Bool)
+pub answer_judged : (interface : Interface) (sending : Sending) (name : List ℕ) (outs : List Parameter) (fit one : Bool) (xs : List Json) (i : ℕ)
+    (x : Json) (total : Option Bool)
     → i < length xs → x ≡ get_or xs i x → fits_outs interface sending name outs (view x) ≡ Some one
     → option_map (λ more. fit && more) (each_fits interface sending name outs (items_view (drop i xs))) ≡ total
     → option_map (λ more. (fit && one) && more) (each_fits interface sending name outs (items_view (drop (i + 1) xs))) ≡ total

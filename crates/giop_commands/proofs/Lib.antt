@@ -12,6 +12,7 @@ pub mod FoundLemmas
 pub mod TurnLemmas
 pub mod TargetLemmas
 pub mod ObjectLemmas
+pub mod InTurnLemmas
 pub mod ServingLemmas
 pub mod SessionsLemmas
 pub mod LocatingLemmas

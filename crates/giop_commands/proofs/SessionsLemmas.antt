@@ -27,7 +27,8 @@ use Rattle.giop_commands.specs.Turns.{Waits}
 use Rattle.giop_commands.specs.Table.{client_entry_in, server_entry_in}
 
 -- the calls of a client's end, its table and its fault
-pub called : (asked : Asked) (lines : LineForm) (before after : Wire) (old new : Option (List ℕ)) (refused : Option SessionFault) (box : Outbox ClientCalls) (outgoing : List ℕ)
+pub called : (asked : Asked) (lines : LineForm) (before after : Wire) (old new : Option (List ℕ)) (refused : Option SessionFault)
+    (box : Outbox ClientCalls) (outgoing : List ℕ)
     (unread : Unread) (left : ClientCalls) (fault : Option SessionFault) (r : Result Ending Failure)
     → CallsAll asked None (new_box asked.limits) refused box
     → Talks asked.interface refused (begun asked.limits before.input before.output box) (between after.input after.output outgoing unread left fault)
@@ -67,7 +68,8 @@ pub calls_told : (asked : Asked) (before after : Wire) (old new : Option (List �
 calls_told asked before after old new ending end = calls_by asked before after old new ending.status end.called
 
 -- the connection of a server's end: its number, its table and its fault
-pub served : (number : ℕ) (it : Served) (lines : LineForm) (before after : Wire) (was now_passed : List AnswerName) (old new : Option (List ℕ)) (refused : Option SessionFault) (outgoing : List ℕ)
+pub served : (number : ℕ) (it : Served) (lines : LineForm) (before after : Wire) (was now_passed : List AnswerName) (old new : Option (List ℕ))
+    (refused : Option SessionFault) (outgoing : List ℕ)
     (unread : Unread) (left : ServerCalls) (fault : Option SessionFault) (r : Result Ending Failure)
     → serving.Converses it it.limits (session (new_server it.limits before.input before.output) was) refused
     (session (between after.input after.output outgoing unread left fault) now_passed)

@@ -119,7 +119,8 @@ streamed it limits lines n s mid t refused before few ends = record {
 }
 
 -- the whole of it
-pub is_streamed : (number : ℕ) (it : Served) (lines : LineForm) (before after : Wire) (was now_passed : List AnswerName) (old named text new : Option (List ℕ)) (refused : Option SessionFault)
+pub is_streamed : (number : ℕ) (it : Served) (lines : LineForm) (before after : Wire) (was now_passed : List AnswerName)
+    (old named text new : Option (List ℕ)) (refused : Option SessionFault)
     (outgoing : List ℕ) (unread : Unread) (left : ServerCalls) (fault : Option SessionFault) (r : Result Ending Failure)
     → Appends old named (ended (connection_in lines number))
     → Streams it it.limits lines (shown (session (new_server it.limits before.input before.output) was) named) refused

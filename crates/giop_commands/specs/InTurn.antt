@@ -1,10 +1,10 @@
 -- Several answers to an operation, one to each call of it in turn. What was given is kept by the name
 -- of the operation and the key of its object, once for each answer that has another behind it: so the
 -- last one stays.
-use Rattle.std.specs.Prelude.{ℕ, ◌+◌, ◌&&◌, nat_eq, Bool, if◌then◌else◌, List, [], ◌∷◌, ◌++◌, count_by}
+use Rattle.std.specs.Prelude.{◌≡◌, ℕ, zero, suc, ◌+◌, ◌&&◌, nat_eq, Bool, false, if◌then◌else◌, List, [], ◌∷◌, ◌++◌, count_by}
 use Rattle.std.specs.Prelude.{Option, Some, None, is_some, option_map, option_and_then}
 use Rattle.std.specs.Cmp.Lexicographic.{pointwise}
-use Rattle.serde_json.specs.Data.{Data}
+use Rattle.serde_json.specs.Data.{Data, Items, array, item, no_items}
 use Rattle.serde_json.specs.Find.{as_array, at, get}
 use Rattle.giop_types.specs.JsonForms.JsonText.{text_of}
 use Rattle.giop_msg.specs.declared.messages.request.Request.{Request}
@@ -51,3 +51,31 @@ passed_for objects passed request _ = passed
 abbrev pub passed_behind : List Object → List AnswerName → ServerEntry → Answer → List AnswerName
 passed_behind objects passed (Asked request) answer = passed_for objects passed request answer
 passed_behind objects passed _ answer = passed
+
+-- what is passed behind answered calls of an object's operations, in their order
+abbrev pub passed_through : Object → List AnswerName → List (List ℕ) → List AnswerName
+passed_through object passed [] = passed
+passed_through object passed (name ∷ names) =
+    passed_through object (passed_by object passed name) names
+
+-- the item of a list that stands behind so many; where there are fewer, the last one
+abbrev pub item_or_last : Data → Items → ℕ → Data
+item_or_last first no_items n = first
+item_or_last first (item second more) zero = first
+item_or_last first (item second more) (suc n) = item_or_last second more n
+
+-- the answers of a list are due in turn: behind n answered calls of its operation, whatever others
+-- are between them, item n is, and where there is none the last
+abbrev pub ListsAreGivenInTurn : Type 0
+ListsAreGivenInTurn =
+    (object : Object) (name : List ℕ) (first : Data) (more : Items) (calls : List (List ℕ)) →
+    get (text_of name) object.answers ≡ Some (array (item first more)) →
+    due_in (passed_of (passed_through object [] calls) object.key name) (array (item first more))
+    ≡ Some (item_or_last first more (count_by (λ call. pointwise nat_eq call name) calls))
+
+-- what an object of another key is asked passes none of an object's answers
+abbrev pub ObjectsPassApart : Type 0
+ObjectsPassApart =
+    (object other : Object) (passed : List AnswerName) (name called : List ℕ) →
+    pointwise nat_eq other.key object.key ≡ false →
+    passed_of (passed_by other passed called) object.key name ≡ passed_of passed object.key name

@@ -9,4 +9,5 @@ pub mod ReplyLemmas
 pub mod ReplyWritingLemmas
 pub mod HeldLemmas
 pub mod LawLemmas
+pub mod ObjectLemmas
 mod StandardReplies

@@ -9,8 +9,8 @@ pub use heads::{
     request_heads_are_spelled,
 };
 pub use messages::{
-    locate_replies_are_spelled, refusals_are_told, replies_are_spelled, requests_are_spelled,
-    whole_locate_requests_are_spelled,
+    locate_replies_are_spelled, objects_are_apart, refusals_are_told, replies_are_spelled,
+    requests_are_spelled, whole_locate_requests_are_spelled,
 };
 pub use stream::{
     cuts_are_undone, every_stream_splits, faults_stand, header_round_trip, one_split, request_ids,

@@ -82,7 +82,8 @@ regroup_members front k e (Ok made) = rw (then_then front (member k e no_members
 regroup_members front k e (Err fault) = refl
 
 -- a member that was made
-pub member_made : (make : Scope → Data → ℕ → Made Data) (scope : Scope) (front : Members) (k : List ℕ) (d e : Data) (ms : Members) (room left : ℕ) (total : Made Members)
+pub member_made : (make : Scope → Data → ℕ → Made Data) (scope : Scope) (front : Members) (k : List ℕ) (d e : Data) (ms : Members) (room left : ℕ)
+    (total : Made Members)
     → is_left_out scope k ≡ false → member_at make scope k d room ≡ Ok (e, left)
     → after (then_members front) (each_member make scope (member k d ms) room) ≡ total
     → after (then_members (then_members front (member k e no_members))) (each_member make scope ms left) ≡ total
@@ -90,14 +91,16 @@ member_made make scope front k d e ms room left total stays made so_far =
     sym (regroup_members front k e (each_member make scope ms left)) ∙ (rw (stays, made) at so_far)
 
 -- one that was refused
-pub member_refused : (make : Scope → Data → ℕ → Made Data) (scope : Scope) (front : Members) (k : List ℕ) (d : Data) (ms : Members) (room : ℕ) (fault : FormFault) (total : Made Members)
+pub member_refused : (make : Scope → Data → ℕ → Made Data) (scope : Scope) (front : Members) (k : List ℕ) (d : Data) (ms : Members) (room : ℕ)
+    (fault : FormFault) (total : Made Members)
     → is_left_out scope k ≡ false → member_at make scope k d room ≡ Err fault
     → after (then_members front) (each_member make scope (member k d ms) room) ≡ total → total ≡ Err fault
 member_refused make scope front k d ms room fault total stays refused so_far =
     sym (rw (stays, refused) at so_far)
 
 -- one that is left out
-pub member_left_out : (make : Scope → Data → ℕ → Made Data) (scope : Scope) (front : Members) (k : List ℕ) (d : Data) (ms : Members) (room : ℕ) (total : Made Members)
+pub member_left_out : (make : Scope → Data → ℕ → Made Data) (scope : Scope) (front : Members) (k : List ℕ) (d : Data) (ms : Members) (room : ℕ)
+    (total : Made Members)
     → is_left_out scope k ≡ true
     → after (then_members front) (each_member make scope (member k d ms) room) ≡ total
     → after (then_members front) (each_member make scope ms room) ≡ total

@@ -132,9 +132,11 @@ module _ (interface : Interface) (forms : Forms) where
         → ClientIsShown interface id (all_by seven nine) (if seven then told_of_seven else if nine then told_and_taken else [])
     shown_by id true true is_seven is_nine = absurd (apart id is_seven is_nine)
     shown_by id true false is_seven is_nine =
-        let to : 7 ≡ id = grind (arith, nat_tests) in subst (λ q. ClientIsShown interface q (all_by true false) told_of_seven) to (seven_shown interface forms old table)
+        let to : 7 ≡ id = grind (arith, nat_tests) in subst (λ q. ClientIsShown interface q (all_by true false) told_of_seven) to
+        (seven_shown interface forms old table)
     shown_by id false true is_seven is_nine =
-        let to : 9 ≡ id = grind (arith, nat_tests) in subst (λ q. ClientIsShown interface q (all_by false true) told_and_taken) to (nine_shown interface forms old table)
+        let to : 9 ≡ id = grind (arith, nat_tests) in subst (λ q. ClientIsShown interface q (all_by false true) told_and_taken) to
+        (nine_shown interface forms old table)
     shown_by id false false is_seven is_nine = none_shown id
 
     shown : (id : ℕ) → ClientIsShown interface id (own_met at_client id all) (client_told id)

@@ -74,7 +74,8 @@ pub none_at : (given : Limits) (id : ℕ) → at (new given) id ≡ none
 none_at given id i = record { slot = finite.get-empty nat_cmp id i; pieces = finite.get-empty nat_cmp id i }
 
 -- a whole message that comes to this
-pub whole : {call known : HeardCall} → call ≡ known → ◌≡◌ {A = Act ServerEvent} (Hears (kept (event.Whole call)) Nothing) (Hears (kept (event.Whole known)) Nothing)
+pub whole : {call known : HeardCall} → call ≡ known → ◌≡◌ {A = Act ServerEvent} (Hears (kept (event.Whole call)) Nothing)
+    (Hears (kept (event.Whole known)) Nothing)
 whole is = ap (λ call. Hears (kept (event.Whole call)) Nothing) is
 
 -- what a read brings is heard

@@ -165,9 +165,11 @@ module _ (interface : Interface) where
         → ServerIsShown interface id (all_by seven nine) (if seven then said_and_taken else if nine then said_of_nine else [])
     shown_by id true true is_seven is_nine = absurd (apart id is_seven is_nine)
     shown_by id true false is_seven is_nine =
-        let to : 7 ≡ id = grind (arith, nat_tests) in subst (λ q. ServerIsShown interface q (all_by true false) said_and_taken) to (seven_shown interface old table cut)
+        let to : 7 ≡ id = grind (arith, nat_tests) in subst (λ q. ServerIsShown interface q (all_by true false) said_and_taken) to
+        (seven_shown interface old table cut)
     shown_by id false true is_seven is_nine =
-        let to : 9 ≡ id = grind (arith, nat_tests) in subst (λ q. ServerIsShown interface q (all_by false true) said_of_nine) to (nine_shown interface old table cut)
+        let to : 9 ≡ id = grind (arith, nat_tests) in subst (λ q. ServerIsShown interface q (all_by false true) said_of_nine) to
+        (nine_shown interface old table cut)
     shown_by id false false is_seven is_nine = none_shown id
 
     shown : (id : ℕ) → ServerIsShown interface id (own_met at_server id all) (server_said id)

@@ -1,11 +1,12 @@
 //! Messages in use: a header, a stream of messages with a rest, a message that is cut, and the
 //! heads and the refusals of whole messages.
-ghost use Rattle.std.specs.Prelude.{◌≡◌, ◌++◌, ◌∷◌, [], ℕ, List, Ok, Err, Some, None, true};
+ghost use Rattle.std.specs.Prelude.{◌≡◌, ◌++◌, ◌∷◌, [], ℕ, List, Ok, Err, Some, None, true, codes};
 ghost use Rattle.std.specs.List.{flat_map};
 ghost use Rattle.giop_cdr.specs.declared.fault.CdrKind.TheVariants.{Short, Trailing};
 ghost use Rattle.giop_cdr.specs.declared.order.Order.TheVariants.{Big, Little};
 ghost use Rattle.giop_cdr.specs.Ending.{ended};
 ghost use Rattle.giop_types.specs.declared.json.interface.Interface.{Interface};
+ghost use Rattle.giop_types.specs.Objects.{offer_of};
 ghost use Rattle.giop_msg.specs.Cut.{CanCut, IsCut, joined};
 ghost use Rattle.giop_msg.specs.declared.fault.WireKind.TheVariants.{BadMagic};
 ghost use Rattle.giop_msg.specs.declared.kind.Kind.TheVariants.{LocateRequest};
@@ -28,9 +29,9 @@ ghost use Rattle.laws_in_use.specs.Locating.{door};
 
 use giop_msg::laws::{
     cuts_are_undone, every_stream_splits, faults_stand, header_round_trip,
-    locate_reply_heads_are_spelled, one_split, refusals_are_told, replies_are_spelled,
-    reply_heads_are_spelled, request_heads_are_spelled, request_ids, requests_are_spelled,
-    split_on, whole_locate_requests_are_spelled,
+    locate_reply_heads_are_spelled, objects_are_apart, one_split, refusals_are_told,
+    replies_are_spelled, reply_heads_are_spelled, request_heads_are_spelled, request_ids,
+    requests_are_spelled, split_on, whole_locate_requests_are_spelled,
 };
 
 /// Twelve octets are a header, and the header is these octets; the id of a message is what its
@@ -136,4 +137,15 @@ pub fn refused_and_refusing()
     requests_are_spelled();
     refusals_are_told();
     replies_are_spelled();
+}
+
+/// `ping` to `k` with an octet behind it is read alike by two interfaces that offer the same there,
+/// whatever they offer to other objects.
+pub fn an_object_beside_others()
+    ensures { (one other : Interface) → offer_of one (codes "k") ≡ offer_of other (codes "k")
+        → request_of_joined one V12 Big (asked_octets ++ 9 ∷ [])
+        ≡ request_of_joined other V12 Big (asked_octets ++ 9 ∷ []) }
+{
+    heads_in_three_versions();
+    objects_are_apart();
 }

@@ -2,7 +2,7 @@
 //! specs/InTurn.antt: change both.
 ghost use Rattle.std.specs.Prelude.{◌≡◌, ◌++◌, ◌∷◌, [], map, option_map, IfOk, OnOk};
 ghost use Rattle.serde_json.specs.View.{view};
-ghost use Rattle.giop_commands.specs.InTurn.{due_in, has_next, passed_at, passed_behind, passed_by, passed_for, passed_of};
+ghost use Rattle.giop_commands.specs.InTurn.{ListsAreGivenInTurn, ObjectsPassApart, due_in, has_next, passed_at, passed_behind, passed_by, passed_for, passed_of};
 ghost use Rattle.giop_commands.specs.Objects.{object_of};
 
 use crate::serve::answering::Answer;
@@ -160,3 +160,10 @@ pub fn due_in(n: usize, json: &Json) -> Option<&Json>
         Some(json)
     }
 }
+
+/// A law of the definitions above, which no program calls: a list's answers are given in turn, and
+/// what is asked of one object passes no answer of another.
+pub fn lists_are_given_in_turn()
+    ensures turn { ListsAreGivenInTurn }
+    ensures apart { ObjectsPassApart }
+{}

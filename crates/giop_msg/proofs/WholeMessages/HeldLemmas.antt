@@ -47,7 +47,8 @@ reply_holds interface asked version r outs status contexts fit listed told shown
   rw (told, shown) at head,
   (
     refl,
-    allowed_hold (may_answer asked (status_of r.body)) (body_of version (ended (reply_body (offer_for interface asked) (outs_for interface asked) (status_of r.body)))) r.body
+    allowed_hold (may_answer asked (status_of r.body)) (body_of version
+        (ended (reply_body (offer_for interface asked) (outs_for interface asked) (status_of r.body)))) r.body
         (answering interface asked version r fit) (rw listed at body),
   ),
 )

@@ -156,7 +156,9 @@ its_head version offer outs may head v fits held =
 pub reply_is : (interface : Interface) (request : Option Request) (version : Version) → IsLawfulEnding (reply interface request version)
 unfolding reply
 reply_is interface request version =
-    leads_is _ (λ head v fits _ held. its_head version (offer_for interface request) (outs_for interface request) (may_answer request head.status) head v fits held)
+    leads_is _ (λ head v fits _ held. its_head version (offer_for interface request) (outs_for interface request) (may_answer request head.status)
+    head v fits held)
     (reply_head_is version)
     (λ head. made_of_is _ _ (λ body. refl)
-    (allowed_is (may_answer request head.status) (body_is version (ended_is (reply_body_is (offer_for interface request) (outs_for interface request) head.status)))))
+    (allowed_is (may_answer request head.status) (body_is version
+    (ended_is (reply_body_is (offer_for interface request) (outs_for interface request) head.status)))))

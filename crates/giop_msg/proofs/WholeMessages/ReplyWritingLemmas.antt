@@ -68,8 +68,10 @@ pub reply_fit : (interface : Interface) (request : Option Request) (version : Ve
 unfolding reply leads made_of
 reply_fit interface request version r =
     ap (λ b. (reply_head version).fits (head_in r) && b)
-    (allowed_fit (may_answer request (status_of r.body)) (body_of version (ended (reply_body (offer_for interface request) (outs_for interface request) (status_of r.body)))) r.body
-    ∙ ap (λ b. may_answer request (status_of r.body) && b) (body_fit version (offer_for interface request) (outs_for interface request) (status_of r.body) r.body))
+    (allowed_fit (may_answer request (status_of r.body)) (body_of version
+    (ended (reply_body (offer_for interface request) (outs_for interface request) (status_of r.body)))) r.body
+    ∙ ap (λ b. may_answer request (status_of r.body) && b) (body_fit version (offer_for interface request) (outs_for interface request)
+    (status_of r.body) r.body))
 
 pub fitting_head : (interface : Interface) (request : Option Request) (version : Version) (r : Reply)
     → (reply interface request version).fits r ≡ true → (reply_head version).fits (head_in r) ≡ true
@@ -104,7 +106,8 @@ pub reply_written : (interface : Interface) (request : Option Request) (version 
     ((reply_head version).written (head_in r) out)
 unfolding reply leads made_of
 reply_written interface request version r out fit =
-    allowed_written (may_answer request (status_of r.body)) (body_of version (ended (reply_body (offer_for interface request) (outs_for interface request) (status_of r.body)))) r.body
+    allowed_written (may_answer request (status_of r.body)) (body_of version
+    (ended (reply_body (offer_for interface request) (outs_for interface request) (status_of r.body)))) r.body
     ((reply_head version).written (head_in r) out) (answering interface request version r fit)
 
 -- the same, of what a call of the writer of the head and one of that of the body were handed
@@ -112,7 +115,8 @@ pub parts_written : (interface : Interface) (request : Option Request) (version 
     (contexts : List ServiceContext)
     → (reply interface request version).fits r ≡ true → outs ≡ outs_for interface request → status ≡ status_of r.body → contexts ≡ r.contexts
     → mid ≡ (reply_head version).written (record { version = r.version; id = r.id; status = status; contexts = contexts }) out
-    → (body_of version (ended (reply_body (offer_for interface request) outs (status_of r.body)))).written r.body mid ≡ (reply interface request version).written r out
+    → (body_of version (ended (reply_body (offer_for interface request) outs (status_of r.body)))).written r.body
+    mid ≡ (reply interface request version).written r out
 parts_written interface request version r out mid outs status contexts fit listed told shown put =
     rw (put, listed, told, shown) (sym (reply_written interface request version r out fit))
 

@@ -1,20 +1,23 @@
 -- What holds of whole messages.
-use Rattle.std.specs.Prelude.{◌≡◌, ℕ, ◌↔◌, true, List, Option, Result, Ok, Err}
+use Rattle.std.specs.Prelude.{◌≡◌, ℕ, ◌↔◌, true, List, Option, Some, Result, Ok, Err}
 use Rattle.giop_cdr.specs.declared.order.Order.{Order}
 use Rattle.giop_cdr.specs.declared.fault.CdrFault.{CdrFault}
 use Rattle.giop_cdr.specs.Reading.Cursor.{Cursor}
 use Rattle.giop_cdr.specs.Layout.{AreOctets}
 use Rattle.giop_cdr.specs.Ending.{Ending, IsExactToEnd}
 use Rattle.giop_types.specs.declared.json.interface.Interface.{Interface}
+use Rattle.giop_types.specs.Objects.{offer_of}
 use Rattle.giop_msg.specs.declared.messages.reply.Reply.{Reply}
 use Rattle.giop_msg.specs.declared.messages.request.Request.{Request}
 use Rattle.giop_msg.specs.declared.messages.request_fault.RequestFault.{RequestFault}
+use Rattle.giop_msg.specs.declared.target.Target.TheVariants.{Key}
 use Rattle.giop_msg.specs.declared.version.Version.{Version}
 use Rattle.giop_msg.specs.Joined.{joined_from}
 use Rattle.giop_msg.specs.Messages.Outcome.{Decodes, joined_into}
 use Rattle.giop_msg.specs.Messages.Reply.{reply}
 use Rattle.giop_msg.specs.Messages.Request.{request}
 use Rattle.giop_msg.specs.Messages.RequestAnswer.{DecodesRequest, RefusedRequest, request_of_joined}
+use Rattle.giop_msg.specs.RequestHead.{Head, request_head}
 
 -- what holds of a whole message
 pub record IsWhole {A : Type 0} (message : Ending A) : Type 0 where
@@ -63,3 +66,15 @@ RequestsAreReadBack =
     (request interface version).fits q ≡ true → (request interface version).holds q →
     request_of_joined interface version order
     ((request interface version).written q (joined_into order)).octets ≡ Ok q
+
+-- what other objects offer changes no reading: where two interfaces offer the same at a key, both
+-- read each Request of that key alike, and each Reply to it
+abbrev pub ObjectsAreApart : Type 0
+ObjectsAreApart =
+    (one other : Interface) (key : List ℕ) → offer_of one key ≡ offer_of other key →
+    ((version : Version) (order : Order) (octets : List ℕ) (head : Head) (after : Cursor) →
+    (request_head version).read (joined_from order octets) ≡ Ok (head, after) →
+    head.target ≡ Key key →
+    request_of_joined one version order octets ≡ request_of_joined other version order octets)
+    × ((asked : Request) (version : Version) (c : Cursor) → asked.head.target ≡ Key key →
+    (reply one (Some asked) version).read c ≡ (reply other (Some asked) version).read c)

@@ -7,7 +7,7 @@ ghost use Rattle.giop_types.specs.declared.json.interface.Interface.{Interface};
 ghost use Rattle.giop_msg.specs.declared.version.Version.{Version};
 ghost use Rattle.giop_msg.specs.Joined.{joined_from, whole_of_joined};
 ghost use Rattle.giop_msg.specs.Locate.{locate_request};
-ghost use Rattle.giop_msg.specs.Messages.Laws.{IsWhole, ReplyRefusalsAreTold, RequestRefusalsAreTold, RequestsAreReadBack, RequestsAreRefused};
+ghost use Rattle.giop_msg.specs.Messages.Laws.{IsWhole, ObjectsAreApart, ReplyRefusalsAreTold, RequestRefusalsAreTold, RequestsAreReadBack, RequestsAreRefused};
 ghost use Rattle.giop_msg.specs.Messages.LocateReply.{locate_reply};
 ghost use Rattle.giop_msg.specs.Messages.Reply.{reply};
 ghost use Rattle.giop_msg.specs.Messages.Request.{request};
@@ -58,4 +58,10 @@ pub fn replies_are_spelled()
 pub fn refusals_are_told()
     ensures requests { RequestRefusalsAreTold }
     ensures replies { ReplyRefusalsAreTold }
+{}
+
+/// A Request of a key is read by what the object of that key offers, and so is a Reply to it:
+/// whatever else an interface offers, to other objects or to all, changes nothing of it.
+pub fn objects_are_apart()
+    ensures { ObjectsAreApart }
 {}

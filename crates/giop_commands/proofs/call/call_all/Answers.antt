@@ -8,7 +8,14 @@ use Rattle.giop_commands.proofs.call.call_all.Goals as goal
 pub returns-clause-calls : goal.returns-clause-calls
 returns-clause-calls c =
     let asked : Asked =
-    record { interface = c.args.end.now.interface.now; calls = c.args.calls.items; key = c.args.key.now; version = c.args.version; form = c.args.form; limits = c.args.end.now.limits } in
+    record {
+      interface = c.args.end.now.interface.now;
+      calls = c.args.calls.items;
+      key = c.args.key.now;
+      version = c.args.version;
+      form = c.args.form;
+      limits = c.args.end.now.limits;
+    } in
     let fault = same_fault c.args.end.now c.call_each.new.end c.call_each.ensures.others in
     and_then (Upto (CallsOne asked c.args.end.now.fault) c.args.calls.items) (CallsSent c.args.end.now.fault)
     (outbox c.args.end.now.calls c.args.end.now.outgoing) (outbox c.call_each.new.end.calls c.call_each.new.end.outgoing)

@@ -37,7 +37,14 @@ returns-in-Some-2-clause-calls c =
 pub returns-clause-calls : goal.returns-clause-calls
 returns-clause-calls c =
     let asked : Asked =
-    record { interface = c.args.end.now.interface.now; calls = c.args.calls.items; key = c.args.key.now; version = c.args.version; form = c.args.form; limits = c.args.end.now.limits } in
+    record {
+      interface = c.args.end.now.interface.now;
+      calls = c.args.calls.items;
+      key = c.args.key.now;
+      version = c.args.version;
+      form = c.args.form;
+      limits = c.args.end.now.limits;
+    } in
     before_all (CallsOne asked c.args.end.now.fault) _ (into_iter_items c.calls.call-iterator)
     (outbox c.args.end.now.calls c.args.end.now.outgoing) (outbox c.calls.end.calls c.calls.end.outgoing)
     (nothing_left (into_iter_items c.calls.call-iterator) (sym c.calls.invariant.left ∙ c.in-None.ensures.steps.0)) c.calls.invariant.called

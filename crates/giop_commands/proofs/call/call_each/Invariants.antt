@@ -7,7 +7,14 @@ use Rattle.giop_commands.proofs.call.call_each.Given as goal
 
 abbrev pub invariant-calls : goal.invariant-calls
 invariant-calls l =
-    let asked : Asked = record { interface = l.fn.end.interface.now; calls = l.fn.calls.items; key = l.key; version = l.version; form = l.form; limits = l.fn.end.limits } in
+    let asked : Asked = record {
+      interface = l.fn.end.interface.now;
+      calls = l.fn.calls.items;
+      key = l.key;
+      version = l.version;
+      form = l.form;
+      limits = l.fn.end.limits;
+    } in
     record {
       called :
           Before (λ call s t. CallsOne asked l.fn.end.fault call s None t) l.fn.calls.items (into_iter_items l.call-iterator)

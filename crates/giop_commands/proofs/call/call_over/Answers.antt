@@ -11,7 +11,8 @@ returns-in-Ok g c =
     let fault = same_fault c.new-end.result c.call_all.new.end c.call_all.ensures.others ∙ c.new-end.ensures.fault in
     let interface = same_interface c.new-end.result c.call_all.new.end c.call_all.ensures.others ∙ c.new-end.ensures.interface in
     let unread = same_unread c.new-end.result c.call_all.new.end c.call_all.ensures.others ∙ c.new-end.ensures.unread in
-    called asked c.args.lines _ _ _ _ c.in_ok-refused.refused (outbox c.call_all.new.end.calls c.call_all.new.end.outgoing) c.talk.new.end.outgoing c.talk.new.end.framer
+    called asked c.args.lines _ _ _ _ c.in_ok-refused.refused (outbox c.call_all.new.end.calls c.call_all.new.end.outgoing) c.talk.new.end.outgoing
+    c.talk.new.end.framer
     c.talk.new.end.calls c.talk.new.end.fault c.tell.result
     (rw (c.new-end.ensures.interface, c.new-end.ensures.limits, c.new-end.ensures.fault, c.new-end.ensures.calls, c.new-end.ensures.outgoing)
     at c.in_ok-refused.ensures.calls)

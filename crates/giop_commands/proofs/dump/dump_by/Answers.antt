@@ -70,5 +70,6 @@ returns-then-is_empty-clause-text g c =
 
 pub returns-in-Err-clause-text : goal.returns-in-Err-clause-text
 returns-in-Err-clause-text g c =
-    of_fault c.messages.framer _ _ _ c.messages.invariant.shown c.messages.invariant.limit c.in-Err.ensures.err (rw c.messages.invariant.form at c.write_fault.ensures.text)
+    of_fault c.messages.framer _ _ _ c.messages.invariant.shown c.messages.invariant.limit c.in-Err.ensures.err
+    (rw c.messages.invariant.form at c.write_fault.ensures.text)
     c.write_fault.ensures.ok

@@ -11,7 +11,9 @@ returns-in-UserException c =
     let call = c.copy_members_of in
     let buffer = c.args.buffer.now in
     let size = c.args.size.now in
-    let done = subst (λ id. CopiesValues (listed (exception_of interface id)) c.in-UserException.members form buffer call.new.buffer size call.new.size call.result) c.as_slice-id.ensures
-    (subst (λ members. CopiesValues (listed (exception_of interface c.as_slice-id.result.now)) members form buffer call.new.buffer size call.new.size call.result) c.as_slice-members.ensures call.ensures) in
+    let done = subst (λ id. CopiesValues (listed (exception_of interface id)) c.in-UserException.members form buffer call.new.buffer size
+    call.new.size call.result) c.as_slice-id.ensures
+    (subst (λ members. CopiesValues (listed (exception_of interface c.as_slice-id.result.now)) members form buffer call.new.buffer size call.new.size
+    call.result) c.as_slice-members.ensures call.ensures) in
     subst (λ body. CopiesMembers interface (Some body) form buffer call.new.buffer size call.new.size call.result)
     (sym c.in-UserException.is) done

@@ -10,7 +10,9 @@ returns-in-Done c =
     let call = c.copy_outs_to in
     let buffer = c.args.buffer.now in
     let size = c.args.size.now in
-    let done = subst (λ request. CopiesOutsOf (outs_for interface (Some request)) c.in-Done.reply.body form buffer call.new.buffer size call.new.size call.result) c.deref.ensures
-    (subst (λ reply. CopiesOutsOf (outs_for interface (Some c.deref.result.now)) reply.body form buffer call.new.buffer size call.new.size call.result) c.deref-in-Done.ensures call.ensures) in
+    let done = subst (λ request. CopiesOutsOf (outs_for interface (Some request)) c.in-Done.reply.body form buffer call.new.buffer size call.new.size
+    call.result) c.deref.ensures
+    (subst (λ reply. CopiesOutsOf (outs_for interface (Some c.deref.result.now)) reply.body form buffer call.new.buffer size call.new.size
+    call.result) c.deref-in-Done.ensures call.ensures) in
     subst (λ entry. CopiesOuts interface (Some entry) form buffer call.new.buffer size call.new.size call.result)
     (sym c.in-Done.is) done

@@ -14,7 +14,9 @@ returns c =
     let form = form_of c.args.form.now in
     let done = subst (λ values. AnswersUser id exception values members form c.in-Some.served.value call.result call.new.self) c.value_form_of-values.ensures
     (subst (λ given. AnswersUser id exception c.value_form_of-values.result members given c.in-Some.served.value call.result call.new.self) c.form_of.ensures
-    (subst (λ held. AnswersUser id exception c.value_form_of-values.result members c.form_of.result held call.result call.new.self) c.deref_mut.ensures.value call.ensures)) in
+    (subst (λ held. AnswersUser id exception c.value_form_of-values.result members c.form_of.result held call.result call.new.self)
+    c.deref_mut.ensures.value call.ensures)) in
     at_open _ _ c.in-Some.served.value call.new.self _ _
-    (λ old new. TellsAct (λ answer. AnswersUser id exception (c_value_form c.args.value_form) members form old answer new) c.args.fault.now c.told_act.new.fault c.told_act.result)
+    (λ old new. TellsAct (λ answer. AnswersUser id exception (c_value_form c.args.value_form) members form old answer new) c.args.fault.now
+    c.told_act.new.fault c.told_act.result)
     c.in-Some.ensures.held c.of.ensures (call.result, done, c.told_act.ensures)

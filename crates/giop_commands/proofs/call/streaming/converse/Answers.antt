@@ -13,7 +13,8 @@ pub returns-then-branch : goal.returns-then-branch
 returns-then-branch g c =
     let s = between (g.R.Read.remaining c.turns.reader) (g.W.Write.contents c.turns.writer) c.turns.end.outgoing c.turns.end.framer c.turns.end.calls
     c.turns.end.fault in
-    streamed (asked_of c.args.calling c.args.left.now.items) c.args.lines c.turns.done _ (course s (g.O.Write.contents c.turns.out) c.turns.left.items c.turns.well) _
+    streamed (asked_of c.args.calling c.args.left.now.items) c.args.lines c.turns.done _
+    (course s (g.O.Write.contents c.turns.out) c.turns.left.items c.turns.well) _
     None c.turns.invariant.streamed c.turns-test.true
     (ends_done (asked_of c.args.calling c.args.left.now.items) c.args.lines s (g.O.Write.contents c.turns.out) c.turns.left.items c.turns.well
     (sym c.in_ok-is_done.ensures ∙ c.if-branch.true))
@@ -24,7 +25,8 @@ returns-in-Some g c =
     let fault = same_fault c.turns.end c.call_next.new.end c.call_next.ensures.others in
     let s = between (g.R.Read.remaining c.turns.reader) (g.W.Write.contents c.turns.writer) c.turns.end.outgoing c.turns.end.framer c.turns.end.calls
     c.turns.end.fault in
-    streamed (asked_of c.args.calling c.args.left.now.items) c.args.lines c.turns.done _ (course s (g.O.Write.contents c.turns.out) c.turns.left.items c.turns.well) _
+    streamed (asked_of c.args.calling c.args.left.now.items) c.args.lines c.turns.done _
+    (course s (g.O.Write.contents c.turns.out) c.turns.left.items c.turns.well) _
     (Some c.in-Some.fault) c.turns.invariant.streamed c.turns-test.true
     (rw (unread, fault)
     (ends_refused (asked_of c.args.calling c.args.left.now.items) c.args.lines s (outbox c.call_next.new.end.calls c.call_next.new.end.outgoing)
@@ -39,7 +41,8 @@ returns-then-not-branch g c =
     ∙ turned_interface c.args.end.now c.turns.end c.turns.invariant.others ∙ c.requires.interface in
     let s = between (g.R.Read.remaining c.turns.reader) (g.W.Write.contents c.turns.writer) c.turns.end.outgoing c.turns.end.framer c.turns.end.calls
     c.turns.end.fault in
-    streamed (asked_of c.args.calling c.args.left.now.items) c.args.lines c.turns.done _ (course s (g.O.Write.contents c.turns.out) c.turns.left.items c.turns.well) _
+    streamed (asked_of c.args.calling c.args.left.now.items) c.args.lines c.turns.done _
+    (course s (g.O.Write.contents c.turns.out) c.turns.left.items c.turns.well) _
     None c.turns.invariant.streamed c.turns-test.true
     (ends_off (asked_of c.args.calling c.args.left.now.items) c.args.lines s _ (outbox c.call_next.new.end.calls c.call_next.new.end.outgoing)
     (g.O.Write.contents c.turns.out) c.turns.left.items c.call_next.new.left.items c.turns.well

@@ -9,5 +9,6 @@ use Rattle.giop_commands.proofs.convert.value.text_of_value.Goals as goal
 pub returns-in_ok-to_string-in-Ok : goal.returns-in_ok-to_string-in-Ok
 returns-in_ok-to_string-in-Ok c =
     let shown = c.in-Ok.ensures.value in
-    let whole : has_float (view c.in-Ok.json) ≡ false = ap has_float shown ∙ data_whole c.args.numbers (checked_shape c.args.desc.now) (value_view c.args.value.now) in
+    let whole : has_float (view c.in-Ok.json) ≡ false = ap has_float shown
+    ∙ data_whole c.args.numbers (checked_shape c.args.desc.now) (value_view c.args.value.now) in
     c.in_ok-to_string-in-Ok.ensures.text whole ∙ ap compact_text shown

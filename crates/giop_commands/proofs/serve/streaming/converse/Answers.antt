@@ -58,7 +58,8 @@ returns-then-not-branch g c =
     let interface = turned_interface c.args.end.now c.turns.end c.turns.invariant.others ∙ c.requires in
     let s = between (g.R.Read.remaining c.turns.reader) (g.W.Write.contents c.turns.writer) c.turns.end.outgoing c.turns.end.framer c.turns.end.calls
     c.turns.end.fault in
-    streamed (served_of c.args.serving) c.args.end.now.limits c.args.lines c.turns.done _ (shown (session s c.turns.passed.names.items) (g.O.Write.contents c.turns.out)) _ None
+    streamed (served_of c.args.serving) c.args.end.now.limits c.args.lines c.turns.done _
+    (shown (session s c.turns.passed.names.items) (g.O.Write.contents c.turns.out)) _ None
     c.turns.invariant.streamed c.turns-test.true (rw (c.if-not-branch.true, interface) at c.in_ok-goes_on.ensures.goes, refl)
 
 pub returns-in-Some : goal.returns-in-Some
@@ -72,7 +73,8 @@ returns-in-Some g c =
     c.turns.end.fault in
     let mid = between (g.R.Read.remaining c.goes_on.new.reader) (g.W.Write.contents c.goes_on.new.writer) c.goes_on.new.end.outgoing
     c.goes_on.new.end.framer c.goes_on.new.end.calls c.goes_on.new.end.fault in
-    streamed (served_of c.args.serving) c.args.end.now.limits c.args.lines c.turns.done _ (shown (session s c.turns.passed.names.items) (g.O.Write.contents c.turns.out)) _ (Some c.in-Some.fault)
+    streamed (served_of c.args.serving) c.args.end.now.limits c.args.lines c.turns.done _
+    (shown (session s c.turns.passed.names.items) (g.O.Write.contents c.turns.out)) _ (Some c.in-Some.fault)
     c.turns.invariant.streamed c.turns-test.true
     (rw (unread, fault)
     (turn_answered (served_of c.args.serving) c.args.end.now.limits s mid c.turns.passed.names.items

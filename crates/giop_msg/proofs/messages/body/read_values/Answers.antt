@@ -9,7 +9,8 @@ use Rattle.giop_msg.proofs.messages.body.read_values.Goals as goal
 pub returns-in-Err : goal.returns-in-Err
 returns-in-Err g c =
     elim c.in-Err.ensures.value.0 [
-      | inl refused ↦ inl (read_end c.loop-parameter.values c.args.parameters.now c.loop-parameter.parameter-index c.parameter-item.result c.loop-parameter.input
+      | inl refused ↦ inl (read_end c.loop-parameter.values c.args.parameters.now c.loop-parameter.parameter-index c.parameter-item.result
+          c.loop-parameter.input
           c.in-Err.fault (fields_at (fields_in c.args.parameters.now) c.args.input.now) c.loop-parameter-test.true c.parameter-item.is refused
           c.loop-parameter.invariant)
       | inr want ↦ inr (ap (λ e. e.kind) want.0)

@@ -22,7 +22,8 @@ pub returns-clause-written : goal.returns-clause-written
 returns-clause-written c =
     let r = c.args.answer.now in
     let put = c.in_ok-append_parts.ensures.written in
-    appends_then c.append_reply_body.result c.args.out.now c.append_parts.new.out c.append_reply_body.new.out _ _ put.1 (rw c.offer_for-offer.ensures at c.append_reply_body.ensures.written)
+    appends_then c.append_reply_body.result c.args.out.now c.append_parts.new.out c.append_reply_body.new.out _ _ put.1
+    (rw c.offer_for-offer.ensures at c.append_reply_body.ensures.written)
     (parts_written c.args.interface.now (option_copied c.args.request) r.version r c.args.out.now c.append_parts.new.out c.args.outs.now
     c.status-status.result c.as_slice.result.now c.requires.fits c.requires.outs c.status-status.ensures c.as_slice.ensures put.0)
 

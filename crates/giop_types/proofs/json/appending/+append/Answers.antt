@@ -21,8 +21,10 @@ pub append-returns-in-Row-value : goal.append-returns-in-Row-value
 append-returns-in-Row-value t c =
     let u = c.in-Row in
     let v = c.in-Row-value in
-    let list = ap (λ d. array (items_of (map (to_data c.args.numbers (desc_view d)) (map value_view c.deref-in-Row-value.result.now)))) c.deref-in-Row-value-2.ensures
+    let list = ap (λ d. array (items_of (map (to_data c.args.numbers (desc_view d)) (map value_view c.deref-in-Row-value.result.now))))
+    c.deref-in-Row-value-2.ensures
     ∙ (ap (λ vs. array (items_of (map (to_data c.args.numbers (desc_view u.item.value)) (map value_view vs)))) c.deref-in-Row-value.ensures.value
     ∙ sym (row_data c.args.numbers u.item u.field-1 v.values)) in
-    rw (u.is, v.is) (subst (λ d. OnOk c.append_list-in-Row-value.result (string_bytes c.append_list-in-Row-value.new.text ≡ string_bytes c.args.text.now ++ compact_text d))
+    rw (u.is, v.is) (subst (λ d. OnOk c.append_list-in-Row-value.result
+    (string_bytes c.append_list-in-Row-value.new.text ≡ string_bytes c.args.text.now ++ compact_text d))
     list c.append_list-in-Row-value.ensures)

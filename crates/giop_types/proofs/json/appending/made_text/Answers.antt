@@ -8,5 +8,6 @@ use Rattle.giop_types.proofs.json.appending.made_text.Goals as goal
 pub returns : goal.returns
 returns c =
     let shown = c.in_ok-json.ensures in
-    let whole : has_float (view c.in_ok-json.json) ≡ false = ap has_float shown ∙ data_whole c.args.numbers (desc_view c.args.desc.now) (value_view c.args.value.now) in
+    let whole : has_float (view c.in_ok-json.json) ≡ false = ap has_float shown
+    ∙ data_whole c.args.numbers (desc_view c.args.desc.now) (value_view c.args.value.now) in
     c.in_ok-to_string.ensures.text whole ∙ ap compact_text shown

@@ -13,7 +13,8 @@ loop-id-preserved c =
     let well = judged_well form (parameters_view c.in_ok-members.members) (parameters_fault form) c.in_ok-members.ensures.told in
     let same = entry_same c.in-Some.id c.into_vec.result.items form (parameters_view c.in_ok-members.members) (sym c.into_vec.ensures) well.1 in
     record {
-      named = one_named exception_entry parameters_view l.exceptions.entries c.insert.new.self.entries c.into_vec.result c.in_ok-members.members _ _ (c.in-Some.id, c.in-Some.form) _ steps
+      named = one_named exception_entry parameters_view l.exceptions.entries c.insert.new.self.entries c.into_vec.result c.in_ok-members.members _ _
+          (c.in-Some.id, c.in-Some.form) _ steps
           c.in_ok-insert.ensures.entries same l.invariant.named;
       judged = fault_passed (λ e. parameters_fault e.1) exception_entry _ _ (c.in-Some.id, c.in-Some.form) _ steps well.0 l.invariant.judged;
       left = let gone = c.in-Some.ensures.steps.1 in let was = l.invariant.left in let short = ap length steps in omega arith;

@@ -26,5 +26,6 @@ returns c =
     let none = rest_all deref_pair l.key-iterator c.next.new.self c.next.result c.in-None.is c.next.ensures.steps in
     let start : c.into_iter-key-iterator.result ≡ c.in_ok-exceptions.exceptions.now.entries = cc in
     tabled parameters_in (view c.args.json.now) c.in_ok-exceptions.exceptions.now.entries _ c.in_ok-exceptions.ensures
-    (rw start at (members_made parameters_in (map exception_entry l.forms.items) l.key-iterator (entries_in parameters_in (members_view c.into_iter-key-iterator.result))
+    (rw start at (members_made parameters_in (map exception_entry l.forms.items) l.key-iterator
+    (entries_in parameters_in (members_view c.into_iter-key-iterator.result))
     none l.invariant))

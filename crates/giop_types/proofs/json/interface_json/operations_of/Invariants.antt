@@ -8,4 +8,5 @@ use Rattle.giop_types.proofs.json.interface_json.operations_of.Given as goal
 -- what was read so far, and what is still to be read
 abbrev pub invariant-loop-key : goal.invariant-loop-key
 invariant-loop-key l =
-    with_front (map operation_entry l.forms.items) (entries_in signature_in (members_view l.key-iterator)) ≡ entries_in signature_in (members_view l.initial.key-iterator)
+    with_front (map operation_entry l.forms.items) (entries_in signature_in (members_view l.key-iterator)) ≡ entries_in signature_in
+    (members_view l.initial.key-iterator)
