@@ -20,3 +20,4 @@ pub mod AheadLemmas
 pub mod CallStreamingLemmas
 pub mod CallFeedingLemmas
 pub mod FollowingLemmas
+pub mod LocateFollowingLemmas
