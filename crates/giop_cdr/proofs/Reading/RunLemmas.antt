@@ -76,7 +76,7 @@ field_of_run l run from skipped n begins within =
     let split : length run ≡ skipped + (length run - skipped) = omega arith in
     let rest : drop skipped run ≡ take (length run - skipped) (drop (from + skipped) l)
     = ap (drop skipped) begins ∙ (ap (λ (m : ℕ). drop skipped (take m (drop from l))) split
-        ∙ rw (drop-take skipped (length run - skipped) (drop from l), drop-drop skipped from l) refl) in
+    ∙ rw (drop-take skipped (length run - skipped) (drop from l), drop-drop skipped from l) refl) in
     ap (take n) rest ∙ take-take n (length run - skipped) (drop (from + skipped) l) (omega arith)
 
 -- all octets of a list are the list

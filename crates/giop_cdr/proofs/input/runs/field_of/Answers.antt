@@ -9,4 +9,4 @@ returns-then-skipped-run g c =
     c.copy_from_slice.ensures.after
     ∙ (take-take g.row.N (length run - c.args.skipped) (drop c.args.skipped run) (omega (arith, c.if-skipped-run.true))
     ∙ field_of_run (g.S.Octets.octets c.args.source.now) run c.args.from c.args.skipped g.row.N c.run-run.ensures.part
-        (omega (arith, c.if-skipped-run.true)))
+    (omega (arith, c.if-skipped-run.true)))
