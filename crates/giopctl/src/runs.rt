@@ -3,6 +3,7 @@
 pub mod call;
 pub mod check;
 pub mod convert;
+pub mod door;
 pub mod dump;
 pub mod following;
 pub mod interfaces;

@@ -2,6 +2,7 @@
 //! (session/ahead.rt of giop_commands).
 ghost use Rattle.std.specs.Io.{ReadsAtMost, WritesAtMost};
 
+use crate::runs::door::Door;
 use giop_commands::session::ahead::Ahead;
 use std::alloc::Global;
 use std::cell::{Cell, RefCell};
@@ -19,17 +20,19 @@ const WAITS_IN_A_SECOND: u64 = 1_000 / WRITE_WAIT;
 /// A connection, what was read from it ahead, and the error of a write that failed. What the peer
 /// sent before that is read first, and then the error is told.
 #[derive(Drop)]
-pub struct Link {
+pub struct Link<'a> {
     stream: TcpStream,
     ahead: RefCell<Ahead>,
     failed: Cell<Option<io::Error>>,
     patience: Patience,
+    // The door that is looked at between reads, if there is one.
+    door: Option<&'a Door<'a>>,
 }
 
-impl Link {
+impl<'a> Link<'a> {
     /// A connection. Where nothing comes or goes for so many seconds, at least 1, it fails with
     /// `TimedOut`; without a timeout it waits for ever.
-    pub fn new(alloc: Global, stream: TcpStream, timeout: Option<u32>) -> io::Result<Link> {
+    pub fn new(alloc: Global, stream: TcpStream, timeout: Option<u32>) -> io::Result<Link<'a>> {
         stream.set_write_timeout(Some(Duration::from_millis(WRITE_WAIT)))?;
         stream.set_read_timeout(timeout.map(|seconds| Duration::from_secs(u64::from(seconds))))?;
         Ok(Link {
@@ -37,7 +40,33 @@ impl Link {
             ahead: RefCell::new(Ahead::new(alloc)),
             failed: Cell::new(None),
             patience: Patience::of(timeout),
+            door: None,
         })
+    }
+
+    /// A connection without a timeout, of one that came through a door. That is looked at between
+    /// reads.
+    pub fn through(alloc: Global, stream: TcpStream, door: &'a Door<'a>) -> io::Result<Link<'a>> {
+        stream.set_write_timeout(Some(Duration::from_millis(WRITE_WAIT)))?;
+        stream.set_read_timeout(Some(Door::between_looks()))?;
+        Ok(Link {
+            stream,
+            ahead: RefCell::new(Ahead::new(alloc)),
+            failed: Cell::new(None),
+            patience: Patience::of(None),
+            door: Some(door),
+        })
+    }
+
+    // Looks at the door, if there is one. Returns whether there is.
+    fn looks(&self) -> bool {
+        match self.door {
+            Some(door) => {
+                door.look();
+                true
+            }
+            None => false,
+        }
     }
 
     // The next octets, those that were read ahead first. An interrupted read is done again.
@@ -48,8 +77,10 @@ impl Link {
             return Err(io::Error::from(ErrorKind::Other));
         };
         for _ in 0..u64::MAX {
+            let looks = self.looks();
             match ahead.read(&mut &self.stream, piece) {
                 Err(error) if error.kind() == ErrorKind::Interrupted => {}
+                Err(error) if error.kind() == ErrorKind::WouldBlock && looks => {}
                 Err(error) if error.kind() == ErrorKind::WouldBlock => {
                     return Err(io::Error::from(ErrorKind::TimedOut));
                 }
@@ -81,7 +112,7 @@ impl Link {
     }
 }
 
-impl Read for &Link {
+impl Read for &Link<'_> {
     fn read(&mut self, piece: &mut [u8]) -> io::Result<usize> {
         match self.read_on(piece) {
             Ok(n) if n > 0 => Ok(n),
@@ -93,7 +124,7 @@ impl Read for &Link {
     }
 }
 
-impl Write for &Link {
+impl Write for &Link<'_> {
     fn write(&mut self, octets: &[u8]) -> io::Result<usize> {
         match self.write_some(octets) {
             Ok(n) => Ok(n),
@@ -144,7 +175,7 @@ impl Patience {
 
 // A connection that is written to; a write waits for `WRITE_WAIT` milliseconds at most.
 #[derive(Drop)]
-struct Here<'a>(&'a Link);
+struct Here<'a>(&'a Link<'a>);
 
 impl Write for Here<'_> {
     fn write(&mut self, octets: &[u8]) -> io::Result<usize> {
@@ -167,7 +198,7 @@ impl Write for Here<'_> {
 
 // A connection that is read without waiting.
 #[derive(Drop)]
-struct There<'a>(&'a Link);
+struct There<'a>(&'a Link<'a>);
 
 impl Read for There<'_> {
     fn read(&mut self, piece: &mut [u8]) -> io::Result<usize> {

@@ -4,9 +4,10 @@
 use crate::cli::ServeWords;
 use crate::files::OUTPUT_BUFFER;
 use crate::report;
+use crate::runs::door::Door;
 use crate::runs::interfaces::{interface_of_each, read_each};
+use crate::runs::link::Link;
 use crate::runs::objects::{Asked, objects_of, read_answers};
-use crate::runs::session::linked;
 use giop_commands::failure::Failure;
 use giop_commands::serve::given::{KeyWord, ServedObject, Telling};
 use giop_commands::serve::in_turn::Passed;
@@ -59,7 +60,8 @@ fn served(rt: &HostRuntime, words: &ServeWords<'_>) -> Result<Status, Status> {
         limits: words.limits,
     };
     let listener = listening(rt, words, all.type_id.as_slice(), key.as_slice())?;
-    Ok(serve_each(rt, &listener, words, &serving))
+    let door = Door::new(rt, listener, words.connections);
+    Ok(serve_each(rt, &door, words, &serving))
 }
 
 // The octets of an object key.
@@ -128,7 +130,7 @@ fn bound(rt: &HostRuntime, port: u16) -> io::Result<(TcpListener, u16)> {
 // one to the next.
 fn serve_each(
     rt: &HostRuntime,
-    listener: &TcpListener,
+    door: &Door<'_>,
     words: &ServeWords<'_>,
     serving: &Serving<'_>,
 ) -> Status {
@@ -136,7 +138,7 @@ fn serve_each(
     let mut passed = Passed::new(rt.alloc());
     for served in 0..words.connections {
         let number = served + 1;
-        status = status.or_greater(serve_next(rt, listener, number, words, serving, &mut passed));
+        status = status.or_greater(serve_next(rt, door, number, words, serving, &mut passed));
     }
     status
 }
@@ -144,18 +146,18 @@ fn serve_each(
 // Waits for a connection, and serves it.
 fn serve_next(
     rt: &HostRuntime,
-    listener: &TcpListener,
+    door: &Door<'_>,
     number: u32,
     words: &ServeWords<'_>,
     serving: &Serving<'_>,
     passed: &mut Passed,
 ) -> Status {
-    let (stream, peer) = match listener.accept() {
+    let (stream, peer) = match door.admit(number) {
         Ok(accepted) => accepted,
         Err(error) => return report::answer(rt, HERE, Err(Failure::connection(error))),
     };
     let _ = eprintln!(rt; "giopctl: connection {number} from {peer}");
-    let answered = serve_stream(rt, stream, number, words, serving, passed);
+    let answered = serve_stream(rt, door, stream, number, words, serving, passed);
     match format!(in rt.alloc(); "connection {number}") {
         Ok(name) => report::served(rt, name.as_str(), answered),
         Err(_) => report::served(rt, HERE, answered),
@@ -164,13 +166,17 @@ fn serve_next(
 
 fn serve_stream(
     rt: &HostRuntime,
+    door: &Door<'_>,
     stream: TcpStream,
     number: u32,
     words: &ServeWords<'_>,
     serving: &Serving<'_>,
     passed: &mut Passed,
 ) -> Result<Ending, Failure> {
-    let link = linked(rt, stream, None)?;
+    let link = match Link::through(rt.alloc(), stream, door) {
+        Ok(link) => link,
+        Err(error) => return Err(Failure::connection(error)),
+    };
     let (mut reader, mut writer) = (&link, &link);
     let mut out = BufWriter::with_capacity(rt.alloc(), OUTPUT_BUFFER, io::writer(rt))?;
     let (reader, writer) = (&mut reader, &mut writer);
