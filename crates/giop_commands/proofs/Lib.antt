@@ -21,3 +21,4 @@ pub mod AheadLemmas
 pub mod CallStreamingLemmas
 pub mod CallFeedingLemmas
 pub mod FollowingLemmas
+pub mod LocateFollowingLemmas

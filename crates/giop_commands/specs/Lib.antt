@@ -36,3 +36,4 @@ pub mod Endings
 pub mod Locating
 pub mod Target
 pub mod Following
+pub mod LocateFollowing

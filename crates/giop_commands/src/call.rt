@@ -22,6 +22,7 @@ pub mod feed;
 pub mod following;
 pub mod given;
 pub mod lines;
+pub mod locate_following;
 pub mod locating;
 pub mod streaming;
 pub mod table;

@@ -1,4 +1,5 @@
 pub mod Acts
+pub mod Ends
 pub mod Worlds
 pub mod Runs
 pub mod Calls

@@ -8,6 +8,7 @@ use Rattle.giop_msg.specs.Stream.{Unread}
 use Rattle.giop_session.specs.declared.pump_fault.PumpFault.{PumpFault}
 use Rattle.giop_session.specs.declared.pump_fault.PumpFault.TheVariants.{Read, Write, Session, TurnsSpent}
 use Rattle.giop_session.specs.declared.session_fault.SessionFault.{SessionFault}
+use Rattle.giop_session.specs.declared.session_fault.SessionFault.TheVariants.{NoMemory}
 use Rattle.giop_session.specs.Hearing.Feeding.{Fed, standing, with_octets}
 
 -- the number of a fault
@@ -63,6 +64,23 @@ module _ {S : Type 0} (Hears : Msg → S → Result (Unit {0}) SessionFault → 
     pub fed : s.fault ≡ None
         → Fed Hears (with_octets s.unread octets) s.calls result t.unread t.calls
     pub stands : s.fault ≡ None → t.fault ≡ standing result
+
+  -- octets are fed and then more, or both in one read, and the end is never out of memory: where
+  -- the first are not refused, it makes no difference
+  abbrev pub AreOneRead : (s mid t u : State S) → (octets more : List ℕ)
+      → (second both : Result (Unit {0}) SessionFault) → Type 0
+  AreOneRead s mid t u octets more second both = second ≢ Err NoMemory → both ≢ Err NoMemory
+      → Feeds s octets (Ok tt) mid → Feeds mid more second t → Feeds s (octets ++ more) both u
+      → (both ≡ second) × (u ≡ t)
+
+  -- and where they are refused, the failed end stays, and keeps none of the further octets
+  abbrev pub StaysRefused : (s mid t u : State S) → (octets more : List ℕ) → SessionFault
+      → (second both : Result (Unit {0}) SessionFault) → Type 0
+  StaysRefused s mid t u octets more why second both =
+      s.fault ≡ None → why ≢ NoMemory → both ≢ Err NoMemory
+      → Feeds s octets (Err why) mid → Feeds mid more second t → Feeds s (octets ++ more) both u
+      → (second ≡ Err why) × (t ≡ mid) × (both ≡ Err why)
+      × (u ≡ record mid { unread = with_octets mid.unread more })
 
   -- one read gives these octets, none only at the end of the input, and the end is fed with them
   pub record ReadsAndFeeds (s : Between S) (octets : List ℕ)

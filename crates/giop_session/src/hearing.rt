@@ -1,7 +1,7 @@
 //! The trait of a side that hears messages: `client` and `server` implement it, and `End::feed` uses it
 //! for either side.
 ghost use Rattle.std.specs.Prelude.{◌≤◌, ◌^◌, length};
-ghost use Rattle.giop_session.specs.Hearing.Heard.{hears_by};
+ghost use Rattle.giop_session.specs.Hearing.Heard.{hears_in};
 
 pub mod client;
 pub mod decoding;
@@ -41,7 +41,5 @@ pub trait Hearing: Side {
         message: &Msg,
     ) -> Result<(), SessionFault>
         requires { length message.now.payload ≤ 2 ^ 62 }
-        ensures { hears_by ⟦<Self as CallRule>⟧.next ⟦<Self as CallRule>⟧.closed
-            ⟦<Self as Side>⟧.gathering in_call breaks (befalls interface.now) message.now calls.old
-            result calls.new };
+        ensures { hears_in Self.Hearing interface.now message.now calls.old result calls.new };
 }

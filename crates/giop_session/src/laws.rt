@@ -3,15 +3,15 @@
 //! calls end in the same entries, and `run_server`, `run_client` and `run_world` make runs.
 //!
 //! A function with an empty body is a law: its contract is what counts, and no program calls it.
-ghost use Rattle.std.specs.Prelude.{◌≡◌, ℕ, List, Ok};
+ghost use Rattle.std.specs.Prelude.{◌≡◌, ℕ, List};
 ghost use Rattle.giop_ids.specs.Runs.{own, alone, told_alone, Runs, addressed, MeetsNoLimit};
 ghost use Rattle.giop_types.specs.declared.json.interface.Interface.{Interface};
 ghost use Rattle.giop_msg.specs.declared.msg.Msg.{Msg};
 ghost use Rattle.giop_msg.specs.Stream.{Unread};
-ghost use Rattle.giop_session.specs.Runs.Alone.{alone_heard, own_messages};
-ghost use Rattle.giop_session.specs.Hearing.Feeding.{Fed, Through, with_octets};
-ghost use Rattle.giop_session.specs.Hearing.Heard.{hears_by};
-ghost use Rattle.giop_session.specs.Calls.CallTable.{at, Held, is_of_call, rules_of, turn};
+ghost use Rattle.giop_session.specs.Runs.Alone.{alone_heard, MeetNone, own_messages, SameCalls, SameOfEach};
+ghost use Rattle.giop_session.specs.Hearing.Feeding.{FedInTurn, Through};
+ghost use Rattle.giop_session.specs.Hearing.Heard.{hears_in};
+ghost use Rattle.giop_session.specs.Calls.CallTable.{at, Held, is_of_call, rules_by, turn_by};
 
 mod acting;
 mod agreement;
@@ -60,15 +60,11 @@ pub use world::{World, run_world};
 /// these met a limit or was out of memory.
 pub fn each_call_alone<R: Side>(rule: &R)
     ensures value { (h k : Held R R.Entry) (acts results : _) (id : ℕ)
-        → Runs (rules_of (R.next rule.now) (R.closed rule.now) R.gathering) h acts results k
-        → MeetsNoLimit is_of_call id acts results
-        → at k id ≡ alone (turn (R.next rule.now) (R.closed rule.now) R.gathering) (at h id)
-        (own id acts) }
+        → Runs (rules_by R.Side rule.now) h acts results k → MeetsNoLimit is_of_call id acts results
+        → at k id ≡ alone (turn_by R.Side rule.now) (at h id) (own id acts) }
     ensures told { (h k : Held R R.Entry) (acts results : _) (id : ℕ)
-        → Runs (rules_of (R.next rule.now) (R.closed rule.now) R.gathering) h acts results k
-        → MeetsNoLimit is_of_call id acts results
-        → own id (addressed acts results)
-        ≡ told_alone (turn (R.next rule.now) (R.closed rule.now) R.gathering) (at h id)
+        → Runs (rules_by R.Side rule.now) h acts results k → MeetsNoLimit is_of_call id acts results
+        → own id (addressed acts results) ≡ told_alone (turn_by R.Side rule.now) (at h id)
         (own id acts) }
 {}
 
@@ -76,11 +72,9 @@ pub fn each_call_alone<R: Side>(rule: &R)
 /// they meet no limit and are never out of memory.
 pub fn any_interleaving<R: Side>(rule: &R)
     ensures { (h k k' : Held R R.Entry) (one other : _) (results results' : _)
-        → Runs (rules_of (R.next rule.now) (R.closed rule.now) R.gathering) h one results k
-        → Runs (rules_of (R.next rule.now) (R.closed rule.now) R.gathering) h other results' k'
-        → ((id : ℕ) → MeetsNoLimit is_of_call id one results)
-        → ((id : ℕ) → MeetsNoLimit is_of_call id other results')
-        → ((id : ℕ) → own id one ≡ own id other) → (id : ℕ) → at k id ≡ at k' id }
+        → Runs (rules_by R.Side rule.now) h one results k
+        → Runs (rules_by R.Side rule.now) h other results' k' → MeetNone one results
+        → MeetNone other results' → ((id : ℕ) → own id one ≡ own id other) → SameCalls k k' }
 {}
 
 /// A call is what its own messages make of it. After messages of which none is refused, what is
@@ -88,22 +82,17 @@ pub fn any_interleaving<R: Side>(rule: &R)
 /// before. Messages that name other ids may lie between them anywhere.
 pub fn own_messages_alone<R: Hearing>(rule: &R)
     ensures { (interface : Interface) (h k : Held R R.Entry) (messages : List Msg) (id : ℕ)
-        → Through (hears_by R.next R.closed R.gathering R.in_call R.breaks (R.befalls interface))
-        h messages k
-        → at k id ≡ alone_heard (turn (R.next h.rule) (R.closed h.rule) R.gathering)
-        (R.befalls interface) (at h id) (own_messages id messages) }
+        → Through (hears_in R.Hearing interface) h messages k → at k id ≡ alone_heard
+        (turn_by R.Side h.rule) (R.befalls interface) (at h id) (own_messages id messages) }
 {}
 
 /// Two ends that heard the same messages of each id, in the same order, hold the same calls,
 /// however the messages of different ids were interleaved.
 pub fn any_interleaving_of_messages<R: Hearing>(rule: &R)
     ensures { (interface : Interface) (h k k' : Held R R.Entry) (one other : List Msg)
-        → Through (hears_by R.next R.closed R.gathering R.in_call R.breaks (R.befalls interface))
-        h one k
-        → Through (hears_by R.next R.closed R.gathering R.in_call R.breaks (R.befalls interface))
-        h other k'
-        → ((id : ℕ) → own_messages id one ≡ own_messages id other)
-        → (id : ℕ) → at k id ≡ at k' id }
+        → Through (hears_in R.Hearing interface) h one k
+        → Through (hears_in R.Hearing interface) h other k' → SameOfEach one other
+        → SameCalls k k' }
 {}
 
 /// Octets may be fed in any pieces: what an end makes of octets and then of more is what it makes
@@ -111,10 +100,5 @@ pub fn any_interleaving_of_messages<R: Hearing>(rule: &R)
 pub fn any_reads<R: Hearing>(rule: &R)
     ensures { (interface : Interface) (unread left last : Unread) (h mid k : Held R R.Entry)
         (more : List ℕ) (result : _)
-        → Fed (hears_by R.next R.closed R.gathering R.in_call R.breaks (R.befalls interface))
-        unread h (Ok tt) left mid
-        → Fed (hears_by R.next R.closed R.gathering R.in_call R.breaks (R.befalls interface))
-        (with_octets left more) mid result last k
-        → Fed (hears_by R.next R.closed R.gathering R.in_call R.breaks (R.befalls interface))
-        (with_octets unread more) h result last k }
+        → FedInTurn (hears_in R.Hearing interface) unread left last h mid k more result }
 {}

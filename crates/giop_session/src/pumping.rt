@@ -1,8 +1,8 @@
 //! An end between a reader and a writer: it writes what is outgoing and hears what is read, turn
 //! after turn. Its meaning is `Turned` and `Pumped` in specs/Pumping.antt: change both.
-ghost use Rattle.std.specs.Prelude.{◌≡◌};
-ghost use Rattle.giop_session.specs.Hearing.Heard.{hears_by};
-ghost use Rattle.giop_session.specs.Pumping.{Pumped, Turned, Writes, between};
+ghost use Rattle.giop_session.specs.Hearing.Heard.{hears_in};
+ghost use Rattle.giop_session.specs.Pumping.{Pumped, Turned, Writes};
+ghost use Rattle.giop_session.specs.Ends.View.{end_between, IsTurned};
 
 use crate::end::{End, write_out};
 use crate::hearing::Hearing;
@@ -29,19 +29,10 @@ pub fn turn<R: Hearing, I: Read, W: Write>(
     reader: &mut I,
     writer: &mut W,
 ) -> Result<usize, PumpFault>
-    ensures turned { Turned (hears_by R.next R.closed R.gathering R.in_call R.breaks
-        (R.befalls end.old.interface.now))
-        (between (I.remaining reader.old) (W.contents writer.old) end.old.outgoing end.old.framer
-        end.old.calls end.old.fault)
-        result
-        (between (I.remaining reader.new) (W.contents writer.new) end.new.outgoing end.new.framer
-        end.new.calls end.new.fault) }
-    ensures others { end.new ≡ record end.old {
-      outgoing = end.new.outgoing;
-      framer = end.new.framer;
-      calls = end.new.calls;
-      fault = end.new.fault;
-    } }
+    ensures turned { Turned (hears_in R.Hearing end.old.interface.now) (end_between
+        (I.remaining reader.old) (W.contents writer.old) end.old) result (end_between
+        (I.remaining reader.new) (W.contents writer.new) end.new) }
+    ensures others { IsTurned end.old end.new }
 {
     write_out(end, writer).map_err(PumpFault::Write)?;
     let mut buffer = [0u8; ONE_READ];
@@ -59,22 +50,12 @@ pub fn pump<R: Hearing, I: Read, W: Write>(
     writer: &mut W,
     turns: usize,
 ) -> Result<(), PumpFault>
-    ensures pumped { Pumped (hears_by R.next R.closed R.gathering R.in_call R.breaks
-        (R.befalls end.old.interface.now))
-        turns
-        (between (I.remaining reader.old) (W.contents writer.old) end.old.outgoing end.old.framer
-        end.old.calls end.old.fault)
-        result
-        (between (I.remaining reader.new) (W.contents writer.new) end.new.outgoing end.new.framer
-        end.new.calls end.new.fault) }
+    ensures pumped { Pumped (hears_in R.Hearing end.old.interface.now) turns (end_between
+        (I.remaining reader.old) (W.contents writer.old) end.old) result (end_between
+        (I.remaining reader.new) (W.contents writer.new) end.new) }
     ensures writes { Writes (W.contents writer.old) (W.contents writer.new) end.old.outgoing
         end.new.outgoing }
-    ensures others { end.new ≡ record end.old {
-      outgoing = end.new.outgoing;
-      framer = end.new.framer;
-      calls = end.new.calls;
-      fault = end.new.fault;
-    } }
+    ensures others { IsTurned end.old end.new }
 {
     'turns: for done in 0..turns {
         if turn(end, reader, writer)? == 0 {

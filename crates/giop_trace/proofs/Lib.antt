@@ -1,2 +1,4 @@
 pub mod AloneLemmas
+pub mod ContinuedLemmas
+pub mod StrayLemmas
 pub mod TableLemmas

@@ -1,13 +1,22 @@
 -- What each message does to what stands under its id (CORBA 3.3 Part 2, 9.4).
-use Rattle.std.specs.Prelude.{Bool, true, false, if◌then◌else◌, Option, Some, None, is_none}
+use Rattle.std.specs.Prelude.{Bool, true, false, not, if◌then◌else◌, Option, Some, None, is_none}
 use Rattle.giop_msg.specs.declared.kind.Kind.{Kind}
 use Rattle.giop_msg.specs.declared.kind.Kind.TheVariants.{Request, LocateRequest, CancelRequest, Reply, LocateReply, Fragment}
 use Rattle.giop_msg.specs.declared.msg.Msg.{Msg}
 use Rattle.giop_trace.specs.declared.direction.Direction.{Direction}
 use Rattle.giop_trace.specs.declared.direction.Direction.TheVariants.{Client, Server}
-use Rattle.giop_trace.specs.declared.effect.Effect.{Effect}
 use Rattle.giop_trace.specs.declared.flow.Flow.{Flow}
+use Rattle.giop_trace.specs.declared.heard.Heard.{Heard}
 use Rattle.giop_trace.specs.Flows.{continues, is_over, is_whole, joined}
+
+-- what one message does to the flow of its id
+pub record Effect : Type 0 where
+  -- the call that had the id before, where the message begins another
+  pub earlier : Option Flow
+  -- what stands under the id then
+  pub stays : Option Flow
+  -- the call that is over by the message
+  pub over : Option Flow
 
 -- a call of which a message of the client came alone, and one of which one of the server did
 abbrev pub asked_by : Msg → Flow
@@ -91,3 +100,29 @@ answers alone entry _ m = strays Server entry m
 abbrev pub effect : Bool → Direction → Option Flow → Msg → Effect
 effect alone Client entry m = asks alone entry m.kind m
 effect alone Server entry m = answers alone entry m.kind m
+
+-- whether a message of a direction that is no Fragment has a place in a call, by its kind
+abbrev pub has_place : Direction → Kind → Bool
+has_place Client Request = true
+has_place Client LocateRequest = true
+has_place Client CancelRequest = true
+has_place Server Reply = true
+has_place Server LocateReply = true
+has_place _ _ = false
+
+-- whether a Fragment of a direction continues what stands under its id
+abbrev pub continues_in : Direction → Option Flow → Msg → Bool
+continues_in direction None m = false
+continues_in Client (Some flow) m = continues flow.asked m
+continues_in Server (Some flow) m = continues flow.answer m
+
+-- whether a message has no place in the call under its id, nor begins one
+abbrev pub is_stray : Direction → Option Flow → Kind → Msg → Bool
+is_stray direction entry Fragment m = not (continues_in direction entry m)
+is_stray direction entry kind m = not (has_place direction kind)
+
+-- what a message does that leaves a flow in what is told of it: the flow goes on, or is over
+abbrev pub effect_left : Bool → Heard → Effect
+effect_left stays told = if stays
+    then record { earlier = told.earlier; stays = told.over; over = None }
+    else record { earlier = told.earlier; stays = None; over = told.over }

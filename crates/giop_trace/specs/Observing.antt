@@ -6,10 +6,9 @@ use Rattle.giop_ids.specs.ById.{ById, put}
 use Rattle.giop_msg.specs.declared.msg.Msg.{Msg}
 use Rattle.giop_msg.specs.RequestId.{request_id_of}
 use Rattle.giop_trace.specs.declared.direction.Direction.{Direction}
-use Rattle.giop_trace.specs.declared.effect.Effect.{Effect}
 use Rattle.giop_trace.specs.declared.flow.Flow.{Flow}
 use Rattle.giop_trace.specs.declared.heard.Heard.{Heard}
-use Rattle.giop_trace.specs.Effects.{effect, lone}
+use Rattle.giop_trace.specs.Effects.{Effect, effect, lone}
 use Rattle.giop_trace.specs.Flows.{is_answer, is_waiting}
 
 -- a message that a direction brought
@@ -25,8 +24,16 @@ effect_at alone flows direction m id = effect alone direction (finite.get flows 
 abbrev pub told_at : ℕ → Effect → Heard
 told_at id effect = record { id = Some id; earlier = effect.earlier; over = effect.over }
 
+abbrev pub told_apart : Option ℕ → Direction → Msg → Heard
+told_apart id direction m = record { id = id; earlier = None; over = Some (lone direction m) }
+
 abbrev pub told_alone : Direction → Msg → Heard
-told_alone direction m = record { id = None; earlier = None; over = Some (lone direction m) }
+told_alone direction m = told_apart None direction m
+
+-- a table in which what goes on stands under its id, where that has nothing
+abbrev pub kept_on : ById Flow → ℕ → Option Flow → ById Flow
+kept_on flows id None = flows
+kept_on flows id (Some flow) = finite.insert flows id flow
 
 -- what is told, by the id that is read
 abbrev pub heard_by : Bool → ById Flow → Direction → Msg → Option (Result ℕ CdrFault) → Heard

@@ -3,7 +3,6 @@
 #![tactic(auto)]
 
 mod direction;
-mod effect;
 mod flow;
 mod heard;
 mod keep;

@@ -5,10 +5,10 @@ ghost use Rattle.std.specs.FinMap as finite;
 ghost use Rattle.giop_ids.specs.ById.{put};
 ghost use Rattle.giop_msg.specs.RequestId.{request_id_of};
 ghost use Rattle.giop_trace.specs.Flows.{is_answer, is_waiting};
-ghost use Rattle.giop_trace.specs.Observing.{heard, is_early, is_early_by, left};
+ghost use Rattle.giop_trace.specs.Effects.{is_stray};
+ghost use Rattle.giop_trace.specs.Observing.{heard, is_early, is_early_by, kept_on, left, told_apart};
 
-use crate::effect::Effect;
-use crate::steps::{effect, is_whole, lone};
+use crate::steps::{continues_in, has_place, is_whole, lone, step};
 use crate::{Direction, Flow, Heard, Keep};
 use giop_msg::{Kind, Msg};
 use giop_mux::Mux;
@@ -55,7 +55,7 @@ impl Observer {
     ///
     /// It is refused only where it is out of memory, where joined octets would be more than 2^62,
     /// or for the 2^32nd open call. The call of the id may be lost then.
-    #[tactic(auto, using(crate::proofs::TableLemmas::put_back))]
+    #[tactic(auto, using(crate::proofs::TableLemmas::put_back, crate::proofs::StrayLemmas::stray_effect))]
     pub fn hear(&mut self, direction: Direction, message: Msg) -> Result<Heard, AllocError>
         requires { length message.payload ≤ 2 ^ 62 }
         ensures value { IfOk result (λ told.
@@ -65,26 +65,20 @@ impl Observer {
         ensures same { OnOk result (self.new.alone ≡ self.old.alone) }
     {
         let Some(Ok(id)) = message.request_id() else {
-            return Ok(Heard {
-                id: None,
-                earlier: None,
-                over: Some(lone(direction, message)),
-            });
+            return Ok(apart(None, direction, message));
         };
-        let entry = self.taken(id);
-        let Effect {
-            earlier,
-            stays,
-            over,
-        } = effect(self.alone, direction, entry, message)?;
-        if let Some(flow) = stays {
-            self.keep(id, flow)?;
+        if self.is_stray(id, direction, &message) {
+            return Ok(apart(Some(id), direction, message));
         }
-        Ok(Heard {
+        let mut told = Heard {
             id: Some(id),
-            earlier,
-            over,
-        })
+            earlier: None,
+            over: self.taken(id),
+        };
+        if step(self.alone, direction, &mut told, message)? {
+            self.keep_on(id, &mut told)?;
+        }
+        Ok(told)
     }
 
     /// Whether a message of the server is a Reply or a LocateReply to a call whose request isn't
@@ -134,7 +128,20 @@ impl Observer {
         }
     }
 
+    // Whether a message has no place in the call of its id, nor begins one.
+    #[inline(always)]
+    fn is_stray(&self, id: u32, direction: Direction, message: &Msg) -> bool
+        ensures { result ≡ is_stray direction (finite.get self.now.calls.entries id)
+            message.now.kind message.now }
+    {
+        match message.kind {
+            Kind::Fragment => !continues_in(direction, self.flow(id), message),
+            kind => !has_place(direction, kind),
+        }
+    }
+
     // Takes the call of an id out of the table.
+    #[inline(always)]
     fn taken(&mut self, id: u32) -> Option<Flow>
         ensures value { result ≡ finite.get self.old.calls.entries id }
         ensures ok { self.new.calls.entries ≡ finite.remove self.old.calls.entries id }
@@ -146,7 +153,22 @@ impl Observer {
         }
     }
 
+    // Puts the call that is told to be over under its id: it goes on.
+    #[inline(always)]
+    fn keep_on(&mut self, id: u32, told: &mut Heard) -> Result<(), AllocError>
+        ensures ok { OnOk result (self.new.calls.entries
+            ≡ kept_on self.old.calls.entries id told.old.over) }
+        ensures told { told.new ≡ record told.old { over = None } }
+        ensures same { self.new.alone ≡ self.old.alone }
+    {
+        match told.over.take() {
+            Some(flow) => self.keep(id, flow),
+            None => Ok(()),
+        }
+    }
+
     // Puts a call under its id.
+    #[inline(always)]
     fn keep(&mut self, id: u32, flow: Flow) -> Result<(), AllocError>
         ensures ok { OnOk result (self.new.calls.entries
             ≡ finite.insert self.old.calls.entries id flow) }
@@ -156,5 +178,16 @@ impl Observer {
             Ok(()) => Ok(()),
             Err(_) => Err(AllocError),
         }
+    }
+}
+
+// A message by itself.
+fn apart(id: Option<u32>, direction: Direction, message: Msg) -> Heard
+    ensures { result ≡ told_apart id direction message }
+{
+    Heard {
+        id,
+        earlier: None,
+        over: Some(lone(direction, message)),
     }
 }

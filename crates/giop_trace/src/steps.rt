@@ -1,33 +1,16 @@
-//! What each message does to the flow of its id. Its meaning is specs/Effects.antt: change both.
-ghost use Rattle.std.specs.Prelude.{◌≡◌, ◌≤◌, ◌^◌, length, IfOk};
-ghost use Rattle.giop_trace.specs.Effects.{answered_by, answers, answers_call, answers_on, asked_by, asks, asks_on, cancels, effect, extended, goes_on, lone, stays, strays};
+//! What each message does to the flow of its id, where that lies. Its meaning is specs/Effects.antt:
+//! change both.
+ghost use Rattle.std.specs.Prelude.{◌≡◌, ◌≤◌, ◌^◌, None, Some, false, true, length, IfOk, OnOk, option_copied};
+ghost use Rattle.giop_trace.specs.Effects.{answered_by, answers, answers_call, answers_on, asked_by, asks, asks_on, cancels, continues_in, effect, effect_left, extended, goes_on, has_place, is_stray, lone};
 ghost use Rattle.giop_trace.specs.Flows.{continues, is_oneway, is_over, is_told, is_whole, joined, same_order};
 
-use crate::effect::Effect;
-use crate::{Direction, Flow};
+use crate::{Direction, Flow, Heard};
 use giop_cdr::{Order, SliceOctets};
 use giop_msg::{Kind, Msg, RequestHead};
 use std::alloc::AllocError;
 
 // The most octets of a message that are read.
 const MOST: usize = 1 << 62;
-
-/// What a message of a direction does to what stands under its id. `alone` says that the client is
-/// heard alone. It is refused only where it is out of memory, or where a message would have more
-/// than 2^62 octets; the flow is lost then.
-pub fn effect(
-    alone: bool,
-    direction: Direction,
-    entry: Option<Flow>,
-    message: Msg,
-) -> Result<Effect, AllocError>
-    ensures { IfOk result (λ done. done ≡ effect alone direction entry message) }
-{
-    match direction {
-        Direction::Client => asks(alone, entry, message),
-        Direction::Server => answers(alone, entry, message),
-    }
-}
 
 /// A message by itself.
 pub fn lone(direction: Direction, message: Msg) -> Flow
@@ -49,29 +32,89 @@ pub fn is_whole(message: &Option<Msg>) -> bool
     }
 }
 
-fn asks(alone: bool, entry: Option<Flow>, message: Msg) -> Result<Effect, AllocError>
-    ensures { IfOk result (λ done. done ≡ asks alone entry message.kind message) }
+/// Whether a message of a direction that is no Fragment has a place in a call, by its kind.
+#[inline(always)]
+pub fn has_place(direction: Direction, kind: Kind) -> bool
+    ensures { result ≡ has_place direction kind }
 {
-    match message.kind {
-        Kind::Request => goes_on(alone, entry, asked_by(message)),
-        Kind::LocateRequest => goes_on(alone, entry, asked_by(message)),
-        Kind::CancelRequest => Ok(cancels(entry)),
-        Kind::Fragment => asks_on(alone, entry, message),
-        _ => Ok(strays(Direction::Client, entry, message)),
+    match direction {
+        Direction::Client => match kind {
+            Kind::Request | Kind::LocateRequest | Kind::CancelRequest => true,
+            _ => false,
+        },
+        Direction::Server => match kind {
+            Kind::Reply | Kind::LocateReply => true,
+            _ => false,
+        },
     }
 }
 
-fn answers(alone: bool, entry: Option<Flow>, message: Msg) -> Result<Effect, AllocError>
-    ensures { IfOk result (λ done. done ≡ answers alone entry message.kind message) }
+/// Whether a Fragment of a direction continues what stands under its id.
+pub fn continues_in(direction: Direction, entry: Option<&Flow>, fragment: &Msg) -> bool
+    ensures { result ≡ continues_in direction (option_copied entry.entry) fragment.now }
 {
-    match message.kind {
-        Kind::Reply => answers_call(alone, entry, message),
-        Kind::LocateReply => answers_call(alone, entry, message),
-        Kind::Fragment => answers_on(alone, entry, message),
-        _ => Ok(strays(Direction::Server, entry, message)),
+    match (direction, entry) {
+        (Direction::Client, Some(flow)) => continues(&flow.asked, fragment),
+        (Direction::Server, Some(flow)) => continues(&flow.answer, fragment),
+        (_, None) => false,
     }
 }
 
+/// What a message that has a place does to the flow that stands under its id, which is the one that
+/// `told` has as `over`, and is changed there. Returns whether what stands there then goes on; else
+/// it is over, if there is one. `alone` says that the client is heard alone.
+///
+/// It is refused only where it is out of memory, or where a message would have more than 2^62
+/// octets; what is told is then no matter.
+#[inline(always)]
+pub fn step(
+    alone: bool,
+    direction: Direction,
+    told: &mut Heard,
+    message: Msg,
+) -> Result<bool, AllocError>
+    requires earlier { told.old.earlier ≡ None }
+    requires place { is_stray direction told.old.over message.kind message ≡ false }
+    ensures value { IfOk result (λ stays. effect_left stays told.new
+        ≡ effect alone direction told.old.over message) }
+    ensures id { OnOk result (told.new.id ≡ told.old.id) }
+{
+    match direction {
+        Direction::Client => asks(alone, told, message),
+        Direction::Server => answers(alone, told, message),
+    }
+}
+
+#[inline(always)]
+fn asks(alone: bool, told: &mut Heard, message: Msg) -> Result<bool, AllocError>
+    requires earlier { told.old.earlier ≡ None }
+    requires place { is_stray Direction.Client told.old.over message.kind message ≡ false }
+    ensures value { IfOk result (λ stays. effect_left stays told.new
+        ≡ asks alone told.old.over message.kind message) }
+    ensures id { OnOk result (told.new.id ≡ told.old.id) }
+{
+    match message.kind {
+        Kind::CancelRequest => Ok(cancels(told)),
+        Kind::Fragment => asks_on(alone, told, message),
+        _ => begins(alone, told, asked_by(message)),
+    }
+}
+
+#[inline(always)]
+fn answers(alone: bool, told: &mut Heard, message: Msg) -> Result<bool, AllocError>
+    requires earlier { told.old.earlier ≡ None }
+    requires place { is_stray Direction.Server told.old.over message.kind message ≡ false }
+    ensures value { IfOk result (λ stays. effect_left stays told.new
+        ≡ answers alone told.old.over message.kind message) }
+    ensures id { OnOk result (told.new.id ≡ told.old.id) }
+{
+    match message.kind {
+        Kind::Fragment => answers_on(alone, told, message),
+        _ => answers_call(alone, told, message),
+    }
+}
+
+#[inline(always)]
 fn asked_by(message: Msg) -> Flow
     ensures { result ≡ asked_by message }
 {
@@ -82,6 +125,7 @@ fn asked_by(message: Msg) -> Flow
     }
 }
 
+#[inline(always)]
 fn answered_by(message: Msg) -> Flow
     ensures { result ≡ answered_by message }
 {
@@ -92,121 +136,86 @@ fn answered_by(message: Msg) -> Flow
     }
 }
 
-fn stays(flow: Option<Flow>) -> Effect
-    ensures { result ≡ stays flow }
+// A flow begins; what stood under the id is the one before it.
+#[inline(always)]
+fn begins(alone: bool, told: &mut Heard, flow: Flow) -> Result<bool, AllocError>
+    requires { told.old.earlier ≡ None }
+    ensures value { IfOk result (λ stays. effect_left stays told.new
+        ≡ goes_on alone told.old.over flow) }
+    ensures id { OnOk result (told.new.id ≡ told.old.id) }
 {
-    Effect {
-        earlier: None,
-        stays: flow,
-        over: None,
+    let stays = !is_over(alone, &flow)?;
+    told.earlier = told.over.take();
+    told.over = Some(flow);
+    Ok(stays)
+}
+
+// Whether the flow that stands there goes on.
+#[inline(always)]
+fn stays(alone: bool, told: &Heard) -> Result<bool, AllocError>
+    requires { told.now.earlier ≡ None }
+    ensures { (flow : Flow) → told.now.over ≡ Some flow
+        → IfOk result (λ stays. effect_left stays told.now ≡ goes_on alone None flow) }
+{
+    match &told.over {
+        Some(flow) => Ok(!is_over(alone, flow)?),
+        None => Ok(true),
     }
 }
 
-fn strays(direction: Direction, entry: Option<Flow>, message: Msg) -> Effect
-    ensures { result ≡ strays direction entry message }
+fn asks_on(alone: bool, told: &mut Heard, fragment: Msg) -> Result<bool, AllocError>
+    requires earlier { told.old.earlier ≡ None }
+    requires place { continues_in Direction.Client told.old.over fragment ≡ true }
+    ensures value { IfOk result (λ stays. effect_left stays told.new
+        ≡ asks_on alone told.old.over fragment) }
+    ensures id { OnOk result (told.new.id ≡ told.old.id) }
 {
-    Effect {
-        earlier: None,
-        stays: entry,
-        over: Some(lone(direction, message)),
+    if let Some(flow) = &mut told.over {
+        extend(&mut flow.asked, &fragment)?;
+    }
+    stays(alone, told)
+}
+
+fn answers_on(alone: bool, told: &mut Heard, fragment: Msg) -> Result<bool, AllocError>
+    requires earlier { told.old.earlier ≡ None }
+    requires place { continues_in Direction.Server told.old.over fragment ≡ true }
+    ensures value { IfOk result (λ stays. effect_left stays told.new
+        ≡ answers_on alone told.old.over fragment) }
+    ensures id { OnOk result (told.new.id ≡ told.old.id) }
+{
+    if let Some(flow) = &mut told.over {
+        extend(&mut flow.answer, &fragment)?;
+    }
+    stays(alone, told)
+}
+
+// Returns whether the flow goes on.
+fn cancels(told: &mut Heard) -> bool
+    requires { told.old.earlier ≡ None }
+    ensures value { effect_left result told.new ≡ cancels told.old.over }
+    ensures id { told.new.id ≡ told.old.id }
+{
+    match &mut told.over {
+        Some(flow) => {
+            flow.cancelled = true;
+            is_whole(&flow.asked)
+        }
+        None => true,
     }
 }
 
-fn goes_on(alone: bool, earlier: Option<Flow>, flow: Flow) -> Result<Effect, AllocError>
-    ensures { IfOk result (λ done. done ≡ goes_on alone earlier flow) }
+#[inline(always)]
+fn answers_call(alone: bool, told: &mut Heard, message: Msg) -> Result<bool, AllocError>
+    requires { told.old.earlier ≡ None }
+    ensures value { IfOk result (λ stays. effect_left stays told.new
+        ≡ answers_call alone told.old.over message) }
+    ensures id { OnOk result (told.new.id ≡ told.old.id) }
 {
-    if is_over(alone, &flow)? {
-        return Ok(Effect {
-            earlier,
-            stays: None,
-            over: Some(flow),
-        });
+    match &mut told.over {
+        Some(flow) if flow.answer.is_none() => flow.answer = Some(message),
+        _ => return begins(alone, told, answered_by(message)),
     }
-    Ok(Effect {
-        earlier,
-        stays: Some(flow),
-        over: None,
-    })
-}
-
-fn asks_on(alone: bool, entry: Option<Flow>, message: Msg) -> Result<Effect, AllocError>
-    ensures { IfOk result (λ done. done ≡ asks_on alone entry message) }
-{
-    let Some(flow) = entry else {
-        return Ok(strays(Direction::Client, None, message));
-    };
-    if !continues(&flow.asked, &message) {
-        return Ok(strays(Direction::Client, Some(flow), message));
-    }
-    let Flow {
-        asked,
-        answer,
-        cancelled,
-    } = flow;
-    let asked = extended(asked, &message)?;
-    let flow = Flow {
-        asked,
-        answer,
-        cancelled,
-    };
-    goes_on(alone, None, flow)
-}
-
-fn cancels(entry: Option<Flow>) -> Effect
-    ensures { result ≡ cancels entry }
-{
-    let Some(mut flow) = entry else {
-        return stays(None);
-    };
-    flow.cancelled = true;
-    if is_whole(&flow.asked) {
-        return stays(Some(flow));
-    }
-    Effect {
-        earlier: None,
-        stays: None,
-        over: Some(flow),
-    }
-}
-
-fn answers_call(alone: bool, entry: Option<Flow>, message: Msg) -> Result<Effect, AllocError>
-    ensures { IfOk result (λ done. done ≡ answers_call alone entry message) }
-{
-    let Some(flow) = entry else {
-        return goes_on(alone, None, answered_by(message));
-    };
-    if flow.answer.is_some() {
-        return goes_on(alone, Some(flow), answered_by(message));
-    }
-    let flow = Flow {
-        asked: flow.asked,
-        answer: Some(message),
-        cancelled: flow.cancelled,
-    };
-    goes_on(alone, None, flow)
-}
-
-fn answers_on(alone: bool, entry: Option<Flow>, message: Msg) -> Result<Effect, AllocError>
-    ensures { IfOk result (λ done. done ≡ answers_on alone entry message) }
-{
-    let Some(flow) = entry else {
-        return Ok(strays(Direction::Server, None, message));
-    };
-    if !continues(&flow.answer, &message) {
-        return Ok(strays(Direction::Server, Some(flow), message));
-    }
-    let Flow {
-        asked,
-        answer,
-        cancelled,
-    } = flow;
-    let answer = extended(answer, &message)?;
-    let flow = Flow {
-        asked,
-        answer,
-        cancelled,
-    };
-    goes_on(alone, None, flow)
+    stays(alone, told)
 }
 
 // Whether a Fragment continues a message: more of it is to come, and in that byte order.
@@ -230,28 +239,28 @@ fn same_order(one: Order, other: Order) -> bool
     }
 }
 
-// A message with a Fragment behind it, where there is one.
-fn extended(message: Option<Msg>, fragment: &Msg) -> Result<Option<Msg>, AllocError>
-    ensures { IfOk result (λ whole. whole ≡ extended message fragment.now) }
+// Puts a Fragment behind a message, where there is one.
+fn extend(message: &mut Option<Msg>, fragment: &Msg) -> Result<(), AllocError>
+    ensures { OnOk result (message.new ≡ extended message.old fragment.now) }
 {
     match message {
-        Some(message) => Ok(Some(joined(message, fragment)?)),
-        None => Ok(None),
+        Some(message) => join(message, fragment),
+        None => Ok(()),
     }
 }
 
-// The message with the octets of a Fragment behind its own.
-fn joined(message: Msg, fragment: &Msg) -> Result<Msg, AllocError>
-    ensures { IfOk result (λ whole. whole ≡ joined message fragment.now) }
+// Puts the octets of a Fragment behind those of a message.
+fn join(message: &mut Msg, fragment: &Msg) -> Result<(), AllocError>
+    ensures { OnOk result (message.new ≡ joined message.old fragment.now) }
 {
-    let mut message = message;
     message.more = fragment.more;
     if let Some(octets) = fragment.payload.as_slice().get(4..) {
         message.payload.extend_from_slice(octets)?;
     }
-    Ok(message)
+    Ok(())
 }
 
+#[inline(always)]
 fn is_over(alone: bool, flow: &Flow) -> Result<bool, AllocError>
     ensures { IfOk result (λ over. over ≡ is_over alone flow.now) }
 {
@@ -261,6 +270,7 @@ fn is_over(alone: bool, flow: &Flow) -> Result<bool, AllocError>
     }
 }
 
+#[inline(always)]
 fn is_told(alone: bool, asked: &Option<Msg>) -> Result<bool, AllocError>
     ensures { IfOk result (λ told. told ≡ is_told alone asked.now) }
 {
@@ -272,6 +282,7 @@ fn is_told(alone: bool, asked: &Option<Msg>) -> Result<bool, AllocError>
 }
 
 // Whether no reply is expected to a message.
+#[inline(always)]
 fn is_oneway(message: &Msg) -> Result<bool, AllocError>
     ensures { IfOk result (λ oneway. oneway ≡ is_oneway message.now.kind message.now) }
 {

@@ -17,7 +17,7 @@ use crate::cli::limit_words::{
     gathered_limit, gathered_limit_of, limited, limits_of, message_limit, message_limit_of,
 };
 pub use crate::cli::object_words::ObjectWords;
-use crate::cli::object_words::{locate, object_words, ping};
+use crate::cli::object_words::{locate, locate_words, object_words, ping};
 use crate::cli::session_words::{call, call_words, serve, serve_words, values_of};
 pub use crate::cli::session_words::{CallWords, ServeWords};
 use crate::files::apart;
@@ -442,7 +442,7 @@ fn called<'a>(
 }
 
 fn located<'a>(matches: &ArgMatches<'a>) -> Result<Option<Task<'a>>, &'static str> {
-    Ok(Some(Task::Locate(object_words(matches)?)))
+    Ok(Some(Task::Locate(locate_words(matches)?)))
 }
 
 fn pinged<'a>(matches: &ArgMatches<'a>) -> Result<Option<Task<'a>>, &'static str> {

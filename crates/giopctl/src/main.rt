@@ -30,7 +30,7 @@ fn run(rt: &HostRuntime) -> Status {
         Ok(Some(Task::Trace(words))) => runs::trace::trace(rt, &words),
         Ok(Some(Task::Convert { file, kind })) => runs::convert::convert(rt, file, kind),
         Ok(Some(Task::Call(words))) => runs::call::call(rt, words),
-        Ok(Some(Task::Locate(words))) => runs::object::locate(rt, words),
+        Ok(Some(Task::Locate(words))) => runs::locating::locate(rt, words),
         Ok(Some(Task::Ping(words))) => runs::object::ping(rt, words),
         Ok(Some(Task::Serve(words))) => runs::serve::serve(rt, &words),
         Ok(None) => Status::Usage,

@@ -7,6 +7,7 @@ pub mod dump;
 pub mod following;
 pub mod interfaces;
 pub mod link;
+pub mod locating;
 pub mod object;
 pub mod objects;
 pub mod reach;

@@ -10,9 +10,7 @@ ghost use Rattle.giop_msg.specs.declared.version.Version.TheVariants.{V12};
 ghost use Rattle.giop_calls.specs.declared.client.call.Call.TheVariants as asked;
 ghost use Rattle.giop_calls.specs.declared.client.entry.ClientEntry.TheVariants.{LocateDone, Undecoded};
 ghost use Rattle.giop_session.specs.Items.Carries.{IsWrittenAs};
-ghost use Rattle.giop_session.specs.Items.ClientCarries.{client_telling, unknown};
-ghost use Rattle.giop_session.specs.Runs.EndRuns.{ClientTakes};
-ghost use Rattle.giop_session.specs.Runs.Inputs.{Holds};
+ghost use Rattle.giop_session.specs.Runs.EndRuns.{ClientInputsHold, ClientTakes};
 ghost use Rattle.giop_session.specs.Calls.Sending.{entry_of};
 ghost use Rattle.laws_in_use.specs.Asking.{here, one_way, other_way, told};
 ghost use Rattle.laws_in_use.specs.Locating.{door, here_little, key, limits, tight_limits};
@@ -31,11 +29,11 @@ pub fn two_ways_of_being_answered()
     ensures other_taken { (interface : Interface) → (left : _) × (k : _)
         × ClientTakes interface tight_limits other_way left k }
     ensures one_holds { (interface : Interface)
-        → Holds (client_telling interface) unknown limits.message one_way told }
+        → ClientInputsHold interface limits one_way told }
     ensures written { IsWrittenAs (locate_reply V12) Little here LocateReply 24 V12
         (here_little ∷ []) }
     ensures other_holds { (interface : Interface)
-        → Holds (client_telling interface) unknown tight_limits.message other_way told }
+        → ClientInputsHold interface tight_limits other_way told }
     ensures seven { (interface : Interface) (left k : _)
         → ClientTakes interface limits one_way left k
         → entry_of (finite.get k.table 7) ≡ Some (LocateDone door here) }

@@ -6,6 +6,7 @@ ghost use Rattle.giop_ids.specs.Runs.{addressed, MeetsNoLimit, own, Runs};
 ghost use Rattle.giop_types.specs.declared.json.interface.Interface.{Interface};
 ghost use Rattle.giop_calls.specs.ServerTable.{is_closed, is_gathering, left_of, server_step};
 ghost use Rattle.giop_session.specs.Calls.CallTable.{at, is_of_call, rules_of};
+ghost use Rattle.giop_session.specs.Runs.Alone.{MeetNone, SameOfEach};
 ghost use Rattle.giop_session.specs.Runs.Events.{Comes, Meets};
 ghost use Rattle.giop_session.specs.Hearing.Feeding.{Fed, Through};
 ghost use Rattle.giop_session.specs.Hearing.Heard.{hears};
@@ -34,6 +35,7 @@ pub fn two_messages_are_heard(rule: &ServerRule)
         → Through (hears (server_side interface)) (new_server limits) begun_and_asked k
         → Through (hears (server_side interface)) (new_server limits) asked_and_begun k'
         → (id : ℕ) → at k id ≡ at k' id }
+    ensures same { SameOfEach begun_and_asked asked_and_begun }
     ensures in_one { (interface : Interface) → (k : _)
         × Fed (hears (server_side interface)) reads (new_server limits) (Ok tt)
         unread k }
@@ -58,6 +60,7 @@ pub fn two_acts_in_two_orders(rule: &ServerRule)
         (begins ∷ asks ∷ []) (silence ∷ silence ∷ []) k }
     ensures free { (id : ℕ)
         → MeetsNoLimit is_of_call id (begins ∷ asks ∷ []) (silence ∷ silence ∷ []) }
+    ensures none { MeetNone (begins ∷ asks ∷ []) (silence ∷ silence ∷ []) }
     ensures seven { (k : _) → Runs (rules_of server_step is_closed is_gathering)
         (new_server limits) (begins ∷ asks ∷ []) (silence ∷ silence ∷ []) k
         → at k 7 ≡ gathering }

@@ -7,10 +7,8 @@ ghost use Rattle.giop_msg.specs.declared.messages.request_fault.RequestFault.The
 ghost use Rattle.giop_msg.specs.declared.version.Version.TheVariants.{V10};
 ghost use Rattle.giop_calls.specs.declared.kind.CallKind.TheVariants as kind;
 ghost use Rattle.giop_calls.specs.declared.server.entry.ServerEntry.TheVariants.{LocateAnswered, Undecoded};
-ghost use Rattle.giop_session.specs.Runs.EndRuns.{ServerTakes};
-ghost use Rattle.giop_session.specs.Runs.Inputs.{Holds};
+ghost use Rattle.giop_session.specs.Runs.EndRuns.{ServerInputsHold, ServerTakes};
 ghost use Rattle.giop_session.specs.Calls.Sending.{entry_of};
-ghost use Rattle.giop_session.specs.Items.ServerCarries.{server_telling};
 ghost use Rattle.laws_in_use.specs.Locating.{door, limits, one_way, other_way, said, tight_limits};
 
 use giop_msg::laws::locate_requests_are_spelled;
@@ -27,9 +25,9 @@ pub fn two_ways_of_locating()
     ensures other_taken { (interface : Interface) → (left : _) × (k : _)
         × ServerTakes interface tight_limits other_way left k }
     ensures one_holds { (interface : Interface)
-        → Holds (server_telling interface) None limits.message one_way said }
+        → ServerInputsHold interface limits one_way said }
     ensures other_holds { (interface : Interface)
-        → Holds (server_telling interface) None tight_limits.message other_way said }
+        → ServerInputsHold interface tight_limits other_way said }
     ensures seven { (interface : Interface) (left k : _)
         → ServerTakes interface limits one_way left k
         → entry_of (finite.get k.table 7) ≡ Some (LocateAnswered (Some door.target) true) }

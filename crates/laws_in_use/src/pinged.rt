@@ -23,7 +23,7 @@ ghost use Rattle.giop_session.specs.Worlds.Coding.{coding};
 ghost use Rattle.giop_session.specs.Runs.Events.{Comes};
 ghost use Rattle.giop_session.specs.Worlds.LaneAtEnds.{seen};
 ghost use Rattle.giop_session.specs.Worlds.OnTheWay.{IsFramed, Names};
-ghost use Rattle.giop_session.specs.Worlds.OwnLane.{alone, OwnRuns, PlansCall, PlansReply, replied_run, sends_cut};
+ghost use Rattle.giop_session.specs.Worlds.OwnLane.{alone, OwnRuns, PlansCall, PlansReply, replied_run, sends_cut, SendsCall, SendsReply};
 ghost use Rattle.giop_session.specs.Items.ServerCarries.{server_telling};
 ghost use Rattle.laws_in_use.specs.Exchange.{ping};
 ghost use Rattle.laws_in_use.specs.Framed.{refusing};
@@ -41,8 +41,7 @@ use giop_session::laws::{
 /// ends it, and at a server both are the item `ping`.
 pub fn a_request_in_two_pieces()
     ensures planned { (interface : Interface) → HasPing interface
-        → PlansCall interface None (asked.Request (ping V12))
-        (sends_cut (at_client.Call (asked.Request (ping V12))) ping_cut) }
+        → SendsCall interface None (asked.Request (ping V12)) ping_cut }
     ensures read { (interface : Interface) → HasPing interface
         → (coding interface).read_call (ping_begins ∷ ping_ends ∷ [])
         ≡ call.Request (ping V12) }
@@ -66,8 +65,8 @@ pub fn a_request_in_two_pieces()
 
 /// So a server plans an exception of the broker in two pieces, as the answer to it.
 pub fn a_reply_in_two_pieces()
-    ensures planned { (interface : Interface) → PlansReply interface (ping V12) refusing
-        (sends_cut (at_server.Answer refusing) refusal_cut) }
+    ensures planned { (interface : Interface)
+        → SendsReply interface (ping V12) refusing refusal_cut }
     ensures read { (interface : Interface)
         → (coding interface).read_reply (asked.Request (ping V12))
         (refusal_begins ∷ refusal_ends ∷ []) ≡ told.Reply refusing }

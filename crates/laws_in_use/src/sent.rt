@@ -18,7 +18,7 @@ ghost use Rattle.giop_session.specs.Runs.Events.{Comes};
 ghost use Rattle.giop_session.specs.Worlds.Coding.{coding};
 ghost use Rattle.giop_session.specs.Worlds.LaneAtEnds.{seen};
 ghost use Rattle.giop_session.specs.Worlds.OnTheWay.{IsFramed, Names};
-ghost use Rattle.giop_session.specs.Worlds.OwnLane.{PlansCall, PlansLocated};
+ghost use Rattle.giop_session.specs.Worlds.OwnLane.{PlansCall, PlansLocated, SendsLocated};
 ghost use Rattle.giop_session.specs.Acts.ServerAnswers.{IsLocateAnswer};
 ghost use Rattle.laws_in_use.specs.Asking.{unknown_big};
 ghost use Rattle.laws_in_use.specs.Locating.{cancel_little, door, door_begins, door_ends, key, key_big};
@@ -35,6 +35,7 @@ use giop_session::laws::{
 pub fn a_locate_request_of_1_0()
     ensures asks { (interface : Interface) → PlansCall interface None (asked.Locate key) asks_key }
     ensures answers { PlansLocated key false answers_key }
+    ensures sends { SendsLocated key false unknown_big }
     ensures answers_it { IsLocateAnswer 9 false Big (Some V10) answers_key }
     ensures cancels { IsCancel 9 Little (Some V10) cancels_key }
     ensures read { (interface : Interface)

@@ -69,6 +69,16 @@ run_of_part l run from count i part begins within short fits =
     let here : take part run ≡ take part (drop (from + i) l) = ap (take part) begins ∙ take-take part (length run) (drop (from + i) l) short in
     rw (length-take-le part run short, rest) (here ∙ sym (take-take part (count - i) (drop (from + i) l) fits))
 
+-- a value behind padding, in the run that begins with the padding
+pub field_of_run : (l run : List ℕ) (from skipped n : ℕ) → run ≡ take (length run) (drop from l) → skipped + n ≤ length run
+    → take n (drop skipped run) ≡ take n (drop (from + skipped) l)
+field_of_run l run from skipped n begins within =
+    let split : length run ≡ skipped + (length run - skipped) = omega arith in
+    let rest : drop skipped run ≡ take (length run - skipped) (drop (from + skipped) l)
+    = ap (drop skipped) begins ∙ (ap (λ (m : ℕ). drop skipped (take m (drop from l))) split
+    ∙ rw (drop-take skipped (length run - skipped) (drop from l), drop-drop skipped from l) refl) in
+    ap (take n) rest ∙ take-take n (length run - skipped) (drop (from + skipped) l) (omega arith)
+
 -- all octets of a list are the list
 pub take_all : (octets : List ℕ) → take (length octets) octets ≡ octets
 take_all octets = take-length octets

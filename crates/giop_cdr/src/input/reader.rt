@@ -135,7 +135,7 @@ impl<'a, S: Octets> CdrIn<'a, S> {
         requires there { skipped + N ≤ length self.old.rest }
         ensures { field_at N self.old ≡ Ok (result, self.new) }
     {
-        let octets = field_of(self.source, self.index + skipped);
+        let octets = field_of(self.source, self.index, skipped);
         self.at += skipped + N;
         self.index += skipped + N;
         octets

@@ -6,21 +6,23 @@ ghost use Rattle.giop_cdr.specs.Reading.Values.{has_null, is_text};
 use crate::octets::Octets;
 use std::alloc::{AllocError, Global};
 
-/// The N octets from an index on.
+/// The N octets that stand `skipped` octets behind an index. The run is asked for at the index, so
+/// that a slice as long as its reader is tested once, for the padding and the value.
 #[inline(always)]
-pub fn field_of<S: Octets, const N: usize>(source: &S, from: usize) -> [u8; N]
+pub fn field_of<S: Octets, const N: usize>(source: &S, from: usize, skipped: usize) -> [u8; N]
     requires some { 0 < N }
-    requires within { from + N ≤ length (S.octets source.now) }
-    requires small { from + N < 2 ^ 64 }
-    ensures { result ≡ take N (drop from (S.octets source.now)) }
+    requires within { from + (skipped + N) ≤ length (S.octets source.now) }
+    requires small { from + (skipped + N) < 2 ^ 64 }
+    ensures { result ≡ take N (drop (from + skipped) (S.octets source.now)) }
 {
     let run = source.run(from);
-    if N <= run.len() {
+    if skipped + N <= run.len() {
+        let behind = &run[skipped..];
         let mut octets = [0; N];
-        octets.copy_from_slice(&run[..N]);
+        octets.copy_from_slice(&behind[..N]);
         return octets;
     }
-    scattered_field(source, from)
+    scattered_field(source, from + skipped)
 }
 
 // The N octets from an index on, one by one: for `field_of`, where they don't lie together.

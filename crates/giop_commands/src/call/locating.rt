@@ -27,8 +27,8 @@ use giop_types::Interface;
 use std::alloc::{AllocError, Global};
 use std::io::{Read, Write};
 
-// The request id of the LocateRequest.
-const ID: u32 = 1;
+/// The request id of the LocateRequest.
+pub const ID: u32 = 1;
 
 /// Asks where the object of `calling` is, by a new client's end: a LocateRequest under the id 1. What
 /// is put out is written, and answers are read until that one is there or the input ends. Then its
@@ -53,7 +53,7 @@ pub fn locate_over<R: Read, W: Write, O: Write>(
     let mut end = ClientEnd::new(alloc, calling.interface, calling.limits);
     let refused = locate_all(alloc, &mut end, calling)?;
     match talk(alloc, &mut end, refused, reader, writer) {
-        Ok(()) => tell(alloc, lines, calling.interface, &end, refused, out),
+        Ok(()) => tell_located(alloc, lines, calling.interface, &end, refused, out),
         Err(Failure::Memory) => Err(Failure::Memory),
         Err(failure) => {
             write_session(alloc, lines, calling.interface, &end, None, out)?;
@@ -63,8 +63,8 @@ pub fn locate_over<R: Read, W: Write, O: Write>(
     }
 }
 
-// Puts out the LocateRequest. Returns its fault where it is refused.
-fn locate_all(
+/// Puts out the LocateRequest. Returns its fault where it is refused.
+pub fn locate_all(
     alloc: Global,
     end: &mut ClientEnd<'_>,
     calling: Calling<'_>,
@@ -114,8 +114,9 @@ fn request_of(alloc: Global, key: &[u8], version: Version) -> Result<LocateReque
     })
 }
 
-// Writes the line of the LocateRequest and the fault of the session, and returns what it came to.
-fn tell<O: Write>(
+/// Writes the line of the LocateRequest and the fault of the session in a form, and returns what it
+/// came to, as `locate_over` does.
+pub fn tell_located<O: Write>(
     alloc: Global,
     lines: LineForm,
     interface: &Interface,

@@ -71,11 +71,11 @@ small interface m call = by_kind m.kind
     by_kind message.Reply = comes_small interface kind.Request m (awaited kind.Request m.version call.slot)
     by_kind message.LocateReply = comes_small interface kind.Locate m (awaited kind.Locate m.version call.slot)
     by_kind message.Fragment = continues_small interface m (continued m.order (gathered_call call.slot) call.pieces)
-    by_kind message.Request = (λ is. is, omega arith)
-    by_kind message.LocateRequest = (λ is. is, omega arith)
-    by_kind message.CancelRequest = (λ is. is, omega arith)
-    by_kind message.CloseConnection = (λ is. is, omega arith)
-    by_kind message.MessageError = (λ is. is, omega arith)
+    by_kind message.Request = tt
+    by_kind message.LocateRequest = tt
+    by_kind message.CancelRequest = tt
+    by_kind message.CloseConnection = tt
+    by_kind message.MessageError = tt
 
 -- a call's own fault is no limit, nor is what ends a session
 pub own : (id : ℕ) (fault : CallFault) → IsUnlimited (in_call id fault)

@@ -61,10 +61,10 @@ small interface m call = by_kind m.kind
     by_kind message.LocateRequest = comes_small interface kind.Locate m
     by_kind message.Fragment = continues_small interface m (continued m.order (gathered_kind call.slot) call.pieces)
     by_kind message.CancelRequest = (λ is. is, omega arith)
-    by_kind message.Reply = (λ is. is, omega arith)
-    by_kind message.LocateReply = (λ is. is, omega arith)
-    by_kind message.CloseConnection = (λ is. is, omega arith)
-    by_kind message.MessageError = (λ is. is, omega arith)
+    by_kind message.Reply = tt
+    by_kind message.LocateReply = tt
+    by_kind message.CloseConnection = tt
+    by_kind message.MessageError = tt
 
 -- a call's own fault is no limit, nor is what ends a session
 pub own : (id : ℕ) (fault : CallFault) → IsUnlimited (in_call id fault)

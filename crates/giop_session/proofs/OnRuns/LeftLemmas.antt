@@ -31,7 +31,7 @@ use Rattle.giop_session.specs.Hearing.Heard.{behind_id, kept}
 use Rattle.giop_session.specs.Runs.LeftToSend.{IsLeft, ServerPlans, left_in}
 use Rattle.giop_session.specs.Calls.Sending.{entry_of, sending_step, settled_by, unsent_after, unsent_of}
 use Rattle.giop_session.proofs.OnRuns.FollowedLemmas.{behind, event_left}
-use Rattle.giop_session.specs.Hearing.ServerHears.{befalls_by, comes, continued, continues, gathered_kind, server_befalls, server_breaks}
+use Rattle.giop_session.specs.Hearing.ServerHears.{befalls_by, breaks_by, comes, continued, continues, gathered_kind, server_befalls, server_breaks}
 
 -- so many are left where a step is accepted
 abbrev Leaves : ServerStep → Plan → List Msg → Type 0
@@ -303,22 +303,18 @@ continues_kept interface m (Some pieces) = by_more m.more
     by_more true = record { e = event.More true; brings = _; of = tt; same = refl }
     by_more false = record { e = _; brings = _; of = tt; same = refl }
 
-pub befalls_kept : (interface : Interface) (m : Msg) (call : Call ServerEntry) (of_kind : Kind)
-    → IsKept (befalls_by interface m call of_kind)
-befalls_kept interface m call message.Request = came interface kind.Request m
-befalls_kept interface m call message.LocateRequest = came interface kind.Locate m
-befalls_kept interface m call message.Fragment =
+befalls_kept : (interface : Interface) (m : Msg) (call : Call ServerEntry) (of_kind : Kind)
+    → breaks_by of_kind ≡ None → IsKept (befalls_by interface m call of_kind)
+befalls_kept interface m call message.Request sound = came interface kind.Request m
+befalls_kept interface m call message.LocateRequest sound = came interface kind.Locate m
+befalls_kept interface m call message.Fragment sound =
     continues_kept interface m (continued m.order (gathered_kind call.slot) call.pieces)
-befalls_kept interface m call message.CancelRequest =
+befalls_kept interface m call message.CancelRequest sound =
     record { e = event.Cancel; brings = Nothing; of = tt; same = refl }
-befalls_kept interface m call message.Reply =
-    record { e = event.Cancel; brings = Nothing; of = tt; same = refl }
-befalls_kept interface m call message.LocateReply =
-    record { e = event.Cancel; brings = Nothing; of = tt; same = refl }
-befalls_kept interface m call message.CloseConnection =
-    record { e = event.Cancel; brings = Nothing; of = tt; same = refl }
-befalls_kept interface m call message.MessageError =
-    record { e = event.Cancel; brings = Nothing; of = tt; same = refl }
+befalls_kept interface m call message.Reply sound = absurd cc
+befalls_kept interface m call message.LocateReply sound = absurd cc
+befalls_kept interface m call message.CloseConnection sound = absurd cc
+befalls_kept interface m call message.MessageError sound = absurd cc
 
 -- ---- as `followed` wants them
 
@@ -334,7 +330,7 @@ pub heard_of : (interface : Interface) (m : Msg) (call : Call ServerEntry)
     → IsLeft left_of (behind server_step is_closed is_gathering left_of call
     (server_befalls interface m call)).slot
 heard_of interface m call sound is = by_act (server_befalls interface m call)
-    (befalls_kept interface m call m.kind)
+    (befalls_kept interface m call m.kind sound)
   where
     by_act : (act : Act ServerEvent) → IsKept act
         → IsOk (turn server_step is_closed is_gathering call act)

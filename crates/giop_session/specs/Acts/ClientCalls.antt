@@ -1,5 +1,5 @@
 -- What a client's own program calls, asks for and cancels (CORBA 3.3 Part 2, 9.4.2, 9.4.4, 9.4.5).
-use Rattle.std.specs.Prelude.{◌≡◌, ℕ, ◌<◌, ◌^◌, ◌&&◌, Bool, not, if◌then◌else◌, List, length, Option, Some, None, is_none}
+use Rattle.std.specs.Prelude.{◌≡◌, ℕ, ◌<◌, ◌^◌, ◌&&◌, Bool, not, if◌then◌else◌, List, length, Option, Some, None, is_none, Result}
 use Rattle.std.specs.Option.{option_or}
 use Rattle.giop_cdr.specs.Ending.{ended}
 use Rattle.giop_cdr.specs.declared.order.Order.{Order}
@@ -18,11 +18,17 @@ use Rattle.giop_calls.specs.declared.client.event.ClientEvent.{ClientEvent}
 use Rattle.giop_calls.specs.declared.client.event.ClientEvent.TheVariants as event
 use Rattle.giop_calls.specs.declared.fault.CallFault.{CallFault}
 use Rattle.giop_calls.specs.declared.fault.CallFault.TheVariants.{IdInUse, NotOpen, UnknownOperation}
-use Rattle.giop_calls.specs.ClientTable.{is_free}
+use Rattle.giop_calls.specs.declared.client.rule.ClientRule.{ClientRule}
+use Rattle.giop_calls.specs.ClientTable.{client_step, is_closed, is_free, is_gathering}
 use Rattle.giop_session.specs.declared.acts.form.Form.{Form}
 use Rattle.giop_session.specs.declared.limits.Limits.{Limits}
+use Rattle.giop_session.specs.declared.calls.plan.Plan.TheVariants.{Next}
 use Rattle.giop_session.specs.declared.calls.plan.Planned.{Planned}
+use Rattle.giop_session.specs.declared.session_fault.SessionFault.{SessionFault}
 use Rattle.giop_session.specs.Acts.Form.{is_sendable}
+use Rattle.giop_session.specs.Acts.Putting.{Puts}
+use Rattle.giop_session.specs.Calls.CallTable.{Held, entry_at, rules_of}
+use Rattle.giop_session.specs.Hearing.Heard.{in_call}
 use Rattle.giop_session.specs.Calls.Refused.{unfit_unless}
 use Rattle.giop_session.specs.Acts.Sent.{IsValueSent, cancel_request, sends_one}
 
@@ -107,3 +113,39 @@ abbrev pub IsCancel : ℕ → Order → Option Version → Planned ClientEvent �
 IsCancel id order None planned = ⊥
 IsCancel id order (Some version) planned =
     (id < 2 ^ 32) × (planned ≡ sends_one event.Cancel (cancel_request version order id))
+
+-- a client's own program does something to the call of an id: it is refused for this, or else an
+-- event that is planned so befalls the call
+abbrev pub ClientPuts : ℕ → Option CallFault → (Planned ClientEvent → Type 0)
+    → Held ClientRule ClientEntry → List ℕ → Result (Unit {0}) SessionFault
+    → Held ClientRule ClientEntry → List ℕ → Type 0
+ClientPuts = Puts (rules_of client_step is_closed is_gathering) in_call
+
+-- it calls
+abbrev pub PutsCall : Interface → Limits → Request → Form
+    → Held ClientRule ClientEntry → List ℕ → Result (Unit {0}) SessionFault
+    → Held ClientRule ClientEntry → List ℕ → Type 0
+PutsCall interface limits q form h =
+    ClientPuts q.head.id (call_fault interface limits (entry_at h q.head.id) q form)
+    (IsCall interface q form) h
+
+-- it asks where an object is
+abbrev pub PutsLocate : Limits → AnyLocateRequest → Form
+    → Held ClientRule ClientEntry → List ℕ → Result (Unit {0}) SessionFault
+    → Held ClientRule ClientEntry → List ℕ → Type 0
+PutsLocate limits q form h =
+    ClientPuts q.id (locate_fault limits (entry_at h q.id) q form) (IsLocate q form) h
+
+-- it cancels a call
+abbrev pub PutsCancel : ℕ → Order
+    → Held ClientRule ClientEntry → List ℕ → Result (Unit {0}) SessionFault
+    → Held ClientRule ClientEntry → List ℕ → Type 0
+PutsCancel id order h =
+    ClientPuts id (cancel_fault (open_version (entry_at h id)))
+    (IsCancel id order (open_version (entry_at h id))) h
+
+-- it sends the next piece of a call
+abbrev pub PutsNext : ℕ
+    → Held ClientRule ClientEntry → List ℕ → Result (Unit {0}) SessionFault
+    → Held ClientRule ClientEntry → List ℕ → Type 0
+PutsNext id = ClientPuts id None (λ planned. planned ≡ record { event = event.Send; plan = Next })

@@ -1,5 +1,5 @@
 -- What a server's own program answers (CORBA 3.3 Part 2, 9.4.3, 9.4.6).
-use Rattle.std.specs.Prelude.{◌≡◌, ℕ, ◌<◌, ◌^◌, ◌&&◌, Bool, true, false, if◌then◌else◌, List, [], length, Option, Some, None}
+use Rattle.std.specs.Prelude.{◌≡◌, ℕ, ◌<◌, ◌^◌, ◌&&◌, Bool, true, false, if◌then◌else◌, List, [], length, Option, Some, None, Result}
 use Rattle.giop_cdr.specs.declared.order.Order.{Order}
 use Rattle.giop_types.specs.declared.json.interface.Interface.{Interface}
 use Rattle.giop_msg.specs.declared.kind.Kind.TheVariants as message
@@ -19,12 +19,18 @@ use Rattle.giop_calls.specs.declared.server.entry.ServerEntry.{ServerEntry}
 use Rattle.giop_calls.specs.declared.server.entry.ServerEntry.TheVariants.{Asked, LocateAsked, Undecoded}
 use Rattle.giop_calls.specs.declared.server.event.ServerEvent.{ServerEvent}
 use Rattle.giop_calls.specs.declared.server.event.ServerEvent.TheVariants as event
+use Rattle.giop_calls.specs.declared.server.rule.ServerRule.{ServerRule}
 use Rattle.giop_calls.specs.declared.server.undecoded.UndecodedCall.{UndecodedCall}
+use Rattle.giop_calls.specs.ServerTable.{is_closed, is_gathering, server_step}
 use Rattle.giop_session.specs.declared.acts.form.Form.{Form}
 use Rattle.giop_session.specs.declared.limits.Limits.{Limits}
+use Rattle.giop_session.specs.declared.calls.plan.Plan.TheVariants.{Next}
 use Rattle.giop_session.specs.declared.calls.plan.Planned.{Planned}
+use Rattle.giop_session.specs.declared.session_fault.SessionFault.{SessionFault}
 use Rattle.giop_session.specs.Acts.Form.{is_sendable}
-use Rattle.giop_session.specs.Hearing.Heard.{kept}
+use Rattle.giop_session.specs.Acts.Putting.{Puts}
+use Rattle.giop_session.specs.Calls.CallTable.{Held, entry_at, rules_of}
+use Rattle.giop_session.specs.Hearing.Heard.{in_call, kept}
 use Rattle.giop_session.specs.Calls.Refused.{unfit_unless}
 use Rattle.giop_session.specs.Acts.Sent.{IsValueSent, sends_one}
 
@@ -129,3 +135,32 @@ abbrev pub IsLocateAnswer : ℕ → Bool → Order → Option Version → Planne
 IsLocateAnswer id here order None planned = planned ≡ kept (event.AnswerLocate here)
 IsLocateAnswer id here order (Some version) planned =
     (id < 2 ^ 32) × (planned ≡ sends_one (event.AnswerLocate here) (located version order id here))
+
+-- a server's own program does something to the call of an id: it is refused for this, or else an
+-- event that is planned so befalls the call
+abbrev pub ServerPuts : ℕ → Option CallFault → (Planned ServerEvent → Type 0)
+    → Held ServerRule ServerEntry → List ℕ → Result (Unit {0}) SessionFault
+    → Held ServerRule ServerEntry → List ℕ → Type 0
+ServerPuts = Puts (rules_of server_step is_closed is_gathering) in_call
+
+-- a Request is answered
+abbrev pub PutsAnswer : Interface → Limits → Reply → Form
+    → Held ServerRule ServerEntry → List ℕ → Result (Unit {0}) SessionFault
+    → Held ServerRule ServerEntry → List ℕ → Type 0
+PutsAnswer interface limits answer form h =
+    ServerPuts answer.id
+    (answer_fault interface limits (question_of (entry_at h answer.id)) answer form)
+    (IsAnswer interface (question_of (entry_at h answer.id)) answer form) h
+
+-- a LocateRequest is answered
+abbrev pub PutsLocateAnswer : ℕ → Bool → Order
+    → Held ServerRule ServerEntry → List ℕ → Result (Unit {0}) SessionFault
+    → Held ServerRule ServerEntry → List ℕ → Type 0
+PutsLocateAnswer id here order h =
+    ServerPuts id None (IsLocateAnswer id here order (locate_of here (entry_at h id))) h
+
+-- the next piece of a Reply is sent
+abbrev pub PutsNext : ℕ
+    → Held ServerRule ServerEntry → List ℕ → Result (Unit {0}) SessionFault
+    → Held ServerRule ServerEntry → List ℕ → Type 0
+PutsNext id = ServerPuts id None (λ planned. planned ≡ record { event = event.Send; plan = Next })

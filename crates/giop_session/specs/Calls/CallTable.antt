@@ -6,7 +6,7 @@ use Rattle.std.specs.FinMap as finite
 use Rattle.std.specs.Coded.{Coded, code_by, coded×, coded_ℕ}
 use Rattle.giop_cdr.specs.declared.order.Order.{Order}
 use Rattle.giop_ids.specs.ById.{ById, by_id_code, put}
-use Rattle.giop_ids.specs.Runs.{Done, Rules}
+use Rattle.giop_ids.specs.Runs.{Does, Done, Rules}
 use Rattle.giop_mux.specs.Calls.{Calls, is_one_too_many}
 use Rattle.giop_mux.specs.declared.step.Step.{Step}
 use Rattle.giop_mux.specs.declared.refusal.Refusal.{Refusal}
@@ -19,7 +19,7 @@ use Rattle.giop_session.specs.declared.calls.plan.Planned.{Planned}
 use Rattle.giop_session.specs.declared.calls.sending.Sends.{Sends}
 use Rattle.giop_session.specs.declared.calls.table_fault.TableFault.{TableFault}
 use Rattle.giop_session.specs.declared.calls.table_fault.TableFault.TheVariants.{Rule, TooManyCalls, GatherFull, StillOpen, NoMemory}
-use Rattle.giop_session.specs.Calls.Sending.{sending_step}
+use Rattle.giop_session.specs.Calls.Sending.{entry_of, sending_step}
 
 -- the calls of an end: their rule, how many entries and how many gathered octets there may be, what
 -- is stored for the ids, and what is gathered
@@ -38,6 +38,10 @@ pub record Call (E : Type 0) : Type 0 where
 -- what is stored for an id
 abbrev pub at : {R E : Type 0} → Held R E → ℕ → Call E
 at h id = record { slot = finite.get h.table id; pieces = finite.get h.gathered id }
+
+-- the entry that is stored for an id, if one is
+abbrev pub entry_at : {R E : Type 0} → Held R E → ℕ → Option E
+entry_at h id = entry_of (finite.get h.table id)
 
 -- the calls where something else is stored for an id
 abbrev pub put_call : {R E : Type 0} → Held R E → ℕ → Call E → Held R E
@@ -170,6 +174,36 @@ module _ {E V A F : Type 0} (next : Option E → V → Step E A F) (closed gathe
     limit = λ h act. limit h act.id act.what;
     memory = NoMemory;
   }
+
+-- what a trait says of the rule of calls, as `R.Side`: what a step does, which calls are over, and
+-- which gather pieces
+abbrev pub RuleOf : (R E V A F : Type 0) → Type 0
+RuleOf R E V A F = record {
+  next : R → Option E → V → Step E A F;
+  closed : R → E → Bool;
+  gathering : E → Bool;
+}
+
+module _ {R E V A F : Type 0} (of : RuleOf R E V A F) where
+  -- what befalls one call by it
+  abbrev pub turn_by : R → Call E → Act V → Turned E A F
+  turn_by rule = turn (of.next rule) (of.closed rule) of.gathering
+
+  -- how calls are kept by id
+  abbrev pub rules_by : R → Rules (Held R E) (Call E) (Act V) (Reply E A) (TableFault F)
+  rules_by rule = rules_of (of.next rule) (of.closed rule) of.gathering
+
+  -- an act is done to the call of an id: it is answered so, and these calls are left
+  abbrev pub DoesTo : Held R E → ℕ → Act V → Result (Reply E A) (TableFault F) → Held R E → Type 0
+  DoesTo h id act reply k = Does (rules_by h.rule) h (record { id = id; what = act }) reply k
+
+  -- what an event does to the slot of an id
+  abbrev pub stepped : Held R E → ℕ → Planned V → Step (Slot E) (Sends A) F
+  stepped h id planned = sending_step (of.next h.rule) (finite.get h.table id) planned
+
+  -- whether pieces are gathered for an id
+  abbrev pub gathers_at : Held R E → ℕ → Bool
+  gathers_at h id = gathers of.gathering (finite.get h.table id)
 
 -- an event changes nothing at its call, and is answered so
 abbrev pub Stays : {E A F : Type 0} → Step (Slot E) (Sends A) F → Option (Slot E) → Sends A → Type 0

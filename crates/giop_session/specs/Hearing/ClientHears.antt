@@ -1,5 +1,6 @@
 -- What a message of the server does at a client (CORBA 3.3 Part 2, 9.4).
 use Rattle.std.specs.Prelude.{ℕ, true, false, if◌then◌else◌, List, ◌++◌, Option, Some, None, Result, Ok, Err}
+use Rattle.std.specs.FinMap as finite
 use Rattle.giop_cdr.specs.declared.order.Order.{Order}
 use Rattle.giop_cdr.specs.declared.fault.CdrFault.{CdrFault}
 use Rattle.giop_types.specs.declared.json.interface.Interface.{Interface}
@@ -30,7 +31,7 @@ use Rattle.giop_session.specs.declared.session_fault.SessionFault.{SessionFault}
 use Rattle.giop_session.specs.declared.session_fault.SessionFault.TheVariants.{WrongDirection, PeerError, Closed}
 use Rattle.giop_session.specs.declared.calls.slot.Slot.{Slot}
 use Rattle.giop_session.specs.Calls.CallTable.{Act, Call, Hears, First, More, Nothing, Held, rules_of}
-use Rattle.giop_session.specs.Hearing.Heard.{Heard, IsHeard, SideOf, behind_id, in_call, kept}
+use Rattle.giop_session.specs.Hearing.Heard.{Effect, Heard, IsHeard, SideOf, befalls_of, behind_id, breaks_of, in_call, kept}
 
 -- a Reply, by what reading it gives
 abbrev pub heard_reply_by : Result Reply CdrFault → HeardReply
@@ -59,6 +60,19 @@ abbrev pub awaited : CallKind → Version → Option (Slot ClientEntry) → Opti
 awaited kind version None = None
 awaited kind version (Some slot) = awaited_in kind version slot.entry
 
+-- what joined octets come to, at the message that brings the last of them
+abbrev pub reply_in : Interface → Asked → Msg → List ℕ → HeardReply
+reply_in interface call m joined = heard_reply interface call m.version m.order joined
+
+-- the first piece of a reply comes, for a call that waits for it: its octets are gathered
+abbrev pub begins : CallKind → Msg → Act ClientEvent
+begins kind m = Hears (kept (event.First kind m.version)) (First m.order m.payload)
+
+-- all of one comes, for such a call
+abbrev pub arrives : Interface → CallKind → Msg → Asked → Act ClientEvent
+arrives interface kind m call =
+    Hears (kept (event.Whole kind m.version (reply_in interface call m m.payload))) Nothing
+
 -- a Reply or a LocateReply comes, its first piece or all of it, for this call; it is neither
 -- gathered nor decoded where none waits for it
 abbrev pub comes : Interface → CallKind → Msg → Option Asked → Act ClientEvent
@@ -66,9 +80,7 @@ comes interface kind m None =
     if m.more then Hears (kept (event.First kind m.version)) Nothing
     else Hears (kept (event.Whole kind m.version heard.Unread)) Nothing
 comes interface kind m (Some call) =
-    if m.more then Hears (kept (event.First kind m.version)) (First m.order m.payload)
-    else Hears (kept (event.Whole kind m.version
-    (heard_reply interface call m.version m.order m.payload))) Nothing
+    if m.more then begins kind m else arrives interface kind m call
 
 -- the call of an entry, where its reply is gathered
 abbrev pub gathered_in : ClientEntry → Option Asked
@@ -86,6 +98,21 @@ continued order (Some call) (Some pieces) =
     if same_order order pieces.order then Some (call, pieces.octets) else None
 continued order call pieces = None
 
+-- those under an id
+abbrev pub continued_at : {R : Type 0} → Held R ClientEntry → ℕ → Order → Option (Asked × List ℕ)
+continued_at h id order =
+    continued order (gathered_call (finite.get h.table id)) (finite.get h.gathered id)
+
+-- a piece comes that continues what is gathered, and more are to come
+abbrev pub goes_on : Msg → Act ClientEvent
+goes_on m = Hears (kept (event.More true)) (More (behind_id m))
+
+-- the last one comes, behind these octets
+abbrev pub completes : Interface → Asked → Msg → List ℕ → Act ClientEvent
+completes interface call m octets =
+    Hears (kept (event.Last true (reply_in interface call m (octets ++ behind_id m))))
+    (More (behind_id m))
+
 -- a Fragment comes, whose first four octets are its request id (9.4.9); it continues these pieces,
 -- or none
 abbrev pub continues : Interface → Msg → Option (Asked × List ℕ) → Act ClientEvent
@@ -93,37 +120,34 @@ continues interface m None =
     if m.more then Hears (kept (event.More false)) Nothing
     else Hears (kept (event.Last false heard.Unread)) Nothing
 continues interface m (Some pieces) =
-    if m.more
-    then Hears (kept (event.More true)) (More (behind_id m))
-    else Hears (kept (event.Last true (heard_reply interface pieces.0 m.version m.order
-    (pieces.1 ++ behind_id m)))) (More (behind_id m))
+    if m.more then goes_on m else completes interface pieces.0 m pieces.1
 
--- why a message ends the session, if it does: a server doesn't send it, or it says so
+-- what a message of each type is to a client: a server sends it, and so it befalls its call; or it
+-- ends the session, since a server doesn't send it, or says so
+abbrev pub effect_by : Kind → Effect ClientEntry ClientEvent
+effect_by message.Reply = Ok (λ interface m call.
+    comes interface kind.Request m (awaited kind.Request m.version call.slot))
+effect_by message.LocateReply = Ok (λ interface m call.
+    comes interface kind.Locate m (awaited kind.Locate m.version call.slot))
+effect_by message.Fragment = Ok (λ interface m call.
+    continues interface m (continued m.order (gathered_call call.slot) call.pieces))
+effect_by message.Request = Err WrongDirection
+effect_by message.LocateRequest = Err WrongDirection
+effect_by message.CancelRequest = Err WrongDirection
+effect_by message.CloseConnection = Err Closed
+effect_by message.MessageError = Err PeerError
+
+-- why one ends the session, if it does
 abbrev pub breaks_by : Kind → Option SessionFault
-breaks_by message.Reply = None
-breaks_by message.LocateReply = None
-breaks_by message.Fragment = None
-breaks_by message.Request = Some WrongDirection
-breaks_by message.LocateRequest = Some WrongDirection
-breaks_by message.CancelRequest = Some WrongDirection
-breaks_by message.CloseConnection = Some Closed
-breaks_by message.MessageError = Some PeerError
+breaks_by kind = breaks_of (effect_by kind)
 
--- by its message type
 abbrev pub client_breaks : Msg → Option SessionFault
 client_breaks m = breaks_by m.kind
 
--- what befalls the call that a message names
+-- what befalls the call that one names
 abbrev pub befalls_by : Interface → Msg → Call ClientEntry → Kind → Act ClientEvent
-befalls_by interface m call message.Reply =
-    comes interface kind.Request m (awaited kind.Request m.version call.slot)
-befalls_by interface m call message.LocateReply =
-    comes interface kind.Locate m (awaited kind.Locate m.version call.slot)
-befalls_by interface m call message.Fragment =
-    continues interface m (continued m.order (gathered_call call.slot) call.pieces)
-befalls_by interface m call _ = Hears (kept event.Cancel) Nothing
+befalls_by interface m call kind = befalls_of (effect_by kind) interface m call
 
--- by the message and that call
 abbrev pub client_befalls : Interface → Msg → Call ClientEntry → Act ClientEvent
 client_befalls interface m call = befalls_by interface m call m.kind
 

@@ -7,6 +7,10 @@ use Rattle.giop_msg.specs.Stream.{BeginsWithFault, TakesMessage, TakesMessages, 
 use Rattle.giop_session.specs.declared.session_fault.SessionFault.{SessionFault}
 use Rattle.giop_session.specs.declared.session_fault.SessionFault.TheVariants.{NoMemory, Wire}
 
+-- the octets that are unread once these are fed
+abbrev pub with_octets : Unread → List ℕ → Unread
+with_octets unread octets = record unread { octets = unread.octets ++ octets }
+
 -- S is the calls of an end, and `Hears m h result k` says that it hears a message so
 module _ {S : Type 0} (Hears : Msg → S → Result (Unit {0}) SessionFault → S → Type 0) where
   -- each of these messages is heard and none refused
@@ -33,9 +37,12 @@ module _ {S : Type 0} (Hears : Msg → S → Result (Unit {0}) SessionFault → 
     pub heard : Through h messages k
     pub stops : Stops rest k result left
 
--- the octets that are unread once these are fed
-abbrev pub with_octets : Unread → List ℕ → Unread
-with_octets unread octets = record unread { octets = unread.octets ++ octets }
+  -- octets are fed, of which none are refused, and then more: that is to feed both at once
+  abbrev pub FedInTurn : (unread left last : Unread) → (h mid k : S) → List ℕ
+      → Result (Unit {0}) SessionFault → Type 0
+  FedInTurn unread left last h mid k more result = Fed unread h (Ok tt) left mid
+      → Fed (with_octets left more) mid result last k → Fed
+      (with_octets unread more) h result last k
 
 -- the fault that stands at an end that answers this
 abbrev pub standing : Result (Unit {0}) SessionFault → Option SessionFault

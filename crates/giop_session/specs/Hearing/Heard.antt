@@ -1,6 +1,7 @@
 -- What a message does at an end: it ends the session, or something befalls the call of one id.
 use Rattle.std.specs.Prelude.{◌≡◌, ◌⊎◌, ℕ, Bool, List, drop, Option, Some, None, Result, Ok, Err}
 use Rattle.giop_cdr.specs.declared.fault.CdrFault.{CdrFault}
+use Rattle.giop_types.specs.declared.json.interface.Interface.{Interface}
 use Rattle.giop_ids.specs.Runs.{Does, Rules}
 use Rattle.giop_msg.specs.declared.msg.Msg.{Msg}
 use Rattle.giop_msg.specs.RequestId.{request_id_of}
@@ -12,13 +13,28 @@ use Rattle.giop_session.specs.declared.calls.sending.Sends.{Sends}
 use Rattle.giop_session.specs.declared.session_fault.SessionFault.{SessionFault}
 use Rattle.giop_session.specs.declared.session_fault.SessionFault.TheVariants.{NoId, NoMemory, WrongDirection, Call as InCall}
 use Rattle.giop_session.specs.declared.calls.table_fault.TableFault.{TableFault}
-use Rattle.giop_session.specs.Calls.CallTable.{Act, Call, Held, Reply, Turned, at, event_reply, rules_of, turn}
+use Rattle.giop_session.specs.Calls.CallTable.{Act, Call, Held, IsTaken, Reply, Turned, at, event_reply, rules_of, turn}
 use Rattle.giop_session.specs.Calls.SessionFaults.{of_table}
 
 -- what a message does
 pub data Heard (V : Type 0) : Type 0 where
   Breaks : SessionFault → Heard V
   Befalls : ℕ → Act V → Heard V
+
+-- what a message of a kind is to a side: it ends the session for this, or so befalls the call that
+-- it names
+abbrev pub Effect : (E V : Type 0) → Type 0
+Effect E V = Result (Interface → Msg → Call E → Act V) SessionFault
+
+-- why it ends the session, if it does
+abbrev pub breaks_of : {E V : Type 0} → Effect E V → Option SessionFault
+breaks_of (Ok act) = None
+breaks_of (Err why) = Some why
+
+-- what befalls the call; one that ends the session befalls none, and of it this is never asked
+abbrev pub befalls_of : {E V : Type 0} → Effect E V → Interface → Msg → Call E → Act V
+befalls_of (Ok act) = act
+befalls_of (Err why) = λ interface m call. IsTaken
 
 -- what an end returns for what befell a call
 abbrev pub told_of : {A F : Type 0} → (F → SessionFault)
@@ -103,6 +119,17 @@ pub record SideOf (R E V A F : Type 0) : Type 0 where
   pub breaks : Msg → Option SessionFault
   pub befalls : Msg → Call E → Act V
 
+-- what the trait of a side says of it, as `R.Hearing`
+abbrev pub HearingOf : (R E V A F : Type 0) → Type 0
+HearingOf R E V A F = record {
+  next : R → Option E → V → Step E A F;
+  closed : R → E → Bool;
+  gathering : E → Bool;
+  breaks : Msg → Option SessionFault;
+  befalls : Interface → Msg → Call E → Act V;
+  in_call : ℕ → F → SessionFault;
+}
+
 -- from its parts
 abbrev pub side_by : {R E V A F : Type 0} → (R → Option E → V → Step E A F) → (R → E → Bool)
     → (E → Bool) → (ℕ → F → SessionFault) → (Msg → Option SessionFault) → (Msg → Call E → Act V)
@@ -116,6 +143,11 @@ side_by next closed gathering of_rule breaks befalls = record {
   befalls = befalls;
 }
 
+-- the side that a trait says, over the values of an interface
+abbrev pub side_of : {R E V A F : Type 0} → HearingOf R E V A F → Interface → SideOf R E V A F
+side_of of interface =
+    side_by of.next of.closed of.gathering of.in_call of.breaks (of.befalls interface)
+
 module _ {R E V A F : Type 0} (side : SideOf R E V A F) where
   -- what befalls one of its calls
   abbrev pub turn_at : R → Call E → Act V → Turned E A F
@@ -128,3 +160,8 @@ module _ {R E V A F : Type 0} (side : SideOf R E V A F) where
   -- its end hears a message
   abbrev pub hears : Msg → Held R E → Result (Unit {0}) SessionFault → Held R E → Type 0
   hears = hears_by side.next side.closed side.gathering side.of_rule side.breaks side.befalls
+
+-- the end of a side that a trait says hears a message
+abbrev pub hears_in : {R E V A F : Type 0} → HearingOf R E V A F → Interface → Msg → Held R E
+    → Result (Unit {0}) SessionFault → Held R E → Type 0
+hears_in of interface = hears (side_of of interface)

@@ -1,5 +1,6 @@
 -- What a message of the client does at a server (CORBA 3.3 Part 2, 9.4).
-use Rattle.std.specs.Prelude.{ℕ, true, false, if◌then◌else◌, List, ◌++◌, Option, Some, None, Result}
+use Rattle.std.specs.Prelude.{ℕ, true, false, if◌then◌else◌, List, ◌++◌, Option, Some, None, Result, Ok, Err}
+use Rattle.std.specs.FinMap as finite
 use Rattle.giop_cdr.specs.declared.order.Order.{Order}
 use Rattle.giop_types.specs.declared.json.interface.Interface.{Interface}
 use Rattle.giop_msg.specs.declared.kind.Kind.{Kind}
@@ -12,6 +13,7 @@ use Rattle.giop_calls.specs.declared.kind.CallKind.TheVariants as kind
 use Rattle.giop_calls.specs.declared.server.entry.ServerEntry.{ServerEntry}
 use Rattle.giop_calls.specs.declared.server.entry.ServerEntry.TheVariants.{Gathering}
 use Rattle.giop_calls.specs.declared.server.event.ServerEvent.{ServerEvent}
+use Rattle.giop_calls.specs.declared.server.heard.HeardCall.{HeardCall}
 use Rattle.giop_calls.specs.declared.server.rule.ServerRule.{ServerRule}
 use Rattle.giop_calls.specs.declared.server.event.ServerEvent.TheVariants as event
 use Rattle.giop_session.specs.declared.session_fault.SessionFault.{SessionFault}
@@ -20,14 +22,24 @@ use Rattle.giop_session.specs.declared.calls.slot.Slot.{Slot}
 use Rattle.giop_calls.specs.ServerTable.{server_step, is_closed, is_gathering}
 use Rattle.giop_session.specs.Calls.CallTable.{Act, Call, Hears, First, More, Nothing, Held, rules_of}
 use Rattle.giop_session.specs.Hearing.Decoding.{heard_call}
-use Rattle.giop_session.specs.Hearing.Heard.{Heard, IsHeard, SideOf, behind_id, in_call, kept}
+use Rattle.giop_session.specs.Hearing.Heard.{Effect, Heard, IsHeard, SideOf, befalls_of, behind_id, breaks_of, in_call, kept}
 
--- a Request or a LocateRequest comes: its first piece, whose octets are gathered, or all of it
+-- what joined octets come to, at the message that brings the last of them
+abbrev pub call_in : Interface → CallKind → Msg → List ℕ → HeardCall
+call_in interface kind m joined = heard_call interface kind m.version m.order joined
+
+-- the first piece of a Request or a LocateRequest comes: its octets are gathered
+abbrev pub begins : CallKind → Msg → Act ServerEvent
+begins kind m = Hears (kept (event.First kind)) (First m.order m.payload)
+
+-- all of one comes
+abbrev pub arrives : Interface → CallKind → Msg → Act ServerEvent
+arrives interface kind m =
+    Hears (kept (event.Whole (call_in interface kind m m.payload))) Nothing
+
+-- a Request or a LocateRequest comes, its first piece or all of it
 abbrev pub comes : Interface → CallKind → Msg → Act ServerEvent
-comes interface kind m =
-    if m.more
-    then Hears (kept (event.First kind)) (First m.order m.payload)
-    else Hears (kept (event.Whole (heard_call interface kind m.version m.order m.payload))) Nothing
+comes interface kind m = if m.more then begins kind m else arrives interface kind m
 
 -- which message is gathered, if one is
 abbrev pub kind_in : ServerEntry → Option CallKind
@@ -45,41 +57,53 @@ continued order (Some kind) (Some pieces) =
     if same_order order pieces.order then Some (kind, pieces.octets) else None
 continued order kind pieces = None
 
+-- those under an id
+abbrev pub continued_at : {R : Type 0} → Held R ServerEntry → ℕ → Order
+    → Option (CallKind × List ℕ)
+continued_at h id order =
+    continued order (gathered_kind (finite.get h.table id)) (finite.get h.gathered id)
+
+-- a piece comes that continues what is gathered, and more are to come
+abbrev pub goes_on : Msg → Act ServerEvent
+goes_on m = Hears (kept (event.More true)) (More (behind_id m))
+
+-- the last one comes, behind these octets
+abbrev pub completes : Interface → CallKind → Msg → List ℕ → Act ServerEvent
+completes interface kind m octets =
+    Hears (kept (event.Last true (call_in interface kind m (octets ++ behind_id m))))
+    (More (behind_id m))
+
 -- a Fragment comes, whose first four octets are its request id (9.4.9); it continues these pieces,
 -- or none
 abbrev pub continues : Interface → Msg → Option (CallKind × List ℕ) → Act ServerEvent
 continues interface m None = Hears (kept (event.More false)) Nothing
 continues interface m (Some pieces) =
-    if m.more
-    then Hears (kept (event.More true)) (More (behind_id m))
-    else Hears (kept (event.Last true (heard_call interface pieces.0 m.version m.order
-    (pieces.1 ++ behind_id m)))) (More (behind_id m))
+    if m.more then goes_on m else completes interface pieces.0 m pieces.1
 
--- why a message ends the session, if it does: a client doesn't send it, or it says so
+-- what a message of each type is to a server: a client sends it, and so it befalls its call; or it
+-- ends the session, since a client doesn't send it, or says so
+abbrev pub effect_by : Kind → Effect ServerEntry ServerEvent
+effect_by message.Request = Ok (λ interface m call. comes interface kind.Request m)
+effect_by message.LocateRequest = Ok (λ interface m call. comes interface kind.Locate m)
+effect_by message.CancelRequest = Ok (λ interface m call. Hears (kept event.Cancel) Nothing)
+effect_by message.Fragment = Ok (λ interface m call.
+    continues interface m (continued m.order (gathered_kind call.slot) call.pieces))
+effect_by message.Reply = Err WrongDirection
+effect_by message.LocateReply = Err WrongDirection
+effect_by message.CloseConnection = Err Closed
+effect_by message.MessageError = Err PeerError
+
+-- why one ends the session, if it does
 abbrev pub breaks_by : Kind → Option SessionFault
-breaks_by message.Request = None
-breaks_by message.LocateRequest = None
-breaks_by message.CancelRequest = None
-breaks_by message.Fragment = None
-breaks_by message.Reply = Some WrongDirection
-breaks_by message.LocateReply = Some WrongDirection
-breaks_by message.CloseConnection = Some Closed
-breaks_by message.MessageError = Some PeerError
+breaks_by kind = breaks_of (effect_by kind)
 
--- by its message type
 abbrev pub server_breaks : Msg → Option SessionFault
 server_breaks m = breaks_by m.kind
 
--- what befalls the call that a message names
+-- what befalls the call that one names
 abbrev pub befalls_by : Interface → Msg → Call ServerEntry → Kind → Act ServerEvent
-befalls_by interface m call message.Request = comes interface kind.Request m
-befalls_by interface m call message.LocateRequest = comes interface kind.Locate m
-befalls_by interface m call message.CancelRequest = Hears (kept event.Cancel) Nothing
-befalls_by interface m call message.Fragment =
-    continues interface m (continued m.order (gathered_kind call.slot) call.pieces)
-befalls_by interface m call _ = Hears (kept event.Cancel) Nothing
+befalls_by interface m call kind = befalls_of (effect_by kind) interface m call
 
--- by the message and that call
 abbrev pub server_befalls : Interface → Msg → Call ServerEntry → Act ServerEvent
 server_befalls interface m call = befalls_by interface m call m.kind
 

@@ -1,10 +1,11 @@
 -- What a server says of one call at a client, and what is stored there then (CORBA 3.3 Part 2,
 -- 9.4.3 and 9.4.6).
-use Rattle.std.specs.Prelude.{◌≡◌, ℕ, false, if◌then◌else◌, List, Option, Some, None}
+use Rattle.std.specs.Prelude.{◌≡◌, ℕ, false, if◌then◌else◌, List, map, Option, Some, None}
 use Rattle.giop_cdr.specs.declared.order.Order.{Order}
 use Rattle.giop_types.specs.declared.json.interface.Interface.{Interface}
 use Rattle.giop_msg.specs.declared.kind.Kind.{Kind}
 use Rattle.giop_msg.specs.declared.kind.Kind.TheVariants as message
+use Rattle.giop_msg.specs.declared.msg.Msg.{Msg}
 use Rattle.giop_msg.specs.declared.version.Version.{Version}
 use Rattle.giop_msg.specs.Messages.LocateReply.{locate_reply}
 use Rattle.giop_msg.specs.Messages.Reply.{reply}
@@ -22,7 +23,8 @@ use Rattle.giop_calls.specs.declared.client.late.Late.TheVariants as late
 use Rattle.giop_calls.specs.declared.kind.CallKind.{CallKind}
 use Rattle.giop_calls.specs.declared.kind.CallKind.TheVariants as kind
 use Rattle.giop_calls.specs.ClientTable.{client_step, settles}
-use Rattle.giop_session.specs.Items.Carries.{Item, Telling, Got, Bad, Begun, Rest, Cancel, Did}
+use Rattle.giop_session.specs.Runs.Events.{Comes}
+use Rattle.giop_session.specs.Items.Carries.{CarriesItem, Item, Telling, Got, Bad, Begun, Rest, Cancel, Did}
 use Rattle.giop_session.specs.Hearing.ClientHears.{heard_reply}
 
 -- what is said of one call at a client
@@ -107,3 +109,8 @@ client_telling interface = record {
     latest = latest_behind known.latest item;
   };
 }
+
+-- messages carry an answer to a client that knows this of the call
+abbrev pub CarryReply : Interface → Known → HeardReply → List Msg → Type 0
+CarryReply interface known reply messages =
+    CarriesItem (client_telling interface) known (Got reply) (map Comes messages)

@@ -1,10 +1,11 @@
 -- What a client says of one call at a server, and what is stored there then (CORBA 3.3 Part 2,
 -- 9.4.2, 9.4.4 and 9.4.5).
-use Rattle.std.specs.Prelude.{◌≡◌, ℕ, Bool, List, Option, Some, None}
+use Rattle.std.specs.Prelude.{◌≡◌, ℕ, Bool, List, map, Option, Some, None}
 use Rattle.giop_cdr.specs.declared.order.Order.{Order}
 use Rattle.giop_types.specs.declared.json.interface.Interface.{Interface}
 use Rattle.giop_msg.specs.declared.kind.Kind.{Kind}
 use Rattle.giop_msg.specs.declared.kind.Kind.TheVariants as message
+use Rattle.giop_msg.specs.declared.msg.Msg.{Msg}
 use Rattle.giop_msg.specs.declared.version.Version.{Version}
 use Rattle.giop_msg.specs.Joined.{AreWhole}
 use Rattle.giop_msg.specs.Locate.{locate_request}
@@ -19,7 +20,8 @@ use Rattle.giop_calls.specs.declared.server.event.ServerEvent.TheVariants as eve
 use Rattle.giop_calls.specs.declared.server.heard.HeardCall.{HeardCall}
 use Rattle.giop_calls.specs.declared.server.heard.HeardCall.TheVariants as heard
 use Rattle.giop_calls.specs.ServerTable.{arrived, server_step}
-use Rattle.giop_session.specs.Items.Carries.{Item, Telling, Got, Bad, Begun, Rest, Cancel, Did}
+use Rattle.giop_session.specs.Runs.Events.{Comes}
+use Rattle.giop_session.specs.Items.Carries.{CarriesItem, Item, Telling, Got, Bad, Begun, Rest, Cancel, Did}
 use Rattle.giop_session.specs.Hearing.Decoding.{heard_call}
 
 -- what is said of one call at a server
@@ -61,3 +63,8 @@ server_telling interface = record {
   WasCancelled = λ entry. (answered : Bool) × (left : ℕ) × (entry ≡ Some (Cancelled answered left));
   behind = server_behind interface;
 }
+
+-- messages carry a call to a server, whatever stands there
+abbrev pub CarryCall : Interface → Option ServerEntry → HeardCall → List Msg → Type 0
+CarryCall interface entry call messages =
+    CarriesItem (server_telling interface) entry (Got call) (map Comes messages)

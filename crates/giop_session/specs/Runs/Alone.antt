@@ -1,10 +1,12 @@
 -- What a call comes to by its own messages alone: those that name its id, in their order.
-use Rattle.std.specs.Prelude.{ℕ, ◌==◌, Bool, false, if◌then◌else◌, List, [], ◌∷◌, Option, Some, None, Result, Ok, Err}
+use Rattle.std.specs.Prelude.{◌≡◌, ℕ, ◌==◌, Bool, false, if◌then◌else◌, List, [], ◌∷◌, Option, Some, None, Result, Ok, Err}
 use Rattle.giop_cdr.specs.declared.fault.CdrFault.{CdrFault}
 use Rattle.giop_msg.specs.declared.msg.Msg.{Msg}
 use Rattle.giop_msg.specs.RequestId.{request_id_of}
-use Rattle.giop_ids.specs.Runs.{left}
-use Rattle.giop_session.specs.Calls.CallTable.{Act, Call, Turned}
+use Rattle.giop_ids.specs.declared.addressed.Addressed.{Addressed}
+use Rattle.giop_ids.specs.Runs.{MeetsNoLimit, left}
+use Rattle.giop_session.specs.declared.calls.table_fault.TableFault.{TableFault}
+use Rattle.giop_session.specs.Calls.CallTable.{Act, Call, Held, Reply, Turned, at, is_of_call}
 
 -- whether a message names an id
 abbrev pub names_by : Option (Result ℕ CdrFault) → ℕ → Bool
@@ -20,6 +22,19 @@ abbrev pub own_messages : ℕ → List Msg → List Msg
 own_messages id [] = []
 own_messages id (m ∷ messages) =
     if names m id then m ∷ own_messages id messages else own_messages id messages
+
+-- two lists of messages have the same of each id, in the same order
+abbrev pub SameOfEach : List Msg → List Msg → Type 0
+SameOfEach one other = (id : ℕ) → own_messages id one ≡ own_messages id other
+
+-- each call is the same at both
+abbrev pub SameCalls : {R E : Type 0} → Held R E → Held R E → Type 0
+SameCalls h k = (id : ℕ) → at h id ≡ at k id
+
+-- no act of a run meets a limit, or want of memory
+abbrev pub MeetNone : {E V A F : Type 0} → List (Addressed (Act V))
+    → List (Result (Reply E A) (TableFault F)) → Type 0
+MeetNone acts results = (id : ℕ) → MeetsNoLimit is_of_call id acts results
 
 module _ {E V A F : Type 0} (turn : Call E → Act V → Turned E A F)
     (befalls : Msg → Call E → Act V) where

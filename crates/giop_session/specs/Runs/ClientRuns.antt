@@ -18,7 +18,8 @@ use Rattle.giop_session.specs.Calls.CallTable.{Held}
 use Rattle.giop_session.specs.Acts.ClientCalls.{IsCall, IsCancel, IsLocate, call_fault, cancel_fault, locate_fault, open_version}
 use Rattle.giop_session.specs.Items.ClientCarries.{ClientItem, client_telling, unknown}
 use Rattle.giop_session.specs.Hearing.ClientHears.{client_side}
-use Rattle.giop_session.specs.Runs.Driven.{Closes, Deed, EndRuns, EndState, Feeds, IsGiven, PutsOut, TakesAs, TakesOut, new_end}
+use Rattle.giop_session.specs.Runs.Driven.{Closes, Deed, EndRuns, EndState, Feeds, IsGiven, PutsOut, TakesAs, TakesOut, item_answers, new_end, own_answers}
+use Rattle.giop_session.specs.Items.Carries.{behind_all}
 use Rattle.giop_session.specs.Runs.Inputs.{Holds, Input, nothing_unread}
 use Rattle.giop_session.specs.Calls.Sending.{entry_of}
 
@@ -88,3 +89,20 @@ pub record ClientHolds (interface : Interface) (limits : Limits) (inputs : List 
   pub acts : List (Input ClientEvent)
   pub taken : ClientTakesAs interface limits inputs answers acts left k
   pub holds : Holds (client_telling interface) unknown limits.message acts calls
+
+-- whatever items they hold, the entry of each id is what is said of it
+abbrev pub ClientHasEntries : Interface → Limits → List ClientInput → List (Answered ClientEntry)
+    → Unread
+    → Held ClientRule ClientEntry → Type 0
+ClientHasEntries interface limits inputs answers left k = (items : ℕ → List ClientItem)
+    → ClientHolds interface limits inputs answers left k items → (id : ℕ)
+    → client_entry k id ≡ (behind_all (client_telling interface) unknown (items id)).entry
+
+-- and so are its answers
+abbrev pub ClientHasAnswers : Interface → Limits → List ClientInput → List (Answered ClientEntry)
+    → Unread
+    → Held ClientRule ClientEntry → Type 0
+ClientHasAnswers interface limits inputs answers left k = (items : ℕ → List ClientItem)
+    → ClientHolds interface limits inputs answers left k items → (id : ℕ)
+    → own_answers client_named id inputs answers
+    ≡ item_answers (client_telling interface) (λ known. known.entry) unknown (items id)

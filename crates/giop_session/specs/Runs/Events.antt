@@ -8,8 +8,8 @@ use Rattle.giop_mux.specs.Runs.{Happening}
 use Rattle.giop_mux.specs.Runs.{Hears as IsTold, IsTaken as TakesOut}
 use Rattle.giop_session.specs.declared.calls.plan.Planned.{Planned}
 use Rattle.giop_session.specs.Runs.Alone.{names}
-use Rattle.giop_session.specs.Calls.CallTable.{Act, Call, Held, Hears, IsTaken, Nothing, Reply, Turned}
-use Rattle.giop_session.specs.Hearing.Heard.{SideOf, rules_at, hears}
+use Rattle.giop_session.specs.Calls.CallTable.{Act, Call, Held, Hears, IsTaken, Nothing, Reply, Turned, at}
+use Rattle.giop_session.specs.Hearing.Heard.{SideOf, hears, rules_at, turn_at}
 
 -- an act of an end on one of its calls: an event of its own, with the messages that are sent for
 -- it, or that it takes the entry out
@@ -76,3 +76,9 @@ module _ {E V A F : Type 0} (turn : Call E → Act V → Turned E A F)
   history call [] = []
   history call (e ∷ events) =
       happening (what e call) ∷ history (left call (turn call (what e call))) events
+
+module _ {R E V A F : Type 0} (side : SideOf R E V A F) where
+  -- each call follows its own events, one after another, and none of them is refused
+  abbrev pub EachFollows : Held R E → List (Event V) → Held R E → Type 0
+  EachFollows h events k = (id : ℕ)
+      → Follows (turn_at side h.rule) side.befalls (at h id) (own_events id events) (at k id)

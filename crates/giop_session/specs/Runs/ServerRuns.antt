@@ -14,7 +14,8 @@ use Rattle.giop_session.specs.declared.laws.inputs.ServerInput.TheVariants as in
 use Rattle.giop_session.specs.declared.limits.Limits.{Limits}
 use Rattle.giop_session.specs.declared.calls.plan.Plan.TheVariants.{Next}
 use Rattle.giop_session.specs.Calls.CallTable.{Held}
-use Rattle.giop_session.specs.Runs.Driven.{Closes, Deed, EndRuns, EndState, Feeds, IsGiven, PutsOut, TakesAs, TakesOut, new_end}
+use Rattle.giop_session.specs.Runs.Driven.{Closes, Deed, EndRuns, EndState, Feeds, IsGiven, PutsOut, TakesAs, TakesOut, item_answers, new_end, own_answers}
+use Rattle.giop_session.specs.Items.Carries.{behind_all}
 use Rattle.giop_session.specs.Runs.Inputs.{Holds, Input, nothing_unread}
 use Rattle.giop_session.specs.Calls.Begun.{no_calls}
 use Rattle.giop_session.specs.Calls.Sending.{entry_of}
@@ -83,3 +84,20 @@ pub record ServerHolds (interface : Interface) (limits : Limits) (inputs : List 
   pub acts : List (Input ServerEvent)
   pub taken : ServerTakesAs interface limits inputs answers acts left k
   pub holds : Holds (server_telling interface) None limits.message acts calls
+
+-- whatever items they hold, the entry of each id is what is said of it
+abbrev pub ServerHasEntries : Interface → Limits → List ServerInput → List (Answered ServerEntry)
+    → Unread
+    → Held ServerRule ServerEntry → Type 0
+ServerHasEntries interface limits inputs answers left k = (items : ℕ → List ServerItem)
+    → ServerHolds interface limits inputs answers left k items → (id : ℕ)
+    → server_entry k id ≡ behind_all (server_telling interface) None (items id)
+
+-- and so are its answers
+abbrev pub ServerHasAnswers : Interface → Limits → List ServerInput → List (Answered ServerEntry)
+    → Unread
+    → Held ServerRule ServerEntry → Type 0
+ServerHasAnswers interface limits inputs answers left k = (items : ℕ → List ServerItem)
+    → ServerHolds interface limits inputs answers left k items → (id : ℕ)
+    → own_answers server_named id inputs answers
+    ≡ item_answers (server_telling interface) (λ entry. entry) None (items id)

@@ -58,6 +58,17 @@ abbrev pub PlansLocated : AnyLocateRequest → Bool → Planned ServerEvent → 
 PlansLocated q here planned = (id : ℕ) × (order : Order)
     × IsLocateAnswer id here order (Some q.version) planned
 
+-- these in the pieces of a cut
+abbrev pub SendsCall : Interface → Option ClientEntry → Call → Cut → Type 0
+SendsCall interface entry call cut =
+    PlansCall interface entry call (sends_cut (at_client.Call call) cut)
+
+abbrev pub SendsReply : Interface → Request → Reply → Cut → Type 0
+SendsReply interface q r cut = PlansReply interface q r (sends_cut (at_server.Answer r) cut)
+
+abbrev pub SendsLocated : AnyLocateRequest → Bool → Piece → Type 0
+SendsLocated q here piece = PlansLocated q here (sends_one (at_server.AnswerLocate here) piece)
+
 -- an act of a lane is what the session's own ends plan there
 abbrev pub IsOwn : Interface → Lane → Act → Type 0
 IsOwn interface lane (lanes.Calls call cut) =
@@ -75,6 +86,11 @@ OwnRuns interface lane [] end = lane ≡ end
 OwnRuns interface lane (act ∷ acts) end = IsOwn interface lane act
     × ((after : Lane) × (step (coding interface) lane act ≡ Some after)
     × OwnRuns interface after acts end)
+
+-- such a schedule brings a new lane's client to this entry
+abbrev pub BringsClient : Interface → List Act → ClientEntry → Type 0
+BringsClient interface acts entry = (lane : Lane) × OwnRuns interface lanes.new acts lane
+    × (lane.client.entry ≡ Some entry)
 
 -- a message in one piece
 abbrev pub alone : Piece → Cut

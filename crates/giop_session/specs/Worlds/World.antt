@@ -20,7 +20,8 @@ use Rattle.giop_session.specs.declared.limits.Limits.{Limits}
 use Rattle.giop_session.specs.declared.session_fault.SessionFault.{SessionFault}
 use Rattle.giop_session.specs.Calls.CallTable.{Held}
 use Rattle.giop_session.specs.Runs.ClientRuns.{ClientIsGiven, ClientRuns}
-use Rattle.giop_session.specs.Runs.Driven.{EndState, InTurn, end_state, new_end}
+use Rattle.giop_session.specs.Ends.View.{state_of}
+use Rattle.giop_session.specs.Runs.Driven.{EndState, InTurn, new_end}
 use Rattle.giop_session.specs.Acts.PutOut.{ArePutOut, is_of_client, is_of_server}
 use Rattle.giop_session.specs.Runs.ServerRuns.{ServerIsGiven, ServerRuns}
 
@@ -32,8 +33,8 @@ pub record WorldState : Type 0 where
 -- the ends of a world that runs, as such a state
 abbrev pub ends_of : World → WorldState
 ends_of w = record {
-  client = end_state w.client.framer w.client.calls w.client.outgoing w.client.fault;
-  server = end_state w.server.framer w.server.calls w.server.outgoing w.server.fault;
+  client = state_of w.client;
+  server = state_of w.server;
 }
 
 -- its ends go by this interface, and by these limits
@@ -43,6 +44,14 @@ pub record GoesBy (interface : Interface) (client_limits server_limits : Limits)
   pub server : w.server.interface.now ≡ interface
   pub client_within : w.client.limits ≡ client_limits
   pub server_within : w.server.limits ≡ server_limits
+
+-- a world whose ends go by any interface and limits is left so by one that does this there
+abbrev pub IsStep : (Interface → (client_limits server_limits : Limits) → (w v : WorldState)
+    → Type 0) → (w v : World) → Type 0
+IsStep Does w v = (interface : Interface) (client_limits server_limits : Limits)
+    → GoesBy interface client_limits server_limits w
+    → GoesBy interface client_limits server_limits v
+    × Does interface client_limits server_limits (ends_of w) (ends_of v)
 
 -- two new ends, within these limits
 abbrev pub new_world : Limits → Limits → WorldState

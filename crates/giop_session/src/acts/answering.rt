@@ -1,7 +1,7 @@
 //! What a server's own program answers: a Reply or a LocateReply (CORBA 3.3 Part 2, 9.4.3 and
 //! 9.4.6), as acts on the parts of an end that hasn't failed. Its meaning is `IsAnswer` and
 //! `IsLocateAnswer` in specs/Acts/ServerAnswers.antt: change both.
-ghost use Rattle.std.specs.Prelude.{◌≡◌, ◌<◌, ◌^◌, [], ◌∷◌, true, Some, None, Err, length, is_ok, IfErr, IfOk, IfSome, IsOk, option_copied};
+ghost use Rattle.std.specs.Prelude.{◌≡◌, ◌<◌, ◌^◌, [], ◌∷◌, true, None, Err, length, is_ok, IfErr, IfOk, IfSome, IsOk, option_copied};
 ghost use Rattle.std.specs.FinMap as finite;
 ghost use Rattle.std.specs.Option.{option_map};
 ghost use Rattle.giop_msg.specs.declared.kind.Kind.TheVariants as message;
@@ -9,16 +9,13 @@ ghost use Rattle.giop_msg.specs.Cut.{IsCut};
 ghost use Rattle.giop_msg.specs.Messages.Reply as replies;
 ghost use Rattle.giop_calls.specs.ServerTable as table;
 ghost use Rattle.giop_calls.specs.declared.server.event.ServerEvent.TheVariants as event;
-ghost use Rattle.giop_session.specs.declared.calls.plan.Plan.TheVariants.{Next, Put};
+ghost use Rattle.giop_session.specs.declared.calls.plan.Plan.TheVariants.{Put};
 ghost use Rattle.giop_session.specs.declared.session_fault.SessionFault.TheVariants.{NoMemory};
-ghost use Rattle.giop_session.specs.Calls.CallTable.{rules_of};
+ghost use Rattle.giop_session.specs.Calls.CallTable.{entry_at};
 ghost use Rattle.giop_session.specs.Acts.Form.{IsForm};
-ghost use Rattle.giop_session.specs.Hearing.Heard.{in_call};
-ghost use Rattle.giop_session.specs.Acts.Putting.{Puts};
 ghost use Rattle.giop_session.specs.Calls.Refused.{IsRefusal, unfit_unless};
-ghost use Rattle.giop_session.specs.Calls.Sending.{entry_of};
 ghost use Rattle.giop_session.specs.Acts.Sent.{InRange};
-ghost use Rattle.giop_session.specs.Acts.ServerAnswers.{answer_fault, IsAnswer, IsFitAnswer, IsLocateAnswer, is_locate, is_reply_sendable, locate_in, locate_of, located, question_in, question_of, reply_octets, unasked_fault};
+ghost use Rattle.giop_session.specs.Acts.ServerAnswers.{is_locate, is_reply_sendable, IsFitAnswer, locate_in, locate_of, located, PutsAnswer, PutsLocateAnswer, PutsNext, question_in, question_of, reply_octets, ServerPuts, unasked_fault};
 
 use crate::acts::form::Form;
 use crate::acts::local::{done, sent};
@@ -49,15 +46,10 @@ pub fn answer(
     form: Form,
 ) -> Result<(), SessionFault>
     requires { IsForm form }
-    ensures last { result ≡ Err NoMemory → IsFitAnswer interface.now
-        (question_of (entry_of (finite.get calls.old.table reply.id))) reply }
-    ensures answered { Puts (rules_of table.server_step table.is_closed table.is_gathering) in_call
-        reply.id
-        (answer_fault interface.now limits
-        (question_of (entry_of (finite.get calls.old.table reply.id))) reply form)
-        (IsAnswer interface.now
-        (question_of (entry_of (finite.get calls.old.table reply.id))) reply form)
-        calls.old outgoing.old result calls.new outgoing.new }
+    ensures last { result ≡ Err NoMemory
+        → IsFitAnswer interface.now (question_of (entry_at calls.old reply.id)) reply }
+    ensures answered { PutsAnswer interface.now limits reply form calls.old outgoing.old result
+        calls.new outgoing.new }
 {
     let id = reply.id;
     let Some(question) = question(calls, id) else {
@@ -80,13 +72,9 @@ pub fn answer_locate(
     order: Order,
 ) -> Result<(), SessionFault>
     ensures last { result ≡ Err NoMemory
-        → IsOk (table.server_step (entry_of (finite.get calls.old.table id))
-        (event.AnswerLocate here)).outcome }
-    ensures answered { Puts (rules_of table.server_step table.is_closed table.is_gathering) in_call
-        id None
-        (IsLocateAnswer id here order
-        (locate_of here (entry_of (finite.get calls.old.table id))))
-        calls.old outgoing.old result calls.new outgoing.new }
+        → IsOk (table.server_step (entry_at calls.old id) (event.AnswerLocate here)).outcome }
+    ensures answered { PutsLocateAnswer id here order calls.old outgoing.old result calls.new
+        outgoing.new }
 {
     let event = ServerEvent::AnswerLocate { here };
     let planned = match locate_version(calls, id, here) {
@@ -113,11 +101,8 @@ pub fn send(
     id: u32,
 ) -> Result<(), SessionFault>
     ensures last { result ≡ Err NoMemory
-        → IsOk (table.server_step (entry_of (finite.get calls.old.table id)) event.Send).outcome }
-    ensures sent { Puts (rules_of table.server_step table.is_closed table.is_gathering) in_call id
-        None
-        (λ planned. planned ≡ record { event = event.Send; plan = Next })
-        calls.old outgoing.old result calls.new outgoing.new }
+        → IsOk (table.server_step (entry_at calls.old id) event.Send).outcome }
+    ensures sent { PutsNext id calls.old outgoing.old result calls.new outgoing.new }
 {
     if !has_piece(calls, id) {
         let fault = CallFault::NothingToSend;
@@ -141,12 +126,10 @@ fn put_reply(
     messages: Messages,
 ) -> Result<(), SessionFault>
     requires { length messages < 2 ^ 32 }
-    ensures { Puts (rules_of table.server_step table.is_closed table.is_gathering) in_call
-        reply.id None
-        (λ planned. planned ≡ record {
-          event = event.Answer reply (length messages);
-          plan = Put messages;
-        })
+    ensures { ServerPuts reply.id None (λ planned. planned ≡ record {
+      event = event.Answer reply (length messages);
+      plan = Put messages;
+    })
         calls.old outgoing.old result calls.new outgoing.new }
 {
     let id = reply.id;
@@ -164,8 +147,7 @@ fn put_reply(
 // Whether a piece of the Reply of an id is left to be sent.
 #[tactic(auto, using(crate::proofs::OnActs::LastLemmas::server_has_piece))]
 fn has_piece(calls: &CallTable<ServerRule>, id: u32) -> bool
-    ensures { result ≡ is_ok (table.server_step
-        (entry_of (finite.get calls.now.table id)) event.Send).outcome }
+    ensures { result ≡ is_ok (table.server_step (entry_at calls.now id) event.Send).outcome }
 {
     match calls.slot(id) {
         Some(slot) => slot.entry.left() != 0,
@@ -175,7 +157,7 @@ fn has_piece(calls: &CallTable<ServerRule>, id: u32) -> bool
 
 // Why no Reply is sent under an id, where no Request waits for one.
 fn unasked_fault(calls: &CallTable<ServerRule>, id: u32) -> CallFault
-    ensures { result ≡ unasked_fault (entry_of (finite.get calls.now.table id)) }
+    ensures { result ≡ unasked_fault (entry_at calls.now id) }
 {
     match calls.slot(id) {
         Some(slot) if is_locate(&slot.entry) => CallFault::WrongKind,
@@ -187,8 +169,7 @@ fn unasked_fault(calls: &CallTable<ServerRule>, id: u32) -> CallFault
 // be decoded.
 #[inline(always)]
 fn question(calls: &CallTable<ServerRule>, id: u32) -> Option<Option<&Request>>
-    ensures { option_map option_copied result
-        ≡ question_of (entry_of (finite.get calls.now.table id)) }
+    ensures { option_map option_copied result ≡ question_of (entry_at calls.now id) }
 {
     question_in(&calls.slot(id)?.entry)
 }
@@ -226,7 +207,7 @@ fn pieces_of_reply(
 
 // The version of the LocateRequest of an id that waits for this LocateReply, where one does.
 fn locate_version(calls: &CallTable<ServerRule>, id: u32, here: bool) -> Option<Version>
-    ensures { result ≡ locate_of here (entry_of (finite.get calls.now.table id)) }
+    ensures { result ≡ locate_of here (entry_at calls.now id) }
 {
     locate_in(here, &calls.slot(id)?.entry)
 }

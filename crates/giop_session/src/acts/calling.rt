@@ -1,9 +1,8 @@
 //! What a client's own program does: it calls, asks where an object is, and cancels (CORBA 3.3 Part
 //! 2, 9.4.2, 9.4.5 and 9.4.4), as acts on the parts of an end that hasn't failed. Its meaning is
 //! `IsCall`, `IsLocate` and `IsCancel` in specs/Acts/ClientCalls.antt: change both.
-ghost use Rattle.std.specs.Prelude.{◌≡◌, ◌⊎◌, ◌<◌, ◌^◌, [], ◌∷◌, Some, None, Err, length, is_ok, IfErr, IfOk, IfSome, IsOk, option_copied};
+ghost use Rattle.std.specs.Prelude.{◌≡◌, ◌<◌, ◌^◌, [], ◌∷◌, None, Err, length, is_ok, IfErr, IfOk, IfSome, IsOk};
 ghost use Rattle.std.specs.FinMap as finite;
-ghost use Rattle.std.specs.Option.{option_map};
 ghost use Rattle.giop_cdr.specs.Ending.{ended};
 ghost use Rattle.giop_msg.specs.declared.kind.Kind.TheVariants as message;
 ghost use Rattle.giop_msg.specs.Cut.{IsCut};
@@ -11,15 +10,11 @@ ghost use Rattle.giop_msg.specs.Locate.{locate_request};
 ghost use Rattle.giop_msg.specs.Messages.Request as requests;
 ghost use Rattle.giop_calls.specs.ClientTable as table;
 ghost use Rattle.giop_calls.specs.declared.client.event.ClientEvent.TheVariants as event;
-ghost use Rattle.giop_session.specs.declared.calls.plan.Plan.TheVariants.{Next};
 ghost use Rattle.giop_session.specs.declared.session_fault.SessionFault.TheVariants.{NoMemory};
-ghost use Rattle.giop_session.specs.Acts.ClientCalls.{begin_fault, call_fault, cancel_fault, IsCall, IsCancel, IsLocate, locate_fault, locate_octets, open_in, open_version, request_octets, version_of};
-ghost use Rattle.giop_session.specs.Calls.CallTable.{rules_of};
+ghost use Rattle.giop_session.specs.Acts.ClientCalls.{begin_fault, call_fault, cancel_fault, locate_fault, locate_octets, open_in, open_version, PutsCall, PutsCancel, PutsLocate, PutsNext, request_octets, version_of};
+ghost use Rattle.giop_session.specs.Calls.CallTable.{entry_at};
 ghost use Rattle.giop_session.specs.Acts.Form.{IsForm};
-ghost use Rattle.giop_session.specs.Hearing.Heard.{in_call};
-ghost use Rattle.giop_session.specs.Acts.Putting.{Puts};
 ghost use Rattle.giop_session.specs.Calls.Refused.{IsRefusal};
-ghost use Rattle.giop_session.specs.Calls.Sending.{entry_of};
 ghost use Rattle.giop_session.specs.Acts.Sent.{cancel_request, InRange};
 
 use crate::acts::form::Form;
@@ -50,12 +45,8 @@ pub fn call(
     form: Form,
 ) -> Result<(), SessionFault>
     requires { IsForm form }
-    ensures { Puts (rules_of table.client_step table.is_closed table.is_gathering) in_call
-        request.head.id
-        (call_fault interface.now limits
-        (entry_of (finite.get calls.old.table request.head.id)) request form)
-        (IsCall interface.now request form)
-        calls.old outgoing.old result calls.new outgoing.new }
+    ensures { PutsCall interface.now limits request form calls.old outgoing.old result calls.new
+        outgoing.new }
 {
     let id = request.head.id;
     let messages = pieces_of_request(alloc, interface, limits, calls, &request, form)?;
@@ -85,11 +76,7 @@ pub fn locate(
     form: Form,
 ) -> Result<(), SessionFault>
     requires { IsForm form }
-    ensures { Puts (rules_of table.client_step table.is_closed table.is_gathering) in_call
-        request.id
-        (locate_fault limits (entry_of (finite.get calls.old.table request.id)) request form)
-        (IsLocate request form)
-        calls.old outgoing.old result calls.new outgoing.new }
+    ensures { PutsLocate limits request form calls.old outgoing.old result calls.new outgoing.new }
 {
     let id = request.id;
     let messages = pieces_of_locate(alloc, limits, calls, &request, form)?;
@@ -117,12 +104,8 @@ pub fn cancel(
     order: Order,
 ) -> Result<(), SessionFault>
     ensures last { result ≡ Err NoMemory
-        → cancel_fault (open_version (entry_of (finite.get calls.old.table id))) ≡ None }
-    ensures cancelled { Puts (rules_of table.client_step table.is_closed table.is_gathering)
-        in_call id
-        (cancel_fault (open_version (entry_of (finite.get calls.old.table id))))
-        (IsCancel id order (open_version (entry_of (finite.get calls.old.table id))))
-        calls.old outgoing.old result calls.new outgoing.new }
+        → cancel_fault (open_version (entry_at calls.old id)) ≡ None }
+    ensures cancelled { PutsCancel id order calls.old outgoing.old result calls.new outgoing.new }
 {
     let Some(version) = open_version(calls, id) else {
         let fault = CallFault::NotOpen;
@@ -147,11 +130,8 @@ pub fn send(
     id: u32,
 ) -> Result<(), SessionFault>
     ensures last { result ≡ Err NoMemory
-        → IsOk (table.client_step (entry_of (finite.get calls.old.table id)) event.Send).outcome }
-    ensures sent { Puts (rules_of table.client_step table.is_closed table.is_gathering) in_call id
-        None
-        (λ planned. planned ≡ record { event = event.Send; plan = Next })
-        calls.old outgoing.old result calls.new outgoing.new }
+        → IsOk (table.client_step (entry_at calls.old id) event.Send).outcome }
+    ensures sent { PutsNext id calls.old outgoing.old result calls.new outgoing.new }
 {
     if !has_piece(calls, id) {
         let fault = CallFault::NothingToSend;
@@ -176,8 +156,7 @@ fn pieces_of_request(
 ) -> Result<Messages, SessionFault>
     requires { IsForm form }
     ensures ok { IfOk result (λ messages. call_fault interface.now limits
-        (entry_of (finite.get calls.now.table request.now.head.id)) request.now form
-        ≡ None) }
+        (entry_at calls.now request.now.head.id) request.now form ≡ None) }
     ensures cut { IfOk result (λ messages. IsCut request.now.head.version message.Request
         form.order (request_octets interface.now request.now form.order) form.piece
         messages) }
@@ -185,9 +164,8 @@ fn pieces_of_request(
         (requests.request interface.now request.now.head.version) request.now
         form) }
     ensures few { IfOk result (λ messages. length messages < 2 ^ 32) }
-    ensures err { IfErr result (IsRefusal request.now.head.id
-        (call_fault interface.now limits
-        (entry_of (finite.get calls.now.table request.now.head.id)) request.now form)) }
+    ensures err { IfErr result (IsRefusal request.now.head.id (call_fault interface.now limits
+        (entry_at calls.now request.now.head.id) request.now form)) }
 {
     let head = &request.head;
     if let Some(fault) = begin_fault(interface, calls, request) {
@@ -216,17 +194,15 @@ fn pieces_of_locate(
     form: Form,
 ) -> Result<Messages, SessionFault>
     requires { IsForm form }
-    ensures ok { IfOk result (λ messages. locate_fault limits
-        (entry_of (finite.get calls.now.table request.now.id)) request.now form
-        ≡ None) }
+    ensures ok { IfOk result (λ messages. locate_fault limits (entry_at calls.now request.now.id)
+        request.now form ≡ None) }
     ensures cut { IfOk result (λ messages. IsCut request.now.version message.LocateRequest
         form.order (locate_octets request.now form.order) form.piece messages) }
     ensures held { IfOk result (λ messages. InRange
         (ended (locate_request request.now.version)) request.now form) }
     ensures few { IfOk result (λ messages. length messages < 2 ^ 32) }
-    ensures err { IfErr result (IsRefusal request.now.id
-        (locate_fault limits
-        (entry_of (finite.get calls.now.table request.now.id)) request.now form)) }
+    ensures err { IfErr result (IsRefusal request.now.id (locate_fault limits
+        (entry_at calls.now request.now.id) request.now form)) }
 {
     let id = request.id;
     if !is_free(calls, id) {
@@ -249,8 +225,7 @@ fn pieces_of_locate(
 // Whether a piece of the call of an id is left to be sent.
 #[tactic(auto, using(crate::proofs::OnActs::LastLemmas::client_has_piece))]
 fn has_piece(calls: &CallTable<ClientRule>, id: u32) -> bool
-    ensures { result ≡ is_ok (table.client_step
-        (entry_of (finite.get calls.now.table id)) event.Send).outcome }
+    ensures { result ≡ is_ok (table.client_step (entry_at calls.now id) event.Send).outcome }
 {
     match calls.slot(id) {
         Some(slot) => matches!(slot.entry, ClientEntry::Sending { .. }),
@@ -260,7 +235,7 @@ fn has_piece(calls: &CallTable<ClientRule>, id: u32) -> bool
 
 // The version of an id's call, where that may be cancelled.
 fn open_version(calls: &CallTable<ClientRule>, id: u32) -> Option<Version>
-    ensures { result ≡ open_version (entry_of (finite.get calls.now.table id)) }
+    ensures { result ≡ open_version (entry_at calls.now id) }
 {
     open_in(&calls.slot(id)?.entry)
 }
@@ -271,8 +246,8 @@ fn begin_fault(
     calls: &CallTable<ClientRule>,
     request: &Request,
 ) -> Option<CallFault>
-    ensures { result ≡ begin_fault interface.now
-        (entry_of (finite.get calls.now.table request.now.head.id)) request.now }
+    ensures { result ≡ begin_fault interface.now (entry_at calls.now request.now.head.id)
+        request.now }
 {
     if !is_free(calls, request.head.id) {
         Some(CallFault::IdInUse)
@@ -285,7 +260,7 @@ fn begin_fault(
 
 // Whether a call may take the id.
 fn is_free(calls: &CallTable<ClientRule>, id: u32) -> bool
-    ensures { result ≡ table.is_free (entry_of (finite.get calls.now.table id)) }
+    ensures { result ≡ table.is_free (entry_at calls.now id) }
 {
     match calls.slot(id) {
         Some(slot) => slot.entry.is_closed(),

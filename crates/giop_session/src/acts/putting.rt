@@ -2,10 +2,9 @@
 //! specs/Acts/Putting.antt.
 ghost use Rattle.std.specs.Prelude.{◌≡◌, ◌++◌, false, None, IfNone, IfSome, IsOk, IsSome, OnErr, OnOk};
 ghost use Rattle.std.specs.FinMap as finite;
-ghost use Rattle.giop_ids.specs.Runs.{Does};
-ghost use Rattle.giop_session.specs.Calls.CallTable.{event_reply, gathers, Hears, Nothing, rules_of};
+ghost use Rattle.giop_session.specs.Calls.CallTable.{DoesTo, event_reply, gathers, gathers_at, Hears, Nothing, stepped};
 ghost use Rattle.giop_session.specs.Acts.Putting.{octets_of, put_out};
-ghost use Rattle.giop_session.specs.Calls.Sending.{message_of, sending_step, unsent_of};
+ghost use Rattle.giop_session.specs.Calls.Sending.{message_of, unsent_of};
 
 use crate::acts::outgoing::Outgoing;
 use crate::calls::call_table::CallTable;
@@ -28,13 +27,10 @@ pub fn put<R: Side>(
     id: u32,
     planned: Planned<R::Event>,
 ) -> Option<Result<Sends<R::Answer>, TableFault<R::Fault>>>
-    requires quiet { gathers R.gathering (finite.get calls.old.table id) ≡ false
-        → gathers R.gathering (sending_step (R.next calls.old.rule)
-        (finite.get calls.old.table id) planned).entry ≡ false }
-    ensures does { IfSome result (λ answered. Does (rules_of (R.next calls.old.rule)
-        (R.closed calls.old.rule) R.gathering)
-        calls.old (record { id = id; what = Hears planned Nothing }) (event_reply answered)
-        calls.new) }
+    requires quiet { gathers_at R.Side calls.old id ≡ false
+        → gathers R.gathering (stepped R.Side calls.old id planned).entry ≡ false }
+    ensures does { IfSome result (λ answered. DoesTo R.Side calls.old id (Hears planned Nothing)
+        (event_reply answered) calls.new) }
     ensures puts { IfSome result (λ answered. outgoing.new ≡ outgoing.old ++ put_out answered) }
     ensures some { message_of planned.plan (unsent_of (finite.get calls.old.table id)) ≡ None
         → IsSome result }

@@ -6,10 +6,9 @@ ghost use Rattle.std.specs.FinMap as finite;
 ghost use Rattle.std.specs.Option.{option_map};
 ghost use Rattle.giop_frag.specs.Gathered.{blocks_of, is_over, octets_in, order_fault};
 ghost use Rattle.giop_ids.specs.ById.{put};
-ghost use Rattle.giop_ids.specs.Runs.{Does};
 ghost use Rattle.giop_mux.specs.Calls.{is_one_too_many, judged};
 ghost use Rattle.giop_session.specs.Calls.Sending.{sending_step};
-ghost use Rattle.giop_session.specs.Calls.CallTable.{answered, event_reply, First, gathers, Hears, IsTaken, More, Nothing, rules_of, Stays, take_reply};
+ghost use Rattle.giop_session.specs.Calls.CallTable.{answered, DoesTo, event_reply, First, gathers, gathers_at, Hears, IsTaken, More, Nothing, Stays, stepped, take_reply};
 
 use crate::calls::plan::Planned;
 use crate::calls::sending::{Sending, Sends};
@@ -133,12 +132,9 @@ impl<R: Side> CallTable<R> {
         id: u32,
         planned: Planned<R::Event>,
     ) -> Result<Sends<R::Answer>, TableFault<R::Fault>>
-        requires quiet { gathers R.gathering (finite.get self.old.table id) ≡ false
-            → gathers R.gathering (sending_step (R.next self.old.rule)
-            (finite.get self.old.table id) planned).entry ≡ false }
-        ensures { Does (rules_of (R.next self.old.rule) (R.closed self.old.rule) R.gathering)
-            self.old (record { id = id; what = Hears planned Nothing }) (event_reply result)
-            self.new }
+        requires quiet { gathers_at R.Side self.old id ≡ false
+            → gathers R.gathering (stepped R.Side self.old id planned).entry ≡ false }
+        ensures { DoesTo R.Side self.old id (Hears planned Nothing) (event_reply result) self.new }
     {
         let sends = match self.mux.apply(id, planned) {
             Ok(sends) => sends,
@@ -159,13 +155,10 @@ impl<R: Side> CallTable<R> {
         order: Order,
         octets: &[u8],
     ) -> Result<Sends<R::Answer>, TableFault<R::Fault>>
-        requires away { gathers R.gathering (finite.get self.old.table id) ≡ false }
-        requires accepted { IsOk (sending_step (R.next self.old.rule)
-            (finite.get self.old.table id) planned).outcome }
-        requires gathers { gathers R.gathering (sending_step (R.next self.old.rule)
-            (finite.get self.old.table id) planned).entry ≡ true }
-        ensures { Does (rules_of (R.next self.old.rule) (R.closed self.old.rule) R.gathering)
-            self.old (record { id = id; what = Hears planned (First order octets.now) })
+        requires away { gathers_at R.Side self.old id ≡ false }
+        requires accepted { IsOk (stepped R.Side self.old id planned).outcome }
+        requires gathers { gathers R.gathering (stepped R.Side self.old id planned).entry ≡ true }
+        ensures { DoesTo R.Side self.old id (Hears planned (First order octets.now))
             (event_reply result) self.new }
     {
         if self.is_one_too_many(id) {
@@ -191,13 +184,11 @@ impl<R: Side> CallTable<R> {
         order: Order,
         octets: &[u8],
     ) -> Result<(), TableFault<R::Fault>>
-        requires comes { gathers R.gathering (finite.get self.old.table id) ≡ true }
+        requires comes { gathers_at R.Side self.old id ≡ true }
         requires in_order { order_fault (finite.get self.old.gathered id) order ≡ None }
         ensures { (planned : _) (sends : _)
-            → Stays (sending_step (R.next self.old.rule) (finite.get self.old.table id) planned)
-            (finite.get self.old.table id) sends
-            → Does (rules_of (R.next self.old.rule) (R.closed self.old.rule) R.gathering)
-            self.old (record { id = id; what = Hears planned (More octets.now) })
+            → Stays (stepped R.Side self.old id planned) (finite.get self.old.table id) sends
+            → DoesTo R.Side self.old id (Hears planned (More octets.now))
             (event_reply (answered sends result)) self.new }
     {
         if let Err(fault) = self.gather.add(id, order, octets) {
@@ -216,14 +207,11 @@ impl<R: Side> CallTable<R> {
         planned: Planned<R::Event>,
         octets: &[u8],
     ) -> Result<Sends<R::Answer>, TableFault<R::Fault>>
-        requires comes { gathers R.gathering (finite.get self.old.table id) ≡ true }
-        requires accepted { IsOk (sending_step (R.next self.old.rule)
-            (finite.get self.old.table id) planned).outcome }
-        requires ends { gathers R.gathering (sending_step (R.next self.old.rule)
-            (finite.get self.old.table id) planned).entry ≡ false }
-        ensures { Does (rules_of (R.next self.old.rule) (R.closed self.old.rule) R.gathering)
-            self.old (record { id = id; what = Hears planned (More octets.now) })
-            (event_reply result) self.new }
+        requires comes { gathers_at R.Side self.old id ≡ true }
+        requires accepted { IsOk (stepped R.Side self.old id planned).outcome }
+        requires ends { gathers R.gathering (stepped R.Side self.old id planned).entry ≡ false }
+        ensures { DoesTo R.Side self.old id (Hears planned (More octets.now)) (event_reply result)
+            self.new }
     {
         if !self.has_room(octets.len()) {
             return Err(TableFault::GatherFull);
@@ -237,8 +225,7 @@ impl<R: Side> CallTable<R> {
     /// nothing is stored. A call that is not over is refused as `StillOpen`, and stays. It takes no
     /// memory.
     pub fn take(&mut self, id: u32) -> Result<Option<Slot<R::Entry>>, TableFault<R::Fault>>
-        ensures does { Does (rules_of (R.next self.old.rule) (R.closed self.old.rule) R.gathering)
-            self.old (record { id = id; what = IsTaken }) (take_reply result) self.new }
+        ensures does { DoesTo R.Side self.old id IsTaken (take_reply result) self.new }
         ensures value { IfOk result (λ slot. (slot ≡ finite.get self.old.table id)
             × (self.new ≡ record self.old { table = put self.old.table id None })) }
         ensures open { IfErr result (λ why. option_map (λ slot. R.closed self.old.rule slot.entry)

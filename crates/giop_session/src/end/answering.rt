@@ -6,14 +6,11 @@ ghost use Rattle.std.specs.Option.{option_map};
 ghost use Rattle.giop_calls.specs.ServerTable as table;
 ghost use Rattle.giop_calls.specs.declared.server.event.ServerEvent.TheVariants as event;
 ghost use Rattle.giop_calls.specs.Outcomes.{copied};
-ghost use Rattle.giop_session.specs.declared.calls.plan.Plan.TheVariants.{Next};
 ghost use Rattle.giop_session.specs.declared.session_fault.SessionFault.TheVariants.{NoMemory};
-ghost use Rattle.giop_session.specs.Calls.CallTable.{rules_of};
+ghost use Rattle.giop_session.specs.Calls.CallTable.{entry_at};
 ghost use Rattle.giop_session.specs.Acts.Form.{IsForm};
-ghost use Rattle.giop_session.specs.Hearing.Heard.{in_call};
-ghost use Rattle.giop_session.specs.Acts.Putting.{Puts};
-ghost use Rattle.giop_session.specs.Calls.Sending.{entry_of};
-ghost use Rattle.giop_session.specs.Acts.ServerAnswers.{answer_fault, IsAnswer, IsFitAnswer, IsLocateAnswer, locate_of, question_of};
+ghost use Rattle.giop_session.specs.Acts.ServerAnswers.{IsFitAnswer, PutsAnswer, PutsLocateAnswer, PutsNext, question_of};
+ghost use Rattle.giop_session.specs.Ends.View.{IsActedOn};
 
 use crate::acts::answering::{answer, answer_locate, send};
 use crate::acts::form::Form;
@@ -44,20 +41,11 @@ impl<'a> ServerEnd<'a> {
         requires { IsForm form }
         ensures failed { (why : _) → self.old.fault ≡ Some why
             → (result ≡ Err why) × (self.new ≡ self.old) }
-        ensures last { result ≡ Err NoMemory → self.old.fault ≡ None
-            → IsFitAnswer self.old.interface.now
-            (question_of (entry_of (finite.get self.old.calls.table reply.id))) reply }
-        ensures answered { self.old.fault ≡ None
-            → Puts (rules_of table.server_step table.is_closed table.is_gathering) in_call reply.id
-            (answer_fault self.old.interface.now self.old.limits
-            (question_of (entry_of (finite.get self.old.calls.table reply.id))) reply form)
-            (IsAnswer self.old.interface.now
-            (question_of (entry_of (finite.get self.old.calls.table reply.id))) reply form)
-            self.old.calls self.old.outgoing result self.new.calls self.new.outgoing }
-        ensures others { self.new ≡ record self.old {
-          calls = self.new.calls;
-          outgoing = self.new.outgoing;
-        } }
+        ensures last { result ≡ Err NoMemory → self.old.fault ≡ None → IsFitAnswer
+            self.old.interface.now (question_of (entry_at self.old.calls reply.id)) reply }
+        ensures answered { self.old.fault ≡ None → PutsAnswer self.old.interface.now self.old.limits
+            reply form self.old.calls self.old.outgoing result self.new.calls self.new.outgoing }
+        ensures others { IsActedOn self.old self.new }
     {
         if let Some(fault) = self.fault {
             return Err(fault);
@@ -87,18 +75,11 @@ impl<'a> ServerEnd<'a> {
     pub fn answer_locate(&mut self, id: u32, here: bool, order: Order) -> Result<(), SessionFault>
         ensures failed { (why : _) → self.old.fault ≡ Some why
             → (result ≡ Err why) × (self.new ≡ self.old) }
-        ensures last { result ≡ Err NoMemory → self.old.fault ≡ None
-            → IsOk (table.server_step (entry_of (finite.get self.old.calls.table id))
-            (event.AnswerLocate here)).outcome }
-        ensures answered { self.old.fault ≡ None
-            → Puts (rules_of table.server_step table.is_closed table.is_gathering) in_call id None
-            (IsLocateAnswer id here order
-            (locate_of here (entry_of (finite.get self.old.calls.table id))))
-            self.old.calls self.old.outgoing result self.new.calls self.new.outgoing }
-        ensures others { self.new ≡ record self.old {
-          calls = self.new.calls;
-          outgoing = self.new.outgoing;
-        } }
+        ensures last { result ≡ Err NoMemory → self.old.fault ≡ None → IsOk (table.server_step
+            (entry_at self.old.calls id) (event.AnswerLocate here)).outcome }
+        ensures answered { self.old.fault ≡ None → PutsLocateAnswer id here order self.old.calls
+            self.old.outgoing result self.new.calls self.new.outgoing }
+        ensures others { IsActedOn self.old self.new }
     {
         if let Some(fault) = self.fault {
             return Err(fault);
@@ -122,16 +103,10 @@ impl<'a> ServerEnd<'a> {
         ensures failed { (why : _) → self.old.fault ≡ Some why
             → (result ≡ Err why) × (self.new ≡ self.old) }
         ensures last { result ≡ Err NoMemory → self.old.fault ≡ None
-            → IsOk (table.server_step (entry_of (finite.get self.old.calls.table id))
-            event.Send).outcome }
+            → IsOk (table.server_step (entry_at self.old.calls id) event.Send).outcome }
         ensures sent { self.old.fault ≡ None
-            → Puts (rules_of table.server_step table.is_closed table.is_gathering) in_call id None
-            (λ planned. planned ≡ record { event = event.Send; plan = Next })
-            self.old.calls self.old.outgoing result self.new.calls self.new.outgoing }
-        ensures others { self.new ≡ record self.old {
-          calls = self.new.calls;
-          outgoing = self.new.outgoing;
-        } }
+            → PutsNext id self.old.calls self.old.outgoing result self.new.calls self.new.outgoing }
+        ensures others { IsActedOn self.old self.new }
     {
         if let Some(fault) = self.fault {
             return Err(fault);
@@ -142,8 +117,7 @@ impl<'a> ServerEnd<'a> {
     /// What the call of an id came to; `None` where nothing is stored for the id. It takes no
     /// memory.
     pub fn outcome(&self, id: u32) -> Option<Outcome<&Reply>>
-        ensures { option_map copied result ≡ option_map table.outcome
-            (entry_of (finite.get self.now.calls.table id)) }
+        ensures { option_map copied result ≡ option_map table.outcome (entry_at self.now.calls id) }
     {
         match self.calls.slot(id) {
             Some(slot) => Some(slot.entry.outcome()),

@@ -6,14 +6,11 @@ ghost use Rattle.std.specs.Option.{option_map};
 ghost use Rattle.giop_calls.specs.ClientTable as table;
 ghost use Rattle.giop_calls.specs.declared.client.event.ClientEvent.TheVariants as event;
 ghost use Rattle.giop_calls.specs.Outcomes.{copied};
-ghost use Rattle.giop_session.specs.declared.calls.plan.Plan.TheVariants.{Next};
 ghost use Rattle.giop_session.specs.declared.session_fault.SessionFault.TheVariants.{NoMemory};
-ghost use Rattle.giop_session.specs.Acts.ClientCalls.{call_fault, cancel_fault, IsCall, IsCancel, IsLocate, locate_fault, open_version};
-ghost use Rattle.giop_session.specs.Calls.CallTable.{rules_of};
+ghost use Rattle.giop_session.specs.Acts.ClientCalls.{cancel_fault, open_version, PutsCall, PutsCancel, PutsLocate, PutsNext};
+ghost use Rattle.giop_session.specs.Calls.CallTable.{entry_at};
 ghost use Rattle.giop_session.specs.Acts.Form.{IsForm};
-ghost use Rattle.giop_session.specs.Hearing.Heard.{in_call};
-ghost use Rattle.giop_session.specs.Acts.Putting.{Puts};
-ghost use Rattle.giop_session.specs.Calls.Sending.{entry_of};
+ghost use Rattle.giop_session.specs.Ends.View.{IsActedOn};
 
 use crate::acts::calling::{call, cancel, locate, send};
 use crate::acts::form::Form;
@@ -41,17 +38,9 @@ impl<'a> ClientEnd<'a> {
         requires { IsForm form }
         ensures failed { (why : _) → self.old.fault ≡ Some why
             → (result ≡ Err why) × (self.new ≡ self.old) }
-        ensures called { self.old.fault ≡ None
-            → Puts (rules_of table.client_step table.is_closed table.is_gathering) in_call
-            request.head.id
-            (call_fault self.old.interface.now self.old.limits
-            (entry_of (finite.get self.old.calls.table request.head.id)) request form)
-            (IsCall self.old.interface.now request form)
-            self.old.calls self.old.outgoing result self.new.calls self.new.outgoing }
-        ensures others { self.new ≡ record self.old {
-          calls = self.new.calls;
-          outgoing = self.new.outgoing;
-        } }
+        ensures called { self.old.fault ≡ None → PutsCall self.old.interface.now self.old.limits
+            request form self.old.calls self.old.outgoing result self.new.calls self.new.outgoing }
+        ensures others { IsActedOn self.old self.new }
     {
         if let Some(fault) = self.fault {
             return Err(fault);
@@ -83,17 +72,9 @@ impl<'a> ClientEnd<'a> {
         requires { IsForm form }
         ensures failed { (why : _) → self.old.fault ≡ Some why
             → (result ≡ Err why) × (self.new ≡ self.old) }
-        ensures located { self.old.fault ≡ None
-            → Puts (rules_of table.client_step table.is_closed table.is_gathering) in_call
-            request.id
-            (locate_fault self.old.limits
-            (entry_of (finite.get self.old.calls.table request.id)) request form)
-            (IsLocate request form)
+        ensures located { self.old.fault ≡ None → PutsLocate self.old.limits request form
             self.old.calls self.old.outgoing result self.new.calls self.new.outgoing }
-        ensures others { self.new ≡ record self.old {
-          calls = self.new.calls;
-          outgoing = self.new.outgoing;
-        } }
+        ensures others { IsActedOn self.old self.new }
     {
         if let Some(fault) = self.fault {
             return Err(fault);
@@ -117,16 +98,10 @@ impl<'a> ClientEnd<'a> {
         ensures failed { (why : _) → self.old.fault ≡ Some why
             → (result ≡ Err why) × (self.new ≡ self.old) }
         ensures last { result ≡ Err NoMemory → self.old.fault ≡ None
-            → cancel_fault (open_version (entry_of (finite.get self.old.calls.table id))) ≡ None }
-        ensures cancelled { self.old.fault ≡ None
-            → Puts (rules_of table.client_step table.is_closed table.is_gathering) in_call id
-            (cancel_fault (open_version (entry_of (finite.get self.old.calls.table id))))
-            (IsCancel id order (open_version (entry_of (finite.get self.old.calls.table id))))
-            self.old.calls self.old.outgoing result self.new.calls self.new.outgoing }
-        ensures others { self.new ≡ record self.old {
-          calls = self.new.calls;
-          outgoing = self.new.outgoing;
-        } }
+            → cancel_fault (open_version (entry_at self.old.calls id)) ≡ None }
+        ensures cancelled { self.old.fault ≡ None → PutsCancel id order self.old.calls
+            self.old.outgoing result self.new.calls self.new.outgoing }
+        ensures others { IsActedOn self.old self.new }
     {
         if let Some(fault) = self.fault {
             return Err(fault);
@@ -143,16 +118,10 @@ impl<'a> ClientEnd<'a> {
         ensures failed { (why : _) → self.old.fault ≡ Some why
             → (result ≡ Err why) × (self.new ≡ self.old) }
         ensures last { result ≡ Err NoMemory → self.old.fault ≡ None
-            → IsOk (table.client_step (entry_of (finite.get self.old.calls.table id))
-            event.Send).outcome }
+            → IsOk (table.client_step (entry_at self.old.calls id) event.Send).outcome }
         ensures sent { self.old.fault ≡ None
-            → Puts (rules_of table.client_step table.is_closed table.is_gathering) in_call id None
-            (λ planned. planned ≡ record { event = event.Send; plan = Next })
-            self.old.calls self.old.outgoing result self.new.calls self.new.outgoing }
-        ensures others { self.new ≡ record self.old {
-          calls = self.new.calls;
-          outgoing = self.new.outgoing;
-        } }
+            → PutsNext id self.old.calls self.old.outgoing result self.new.calls self.new.outgoing }
+        ensures others { IsActedOn self.old self.new }
     {
         if let Some(fault) = self.fault {
             return Err(fault);
@@ -163,8 +132,7 @@ impl<'a> ClientEnd<'a> {
     /// What the call of an id came to; `None` where nothing is stored for the id. It takes no
     /// memory.
     pub fn outcome(&self, id: u32) -> Option<Outcome<&Reply>>
-        ensures { option_map copied result ≡ option_map table.outcome
-            (entry_of (finite.get self.now.calls.table id)) }
+        ensures { option_map copied result ≡ option_map table.outcome (entry_at self.now.calls id) }
     {
         match self.calls.slot(id) {
             Some(slot) => Some(slot.entry.outcome()),

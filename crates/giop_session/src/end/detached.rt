@@ -8,16 +8,15 @@ ghost use Rattle.std.specs.Option.{option_map};
 ghost use Rattle.giop_cdr.specs.declared.order.Order.TheVariants.{Big};
 ghost use Rattle.giop_frag.specs.Gathered.{blocks_of};
 ghost use Rattle.giop_ids.specs.ById.{put};
-ghost use Rattle.giop_ids.specs.Runs.{Does};
 ghost use Rattle.giop_msg.specs.Msg.{message_octets};
 ghost use Rattle.giop_session.specs.declared.session_fault.SessionFault.TheVariants.{Closed, NoMemory, StillOpen};
 ghost use Rattle.giop_session.specs.Calls.Begun.{no_calls};
-ghost use Rattle.giop_session.specs.Calls.CallTable.{Gives, IsTaken, rules_of};
+ghost use Rattle.giop_session.specs.Calls.CallTable.{DoesTo, entry_at, Gives, IsTaken};
 ghost use Rattle.giop_session.specs.Hearing.Feeding.{Fed, standing, with_octets};
-ghost use Rattle.giop_session.specs.Hearing.Heard.{hears_by};
-ghost use Rattle.giop_session.specs.Calls.Sending.{entry_of};
+ghost use Rattle.giop_session.specs.Hearing.Heard.{hears_in};
 ghost use Rattle.giop_session.specs.Acts.Sent.{close_connection};
 ghost use Rattle.giop_session.specs.Calls.SessionFaults.{error_message_of};
+ghost use Rattle.giop_session.specs.Ends.Detached.{IsFedOnly};
 
 mod answering;
 mod calling;
@@ -94,17 +93,11 @@ impl<R: Hearing> Detached<R> {
     pub fn feed(&mut self, interface: &Interface, octets: &[u8]) -> Result<(), SessionFault>
         ensures failed { (why : _) → self.old.fault ≡ Some why
             → (result ≡ Err why) × (self.new ≡ self.old) }
-        ensures fed { self.old.fault ≡ None
-            → Fed (hears_by R.next R.closed R.gathering R.in_call R.breaks
-            (R.befalls interface.now))
-            (with_octets self.old.framer octets.now) self.old.calls result
-            self.new.framer self.new.calls }
+        ensures fed { self.old.fault ≡ None → Fed (hears_in R.Hearing interface.now)
+            (with_octets self.old.framer octets.now) self.old.calls result self.new.framer
+            self.new.calls }
         ensures stands { self.old.fault ≡ None → self.new.fault ≡ standing result }
-        ensures others { self.new ≡ record self.old {
-          framer = self.new.framer;
-          calls = self.new.calls;
-          fault = self.new.fault;
-        } }
+        ensures others { IsFedOnly self.old self.new }
     {
         feed(
             self.alloc,
@@ -118,7 +111,7 @@ impl<R: Hearing> Detached<R> {
 
     /// The entry that is stored for the id, if one is. It takes no memory.
     pub fn entry(&self, id: u32) -> Option<&R::Entry>
-        ensures { option_copied result ≡ entry_of (finite.get self.now.calls.table id) }
+        ensures { option_copied result ≡ entry_at self.now.calls id }
     {
         self.calls.slot(id).map(|slot| &slot.entry)
     }
@@ -186,15 +179,13 @@ impl<R: Hearing> Detached<R> {
     /// Takes out what is stored for the id, as `End::take`. It takes no memory.
     pub fn take(&mut self, id: u32) -> Result<Option<R::Entry>, SessionFault>
         ensures failed { (why : _) → self.old.fault ≡ Some why → result ≡ Err why }
-        ensures value { IfOk result (λ taken. (taken ≡ entry_of (finite.get self.old.calls.table id))
+        ensures value { IfOk result (λ taken. (taken ≡ entry_at self.old.calls id)
             × (self.new ≡ record self.old {
               calls = record self.old.calls {
                 table = put self.old.calls.table id None;
               };
             })) }
-        ensures does { IfOk result (λ taken. Does (rules_of (R.next self.old.calls.rule)
-            (R.closed self.old.calls.rule) R.gathering) self.old.calls
-            (record { id = id; what = IsTaken })
+        ensures does { IfOk result (λ taken. DoesTo R.Side self.old.calls id IsTaken
             (Ok (Gives (finite.get self.old.calls.table id))) self.new.calls) }
         ensures open { self.old.fault ≡ None → IfErr result (λ why. (why ≡ StillOpen)
             × (option_map (λ slot. R.closed self.old.calls.rule slot.entry)

@@ -6,13 +6,11 @@ ghost use Rattle.std.specs.FinMap as finite;
 ghost use Rattle.std.specs.Option.{option_map};
 ghost use Rattle.giop_cdr.specs.declared.order.Order.TheVariants.{Big};
 ghost use Rattle.giop_ids.specs.ById.{put};
-ghost use Rattle.giop_ids.specs.Runs.{Does};
 ghost use Rattle.giop_msg.specs.Msg.{message_octets};
 ghost use Rattle.giop_session.specs.declared.session_fault.SessionFault.TheVariants.{Closed, NoMemory, StillOpen};
-ghost use Rattle.giop_session.specs.Calls.CallTable.{Gives, IsTaken, rules_of};
+ghost use Rattle.giop_session.specs.Calls.CallTable.{DoesTo, entry_at, Gives, IsTaken};
 ghost use Rattle.giop_session.specs.Hearing.Feeding.{Fed, standing, with_octets};
-ghost use Rattle.giop_session.specs.Hearing.Heard.{hears_by};
-ghost use Rattle.giop_session.specs.Calls.Sending.{entry_of};
+ghost use Rattle.giop_session.specs.Hearing.Heard.{hears_in};
 ghost use Rattle.giop_session.specs.Acts.Sent.{close_connection};
 ghost use Rattle.giop_session.specs.Calls.SessionFaults.{error_message_of};
 
@@ -37,8 +35,7 @@ pub fn feed<R: Hearing>(
 ) -> Result<(), SessionFault>
     ensures failed { (why : _) → stands.old ≡ Some why → (result ≡ Err why)
         × (framer.new ≡ framer.old) × (calls.new ≡ calls.old) × (stands.new ≡ stands.old) }
-    ensures fed { stands.old ≡ None
-        → Fed (hears_by R.next R.closed R.gathering R.in_call R.breaks (R.befalls interface.now))
+    ensures fed { stands.old ≡ None → Fed (hears_in R.Hearing interface.now)
         (with_octets framer.old octets.now) calls.old result framer.new calls.new }
     ensures stands { stands.old ≡ None → stands.new ≡ standing result }
 {
@@ -102,11 +99,9 @@ pub fn take<R: Hearing>(
     id: u32,
 ) -> Result<Option<R::Entry>, SessionFault>
     ensures failed { (why : _) → fault ≡ Some why → result ≡ Err why }
-    ensures value { IfOk result (λ taken. (taken ≡ entry_of (finite.get calls.old.table id))
-        × (calls.new ≡ record calls.old { table = put calls.old.table id None })) }
-    ensures does { IfOk result (λ taken. Does (rules_of (R.next calls.old.rule)
-        (R.closed calls.old.rule) R.gathering) calls.old
-        (record { id = id; what = IsTaken })
+    ensures value { IfOk result (λ taken. (taken ≡ entry_at calls.old id) × (calls.new ≡ record
+        calls.old { table = put calls.old.table id None })) }
+    ensures does { IfOk result (λ taken. DoesTo R.Side calls.old id IsTaken
         (Ok (Gives (finite.get calls.old.table id))) calls.new) }
     ensures open { fault ≡ None → IfErr result (λ why. (why ≡ StillOpen)
         × (option_map (λ slot. R.closed calls.old.rule slot.entry)
@@ -130,9 +125,8 @@ fn hear_all<R: Hearing>(
     calls: &mut CallTable<R>,
     octets: &[u8],
 ) -> Result<(), SessionFault>
-    ensures { Fed (hears_by R.next R.closed R.gathering R.in_call R.breaks
-        (R.befalls interface.now)) (with_octets framer.old octets.now) calls.old result framer.new
-        calls.new }
+    ensures { Fed (hears_in R.Hearing interface.now) (with_octets framer.old octets.now) calls.old
+        result framer.new calls.new }
 {
     framer.feed(octets)?;
     while let Some(message) = framer.next()? {
@@ -151,8 +145,7 @@ fn hear<R: Hearing>(
     message: Msg,
 ) -> Result<(), SessionFault>
     requires { length message.payload ≤ 2 ^ 62 }
-    ensures hears { hears_by R.next R.closed R.gathering R.in_call R.breaks
-        (R.befalls interface.now) message calls.old result calls.new }
+    ensures hears { hears_in R.Hearing interface.now message calls.old result calls.new }
     ensures framer { framer.new ≡ framer.old }
 {
     R::hear(alloc, interface, calls, &message)?;

@@ -2,13 +2,12 @@
 //! Its meaning is `client_breaks` and `client_befalls` in specs/Hearing/ClientHears.antt: change both.
 ghost use Rattle.std.specs.Prelude.{◌≡◌, ◌≤◌, ◌^◌, ◌+◌, ◌++◌, length, option_copied, is_some, true, Some, IfSome};
 ghost use Rattle.std.specs.FinMap as finite;
-ghost use Rattle.giop_frag.specs.Gathered.{octets_in, order_fault};
+ghost use Rattle.giop_frag.specs.Gathered.{octets_in};
 ghost use Rattle.giop_msg.specs.RequestId.{request_id_of};
 ghost use Rattle.giop_calls.specs.declared.client.event.ClientEvent.TheVariants as event;
 ghost use Rattle.giop_calls.specs.declared.client.heard.HeardReply.TheVariants as heard;
-ghost use Rattle.giop_session.specs.Calls.CallTable.{First, Hears, More, Nothing, at};
-ghost use Rattle.giop_session.specs.Hearing.ClientHears.{AtClient, awaited, awaited_in, comes, continued, continues, gathered_call, gathered_in, heard_reply};
-ghost use Rattle.giop_session.specs.Hearing.Heard.{Befalls, behind_id, kept, named};
+ghost use Rattle.giop_session.specs.Hearing.ClientHears.{arrives, AtClient, awaited, awaited_in, begins, comes, completes, continued_at, continues, gathered_call, gathered_in, goes_on, reply_in};
+ghost use Rattle.giop_session.specs.Hearing.Heard.{Befalls, behind_id, named};
 
 use crate::calls::call_table::CallTable;
 use crate::hearing::Hearing;
@@ -64,9 +63,9 @@ fn come(
     message: &Msg,
 ) -> Result<(), SessionFault>
     requires { length message.now.payload ≤ 2 ^ 62 }
-    ensures { AtClient (named (request_id_of message.now) (λ id. comes interface.now kind message.now
-        (awaited kind message.now.version (finite.get calls.old.table id))))
-        calls.old result calls.new }
+    ensures { AtClient (named (request_id_of message.now) (λ id. comes interface.now kind
+        message.now (awaited kind message.now.version (finite.get calls.old.table id)))) calls.old
+        result calls.new }
 {
     let id = named(message)?;
     let version = message.version;
@@ -111,8 +110,7 @@ fn is_awaited(calls: &Calls, id: u32, kind: CallKind, version: Version) -> bool
 // The first piece of the reply to a call that waits for it comes.
 fn begin(calls: &mut Calls, id: u32, kind: CallKind, message: &Msg) -> Result<(), SessionFault>
     requires { is_some (awaited kind message.now.version (finite.get calls.old.table id)) ≡ true }
-    ensures { AtClient (Befalls id (Hears (kept (event.First kind message.now.version))
-        (First message.now.order message.now.payload))) calls.old result calls.new }
+    ensures { AtClient (Befalls id (begins kind message.now)) calls.old result calls.new }
 {
     let first = kept(ClientEvent::First {
         kind,
@@ -135,10 +133,8 @@ fn arrive(
 ) -> Result<(), SessionFault>
     requires { length message.now.payload ≤ 2 ^ 62 }
     ensures { (call : _)
-        → awaited kind message.now.version (finite.get calls.old.table id) ≡ Some call
-        → AtClient (Befalls id (Hears (kept (event.Whole kind message.now.version
-        (heard_reply interface.now call message.now.version message.now.order
-        message.now.payload))) Nothing)) calls.old result calls.new }
+        → awaited kind message.now.version (finite.get calls.old.table id) ≡ Some call → AtClient
+        (Befalls id (arrives interface.now kind message.now call)) calls.old result calls.new }
 {
     let Some(reply) = reply_to(alloc, interface, calls, id, kind, message) else {
         return Err(SessionFault::NoMemory);
@@ -163,10 +159,9 @@ fn reply_to(
     message: &Msg,
 ) -> Option<HeardReply>
     requires { length message.now.payload ≤ 2 ^ 62 }
-    ensures { IfSome result (λ reply. (call : _)
-        → awaited kind message.now.version (finite.get calls.now.table id) ≡ Some call
-        → reply ≡ heard_reply interface.now call message.now.version message.now.order
-        message.now.payload) }
+    ensures { IfSome result (λ reply. (call : _) → awaited kind message.now.version
+        (finite.get calls.now.table id) ≡ Some call → reply ≡ reply_in interface.now call
+        message.now message.now.payload) }
 {
     let call = awaited_in(kind, message.version, &calls.slot(id)?.entry)?;
     let joined = SliceOctets::new(message.payload.as_slice());
@@ -189,8 +184,7 @@ fn go_on(
 ) -> Result<(), SessionFault>
     requires { length message.now.payload ≤ 2 ^ 62 }
     ensures { AtClient (named (request_id_of message.now) (λ id. continues interface.now message.now
-        (continued message.now.order (gathered_call (finite.get calls.old.table id))
-        (finite.get calls.old.gathered id)))) calls.old result calls.new }
+        (continued_at calls.old id message.now.order))) calls.old result calls.new }
 {
     let id = named(message)?;
     match (is_continued(calls, id, message.order), message.more) {
@@ -212,8 +206,7 @@ fn go_on(
 
 // Whether pieces of this byte order continue what is gathered for the id.
 fn is_continued(calls: &Calls, id: u32, order: Order) -> bool
-    ensures { result ≡ is_some (continued order (gathered_call (finite.get calls.now.table id))
-        (finite.get calls.now.gathered id)) }
+    ensures { result ≡ is_some (continued_at calls.now id order) }
 {
     let (Some(slot), Some((held, _))) = (calls.slot(id), calls.pieces(id)) else {
         return false;
@@ -223,10 +216,8 @@ fn is_continued(calls: &Calls, id: u32, order: Order) -> bool
 
 // A Fragment comes that continues what is gathered, with more to come.
 fn add(calls: &mut Calls, id: u32, message: &Msg) -> Result<(), SessionFault>
-    requires { is_some (continued message.now.order (gathered_call (finite.get calls.old.table id))
-        (finite.get calls.old.gathered id)) ≡ true }
-    ensures { AtClient (Befalls id (Hears (kept (event.More true))
-        (More (behind_id message.now)))) calls.old result calls.new }
+    requires { is_some (continued_at calls.old id message.now.order) ≡ true }
+    ensures { AtClient (Befalls id (goes_on message.now)) calls.old result calls.new }
 {
     match calls.go_on(id, message.order, behind_id(message)) {
         Ok(()) => Ok(()),
@@ -242,14 +233,10 @@ fn complete(
     id: u32,
     message: &Msg,
 ) -> Result<(), SessionFault>
-    requires { is_some (continued message.now.order (gathered_call (finite.get calls.old.table id))
-        (finite.get calls.old.gathered id)) ≡ true }
-    ensures { (call pieces : _)
-        → gathered_call (finite.get calls.old.table id) ≡ Some call
-        → finite.get calls.old.gathered id ≡ Some pieces
-        → AtClient (Befalls id (Hears (kept (event.Last true (heard_reply interface.now call
-        message.now.version message.now.order (pieces.octets ++ behind_id message.now))))
-        (More (behind_id message.now)))) calls.old result calls.new }
+    requires { is_some (continued_at calls.old id message.now.order) ≡ true }
+    ensures { (call pieces : _) → gathered_call (finite.get calls.old.table id) ≡ Some call
+        → finite.get calls.old.gathered id ≡ Some pieces → AtClient (Befalls id (completes
+        interface.now call message.now pieces.octets)) calls.old result calls.new }
 {
     let octets = behind_id(message);
     if !calls.has_room(octets.len()) {
@@ -286,11 +273,10 @@ fn joined_reply(
 ) -> Option<HeardReply>
     requires { octets_in (finite.get calls.now.gathered id)
         + length (behind_id message.now) ≤ 2 ^ 62 }
-    ensures { IfSome result (λ reply. (call pieces : _)
-        → gathered_call (finite.get calls.now.table id) ≡ Some call
-        → finite.get calls.now.gathered id ≡ Some pieces
-        → reply ≡ heard_reply interface.now call message.now.version message.now.order
-        (pieces.octets ++ behind_id message.now)) }
+    ensures { IfSome result (λ reply. (call pieces : _) → gathered_call
+        (finite.get calls.now.table id) ≡ Some call → finite.get calls.now.gathered id ≡ Some pieces
+        → reply ≡ reply_in interface.now call message.now (pieces.octets ++ behind_id
+        message.now)) }
 {
     let call = gathered_in(&calls.slot(id)?.entry)?;
     let (_, gathered) = calls.pieces(id)?;

@@ -1,18 +1,14 @@
 //! What a message of the client does at a server (CORBA 3.3 Part 2, 9.4), a function for each kind.
 //! Its meaning is `server_breaks` and `server_befalls` in specs/Hearing/ServerHears.antt: change both.
-ghost use Rattle.std.specs.Prelude.{◌≡◌, ℕ, ◌≤◌, ◌^◌, ◌+◌, ◌++◌, length, Ok, Err, None, Some, true, false, IfOk, IfErr, IfSome, IfNone};
+ghost use Rattle.std.specs.Prelude.{◌≡◌, ◌≤◌, ◌^◌, ◌+◌, ◌++◌, length, None, Some, IfSome, IfNone};
 ghost use Rattle.std.specs.FinMap as finite;
 ghost use Rattle.giop_frag.specs.Gathered.{octets_in, order_fault};
 ghost use Rattle.giop_msg.specs.RequestId.{request_id_of};
 ghost use Rattle.giop_calls.specs.declared.server.event.ServerEvent.TheVariants as event;
-ghost use Rattle.giop_calls.specs.declared.server.entry.ServerEntry.{ServerEntry};
 ghost use Rattle.giop_calls.specs.ServerTable.{is_free};
-ghost use Rattle.giop_calls.specs.declared.server.event.ServerEvent.{ServerEvent};
-ghost use Rattle.giop_session.specs.Calls.CallTable.{Act, First, Hears, More, Nothing, at, event_reply};
-ghost use Rattle.giop_session.specs.Hearing.Decoding.{heard_call};
+ghost use Rattle.giop_session.specs.Calls.CallTable.{entry_at, Hears, Nothing};
 ghost use Rattle.giop_session.specs.Hearing.Heard.{Befalls, behind_id, kept, named};
-ghost use Rattle.giop_session.specs.Calls.Sending.{entry_of};
-ghost use Rattle.giop_session.specs.Hearing.ServerHears.{AtServer, comes, continued, continues, gathered_kind, kind_in};
+ghost use Rattle.giop_session.specs.Hearing.ServerHears.{arrives, AtServer, begins, call_in, comes, completes, continued_at, continues, gathered_kind, goes_on, kind_in};
 
 use crate::calls::call_table::CallTable;
 use crate::calls::table_fault::TableFault;
@@ -83,8 +79,7 @@ fn come(
 // The first piece of a Request or a LocateRequest comes. It is refused before its octets are
 // gathered where the id isn't free.
 fn begin(calls: &mut Calls, id: u32, kind: CallKind, message: &Msg) -> Result<(), SessionFault>
-    ensures { AtServer (Befalls id (Hears (kept (event.First kind))
-        (First message.now.order message.now.payload))) calls.old result calls.new }
+    ensures { AtServer (Befalls id (begins kind message.now)) calls.old result calls.new }
 {
     if !is_free(calls, id) {
         return told(id, Err(TableFault::Rule(CallFault::IdInUse)));
@@ -107,9 +102,8 @@ fn arrive(
     message: &Msg,
 ) -> Result<(), SessionFault>
     requires { length message.now.payload ≤ 2 ^ 62 }
-    ensures { AtServer (Befalls id (Hears (kept (event.Whole (heard_call interface.now kind
-        message.now.version message.now.order message.now.payload))) Nothing))
-        calls.old result calls.new }
+    ensures { AtServer (Befalls id (arrives interface.now kind message.now)) calls.old result
+        calls.new }
 {
     let joined = SliceOctets::new(message.payload.as_slice());
     let (version, order) = (message.version, message.order);
@@ -140,8 +134,7 @@ fn go_on(
 ) -> Result<(), SessionFault>
     requires { length message.now.payload ≤ 2 ^ 62 }
     ensures { AtServer (named (request_id_of message.now) (λ id. continues interface.now message.now
-        (continued message.now.order (gathered_kind (finite.get calls.old.table id))
-        (finite.get calls.old.gathered id)))) calls.old result calls.new }
+        (continued_at calls.old id message.now.order))) calls.old result calls.new }
 {
     let id = named(message)?;
     let Some(kind) = continued(calls, id, message.order) else {
@@ -162,8 +155,7 @@ fn continued(calls: &Calls, id: u32, order: Order) -> Option<CallKind>
     ensures some { IfSome result (λ kind.
         (gathered_kind (finite.get calls.now.table id) ≡ Some kind)
         × (order_fault (finite.get calls.now.gathered id) order ≡ None)) }
-    ensures none { IfNone result (continued order (gathered_kind (finite.get calls.now.table id))
-        (finite.get calls.now.gathered id) ≡ None) }
+    ensures none { IfNone result (continued_at calls.now id order ≡ None) }
 {
     let kind = gathered_kind(&calls.slot(id)?.entry)?;
     let (held, _) = calls.pieces(id)?;
@@ -183,8 +175,7 @@ fn gathered_kind(entry: &ServerEntry) -> Option<CallKind>
 fn add(calls: &mut Calls, id: u32, kind: CallKind, message: &Msg) -> Result<(), SessionFault>
     requires gathered { gathered_kind (finite.get calls.old.table id) ≡ Some kind }
     requires in_order { order_fault (finite.get calls.old.gathered id) message.now.order ≡ None }
-    ensures { AtServer (Befalls id (Hears (kept (event.More true))
-        (More (behind_id message.now)))) calls.old result calls.new }
+    ensures { AtServer (Befalls id (goes_on message.now)) calls.old result calls.new }
 {
     match calls.go_on(id, message.order, behind_id(message)) {
         Ok(()) => Ok(()),
@@ -202,10 +193,8 @@ fn complete(
     message: &Msg,
 ) -> Result<(), SessionFault>
     requires gathered { gathered_kind (finite.get calls.old.table id) ≡ Some kind }
-    ensures { (pieces : _) → finite.get calls.old.gathered id ≡ Some pieces
-        → AtServer (Befalls id (Hears (kept (event.Last true (heard_call interface.now kind
-        message.now.version message.now.order (pieces.octets ++ behind_id message.now))))
-        (More (behind_id message.now)))) calls.old result calls.new }
+    ensures { (pieces : _) → finite.get calls.old.gathered id ≡ Some pieces → AtServer (Befalls id
+        (completes interface.now kind message.now pieces.octets)) calls.old result calls.new }
 {
     let octets = behind_id(message);
     if !calls.has_room(octets.len()) {
@@ -234,8 +223,7 @@ fn joined_call(
     requires { octets_in (finite.get calls.now.gathered id)
         + length (behind_id message.now) ≤ 2 ^ 62 }
     ensures { IfSome result (λ call. (pieces : _) → finite.get calls.now.gathered id ≡ Some pieces
-        → call ≡ heard_call interface.now kind message.now.version message.now.order
-        (pieces.octets ++ behind_id message.now)) }
+        → call ≡ call_in interface.now kind message.now (pieces.octets ++ behind_id message.now)) }
 {
     let (_, gathered) = calls.pieces(id)?;
     let joined = WithLast::new(&gathered, behind_id(message));
@@ -245,7 +233,7 @@ fn joined_call(
 
 // Whether a call may take the id.
 fn is_free(calls: &Calls, id: u32) -> bool
-    ensures { result ≡ is_free (entry_of (finite.get calls.now.table id)) }
+    ensures { result ≡ is_free (entry_at calls.now id) }
 {
     match calls.slot(id) {
         Some(slot) => slot.entry.is_closed(),

@@ -2,7 +2,7 @@
 //! empty, and no program calls these.
 ghost use Rattle.std.specs.Prelude.{◌≡◌, ℕ, Err, Ok};
 ghost use Rattle.giop_session.specs.Acts.Acting.{IsAccepted};
-ghost use Rattle.giop_session.specs.Calls.CallTable.{Held, rules_of};
+ghost use Rattle.giop_session.specs.Calls.CallTable.{Held, rules_by};
 ghost use Rattle.giop_session.specs.Acts.Putting.{Befell};
 
 use crate::Side;
@@ -13,9 +13,9 @@ use crate::Side;
 /// that the plan sends, and leaves each other id. A refused one leaves all.
 pub fn what_an_own_act_leaves<R: Side>(rule: &R)
     ensures accepted { (of_rule : _) (id : ℕ) (planned : _) (h k : Held R R.Entry) (out out' : _)
-        → Befell (rules_of (R.next rule.now) (R.closed rule.now) R.gathering) of_rule id planned
-        h out (Ok tt) k out' → IsAccepted (R.next rule.now) id planned h out k out' }
+        → Befell (rules_by R.Side rule.now) of_rule id planned h out (Ok tt) k out'
+        → IsAccepted (R.next rule.now) id planned h out k out' }
     ensures refused { (of_rule : _) (id : ℕ) (planned : _) (h k : Held R R.Entry) (out out' : _)
-        (why : _) → Befell (rules_of (R.next rule.now) (R.closed rule.now) R.gathering) of_rule id
-        planned h out (Err why) k out' → (k ≡ h) × (out' ≡ out) }
+        (why : _) → Befell (rules_by R.Side rule.now) of_rule id planned h out (Err why) k out'
+        → (k ≡ h) × (out' ≡ out) }
 {}

@@ -19,7 +19,7 @@ ghost use Rattle.giop_session.specs.Hearing.ClientHears.{awaited, client_befalls
 ghost use Rattle.giop_session.specs.Worlds.Coding.{coding};
 ghost use Rattle.giop_session.specs.Hearing.Heard.{behind_id, kept};
 ghost use Rattle.giop_session.specs.Worlds.LaneAtEnds.{carried, gathered_in, gathers, seen};
-ghost use Rattle.giop_session.specs.Worlds.OwnLane.{alone, located_run, OwnRuns, PlansCall, PlansLocated};
+ghost use Rattle.giop_session.specs.Worlds.OwnLane.{alone, BringsClient, located_run, OwnRuns, PlansCall, PlansLocated, SendsCall, SendsLocated, SendsReply};
 ghost use Rattle.giop_session.specs.Worlds.OwnLane.{PlansReply, replied_run, sends_cut};
 ghost use Rattle.giop_session.specs.Acts.Sent.{sends_one};
 ghost use Rattle.giop_session.specs.Items.ServerCarries.{asks};
@@ -129,17 +129,13 @@ pub fn own_ends_of_one_lane_agree()
 /// is answered in one message of its version, and that arrives: the client has that Reply. So a
 /// LocateRequest: the client has its LocateReply.
 pub fn own_lanes_come_to_replies()
-    ensures replied { (interface : Interface) (q r : _) (one other : Piece)
-        → is_oneway q ≡ false → is_same_version q.head.version r.version ≡ true
-        → PlansCall interface None (asked.Request q)
-        (sends_cut (at_client.Call (asked.Request q)) (alone one))
-        → PlansReply interface q r (sends_cut (at_server.Answer r) (alone other))
-        → (lane : Lane) × OwnRuns interface new (replied_run q r one other) lane
-        × (lane.client.entry ≡ Some (client.Done q r)) }
+    ensures replied { (interface : Interface) (q r : _) (one other : Piece) → is_oneway q ≡ false
+        → is_same_version q.head.version r.version ≡ true
+        → SendsCall interface None (asked.Request q) (alone one)
+        → SendsReply interface q r (alone other)
+        → BringsClient interface (replied_run q r one other) (client.Done q r) }
     ensures located { (interface : Interface) (q here : _) (one other : Piece)
-        → PlansCall interface None (asked.Locate q)
-        (sends_cut (at_client.Call (asked.Locate q)) (alone one))
-        → PlansLocated q here (sends_one (at_server.AnswerLocate here) other)
+        → SendsCall interface None (asked.Locate q) (alone one) → SendsLocated q here other
         → (lane : Lane) × (told : _) × OwnRuns interface new (located_run q here one other) lane
         × (lane.client.entry ≡ Some (client.LocateDone q told)) }
 {}

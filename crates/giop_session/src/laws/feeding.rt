@@ -1,12 +1,10 @@
 //! What feeding an end comes to, in whatever reads its octets come. A function's contract is a
 //! law; the body is empty, and no program calls it. Its meaning is `Feeds` in specs/Pumping.antt.
-ghost use Rattle.std.specs.Prelude.{◌≡◌, ◌≢◌, ◌++◌, ℕ, Err, List, None, Ok};
+ghost use Rattle.std.specs.Prelude.{ℕ, List};
 ghost use Rattle.giop_types.specs.declared.json.interface.Interface.{Interface};
 ghost use Rattle.giop_session.specs.Calls.CallTable.{Held};
-ghost use Rattle.giop_session.specs.Hearing.Feeding.{with_octets};
-ghost use Rattle.giop_session.specs.Hearing.Heard.{hears_by};
-ghost use Rattle.giop_session.specs.Pumping.{Feeds, State};
-ghost use Rattle.giop_session.specs.declared.session_fault.SessionFault.TheVariants.{NoMemory};
+ghost use Rattle.giop_session.specs.Hearing.Heard.{hears_in};
+ghost use Rattle.giop_session.specs.Pumping.{AreOneRead, State, StaysRefused};
 
 use crate::Hearing;
 
@@ -22,23 +20,9 @@ use crate::Hearing;
 /// What is outgoing is the same in any case: `End::feed` changes none of it.
 pub fn any_reads_leave_the_same<R: Hearing>(rule: &R)
     ensures ok { (interface : Interface) (s mid t u : State (Held R R.Entry)) (octets more : List ℕ)
-        (second both : _) → second ≢ Err NoMemory → both ≢ Err NoMemory
-        → Feeds (hears_by R.next R.closed R.gathering R.in_call R.breaks (R.befalls interface))
-        s octets (Ok tt) mid
-        → Feeds (hears_by R.next R.closed R.gathering R.in_call R.breaks (R.befalls interface))
-        mid more second t
-        → Feeds (hears_by R.next R.closed R.gathering R.in_call R.breaks (R.befalls interface))
-        s (octets ++ more) both u
-        → (both ≡ second) × (u ≡ t) }
+        (second both : _)
+        → AreOneRead (hears_in R.Hearing interface) s mid t u octets more second both }
     ensures refused { (interface : Interface) (s mid t u : State (Held R R.Entry))
         (octets more : List ℕ) (why second both : _)
-        → s.fault ≡ None → why ≢ NoMemory → both ≢ Err NoMemory
-        → Feeds (hears_by R.next R.closed R.gathering R.in_call R.breaks (R.befalls interface))
-        s octets (Err why) mid
-        → Feeds (hears_by R.next R.closed R.gathering R.in_call R.breaks (R.befalls interface))
-        mid more second t
-        → Feeds (hears_by R.next R.closed R.gathering R.in_call R.breaks (R.befalls interface))
-        s (octets ++ more) both u
-        → (second ≡ Err why) × (t ≡ mid) × (both ≡ Err why)
-        × (u ≡ record mid { unread = with_octets mid.unread more }) }
+        → StaysRefused (hears_in R.Hearing interface) s mid t u octets more why second both }
 {}

@@ -1,6 +1,6 @@
 //! The headline (docs/HEADLINE.md): what a run of an end leaves of each call is what was said of
 //! that call. Each function's contract is a law; the bodies are empty, and no program calls these.
-ghost use Rattle.std.specs.Prelude.{◌≡◌, ℕ, false, List, map, None, Some};
+ghost use Rattle.std.specs.Prelude.{◌≡◌, ℕ, false, List, Some};
 ghost use Rattle.std.specs.FinMap as finite;
 ghost use Rattle.giop_cdr.specs.declared.order.Order.{Order};
 ghost use Rattle.giop_cdr.specs.Ending.{ended};
@@ -18,15 +18,13 @@ ghost use Rattle.giop_calls.specs.declared.client.heard.HeardReply.TheVariants a
 ghost use Rattle.giop_calls.specs.declared.server.heard.HeardCall.TheVariants as call;
 ghost use Rattle.giop_types.specs.declared.json.interface.Interface.{Interface};
 ghost use Rattle.giop_session.specs.declared.limits.Limits.{Limits};
-ghost use Rattle.giop_session.specs.Calls.CallTable.{at, Held, turn};
-ghost use Rattle.giop_session.specs.Items.Carries.{CarriesItem, Got, IsSeries, IsWrittenAs, behind_all};
-ghost use Rattle.giop_session.specs.Items.ClientCarries.{ClientItem, answered, client_telling, unknown};
-ghost use Rattle.giop_session.specs.Runs.EndRuns.{ClientTakes, ServerTakes};
-ghost use Rattle.giop_session.specs.Runs.Events.{Comes, Event, Follows, Meets, own_events};
-ghost use Rattle.giop_session.specs.Runs.Inputs.{Holds};
-ghost use Rattle.giop_session.specs.Calls.Sending.{entry_of};
-ghost use Rattle.giop_session.specs.Items.ServerCarries.{ServerItem, server_telling};
-ghost use Rattle.giop_session.specs.Hearing.Heard.{side_by};
+ghost use Rattle.giop_session.specs.Calls.CallTable.{Held};
+ghost use Rattle.giop_session.specs.Items.Carries.{IsSeries, IsWrittenAs};
+ghost use Rattle.giop_session.specs.Items.ClientCarries.{answered, CarryReply, ClientItem};
+ghost use Rattle.giop_session.specs.Runs.EndRuns.{ClientEntriesAre, ClientInputsHold, ClientTakes, SameEntries, ServerEntriesAre, ServerInputsHold, ServerTakes};
+ghost use Rattle.giop_session.specs.Runs.Events.{EachFollows, Event, Meets};
+ghost use Rattle.giop_session.specs.Items.ServerCarries.{CarryCall, ServerItem};
+ghost use Rattle.giop_session.specs.Hearing.Heard.{side_of};
 
 use crate::Hearing;
 
@@ -35,10 +33,8 @@ use crate::Hearing;
 /// makes no difference.
 pub fn each_call_of_a_run<R: Hearing>(rule: &R)
     ensures { (interface : Interface) (h k : Held R R.Entry) (events : List (Event R.Event))
-        → Meets (side_by R.next R.closed R.gathering R.in_call R.breaks (R.befalls interface))
-        h events k
-        → (id : ℕ) → Follows (turn (R.next h.rule) (R.closed h.rule) R.gathering)
-        (R.befalls interface) (at h id) (own_events id events) (at k id) }
+        → Meets (side_of R.Hearing interface) h events k
+        → EachFollows (side_of R.Hearing interface) h events k }
 {}
 
 /// A server's end takes inputs, octets in reads of any size and its own acts, and refuses none of
@@ -50,17 +46,13 @@ pub fn each_call_of_a_run<R: Hearing>(rule: &R)
 /// whatever their limits.
 pub fn same_calls_same_entries_at_server()
     ensures value { (interface : Interface) (limits : Limits) (inputs : _) (left : _) (k : _)
-        (calls : ℕ → List ServerItem)
-        → ServerTakes interface limits inputs left k
-        → Holds (server_telling interface) None limits.message inputs calls
-        → (id : ℕ) → entry_of (finite.get k.table id)
-        ≡ behind_all (server_telling interface) None (calls id) }
+        (calls : ℕ → List ServerItem) → ServerTakes interface limits inputs left k
+        → ServerInputsHold interface limits inputs calls → ServerEntriesAre interface calls k }
     ensures same { (interface : Interface) (limits limits' : Limits) (one other : _)
         (left left' : _) (k k' : _) (calls : ℕ → List ServerItem)
         → ServerTakes interface limits one left k → ServerTakes interface limits' other left' k'
-        → Holds (server_telling interface) None limits.message one calls
-        → Holds (server_telling interface) None limits'.message other calls
-        → (id : ℕ) → entry_of (finite.get k.table id) ≡ entry_of (finite.get k'.table id) }
+        → ServerInputsHold interface limits one calls
+        → ServerInputsHold interface limits' other calls → SameEntries k k' }
 {}
 
 /// A client's end takes inputs, octets in reads of any size and its own acts, and refuses none of
@@ -73,17 +65,13 @@ pub fn same_calls_same_entries_at_server()
 /// whatever their limits.
 pub fn same_calls_same_entries_at_client()
     ensures value { (interface : Interface) (limits : Limits) (inputs : _) (left : _) (k : _)
-        (calls : ℕ → List ClientItem)
-        → ClientTakes interface limits inputs left k
-        → Holds (client_telling interface) unknown limits.message inputs calls
-        → (id : ℕ) → entry_of (finite.get k.table id)
-        ≡ (behind_all (client_telling interface) unknown (calls id)).entry }
+        (calls : ℕ → List ClientItem) → ClientTakes interface limits inputs left k
+        → ClientInputsHold interface limits inputs calls → ClientEntriesAre interface calls k }
     ensures same { (interface : Interface) (limits limits' : Limits) (one other : _)
         (left left' : _) (k k' : _) (calls : ℕ → List ClientItem)
         → ClientTakes interface limits one left k → ClientTakes interface limits' other left' k'
-        → Holds (client_telling interface) unknown limits.message one calls
-        → Holds (client_telling interface) unknown limits'.message other calls
-        → (id : ℕ) → entry_of (finite.get k.table id) ≡ entry_of (finite.get k'.table id) }
+        → ClientInputsHold interface limits one calls
+        → ClientInputsHold interface limits' other calls → SameEntries k k' }
 {}
 
 /// A message that is cut into pieces of any size, in either byte order, is one item: its pieces are
@@ -97,25 +85,19 @@ pub fn what_is_cut_is_carried()
     ensures request { (interface : Interface) (version : Version) (order : Order) (asked : _)
         (piece : ℕ) (messages : List Msg) (entry : _)
         → IsWrittenAs (request interface version) order asked message.Request piece version messages
-        → CarriesItem (server_telling interface) entry (Got (call.Request asked))
-        (map Comes messages) }
+        → CarryCall interface entry (call.Request asked) messages }
     ensures locate { (interface : Interface) (version : Version) (order : Order) (asked : _)
-        (piece : ℕ) (messages : List Msg) (entry : _)
-        → IsWrittenAs (ended (locate_request version)) order asked message.LocateRequest piece
-        version messages
-        → CarriesItem (server_telling interface) entry (Got (call.Locate asked))
-        (map Comes messages) }
+        (piece : ℕ) (messages : List Msg) (entry : _) → IsWrittenAs (ended (locate_request version))
+        order asked message.LocateRequest piece version messages
+        → CarryCall interface entry (call.Locate asked) messages }
     ensures reply { (interface : Interface) (version : Version) (order : Order) (asked told : _)
         (piece : ℕ) (messages : List Msg) (known : _)
-        → answered known.entry known.latest ≡ Some (question.Request asked)
-        → IsWrittenAs (reply interface (Some asked) version) order told message.Reply piece version
-        messages
-        → CarriesItem (client_telling interface) known (Got (answer.Reply told))
-        (map Comes messages) }
+        → answered known.entry known.latest ≡ Some (question.Request asked) → IsWrittenAs
+        (reply interface (Some asked) version) order told message.Reply piece version messages
+        → CarryReply interface known (answer.Reply told) messages }
     ensures located { (interface : Interface) (version : Version) (order : Order) (asked told : _)
         (piece : ℕ) (messages : List Msg) (known : _)
         → answered known.entry known.latest ≡ Some (question.Locate asked)
         → IsWrittenAs (locate_reply version) order told message.LocateReply piece version messages
-        → CarriesItem (client_telling interface) known (Got (answer.Locate told))
-        (map Comes messages) }
+        → CarryReply interface known (answer.Locate told) messages }
 {}

@@ -19,7 +19,8 @@ ghost use Rattle.giop_session.specs.Hearing.ServerHears.{server_side};
 /// in all.
 pub fn limits_in_any_order_at_server()
     ensures order { (interface : Interface) (limits : Limits) (all : List (Event ServerEvent))
-        → AreWithinAtServer limits all → MeetNoLimit (server_side interface) (record {}) limits all }
+        → AreWithinAtServer limits all
+        → MeetNoLimit (server_side interface) (record {}) limits all }
     ensures few { (limits : Limits) (all : List (Event ServerEvent))
         → length all ≤ limits.calls → sum_by payload_of all ≤ limits.gathered
         → AreWithinAtServer limits all }
@@ -34,7 +35,8 @@ pub fn limits_in_any_order_at_server()
 /// in all.
 pub fn limits_in_any_order_at_client()
     ensures order { (interface : Interface) (limits : Limits) (all : List (Event ClientEvent))
-        → AreWithinAtClient limits all → MeetNoLimit (client_side interface) (record {}) limits all }
+        → AreWithinAtClient limits all
+        → MeetNoLimit (client_side interface) (record {}) limits all }
     ensures few { (limits : Limits) (all : List (Event ClientEvent))
         → length all ≤ limits.calls → sum_by payload_of all ≤ limits.gathered
         → AreWithinAtClient limits all }

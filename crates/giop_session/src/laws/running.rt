@@ -4,16 +4,14 @@
 ghost use Rattle.std.specs.Prelude.{◌≡◌, ◌≢◌, ◌≤◌, ◌^◌, ◌↔◌, ℕ, None, Err, IfOk, IsErr};
 ghost use Rattle.giop_session.specs.declared.laws.inputs.Answered.TheVariants.{Refused};
 ghost use Rattle.giop_session.specs.declared.session_fault.SessionFault.TheVariants.{NoMemory};
-ghost use Rattle.giop_session.specs.Items.Carries.{behind_all};
-ghost use Rattle.giop_session.specs.Items.ClientCarries.{client_telling, unknown};
-ghost use Rattle.giop_session.specs.Runs.ClientRuns.{client_entry, client_named, ClientHolds, ClientRuns, ClientTakesAs};
-ghost use Rattle.giop_session.specs.Runs.Driven.{answer_of, Closes, end_state, Feeds, InTurn, IsGiven, item_answers, NoneRefused, own_answers, taken_answer_of, TakesOut};
+ghost use Rattle.giop_session.specs.Runs.ClientRuns.{ClientHasAnswers, ClientHasEntries, ClientRuns, ClientTakesAs};
+ghost use Rattle.giop_session.specs.Runs.Driven.{answer_of, Closes, Feeds, InTurn, IsGiven, NoneRefused, TakesOut};
 ghost use Rattle.giop_session.specs.Runs.Fits.{ClientFits, ClientIsAsAlone, ClientIsAsSaid, ClientSays, ServerFits, ServerIsAsAlone, ServerIsAsSaid, ServerSays};
 ghost use Rattle.giop_session.specs.Acts.PutOut.{ArePutOut, is_of_client, is_of_server};
 ghost use Rattle.giop_session.specs.Runs.RunLimits.{ClientIsGivenWithin, NoneForALimit, ServerIsGivenWithin};
-ghost use Rattle.giop_session.specs.Items.ServerCarries.{server_telling};
-ghost use Rattle.giop_session.specs.Runs.ServerRuns.{server_entry, server_named, ServerHolds, ServerRuns, ServerTakesAs};
-ghost use Rattle.giop_session.specs.Hearing.Heard.{side_by};
+ghost use Rattle.giop_session.specs.Runs.ServerRuns.{ServerHasAnswers, ServerHasEntries, ServerRuns, ServerTakesAs};
+ghost use Rattle.giop_session.specs.Hearing.Heard.{side_of};
+ghost use Rattle.giop_session.specs.Ends.View.{IsDriven, state_of};
 
 use super::inputs::{Answered, ClientInput, ServerInput};
 use crate::end::{ClientEnd, End, ServerEnd};
@@ -53,21 +51,16 @@ pub fn run_server<'a>(
 ) -> Result<(ServerEnd<'a>, Vec<Answered<ServerEntry>>), AllocError>
     requires { limits.gathered ≤ 2 ^ 62 }
     ensures value { IfOk result (λ run. ServerRuns interface.now limits inputs.items run.1.items
-        (end_state run.0.framer run.0.calls run.0.outgoing run.0.fault)) }
+        (state_of run.0)) }
     ensures same { IfOk result (λ run. (run.0.interface.now ≡ interface.now)
         × (run.0.limits ≡ limits)) }
     ensures taken { IfOk result (λ run. NoneRefused run.1.items → run.0.fault ≡ None
         → (acts : _) × ServerTakesAs interface.now limits inputs.items run.1.items acts
         run.0.framer run.0.calls) }
-    ensures table { IfOk result (λ run. (items : _)
-        → ServerHolds interface.now limits inputs.items run.1.items run.0.framer
-        run.0.calls items
-        → (id : _) → server_entry run.0.calls id
-        ≡ behind_all (server_telling interface.now) None (items id)) }
-    ensures answers { IfOk result (λ run. (items : _)
-        → ServerHolds interface.now limits inputs.items run.1.items run.0.framer run.0.calls items
-        → (id : _) → own_answers server_named id inputs.items run.1.items
-        ≡ item_answers (server_telling interface.now) (λ entry. entry) None (items id)) }
+    ensures table { IfOk result (λ run. ServerHasEntries interface.now limits inputs.items
+        run.1.items run.0.framer run.0.calls) }
+    ensures answers { IfOk result (λ run. ServerHasAnswers interface.now limits inputs.items
+        run.1.items run.0.framer run.0.calls) }
     ensures within { IfOk result (λ run. ServerIsGivenWithin limits inputs.items
         → NoneForALimit run.1.items) }
     ensures fits { IfOk result (λ run. ServerFits interface.now limits inputs.items
@@ -113,21 +106,16 @@ pub fn run_client<'a>(
 ) -> Result<(ClientEnd<'a>, Vec<Answered<ClientEntry>>), AllocError>
     requires { limits.gathered ≤ 2 ^ 62 }
     ensures value { IfOk result (λ run. ClientRuns interface.now limits inputs.items run.1.items
-        (end_state run.0.framer run.0.calls run.0.outgoing run.0.fault)) }
+        (state_of run.0)) }
     ensures same { IfOk result (λ run. (run.0.interface.now ≡ interface.now)
         × (run.0.limits ≡ limits)) }
     ensures taken { IfOk result (λ run. NoneRefused run.1.items → run.0.fault ≡ None
         → (acts : _) × ClientTakesAs interface.now limits inputs.items run.1.items acts
         run.0.framer run.0.calls) }
-    ensures table { IfOk result (λ run. (items : _)
-        → ClientHolds interface.now limits inputs.items run.1.items run.0.framer
-        run.0.calls items
-        → (id : _) → client_entry run.0.calls id
-        ≡ (behind_all (client_telling interface.now) unknown (items id)).entry) }
-    ensures answers { IfOk result (λ run. (items : _)
-        → ClientHolds interface.now limits inputs.items run.1.items run.0.framer run.0.calls items
-        → (id : _) → own_answers client_named id inputs.items run.1.items
-        ≡ item_answers (client_telling interface.now) (λ known. known.entry) unknown (items id)) }
+    ensures table { IfOk result (λ run. ClientHasEntries interface.now limits inputs.items
+        run.1.items run.0.framer run.0.calls) }
+    ensures answers { IfOk result (λ run. ClientHasAnswers interface.now limits inputs.items
+        run.1.items run.0.framer run.0.calls) }
     ensures within { IfOk result (λ run. ClientIsGivenWithin limits inputs.items
         → NoneForALimit run.1.items) }
     ensures fits { IfOk result (λ run. ClientFits interface.now limits inputs.items
@@ -169,14 +157,7 @@ impl<'a> Driven for End<'a, ServerRule> {
     type Answer = Answered<ServerEntry>;
 
     ghost is_given = { λ end input answered after. ServerIsGiven end.interface.now end.limits
-        (end_state end.framer end.calls end.outgoing end.fault) input answered
-        (end_state after.framer after.calls after.outgoing after.fault)
-        × (after ≡ record end {
-          framer = after.framer;
-          calls = after.calls;
-          outgoing = after.outgoing;
-          fault = after.fault;
-        }) };
+        (state_of end) input answered (state_of after) × IsDriven end after };
 
     fn take_input(&mut self, input: ServerInput) -> Result<Answered<ServerEntry>, AllocError> {
         match input {
@@ -202,14 +183,7 @@ impl<'a> Driven for End<'a, ClientRule> {
     type Answer = Answered<ClientEntry>;
 
     ghost is_given = { λ end input answered after. ClientIsGiven end.interface.now end.limits
-        (end_state end.framer end.calls end.outgoing end.fault) input answered
-        (end_state after.framer after.calls after.outgoing after.fault)
-        × (after ≡ record end {
-          framer = after.framer;
-          calls = after.calls;
-          outgoing = after.outgoing;
-          fault = after.fault;
-        }) };
+        (state_of end) input answered (state_of after) × IsDriven end after };
 
     fn take_input(&mut self, input: ClientInput) -> Result<Answered<ClientEntry>, AllocError> {
         match input {
@@ -245,32 +219,18 @@ pub(super) fn feed_to<R: Hearing>(
     end: &mut End<'_, R>,
     octets: &[u8],
 ) -> Result<Answered<R::Entry>, AllocError>
-    ensures given { IfOk result (λ answered. IsGiven (side_by R.next R.closed R.gathering R.in_call R.breaks
-        (R.befalls end.old.interface.now)) (Feeds octets.now)
-        (end_state end.old.framer end.old.calls end.old.outgoing end.old.fault) answered
-        (end_state end.new.framer end.new.calls end.new.outgoing end.new.fault)) }
-    ensures others { end.new ≡ record end.old {
-      framer = end.new.framer;
-      calls = end.new.calls;
-      outgoing = end.new.outgoing;
-      fault = end.new.fault;
-    } }
+    ensures given { IfOk result (λ answered. IsGiven (side_of R.Hearing end.old.interface.now)
+        (Feeds octets.now) (state_of end.old) answered (state_of end.new)) }
+    ensures others { IsDriven end.old end.new }
 {
     answered(end.feed(octets))
 }
 
 // An entry is taken out of an end, where its call is over, and is the answer.
 fn take_from<R: Hearing>(end: &mut End<'_, R>, id: u32) -> Result<Answered<R::Entry>, AllocError>
-    ensures given { IfOk result (λ answered. IsGiven (side_by R.next R.closed R.gathering R.in_call R.breaks
-        (R.befalls end.old.interface.now)) (TakesOut id)
-        (end_state end.old.framer end.old.calls end.old.outgoing end.old.fault) answered
-        (end_state end.new.framer end.new.calls end.new.outgoing end.new.fault)) }
-    ensures others { end.new ≡ record end.old {
-      framer = end.new.framer;
-      calls = end.new.calls;
-      outgoing = end.new.outgoing;
-      fault = end.new.fault;
-    } }
+    ensures given { IfOk result (λ answered. IsGiven (side_of R.Hearing end.old.interface.now)
+        (TakesOut id) (state_of end.old) answered (state_of end.new)) }
+    ensures others { IsDriven end.old end.new }
 {
     match end.take(id) {
         Ok(entry) => Ok(Answered::Taken(entry)),
@@ -281,16 +241,9 @@ fn take_from<R: Hearing>(end: &mut End<'_, R>, id: u32) -> Result<Answered<R::En
 
 // An end is closed, and answers this.
 fn close_end<R: Hearing>(end: &mut End<'_, R>) -> Result<Answered<R::Entry>, AllocError>
-    ensures given { IfOk result (λ answered. IsGiven (side_by R.next R.closed R.gathering R.in_call R.breaks
-        (R.befalls end.old.interface.now)) Closes
-        (end_state end.old.framer end.old.calls end.old.outgoing end.old.fault) answered
-        (end_state end.new.framer end.new.calls end.new.outgoing end.new.fault)) }
-    ensures others { end.new ≡ record end.old {
-      framer = end.new.framer;
-      calls = end.new.calls;
-      outgoing = end.new.outgoing;
-      fault = end.new.fault;
-    } }
+    ensures given { IfOk result (λ answered. IsGiven (side_of R.Hearing end.old.interface.now)
+        Closes (state_of end.old) answered (state_of end.new)) }
+    ensures others { IsDriven end.old end.new }
 {
     answered(end.close())
 }

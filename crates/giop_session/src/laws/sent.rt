@@ -1,6 +1,6 @@
 //! What ends send, and what of it is on its way to the other end. Each function's contract is a
 //! law; the bodies are empty, and no program calls these.
-ghost use Rattle.std.specs.Prelude.{◌≡◌, ◌++◌, ◌<◌, ◌∷◌, [], All, if◌then◌else◌, length, List, map, Some};
+ghost use Rattle.std.specs.Prelude.{◌≡◌, ◌++◌, ◌<◌, ◌∷◌, [], All, if◌then◌else◌, length, List, Some};
 ghost use Rattle.std.specs.List.{AllByRecursion};
 ghost use Rattle.giop_types.specs.declared.json.interface.Interface.{Interface};
 ghost use Rattle.giop_msg.specs.Fault.{fault};
@@ -15,12 +15,10 @@ ghost use Rattle.giop_calls.specs.declared.client.heard.HeardReply.TheVariants a
 ghost use Rattle.giop_calls.specs.declared.server.event.ServerEvent.TheVariants as at_server;
 ghost use Rattle.giop_calls.specs.declared.server.heard.HeardCall.TheVariants as call;
 ghost use Rattle.giop_session.specs.Acts.ClientCalls.{IsCancel};
-ghost use Rattle.giop_session.specs.Items.Carries.{CarriesItem, Got};
-ghost use Rattle.giop_session.specs.Items.ClientCarries.{answered, client_telling};
-ghost use Rattle.giop_session.specs.Items.ServerCarries.{server_telling};
-ghost use Rattle.giop_session.specs.Runs.Events.{Comes};
+ghost use Rattle.giop_session.specs.Items.ClientCarries.{answered, CarryReply};
+ghost use Rattle.giop_session.specs.Items.ServerCarries.{CarryCall};
 ghost use Rattle.giop_session.specs.Worlds.OnTheWay.{id_of, IsFramed, Names, OnTheWay};
-ghost use Rattle.giop_session.specs.Worlds.OwnLane.{PlansCall, PlansLocated, PlansReply, sends_cut};
+ghost use Rattle.giop_session.specs.Worlds.OwnLane.{SendsCall, SendsLocated, SendsReply};
 ghost use Rattle.giop_session.specs.Acts.Sent.{sends_one};
 ghost use Rattle.giop_session.specs.Acts.ServerAnswers.{IsLocateAnswer};
 
@@ -30,13 +28,11 @@ use super::headline::what_is_cut_is_carried;
 /// call or a Reply, a LocateReply, a CancelRequest.
 pub fn what_is_sent_is_framed()
     ensures call { (interface : Interface) (entry call : _) (cut : Cut)
-        → PlansCall interface entry call (sends_cut (at_client.Call call) cut)
+        → SendsCall interface entry call cut → All IsFramed (pieces_of cut) }
+    ensures reply { (interface : Interface) (q r : _) (cut : Cut) → SendsReply interface q r cut
         → All IsFramed (pieces_of cut) }
-    ensures reply { (interface : Interface) (q r : _) (cut : Cut)
-        → PlansReply interface q r (sends_cut (at_server.Answer r) cut)
-        → All IsFramed (pieces_of cut) }
-    ensures located { (interface : Interface) (q here : _) (piece : Msg)
-        → PlansLocated q here (sends_one (at_server.AnswerLocate here) piece) → IsFramed piece }
+    ensures located { (interface : Interface) (q here : _) (piece : Msg) → SendsLocated q here piece
+        → IsFramed piece }
     ensures cancelled { (id : _) (order version : _) (m : Msg)
         → IsCancel id order (Some version) (sends_one at_client.Cancel m) → IsFramed m }
 {}
@@ -45,10 +41,8 @@ pub fn what_is_sent_is_framed()
 /// where a head has its id behind the service contexts.
 pub fn what_is_sent_names_its_id()
     ensures call { (interface : Interface) (entry call : _) (cut : Cut)
-        → PlansCall interface entry call (sends_cut (at_client.Call call) cut)
-        → AllByRecursion (Names (id_of call)) (pieces_of cut) }
-    ensures reply { (interface : Interface) (q r : _) (cut : Cut)
-        → PlansReply interface q r (sends_cut (at_server.Answer r) cut)
+        → SendsCall interface entry call cut → AllByRecursion (Names (id_of call)) (pieces_of cut) }
+    ensures reply { (interface : Interface) (q r : _) (cut : Cut) → SendsReply interface q r cut
         → AllByRecursion (Names r.id) (pieces_of cut) }
     ensures located { (id : _) (here : _) (order version : _) (m : Msg)
         → IsLocateAnswer id here order (Some version) (sends_one (at_server.AnswerLocate here) m)
@@ -65,24 +59,19 @@ pub fn what_is_sent_names_its_id()
 /// and `locate`, and `ServerEnd::answer` and `answer_locate`, say of what they put out.
 pub fn what_is_sent_is_an_item()
     ensures request { (interface : Interface) (entry asked : _) (cut : Cut) (there : _)
-        → PlansCall interface entry (question.Request asked)
-        (sends_cut (at_client.Call (question.Request asked)) cut)
-        → CarriesItem (server_telling interface) there (Got (call.Request asked))
-        (map Comes (pieces_of cut)) }
+        → SendsCall interface entry (question.Request asked) cut
+        → CarryCall interface there (call.Request asked) (pieces_of cut) }
     ensures locate { (interface : Interface) (entry asked : _) (cut : Cut) (there : _)
-        → PlansCall interface entry (question.Locate asked)
-        (sends_cut (at_client.Call (question.Locate asked)) cut)
-        → CarriesItem (server_telling interface) there (Got (call.Locate asked))
-        (map Comes (pieces_of cut)) }
+        → SendsCall interface entry (question.Locate asked) cut
+        → CarryCall interface there (call.Locate asked) (pieces_of cut) }
     ensures reply { (interface : Interface) (asked told : _) (cut : Cut) (known : _)
         → answered known.entry known.latest ≡ Some (question.Request asked)
-        → PlansReply interface asked told (sends_cut (at_server.Answer told) cut)
-        → CarriesItem (client_telling interface) known (Got (answer.Reply told))
-        (map Comes (pieces_of cut)) }
+        → SendsReply interface asked told cut
+        → CarryReply interface known (answer.Reply told) (pieces_of cut) }
     ensures located { (interface : Interface) (asked here : _) (m : Msg) (known : _)
         → answered known.entry known.latest ≡ Some (question.Locate asked)
-        → PlansLocated asked here (sends_one (at_server.AnswerLocate here) m) → (told : _)
-        × CarriesItem (client_telling interface) known (Got (answer.Locate told)) (Comes m ∷ [])
+        → SendsLocated asked here m → (told : _)
+        × CarryReply interface known (answer.Locate told) (m ∷ [])
         × (told.head.status ≡ (if here then 1 else 0)) × (told.rest ≡ []) }
 {
     what_is_cut_is_carried();

@@ -2,9 +2,8 @@
 //! (`run_world`). Its meaning is `WorldRuns`, `GoesBy` and `AreJoined` in specs/Worlds/World.antt, and
 //! `Agreed` and `FailsByLimits` in specs/Worlds/Agreement.antt: change both.
 ghost use Rattle.std.specs.Prelude.{◌≡◌, ◌≤◌, ◌^◌, IfOk, length, None, take, drop};
-ghost use Rattle.giop_types.specs.declared.json.interface.Interface.{Interface};
 ghost use Rattle.giop_session.specs.Worlds.Agreement.{Agreed, FailsByLimits};
-ghost use Rattle.giop_session.specs.Worlds.World.{AreJoined, ArriveAtClient, ArriveAtServer, AtClient, AtServer};
+ghost use Rattle.giop_session.specs.Worlds.World.{AreJoined, ArriveAtClient, ArriveAtServer, AtClient, AtServer, IsStep};
 ghost use Rattle.giop_session.specs.Worlds.World.{ends_of, GoesBy, told_of_answer, WorldRuns};
 
 use super::agreement::two_ends_agree;
@@ -78,11 +77,8 @@ impl<'a> Driven for World<'a> {
 
     type Answer = Result<(), SessionFault>;
 
-    ghost is_given = { λ world event told after. (interface : _) (client_limits server_limits : _)
-        → GoesBy interface client_limits server_limits world
-        → GoesBy interface client_limits server_limits after
-        × Happens interface client_limits server_limits (ends_of world) event told
-        (ends_of after) };
+    ghost is_given = { λ world event told after. IsStep (λ interface client server w. Happens
+        interface client server w event told) world after };
 
     fn take_input(&mut self, event: WorldEvent) -> Result<Result<(), SessionFault>, AllocError> {
         match event {
@@ -113,11 +109,8 @@ fn at_client(
     world: &mut World<'_>,
     given: ClientInput,
 ) -> Result<Result<(), SessionFault>, AllocError>
-    ensures { IfOk result (λ told. (interface : Interface) (client_limits server_limits : _)
-        → GoesBy interface client_limits server_limits world.old
-        → GoesBy interface client_limits server_limits world.new
-        × AtClient interface client_limits server_limits (ends_of world.old) given told
-        (ends_of world.new)) }
+    ensures { IfOk result (λ told. IsStep (λ interface client server w. AtClient interface client
+        server w given told) world.old world.new) }
 {
     Ok(told_of(world.client.take_input(given)?))
 }
@@ -127,22 +120,16 @@ fn at_server(
     world: &mut World<'_>,
     given: ServerInput,
 ) -> Result<Result<(), SessionFault>, AllocError>
-    ensures { IfOk result (λ told. (interface : Interface) (client_limits server_limits : _)
-        → GoesBy interface client_limits server_limits world.old
-        → GoesBy interface client_limits server_limits world.new
-        × AtServer interface client_limits server_limits (ends_of world.old) given told
-        (ends_of world.new)) }
+    ensures { IfOk result (λ told. IsStep (λ interface client server w. AtServer interface client
+        server w given told) world.old world.new) }
 {
     Ok(told_of(world.server.take_input(given)?))
 }
 
 // Up to so many octets that the client put out arrive at the server's end.
 fn to_server(world: &mut World<'_>, n: usize) -> Result<Result<(), SessionFault>, AllocError>
-    ensures { IfOk result (λ told. (interface : Interface) (client_limits server_limits : _)
-        → GoesBy interface client_limits server_limits world.old
-        → GoesBy interface client_limits server_limits world.new
-        × ArriveAtServer interface client_limits server_limits (ends_of world.old) n told
-        (ends_of world.new)) }
+    ensures { IfOk result (λ told. IsStep (λ interface client server w. ArriveAtServer interface
+        client server w n told) world.old world.new) }
 {
     let octets = front(world.client.outgoing(), n);
     let count = octets.len();
@@ -153,11 +140,8 @@ fn to_server(world: &mut World<'_>, n: usize) -> Result<Result<(), SessionFault>
 
 // Up to so many octets that the server put out arrive at the client's end.
 fn to_client(world: &mut World<'_>, n: usize) -> Result<Result<(), SessionFault>, AllocError>
-    ensures { IfOk result (λ told. (interface : Interface) (client_limits server_limits : _)
-        → GoesBy interface client_limits server_limits world.old
-        → GoesBy interface client_limits server_limits world.new
-        × ArriveAtClient interface client_limits server_limits (ends_of world.old) n told
-        (ends_of world.new)) }
+    ensures { IfOk result (λ told. IsStep (λ interface client server w. ArriveAtClient interface
+        client server w n told) world.old world.new) }
 {
     let octets = front(world.server.outgoing(), n);
     let count = octets.len();

@@ -2,7 +2,7 @@
 //! docs/giopctl.md and tests/program too.
 
 use crate::cli::form_words::{json, plain_lines_of};
-use crate::cli::session_words::{little, target, timeout, timeout_of};
+use crate::cli::session_words::{follow, little, target, timeout, timeout_of};
 use clap::{ArgMatches, Command};
 use giop_commands::LineForm;
 use std::alloc::{AllocError, Global};
@@ -17,6 +17,8 @@ pub struct ObjectWords<'a> {
     pub timeout: Option<u32>,
     /// Whether the message is sent little-endian.
     pub little: bool,
+    /// Whether forwards are followed.
+    pub follow: bool,
     /// The form of the lines.
     pub lines: LineForm,
 }
@@ -48,6 +50,9 @@ It sends a LocateRequest, the message by which a client asks where an object is,
                         server wants the object addressed in another way
   1 Waiting             no answer came
 The last line is the fault that ended the session, where there is one.
+With --follow an object that is elsewhere is asked for where the first IIOP profile of the reference
+says, up to five times, over a connection of its own; standard error says where. The lines tell what
+came of it there.
 With --json the lines are {\"id\":1,\"what\":\"located\",\"status\":STATUS}, {\"id\":1,\"what\":\"waiting\"}
 and {\"fault\":{..}}.
 
@@ -70,7 +75,8 @@ pub fn ping<'a>(alloc: Global) -> Result<Command<'a>, AllocError> {
 /// The command `locate`.
 pub fn locate<'a>(alloc: Global) -> Result<Command<'a>, AllocError> {
     let about = "Asks a server where an object is";
-    asking(alloc, "locate", about, LOCATE_HELP)
+    let help = "An object that is elsewhere is asked for there, up to five times";
+    asking(alloc, "locate", about, LOCATE_HELP)?.arg(follow(alloc, help))
 }
 
 // A command that asks something of an object.
@@ -89,13 +95,21 @@ fn asking<'a>(
         .arg(little(alloc))
 }
 
-/// What `locate` or `ping` is asked for, or what is wrong with a word.
+/// What `locate` is asked for, or what is wrong with a word.
+pub fn locate_words<'a>(matches: &ArgMatches<'a>) -> Result<ObjectWords<'a>, &'static str> {
+    let mut words = object_words(matches)?;
+    words.follow = matches.get_flag("follow");
+    Ok(words)
+}
+
+/// What `ping` is asked for, or what is wrong with a word; `locate` too, but for its own option.
 pub fn object_words<'a>(matches: &ArgMatches<'a>) -> Result<ObjectWords<'a>, &'static str> {
     match matches.get_str("target") {
         Some(target) => Ok(ObjectWords {
             target,
             timeout: timeout_of(matches)?,
             little: matches.get_flag("little"),
+            follow: false,
             lines: plain_lines_of(matches),
         }),
         None => Err("--target is wanted"),

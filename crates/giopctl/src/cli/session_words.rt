@@ -191,7 +191,10 @@ pub fn call<'a>(alloc: Global) -> Result<Command<'a>, AllocError> {
         .arg(json(alloc))?
         .arg(json_numbers(alloc))?
         .arg(stream(alloc))?
-        .arg(follow(alloc))?
+        .arg(follow(
+            alloc,
+            "A call that is forwarded is made again there, up to five times",
+        ))?
         .arg(timeout(alloc))?;
     sent(alloc, command)?.arg(file)?.arg(values)
 }
@@ -267,11 +270,12 @@ fn stream<'a>(alloc: Global) -> Arg<'a> {
         .help("Each call is shown as soon as it is over, and forgotten")
 }
 
-fn follow<'a>(alloc: Global) -> Arg<'a> {
+/// The option by which forwards are followed.
+pub fn follow<'a>(alloc: Global, help: &'a str) -> Arg<'a> {
     Arg::new(alloc, "follow")
         .long("follow")
         .action(ArgAction::SetTrue)
-        .help("A call that is forwarded is made again there, up to five times")
+        .help(help)
 }
 
 /// The option of the object that is called.

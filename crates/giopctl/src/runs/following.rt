@@ -22,8 +22,8 @@ use std::alloc::{AllocError, Global};
 use std::io::{BufWriter, Write};
 use std::{io, str};
 
-// So many forwards of a call are followed.
-const MOST_FORWARDS: usize = 5;
+/// So many forwards of a call, or of a LocateRequest, are followed.
+pub const MOST_FORWARDS: usize = 5;
 
 // The sessions so far; of the last the fault of a call that was refused at this end, and what failed
 // in it, with its peer.
@@ -211,18 +211,25 @@ fn say_left(rt: &HostRuntime, forwards: &[Forward]) {
 }
 
 fn say_one(rt: &HostRuntime, id: u32, to: &Endpoint, behind: &str) {
-    let Ok(octets) = endpoint_text(rt.alloc(), to) else {
-        return;
+    if let Some(text) = place_text(rt.alloc(), to) {
+        let _ = eprintln!(rt;
+            "giopctl: call {id} is forwarded to {}{behind}",
+            text.as_str()
+        );
+    }
+}
+
+/// The text of the corbaloc of an object, escaped where a character isn't printable; none where it
+/// is out of memory.
+pub fn place_text(alloc: Global, to: &Endpoint) -> Option<String> {
+    let Ok(octets) = endpoint_text(alloc, to) else {
+        return None;
     };
-    let _ = match str::from_utf8(octets.as_slice()) {
-        Ok(text) if is_graphic(octets.as_slice()) => {
-            eprintln!(rt; "giopctl: call {id} is forwarded to {text}{behind}")
-        }
-        _ => {
-            let text = EscapedText(octets.as_slice());
-            eprintln!(rt; "giopctl: call {id} is forwarded to {text}{behind}")
-        }
+    let text = match str::from_utf8(octets.as_slice()) {
+        Ok(text) if is_graphic(octets.as_slice()) => String::from_str(alloc, text),
+        _ => format!(in alloc; "{}", EscapedText(octets.as_slice())),
     };
+    text.ok()
 }
 
 // Whether all octets are printable ASCII but for the space.

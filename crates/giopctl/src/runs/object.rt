@@ -1,6 +1,7 @@
 //! `locate` and `ping` over a connection and the standard output. `locate` sends a LocateRequest
 //! (CORBA 3.3 Part 2, 9.4.5), `ping` calls `_non_existent`, the operation by which a client asks
 //! whether an object is there (9.4.2.1), and tells how long that took.
+ghost use Rattle.std.specs.Prelude.{◌≡◌};
 
 use crate::cli::ObjectWords;
 use crate::files::OUTPUT_BUFFER;
@@ -14,6 +15,7 @@ use giop_commands::status::Status;
 use giop_commands::{Calling, Ending, Endpoint, call_over};
 use giop_session::{Form, Limits};
 use giop_types::Interface;
+use std::alloc::Global;
 use std::io;
 use std::io::{BufWriter, Write};
 use std::time::Instant;
@@ -72,27 +74,11 @@ fn ask(
     words: ObjectWords,
     question: Question,
 ) -> Result<Ending, Failure> {
-    let Ok(interface) = Interface::from_json(rt.alloc(), OFFERED) else {
-        return Err(Failure::Memory);
-    };
+    let interface = offered(rt.alloc())?;
     let Ok(calls) = call_from_words(rt.alloc(), &interface, ASKED, Vec::new(rt.alloc())) else {
         return Err(Failure::Memory);
     };
-    let order = if words.little {
-        Order::Little
-    } else {
-        Order::Big
-    };
-    let calling = Calling {
-        interface: &interface,
-        key: endpoint.key.as_slice(),
-        version: endpoint.version,
-        form: Form {
-            order,
-            piece: 4_096,
-        },
-        limits: Limits::default(),
-    };
+    let calling = calling_at(words, &interface, endpoint, Limits::default());
     let link = connected(rt, endpoint, words.timeout)?;
     let mut out = BufWriter::with_capacity(rt.alloc(), OUTPUT_BUFFER, io::writer(rt))?;
     let (mut reader, mut writer) = (&link, &link);
@@ -104,4 +90,38 @@ fn ask(
     };
     out.flush()?;
     Ok(ended)
+}
+
+/// What each object offers: the operation that `ping` calls.
+pub fn offered(alloc: Global) -> Result<Interface, Failure> {
+    match Interface::from_json(alloc, OFFERED) {
+        Ok(interface) => Ok(interface),
+        Err(_) => Err(Failure::Memory),
+    }
+}
+
+/// How the object of an endpoint is asked.
+pub fn calling_at<'a>(
+    words: ObjectWords,
+    interface: &'a Interface,
+    endpoint: &'a Endpoint,
+    limits: Limits,
+) -> Calling<'a>
+    ensures interface { result.interface.now ≡ interface.now }
+    ensures limits { result.limits ≡ limits }
+{
+    let order = match words.little {
+        true => Order::Little,
+        false => Order::Big,
+    };
+    Calling {
+        interface,
+        key: endpoint.key.as_slice(),
+        version: endpoint.version,
+        form: Form {
+            order,
+            piece: 4_096,
+        },
+        limits,
+    }
 }

@@ -4,14 +4,11 @@ ghost use Rattle.std.specs.Prelude.{◌≡◌, Some, None, Err, IsOk};
 ghost use Rattle.std.specs.FinMap as finite;
 ghost use Rattle.giop_calls.specs.ServerTable as table;
 ghost use Rattle.giop_calls.specs.declared.server.event.ServerEvent.TheVariants as event;
-ghost use Rattle.giop_session.specs.declared.calls.plan.Plan.TheVariants.{Next};
 ghost use Rattle.giop_session.specs.declared.session_fault.SessionFault.TheVariants.{NoMemory};
-ghost use Rattle.giop_session.specs.Calls.CallTable.{rules_of};
+ghost use Rattle.giop_session.specs.Calls.CallTable.{entry_at};
 ghost use Rattle.giop_session.specs.Acts.Form.{IsForm};
-ghost use Rattle.giop_session.specs.Hearing.Heard.{in_call};
-ghost use Rattle.giop_session.specs.Acts.Putting.{Puts};
-ghost use Rattle.giop_session.specs.Calls.Sending.{entry_of};
-ghost use Rattle.giop_session.specs.Acts.ServerAnswers.{answer_fault, IsAnswer, IsFitAnswer, IsLocateAnswer, locate_of, question_of};
+ghost use Rattle.giop_session.specs.Acts.ServerAnswers.{IsFitAnswer, PutsAnswer, PutsLocateAnswer, PutsNext, question_of};
+ghost use Rattle.giop_session.specs.Ends.Detached.{IsActedOn};
 
 use crate::acts::answering::{answer, answer_locate, send};
 use crate::acts::form::Form;
@@ -34,19 +31,10 @@ impl Detached<ServerRule> {
         ensures failed { (why : _) → self.old.fault ≡ Some why
             → (result ≡ Err why) × (self.new ≡ self.old) }
         ensures last { result ≡ Err NoMemory → self.old.fault ≡ None
-            → IsFitAnswer interface.now
-            (question_of (entry_of (finite.get self.old.calls.table reply.id))) reply }
-        ensures answered { self.old.fault ≡ None
-            → Puts (rules_of table.server_step table.is_closed table.is_gathering) in_call reply.id
-            (answer_fault interface.now self.old.limits
-            (question_of (entry_of (finite.get self.old.calls.table reply.id))) reply form)
-            (IsAnswer interface.now
-            (question_of (entry_of (finite.get self.old.calls.table reply.id))) reply form)
-            self.old.calls self.old.outgoing result self.new.calls self.new.outgoing }
-        ensures others { self.new ≡ record self.old {
-          calls = self.new.calls;
-          outgoing = self.new.outgoing;
-        } }
+            → IsFitAnswer interface.now (question_of (entry_at self.old.calls reply.id)) reply }
+        ensures answered { self.old.fault ≡ None → PutsAnswer interface.now self.old.limits reply
+            form self.old.calls self.old.outgoing result self.new.calls self.new.outgoing }
+        ensures others { IsActedOn self.old self.new }
     {
         if let Some(fault) = self.fault {
             return Err(fault);
@@ -66,18 +54,11 @@ impl Detached<ServerRule> {
     pub fn answer_locate(&mut self, id: u32, here: bool, order: Order) -> Result<(), SessionFault>
         ensures failed { (why : _) → self.old.fault ≡ Some why
             → (result ≡ Err why) × (self.new ≡ self.old) }
-        ensures last { result ≡ Err NoMemory → self.old.fault ≡ None
-            → IsOk (table.server_step (entry_of (finite.get self.old.calls.table id))
-            (event.AnswerLocate here)).outcome }
-        ensures answered { self.old.fault ≡ None
-            → Puts (rules_of table.server_step table.is_closed table.is_gathering) in_call id None
-            (IsLocateAnswer id here order
-            (locate_of here (entry_of (finite.get self.old.calls.table id))))
-            self.old.calls self.old.outgoing result self.new.calls self.new.outgoing }
-        ensures others { self.new ≡ record self.old {
-          calls = self.new.calls;
-          outgoing = self.new.outgoing;
-        } }
+        ensures last { result ≡ Err NoMemory → self.old.fault ≡ None → IsOk (table.server_step
+            (entry_at self.old.calls id) (event.AnswerLocate here)).outcome }
+        ensures answered { self.old.fault ≡ None → PutsLocateAnswer id here order self.old.calls
+            self.old.outgoing result self.new.calls self.new.outgoing }
+        ensures others { IsActedOn self.old self.new }
     {
         if let Some(fault) = self.fault {
             return Err(fault);
@@ -97,16 +78,10 @@ impl Detached<ServerRule> {
         ensures failed { (why : _) → self.old.fault ≡ Some why
             → (result ≡ Err why) × (self.new ≡ self.old) }
         ensures last { result ≡ Err NoMemory → self.old.fault ≡ None
-            → IsOk (table.server_step (entry_of (finite.get self.old.calls.table id))
-            event.Send).outcome }
+            → IsOk (table.server_step (entry_at self.old.calls id) event.Send).outcome }
         ensures sent { self.old.fault ≡ None
-            → Puts (rules_of table.server_step table.is_closed table.is_gathering) in_call id None
-            (λ planned. planned ≡ record { event = event.Send; plan = Next })
-            self.old.calls self.old.outgoing result self.new.calls self.new.outgoing }
-        ensures others { self.new ≡ record self.old {
-          calls = self.new.calls;
-          outgoing = self.new.outgoing;
-        } }
+            → PutsNext id self.old.calls self.old.outgoing result self.new.calls self.new.outgoing }
+        ensures others { IsActedOn self.old self.new }
     {
         if let Some(fault) = self.fault {
             return Err(fault);

@@ -4,14 +4,11 @@ ghost use Rattle.std.specs.Prelude.{◌≡◌, Some, None, Err, IsOk};
 ghost use Rattle.std.specs.FinMap as finite;
 ghost use Rattle.giop_calls.specs.ClientTable as table;
 ghost use Rattle.giop_calls.specs.declared.client.event.ClientEvent.TheVariants as event;
-ghost use Rattle.giop_session.specs.declared.calls.plan.Plan.TheVariants.{Next};
 ghost use Rattle.giop_session.specs.declared.session_fault.SessionFault.TheVariants.{NoMemory};
-ghost use Rattle.giop_session.specs.Acts.ClientCalls.{call_fault, cancel_fault, IsCall, IsCancel, IsLocate, locate_fault, open_version};
-ghost use Rattle.giop_session.specs.Calls.CallTable.{rules_of};
+ghost use Rattle.giop_session.specs.Acts.ClientCalls.{cancel_fault, open_version, PutsCall, PutsCancel, PutsLocate, PutsNext};
+ghost use Rattle.giop_session.specs.Calls.CallTable.{entry_at};
 ghost use Rattle.giop_session.specs.Acts.Form.{IsForm};
-ghost use Rattle.giop_session.specs.Hearing.Heard.{in_call};
-ghost use Rattle.giop_session.specs.Acts.Putting.{Puts};
-ghost use Rattle.giop_session.specs.Calls.Sending.{entry_of};
+ghost use Rattle.giop_session.specs.Ends.Detached.{IsActedOn};
 
 use crate::acts::calling::{call, cancel, locate, send};
 use crate::acts::form::Form;
@@ -33,17 +30,9 @@ impl Detached<ClientRule> {
         requires { IsForm form }
         ensures failed { (why : _) → self.old.fault ≡ Some why
             → (result ≡ Err why) × (self.new ≡ self.old) }
-        ensures called { self.old.fault ≡ None
-            → Puts (rules_of table.client_step table.is_closed table.is_gathering) in_call
-            request.head.id
-            (call_fault interface.now self.old.limits
-            (entry_of (finite.get self.old.calls.table request.head.id)) request form)
-            (IsCall interface.now request form)
+        ensures called { self.old.fault ≡ None → PutsCall interface.now self.old.limits request form
             self.old.calls self.old.outgoing result self.new.calls self.new.outgoing }
-        ensures others { self.new ≡ record self.old {
-          calls = self.new.calls;
-          outgoing = self.new.outgoing;
-        } }
+        ensures others { IsActedOn self.old self.new }
     {
         if let Some(fault) = self.fault {
             return Err(fault);
@@ -64,17 +53,9 @@ impl Detached<ClientRule> {
         requires { IsForm form }
         ensures failed { (why : _) → self.old.fault ≡ Some why
             → (result ≡ Err why) × (self.new ≡ self.old) }
-        ensures located { self.old.fault ≡ None
-            → Puts (rules_of table.client_step table.is_closed table.is_gathering) in_call
-            request.id
-            (locate_fault self.old.limits
-            (entry_of (finite.get self.old.calls.table request.id)) request form)
-            (IsLocate request form)
+        ensures located { self.old.fault ≡ None → PutsLocate self.old.limits request form
             self.old.calls self.old.outgoing result self.new.calls self.new.outgoing }
-        ensures others { self.new ≡ record self.old {
-          calls = self.new.calls;
-          outgoing = self.new.outgoing;
-        } }
+        ensures others { IsActedOn self.old self.new }
     {
         if let Some(fault) = self.fault {
             return Err(fault);
@@ -94,16 +75,10 @@ impl Detached<ClientRule> {
         ensures failed { (why : _) → self.old.fault ≡ Some why
             → (result ≡ Err why) × (self.new ≡ self.old) }
         ensures last { result ≡ Err NoMemory → self.old.fault ≡ None
-            → cancel_fault (open_version (entry_of (finite.get self.old.calls.table id))) ≡ None }
-        ensures cancelled { self.old.fault ≡ None
-            → Puts (rules_of table.client_step table.is_closed table.is_gathering) in_call id
-            (cancel_fault (open_version (entry_of (finite.get self.old.calls.table id))))
-            (IsCancel id order (open_version (entry_of (finite.get self.old.calls.table id))))
-            self.old.calls self.old.outgoing result self.new.calls self.new.outgoing }
-        ensures others { self.new ≡ record self.old {
-          calls = self.new.calls;
-          outgoing = self.new.outgoing;
-        } }
+            → cancel_fault (open_version (entry_at self.old.calls id)) ≡ None }
+        ensures cancelled { self.old.fault ≡ None → PutsCancel id order self.old.calls
+            self.old.outgoing result self.new.calls self.new.outgoing }
+        ensures others { IsActedOn self.old self.new }
     {
         if let Some(fault) = self.fault {
             return Err(fault);
@@ -116,16 +91,10 @@ impl Detached<ClientRule> {
         ensures failed { (why : _) → self.old.fault ≡ Some why
             → (result ≡ Err why) × (self.new ≡ self.old) }
         ensures last { result ≡ Err NoMemory → self.old.fault ≡ None
-            → IsOk (table.client_step (entry_of (finite.get self.old.calls.table id))
-            event.Send).outcome }
+            → IsOk (table.client_step (entry_at self.old.calls id) event.Send).outcome }
         ensures sent { self.old.fault ≡ None
-            → Puts (rules_of table.client_step table.is_closed table.is_gathering) in_call id None
-            (λ planned. planned ≡ record { event = event.Send; plan = Next })
-            self.old.calls self.old.outgoing result self.new.calls self.new.outgoing }
-        ensures others { self.new ≡ record self.old {
-          calls = self.new.calls;
-          outgoing = self.new.outgoing;
-        } }
+            → PutsNext id self.old.calls self.old.outgoing result self.new.calls self.new.outgoing }
+        ensures others { IsActedOn self.old self.new }
     {
         if let Some(fault) = self.fault {
             return Err(fault);

@@ -28,6 +28,9 @@ free_by false false = tt
 pub returns-clause-free : goal.returns-clause-free
 returns-clause-free c = λ id. free_by (7 == id) (9 == id)
 
+pub returns-clause-none : goal.returns-clause-none
+returns-clause-none c = returns-clause-free c
+
 pub returns-clause-seven : goal.returns-clause-seven
 returns-clause-seven c = λ k run.
     c.each_call_alone.ensures.value (new limits) k (begins ∷ asks ∷ []) (silence ∷ silence ∷ []) 7 run (returns-clause-free c 7)

@@ -50,10 +50,13 @@ returns-clause-seven c = λ interface k through.
     ∙ ap (λ messages. alone_heard (turn server_step is_closed is_gathering) (server_befalls interface) (at (new limits) 7) messages) (one_own 7)
     ∙ ap (λ call. alone_heard (turn server_step is_closed is_gathering) (server_befalls interface) call (door_begins ∷ [])) (none_at limits 7)
 
+pub returns-clause-same : goal.returns-clause-same
+returns-clause-same c = λ id. one_own id ∙ same_by (id == 7) (id == 9) (apart id) ∙ sym (other_own id)
+
 pub returns-clause-either : goal.returns-clause-either
 returns-clause-either c = λ interface k k' one other.
     c.any_interleaving_of_messages.ensures interface (new limits) k k' begun_and_asked asked_and_begun one other
-    (λ id. one_own id ∙ same_by (id == 7) (id == 9) (apart id) ∙ sym (other_own id))
+    (returns-clause-same c)
 
 pub returns-clause-in_one : goal.returns-clause-in_one
 returns-clause-in_one c = λ interface. (

@@ -20,6 +20,9 @@ returns-clause-asks c = asks_key_so
 pub returns-clause-answers : goal.returns-clause-answers
 returns-clause-answers c = answers_so
 
+pub returns-clause-sends : goal.returns-clause-sends
+returns-clause-sends c = answers_so
+
 pub returns-clause-answers_it : goal.returns-clause-answers_it
 returns-clause-answers_it c = answers_it_so
 

@@ -12,6 +12,6 @@ returns-in-Ok g c =
     let interface = same_interface c.new-end.result c.locate_all.new.end c.locate_all.ensures.others ∙ c.new-end.ensures.interface in
     let unread = same_unread c.new-end.result c.locate_all.new.end c.locate_all.ensures.others ∙ c.new-end.ensures.unread in
     located asked c.args.lines _ _ _ _ c.in_ok-refused.refused (outbox c.locate_all.new.end.calls c.locate_all.new.end.outgoing) c.talk.new.end.outgoing
-    c.talk.new.end.framer c.talk.new.end.calls c.talk.new.end.fault c.tell.result
+    c.talk.new.end.framer c.talk.new.end.calls c.talk.new.end.fault c.tell_located.result
     (rw (c.new-end.ensures.fault, c.new-end.ensures.calls, c.new-end.ensures.outgoing) at c.in_ok-refused.ensures.locates)
-    (rw (interface, unread, fault) at c.in-Ok.ensures.talks) c.tell.ensures.text c.tell.ensures.ok c.tell.ensures.ends
+    (rw (interface, unread, fault) at c.in-Ok.ensures.talks) c.tell_located.ensures.text c.tell_located.ensures.ok c.tell_located.ensures.ends
