@@ -227,7 +227,7 @@ fn message(values: &str, order: Order) -> Vec<u8> {
         order,
     };
     match values {
-        "ulong" => (0..ULONGS).for_each(|i| out.ulong(i.wrapping_mul(2_654_435_761))),
+        "ulong" => (0..ULONGS).for_each(|i| out.ulong(i.rotate_left(7) ^ 0x9E37_79B1)),
         "string" => (0..STRINGS).for_each(|_| out.write_string(black_box(b"a text of length"))),
         "octets" => (0..PIECES).for_each(|_| out.write_octets(black_box(&OCTETS))),
         _ => (0..GROUPS).for_each(|i| {

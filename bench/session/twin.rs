@@ -8,10 +8,13 @@ const IDS: u32 = 512;
 const TOGETHER: u32 = 64;
 const PUT: usize = 16_384;
 const ROUNDS: u32 = 640;
-const CALLS_LIMIT: usize = 1024;
+// No loop meets it.
+const CALLS_LIMIT: usize = 131_072;
 const MESSAGE_LIMIT: u32 = 1 << 20;
 const GATHERED_LIMIT: usize = 8 << 20;
 const PIECE: usize = 4096;
+const FLOOD: u32 = 625_000;
+const ONE_READ: usize = 4096;
 const WAVES: u32 = 6_250;
 const OUTSTANDING: u32 = 16;
 
@@ -669,31 +672,55 @@ fn message(header: Header, id: &[u8], octets: &[u8]) -> Vec<u8> {
     message
 }
 
-fn calls(waiting: u32) -> u64 {
-    let whole = |joined: Vec<u8>| {
-        let size = joined.len() as u32;
-        let header = Header {
-            little: false,
-            more: false,
-            kind: 0,
-            size,
-        };
-        message(header, &[], &joined)
+fn whole(joined: Vec<u8>) -> Vec<u8> {
+    let size = joined.len() as u32;
+    let header = Header {
+        little: false,
+        more: false,
+        kind: 0,
+        size,
     };
+    message(header, &[], &joined)
+}
+
+fn calls(count: u32, ids: u32, waiting: u32) -> u64 {
     let mut ping = whole(request(b"ping\0", &[]));
     let mut add = whole(request(b"add\0", &[0, 0, 0, 2, 0, 0, 0, 5]));
     let interface = interface();
     let mut end = Server::new(&interface);
     let mut sum = 0;
-    for k in 0..CALLS {
+    for k in 0..count {
         let next = if k % 2 == 0 { &mut ping } else { &mut add };
-        set_id(next, k % IDS);
+        set_id(next, k % ids);
         end.feed(next).unwrap();
         if k + 1 >= waiting {
-            sum = serve(&mut end, (k + 1 - waiting) % IDS, sum);
+            sum = serve(&mut end, (k + 1 - waiting) % ids, sum);
         }
     }
-    for k in CALLS + 1 - waiting..CALLS {
+    for k in count + 1 - waiting..count {
+        sum = serve(&mut end, k % ids, sum);
+    }
+    mixed(sum, end.unread.len() as u64)
+}
+
+// The joined octets of a Request of `put`.
+fn put_request() -> Vec<u8> {
+    let mut body = (PUT as u32).to_be_bytes().to_vec();
+    body.extend((0..PUT).map(|n| (n % 251) as u8));
+    request(b"put\0", &body)
+}
+
+// 10 GB, fed as reads bring it.
+fn flood() -> u64 {
+    let mut message = whole(put_request());
+    let interface = interface();
+    let mut end = Server::new(&interface);
+    let mut sum = 0;
+    for k in 0..FLOOD {
+        set_id(&mut message, k % IDS);
+        for part in message.chunks(ONE_READ) {
+            end.feed(part).unwrap();
+        }
         sum = serve(&mut end, k % IDS, sum);
     }
     mixed(sum, end.unread.len() as u64)
@@ -701,9 +728,7 @@ fn calls(waiting: u32) -> u64 {
 
 // The messages of a Request of `put`, of 512 octets each.
 fn pieces() -> Vec<Vec<u8>> {
-    let mut body = (PUT as u32).to_be_bytes().to_vec();
-    body.extend((0..PUT).map(|n| (n % 251) as u8));
-    let joined = request(b"put\0", &body);
+    let joined = put_request();
     let (first, rest) = joined.split_at(500);
     let header = |kind, more, size: usize| Header {
         little: false,
@@ -966,8 +991,13 @@ fn loopback() -> u64 {
 fn main() {
     let name = std::env::args().nth(1).unwrap();
     let sum = match name.as_str() {
-        "calls" => calls(1),
-        "calls-512" => calls(IDS),
+        "calls" => calls(CALLS, IDS, 1),
+        "calls-512" => calls(CALLS, IDS, IDS),
+        "open-1" => calls(CALLS, 1, 1),
+        "open-1000" => calls(CALLS, 1_000, 1_000),
+        "open-100000" => calls(CALLS, 100_000, 100_000),
+        "ids" => calls(4 * CALLS, CALLS, 1),
+        "flood" => flood(),
         "pieces" => put_all(),
         "loopback" => loopback(),
         _ => panic!("no such loop"),

@@ -1,6 +1,7 @@
 //! The plain Rust twin of the loops `types-..` of giop_bench.
 const VALUES: u32 = 100_000;
 const TIMES: u32 = 10;
+const MANY: u32 = 200;
 
 use std::collections::BTreeMap;
 
@@ -249,6 +250,60 @@ fn to_json(desc: &Desc, value: &Value) -> Json {
     }
 }
 
+fn octets_of(text: &str) -> Option<Vec<u8>> {
+    let mut octets = Vec::with_capacity(text.len());
+    for c in text.chars() {
+        octets.push(u8::try_from(u32::from(c)).ok()?);
+    }
+    Some(octets)
+}
+
+fn whole(json: &Json) -> Option<i128> {
+    match json {
+        Json::Positive(number) => Some(i128::from(*number)),
+        Json::Negative(number) => Some(i128::from(*number)),
+        _ => None,
+    }
+}
+
+fn from_json(desc: &Desc, json: &Json) -> Option<Value> {
+    Some(match (desc, json) {
+        (Desc::Boolean, Json::Bool(b)) => Value::Boolean(*b),
+        (Desc::Octet, json) => Value::Octet(whole(json)?.try_into().ok()?),
+        (Desc::UShort, json) => Value::UShort(whole(json)?.try_into().ok()?),
+        (Desc::Long, json) => Value::Long(whole(json)?.try_into().ok()?),
+        (Desc::LongLong, json) => Value::LongLong(whole(json)?.try_into().ok()?),
+        (Desc::Text(bound), Json::String(text)) => {
+            let octets = octets_of(text)?;
+            if (*bound != 0 && octets.len() > *bound as usize) || octets.contains(&0) {
+                return None;
+            }
+            Value::Text(octets)
+        }
+        (Desc::Members(members), Json::Object(object)) => {
+            if members.len() != object.len() {
+                return None;
+            }
+            let mut values = Vec::with_capacity(members.len());
+            for (name, member) in members {
+                values.push(from_json(member, object.get(&text_of(name))?)?);
+            }
+            Value::Members(values)
+        }
+        (Desc::Items(item, bound), Json::Array(list)) => {
+            if *bound != 0 && list.len() > *bound as usize {
+                return None;
+            }
+            let mut values = Vec::with_capacity(list.len());
+            for json in list {
+                values.push(from_json(item, json)?);
+            }
+            Value::Items(values)
+        }
+        _ => return None,
+    })
+}
+
 fn structs(count: u32) -> Vec<u8> {
     let mut out = Output { octets: Vec::new() };
     out.field(count.to_be_bytes());
@@ -301,12 +356,31 @@ fn checksum(value: &Value) -> u64 {
     sum
 }
 
+// A copy of 100,000 longs in the machine's own order, and a tree of them, MANY times.
+fn copied_and_made() -> u64 {
+    let mut message = VALUES.to_le_bytes().to_vec();
+    message.extend((0..VALUES).flat_map(u32::to_le_bytes));
+    let mut sum = 0;
+    for _ in 0..MANY {
+        let message = std::hint::black_box(&message);
+        let longs = message[4..].chunks_exact(4).map(|long| i32::from_le_bytes(long.try_into().unwrap()));
+        let value = Value::Items(longs.map(Value::Long).collect());
+        sum = mixed(sum, checksum(&value));
+        let copy = std::hint::black_box(message.to_vec());
+        sum = mixed(sum, u64::from(*copy.last().unwrap()));
+        sum = mixed(sum, copy.len() as u64);
+    }
+    sum
+}
+
 fn main() {
     let name = std::env::args().nth(1).unwrap();
+    if name == "longs-both" {
+        return println!("{}", copied_and_made());
+    }
     let (item, message) = if name != "longs-read" && name != "longs-write" {
         let count = match name.as_str() {
-            "json-write" => VALUES / 10,
-            "json-write-100" => VALUES * 10,
+            "json-write" | "json-again" => VALUES / 10,
             _ => VALUES,
         };
         let members = vec![
@@ -333,7 +407,10 @@ fn main() {
         let value = read();
         sum = checksum(&value);
         for _ in 0..TIMES {
-            std::hint::black_box(to_json(&desc, &value));
+            let json = std::hint::black_box(to_json(&desc, &value));
+            if name.starts_with("json-again") {
+                sum = mixed(sum, checksum(&from_json(&desc, &json).unwrap()));
+            }
         }
     } else if name.ends_with("read") {
         for _ in 0..TIMES {

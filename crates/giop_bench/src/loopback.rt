@@ -1,7 +1,7 @@
 //! 100,000 calls of `add` on one connection over 127.0.0.1, 16 at a time: a client's end calls, a
 //! server's end answers, and each writes and reads its own socket. `bench/session/twin.rs` does the
 //! same in plain Rust.
-ghost use Rattle.std.specs.Prelude.{◌<◌};
+ghost use Rattle.std.specs.Prelude.{◌<◌, ◌≤◌};
 
 use giop_calls::{ClientEntry, ServerEntry};
 use giop_cdr::OctetList;
@@ -15,15 +15,18 @@ const WAVES: u32 = 6_250;
 
 const TOGETHER: u32 = 16;
 
-// The octets of TOGETHER Requests, and of TOGETHER Replies.
-const REQUESTS: usize = 896;
+/// The octets of a Request.
+pub const REQUEST: usize = 56;
 
-const REPLIES: usize = 448;
+/// The octets of a Reply.
+pub const REPLY: usize = 28;
 
-const J: &[u8] =
+/// The interface of the calls.
+pub const J: &[u8] =
     b"{\"operations\":{\"add\":{\"ins\":[[\"a\",\"long\"],[\"b\",\"long\"]],\"outs\":[[\"sum\",\"long\"]]}}}";
 
-const LIMITS: Limits = Limits {
+/// Limits that no loop meets.
+pub const LIMITS: Limits = Limits {
     calls: 1024,
     message: 1 << 20,
     gathered: 8 << 20,
@@ -57,16 +60,24 @@ fn asked(alloc: Global, id: u32) -> Result<Request, AllocError>
     Ok(Request { head, body })
 }
 
-fn call_all(alloc: Global, end: &mut ClientEnd<'_>, stream: &TcpStream) -> Option<()> {
-    for id in 0..TOGETHER {
+/// Calls so many times at once, and writes the Requests.
+pub fn call_all(
+    alloc: Global,
+    end: &mut ClientEnd<'_>,
+    stream: &TcpStream,
+    at_once: u32,
+) -> Option<()>
+    requires { at_once ≤ 16 }
+{
+    for id in 0..at_once {
         end.call(asked(alloc, id).ok()?, Form::default()).ok()?;
     }
     let mut writer = stream;
     write_out(end, &mut writer).ok()
 }
 
-// Takes turns until so many octets were read.
-fn hear<R: Hearing>(end: &mut End<'_, R>, stream: &TcpStream, octets: usize) -> Option<()> {
+/// Takes turns until so many octets were read.
+pub fn hear<R: Hearing>(end: &mut End<'_, R>, stream: &TcpStream, octets: usize) -> Option<()> {
     let mut reader = stream;
     let mut writer = stream;
     let mut left = octets;
@@ -87,8 +98,8 @@ fn long_of(values: &ValueList, at: usize) -> i32 {
     }
 }
 
-// What is answered to the call of an id: its sum.
-fn reply_to(alloc: Global, end: &ServerEnd<'_>, id: u32) -> Option<Reply> {
+/// What is answered to the call of an id: its sum.
+pub fn reply_to(alloc: Global, end: &ServerEnd<'_>, id: u32) -> Option<Reply> {
     let ServerEntry::Asked { request } = end.entry(id)? else {
         return None;
     };
@@ -111,10 +122,10 @@ fn answer_all(alloc: Global, end: &mut ServerEnd<'_>, stream: &TcpStream) -> Opt
     write_out(end, &mut writer).ok()
 }
 
-// Takes each call out, with what it came to.
-fn take_all(end: &mut ClientEnd<'_>, sum: u64) -> Option<u64> {
+/// Takes each of so many calls out, with what it came to.
+pub fn take_all(end: &mut ClientEnd<'_>, at_once: u32, sum: u64) -> Option<u64> {
     let mut sum = sum;
-    for id in 0..TOGETHER {
+    for id in 0..at_once {
         let ClientEntry::Done { reply, .. } = end.take(id).ok()?? else {
             return None;
         };
@@ -137,11 +148,11 @@ pub fn run(rt: &HostRuntime) -> Option<u64> {
     let mut server = ServerEnd::new(rt.alloc(), &interface, LIMITS);
     let mut sum = 0;
     for _ in 0..WAVES {
-        call_all(rt.alloc(), &mut client, &calling)?;
-        hear(&mut server, &serving, REQUESTS)?;
+        call_all(rt.alloc(), &mut client, &calling, TOGETHER)?;
+        hear(&mut server, &serving, 16 * REQUEST)?;
         answer_all(rt.alloc(), &mut server, &serving)?;
-        hear(&mut client, &calling, REPLIES)?;
-        sum = take_all(&mut client, sum)?;
+        hear(&mut client, &calling, 16 * REPLY)?;
+        sum = take_all(&mut client, TOGETHER, sum)?;
     }
     Some(sum)
 }

@@ -11,7 +11,9 @@ mod ior;
 mod loopback;
 mod msg;
 mod mux;
+mod processes;
 mod read;
+mod scale;
 mod session;
 mod types;
 mod work;
@@ -23,10 +25,12 @@ use work::Work;
 
 const USAGE: &str = "usage: giop_bench mux
 or giop_bench frag-(24|512|4096)[-again] IDS, where IDS is 1, 64 or 1024
-or giop_bench types-(structs|longs)-(read|write) or types-json-(write|again)[-10],
+or giop_bench types-(structs|longs)-(read|write), types-longs-both or types-json-(write|again)[-10],
 or giop_bench msg-(add|put)-(read|write) or msg-cut or msg-join,
 or giop_bench ior-(text|corbaloc)[-10],
 or giop_bench session-calls[-512], session-pieces or session-loopback,
+or giop_bench scale-(open-(1|1000|100000)|ids|flood),
+or giop_bench process-server or process-client-(1|16) PORT,
 or giop_bench c-(server|(memory|loopback)-(1|16)) CALLS,
 or giop_bench (read|write)-VALUES-(big|little) TIMES, where VALUES is ulong, string, octets or widths";
 
@@ -55,6 +59,9 @@ fn named(alloc: Global, name: &str, times: &str) -> Option<u64> {
     }
     if let Some(name) = name.strip_prefix("session-") {
         return session::run(alloc, name);
+    }
+    if let Some(name) = name.strip_prefix("scale-") {
+        return scale::run(alloc, name);
     }
     match name.strip_prefix("msg-") {
         Some(name) => msg::run(alloc, name),
@@ -103,6 +110,9 @@ fn main(rt: HostRuntime) -> io::Result<()> {
     match name.as_ref().map_or("", |name| name.as_str()) {
         "mux" => println!(rt; "{}", mux::run(rt.alloc())),
         "session-loopback" => told(&rt, loopback::run(&rt)),
+        "process-server" => told(&rt, processes::server(&rt)),
+        "process-client-1" => told(&rt, processes::client(&rt, times, 1)),
+        "process-client-16" => told(&rt, processes::client(&rt, times, 16)),
         name => match name.strip_prefix("c-") {
             Some(name) => told(&rt, c_calls::run(&rt, name, times)),
             None => told(&rt, named(rt.alloc(), name, times)),

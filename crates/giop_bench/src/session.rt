@@ -14,9 +14,11 @@ use giop_session::{Form, Limits, ServerEnd};
 use giop_types::{Interface, Value, ValueList};
 use std::alloc::{AllocError, Global};
 
-const CALLS: u32 = 1_000_000;
+/// How many calls a loop hears.
+pub const CALLS: u32 = 1_000_000;
 
-const IDS: u32 = 512;
+/// Over how many ids.
+pub const IDS: u32 = 512;
 
 // How many Requests come piece by piece together, of how many octets, and how often they come:
 // 64 MB, ten times.
@@ -26,10 +28,12 @@ const PUT: usize = 16_384;
 
 const ROUNDS: u32 = 640;
 
-const J: &[u8] =
+/// The interface of the loops.
+pub const J: &[u8] =
     b"{\"operations\":{\"ping\":{},\"add\":{\"ins\":[[\"a\",\"long\"],[\"b\",\"long\"]],\"outs\":[[\"sum\",\"long\"]]},\"put\":{\"ins\":[[\"o\",\"octets\"]]}}}";
 
-const LIMITS: Limits = Limits {
+/// Limits that no loop meets but one with more calls open.
+pub const LIMITS: Limits = Limits {
     calls: 1024,
     message: 1 << 20,
     gathered: 8 << 20,
@@ -48,7 +52,8 @@ pub const ADD: [u8; 56] = [
     5,
 ];
 
-fn mixed(sum: u64, value: u64) -> u64 {
+/// A checksum of what came before and one value more.
+pub fn mixed(sum: u64, value: u64) -> u64 {
     sum.wrapping_mul(1_099_511_628_211) ^ value
 }
 
@@ -113,8 +118,8 @@ fn write(end: &mut ServerEnd<'_>, sum: u64) -> u64 {
     mixed(sum, n as u64)
 }
 
-// Answers the call of an id, writes the reply, and takes the entry.
-fn serve(alloc: Global, end: &mut ServerEnd<'_>, id: u32, sum: u64) -> Option<u64> {
+/// Answers the call of an id, writes the reply, and takes the entry.
+pub fn serve(alloc: Global, end: &mut ServerEnd<'_>, id: u32, sum: u64) -> Option<u64> {
     let sum = answer(alloc, end, id, sum)?;
     let sum = write(end, sum);
     match end.take(id).ok()?? {
@@ -131,28 +136,36 @@ pub fn set_id(message: &mut [u8], id: u32)
     message[12..16].copy_from_slice(&id.to_be_bytes());
 }
 
-// Hears CALLS calls, each answered when so many wait.
-fn calls(alloc: Global, interface: &Interface, waiting: u32) -> Option<u64>
+/// Hears so many calls over so many ids, each answered when so many wait.
+pub fn calls(
+    alloc: Global,
+    interface: &Interface,
+    limits: Limits,
+    count: u32,
+    ids: u32,
+    waiting: u32,
+) -> Option<u64>
     requires some { 0 < waiting }
-    requires most { waiting ≤ 512 }
+    requires most { waiting ≤ count }
+    requires ids { 0 < ids }
 {
     let (mut ping, mut add) = (PING, ADD);
-    let mut end = ServerEnd::new(alloc, interface, LIMITS);
+    let mut end = ServerEnd::new(alloc, interface, limits);
     let mut sum = 0;
-    for k in 0..CALLS {
+    for k in 0..count {
         if k % 2 == 0 {
-            set_id(&mut ping, k % IDS);
+            set_id(&mut ping, k % ids);
             end.feed(&ping).ok()?;
         } else {
-            set_id(&mut add, k % IDS);
+            set_id(&mut add, k % ids);
             end.feed(&add).ok()?;
         }
         if k + 1 >= waiting {
-            sum = serve(alloc, &mut end, (k + 1 - waiting) % IDS, sum)?;
+            sum = serve(alloc, &mut end, (k + 1 - waiting) % ids, sum)?;
         }
     }
-    for k in CALLS + 1 - waiting..CALLS {
-        sum = serve(alloc, &mut end, k % IDS, sum)?;
+    for k in count - (waiting - 1)..count {
+        sum = serve(alloc, &mut end, k % ids, sum)?;
     }
     Some(mixed(sum, end.rest() as u64))
 }
@@ -192,14 +205,22 @@ fn spelled(alloc: Global, message: &Msg) -> Option<Vec<u8>> {
     Some(octets)
 }
 
-// The messages of a Request of `put`.
-fn pieces(alloc: Global, interface: &Interface) -> Option<Vec<Vec<u8>>> {
+/// The messages of a Request of `put`, of so many octets at most.
+pub fn pieces(alloc: Global, interface: &Interface, piece: u32) -> Option<Vec<Vec<u8>>> {
     let request = put_request(alloc).ok()?;
     let joined = request.encode(alloc, interface, Order::Big).ok()?;
-    if !can_cut(Kind::Request, &joined, 512) {
+    if !can_cut(Kind::Request, &joined, piece) {
         return None;
     }
-    let messages = cut(alloc, Version::V12, Kind::Request, Order::Big, &joined, 512).ok()?;
+    let messages = cut(
+        alloc,
+        Version::V12,
+        Kind::Request,
+        Order::Big,
+        &joined,
+        piece,
+    )
+    .ok()?;
     let mut pieces = Vec::new(alloc);
     for message in &messages {
         pieces.push(spelled(alloc, message)?).ok()?;
@@ -233,7 +254,7 @@ fn round(alloc: Global, end: &mut ServerEnd<'_>, pieces: &mut [Vec<u8>], sum: u6
 
 // Hears 64 MB in pieces.
 fn put_all(alloc: Global, interface: &Interface) -> Option<u64> {
-    let mut pieces = pieces(alloc, interface)?;
+    let mut pieces = pieces(alloc, interface, 512)?;
     let mut end = ServerEnd::new(alloc, interface, LIMITS);
     let mut sum = 0;
     for _ in 0..ROUNDS {
@@ -247,8 +268,8 @@ fn put_all(alloc: Global, interface: &Interface) -> Option<u64> {
 pub fn run(alloc: Global, name: &str) -> Option<u64> {
     let interface = Interface::from_json(alloc, J).ok()?;
     match name {
-        "calls" => calls(alloc, &interface, 1),
-        "calls-512" => calls(alloc, &interface, IDS),
+        "calls" => calls(alloc, &interface, LIMITS, CALLS, IDS, 1),
+        "calls-512" => calls(alloc, &interface, LIMITS, CALLS, IDS, IDS),
         "pieces" => put_all(alloc, &interface),
         _ => None,
     }

@@ -1,5 +1,6 @@
 //! Values by their description: a sequence of 100,000 structs of an octet, a long long, a string of
-//! 16 octets, an unsigned short and a boolean, and a sequence of 100,000 longs, read and written.
+//! 16 octets, an unsigned short and a boolean, and a sequence of 100,000 longs, read and written;
+//! such longs in the machine's own order, read and written again, beside a copy and a tree.
 //! And 10,000 and 100,000 such structs as JSON, written, and written and read again.
 //! `bench/types/twin.rs` does the same in plain Rust, but for what reads JSON.
 use crate::work::mixed;
@@ -12,6 +13,9 @@ use std::alloc::{AllocError, Global};
 const VALUES: u32 = 100_000;
 
 const TIMES: u32 = 10;
+
+// How often longs are read and written again.
+const MANY: u32 = 200;
 
 fn structs(alloc: Global, count: u32) -> Result<Vec<u8>, AllocError> {
     let mut out = CdrOut::new(alloc, Order::Big, 0);
@@ -26,8 +30,8 @@ fn structs(alloc: Global, count: u32) -> Result<Vec<u8>, AllocError> {
     Ok(out.into_bytes())
 }
 
-fn longs(alloc: Global) -> Result<Vec<u8>, AllocError> {
-    let mut out = CdrOut::new(alloc, Order::Big, 0);
+fn longs(alloc: Global, order: Order) -> Result<Vec<u8>, AllocError> {
+    let mut out = CdrOut::new(alloc, order, 0);
     out.write_ulong(VALUES)?;
     for i in 0..VALUES {
         out.write_ulong(i)?;
@@ -114,6 +118,25 @@ fn write(alloc: Global, desc: &CheckedDesc, message: &[u8]) -> Option<u64> {
     Some(sum)
 }
 
+// Reads the value of a message in little-endian order and writes it again, MANY times.
+fn both(alloc: Global, desc: &CheckedDesc, message: &[u8]) -> Option<u64> {
+    let source = SliceOctets::new(message);
+    if message.len() > 1 << 62 {
+        return None;
+    }
+    let mut sum = 0;
+    for _ in 0..MANY {
+        let mut input = CdrIn::new(&source, Order::Little, 0);
+        let value = decode(alloc, &mut input, desc).ok()?;
+        sum = mixed(sum, checksum(&value));
+        let mut out = CdrOut::with_room(alloc, Order::Little, 0, message.len()).ok()?;
+        encode(&mut out, desc, &value).ok()?;
+        sum = mixed(sum, out.as_slice().last().map_or(0, |octet| *octet as u64));
+        sum = mixed(sum, out.as_slice().len() as u64);
+    }
+    Some(sum)
+}
+
 // Writes the value of a message as JSON, TIMES times, and reads it again where that is asked for.
 fn json(alloc: Global, desc: &CheckedDesc, message: &[u8], again: bool) -> Option<u64> {
     let source = SliceOctets::new(message);
@@ -139,12 +162,15 @@ pub fn run(alloc: Global, name: &str) -> Option<u64> {
         "structs-read" | "structs-write" => (a_struct(alloc).ok()?, structs(alloc, VALUES).ok()?),
         "json-write" | "json-again" => (a_struct(alloc).ok()?, structs(alloc, VALUES / 10).ok()?),
         "json-write-10" | "json-again-10" => (a_struct(alloc).ok()?, structs(alloc, VALUES).ok()?),
-        "longs-read" | "longs-write" => (Desc::Long, longs(alloc).ok()?),
+        "longs-read" | "longs-write" => (Desc::Long, longs(alloc, Order::Big).ok()?),
+        "longs-both" => (Desc::Long, longs(alloc, Order::Little).ok()?),
         _ => return None,
     };
     let desc = CheckedDesc::check(items(alloc, item).ok()?).ok()?;
     if name.starts_with("json") {
         json(alloc, &desc, &message, name.starts_with("json-again"))
+    } else if name.ends_with("both") {
+        both(alloc, &desc, &message)
     } else if name.ends_with("read") {
         read(alloc, &desc, &message)
     } else {

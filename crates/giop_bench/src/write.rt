@@ -7,8 +7,6 @@ pub const ULONGS: u32 = 1_000_000;
 
 pub const STRINGS: u32 = 100_000;
 
-const OCTETS: [u8; 4096] = [7; 4096];
-
 /// How many sequences of 4,096 octets a message has: 1 MB.
 pub const PIECES: u32 = 256;
 
@@ -20,7 +18,7 @@ pub const GROUPS: u32 = 100_000;
 fn ulongs(alloc: Global, order: Order) -> Result<CdrOut, AllocError> {
     let mut out = CdrOut::new(alloc, order, 0);
     for i in 0..ULONGS {
-        out.write_ulong(i.wrapping_mul(2_654_435_761))?;
+        out.write_ulong(i.rotate_left(7) ^ 0x9E37_79B1)?;
     }
     Ok(out)
 }
@@ -34,11 +32,13 @@ fn strings(alloc: Global, order: Order) -> Result<CdrOut, AllocError> {
     Ok(out)
 }
 
+// The octets are made once: as a constant they would be laid out anew for each write.
 #[inline(never)]
 fn octets(alloc: Global, order: Order) -> Result<CdrOut, AllocError> {
+    let octets = [7; 4096];
     let mut out = CdrOut::new(alloc, order, 0);
     for _ in 0..PIECES {
-        out.write_octets(&OCTETS)?;
+        out.write_octets(&octets)?;
     }
     Ok(out)
 }

@@ -6,10 +6,15 @@ ghost use Rattle.giop_types.specs.JsonForms.JsonText.{text_of, octets_in};
 use giop_cdr::OctetList;
 use std::alloc::{AllocError, Global};
 
-/// The text of octets, a character for each.
+/// The text of octets, a character for each. Octets below 128 are copied at once.
 pub fn text_of(alloc: Global, octets: &[u8]) -> Result<String, AllocError>
     ensures { IfOk result (λ text. string_bytes text ≡ text_of octets.now) }
 {
+    if octets.is_ascii() {
+        if let Ok(text) = str::from_utf8(octets) {
+            return String::from_str(alloc, text);
+        }
+    }
     let mut text = String::with_capacity(alloc, octets.len())?;
     for octet in octets {
         text.push(char::from(*octet))?;

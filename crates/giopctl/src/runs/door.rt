@@ -1,15 +1,18 @@
 //! The door of `serve`: one client is served at a time, and those that come meanwhile are told of on
 //! standard error.
 
-use std::alloc::Global;
 use std::cell::{Cell, RefCell};
 use std::io;
-use std::io::ErrorKind;
+use std::io::{Lock, StderrLock, Write};
 use std::net::{SocketAddr, TcpListener, TcpStream};
-use std::time::{Duration, Instant};
+use std::rc::Rc;
+use std::time::Duration;
 
-// While a client is served the door is looked at so often, in milliseconds.
+// A read waits for so many milliseconds before the door is looked at.
 const BETWEEN_LOOKS: u64 = 100;
+
+// Where octets come all the time, it is looked at once in so many reads.
+const READS_BETWEEN_LOOKS: u32 = 16;
 
 // So many clients are held that wait. The system holds others, of which nothing is told.
 const MOST_WAITING: usize = 64;
@@ -19,35 +22,35 @@ type Client = (TcpStream, SocketAddr);
 
 /// A listener, the clients that wait, in the order in which they came, and which is served.
 #[derive(Drop)]
-pub struct Door<'a> {
-    rt: &'a HostRuntime,
+pub struct Door {
     listener: TcpListener,
     waiting: RefCell<Vec<Client>>,
+    told: RefCell<StderrLock<'static>>,
     connections: u32,
     served: Cell<u32>,
-    looked: Cell<Option<Instant>>,
+    reads: Cell<u32>,
 }
 
-impl<'a> Door<'a> {
+impl Door {
     /// The door of a listener, through which so many clients are let, one after the other.
-    pub fn new(rt: &'a HostRuntime, listener: TcpListener, connections: u32) -> Door<'a> {
-        let alloc: Global = rt.alloc();
-        Door {
-            rt,
+    pub fn new(rt: &HostRuntime, listener: TcpListener, connections: u32) -> io::Result<Rc<Door>> {
+        let door = Door {
             listener,
-            waiting: RefCell::new(Vec::new(alloc)),
+            waiting: RefCell::new(Vec::new(rt.alloc())),
+            told: RefCell::new(rt.stderr().lock()),
             connections,
             served: Cell::new(0),
-            looked: Cell::new(None),
-        }
+            reads: Cell::new(0),
+        };
+        Ok(Rc::new(rt.alloc(), door)?)
     }
 
-    /// How long a read may wait before the door is looked at again.
+    /// How long a read may wait before the door is looked at.
     pub fn between_looks() -> Duration {
         Duration::from_millis(BETWEEN_LOOKS)
     }
 
-    /// The client that waits longest, or else the next one. This is the connection of the number.
+    /// The client that waits longest, or else the next one. It is the connection of this number.
     pub fn admit(&self, number: u32) -> io::Result<Client> {
         self.served.set(number);
         match self.first() {
@@ -67,27 +70,20 @@ impl<'a> Door<'a> {
         Some(waiting.remove(0))
     }
 
-    /// Looks whether clients came, and tells that each of them waits, once. It does so where some
-    /// time has passed since the last look.
-    pub fn look(&self) {
-        if self.is_due() {
-            let _ = self.hold_all();
+    /// Counts a read that brought something, and looks where that is due.
+    pub fn count(&self) {
+        let reads = self.reads.get().saturating_add(1);
+        if reads < READS_BETWEEN_LOOKS {
+            self.reads.set(reads);
+        } else {
+            self.look();
         }
     }
 
-    // Whether it is time to look. Where there is no clock, it is.
-    fn is_due(&self) -> bool {
-        let Ok(now) = Instant::now(self.rt) else {
-            return true;
-        };
-        let due = match self.looked.get() {
-            Some(last) => now.duration_since(last) >= Door::between_looks(),
-            None => true,
-        };
-        if due {
-            self.looked.set(Some(now));
-        }
-        due
+    /// Looks whether clients came, and tells that each of them waits, once.
+    pub fn look(&self) {
+        self.reads.set(0);
+        let _ = self.hold_all();
     }
 
     // Lets all clients in that are at the door, to wait.
@@ -96,7 +92,10 @@ impl<'a> Door<'a> {
             return Ok(());
         };
         self.listener.set_nonblocking(true)?;
-        while waiting.len() < MOST_WAITING {
+        for _ in 0..MOST_WAITING {
+            if waiting.len() >= MOST_WAITING {
+                break;
+            }
             let Ok(client) = self.listener.accept() else {
                 break;
             };
@@ -104,27 +103,27 @@ impl<'a> Door<'a> {
             if waiting.push(client).is_err() {
                 break;
             }
-            self.tell(address, waiting.len());
+            let _ = self.tell(address, waiting.len());
         }
         self.listener.set_nonblocking(false)
     }
 
-    // Tells that a client waits, before which so many do, itself among them.
-    fn tell(&self, address: SocketAddr, place: usize) {
-        let served = self.served.get();
-        let _ = if self.is_let_in(place) {
-            eprintln!(self.rt; "giopctl: {address} waits for the end of connection {served}")
-        } else {
-            eprintln!(self.rt;
-                "giopctl: {address} isn't served: connection {} is the last",
-                self.connections
-            )
+    // Tells that a client waits, as the one at this place, counted from 1.
+    fn tell(&self, address: SocketAddr, place: usize) -> io::Result<()> {
+        let Ok(mut told) = self.told.try_borrow_mut() else {
+            return Ok(());
         };
-    }
-
-    // Whether the client at this place, counted from 1, will be served.
-    fn is_let_in(&self, place: usize) -> bool {
-        let left = self.connections.saturating_sub(self.served.get());
-        place <= left as usize
+        let (served, last) = (self.served.get(), self.connections);
+        if place <= last.saturating_sub(served) as usize {
+            writeln!(
+                told,
+                "giopctl: {address} waits for the end of connection {served}"
+            )
+        } else {
+            writeln!(
+                told,
+                "giopctl: {address} isn't served: connection {last} is the last"
+            )
+        }
     }
 }

@@ -9,6 +9,7 @@ use std::cell::{Cell, RefCell};
 use std::io;
 use std::io::{ErrorKind, Read, Write};
 use std::net::TcpStream;
+use std::rc::Rc;
 use std::time::Duration;
 
 // A write waits for so many milliseconds before the connection is read instead.
@@ -20,19 +21,19 @@ const WAITS_IN_A_SECOND: u64 = 1_000 / WRITE_WAIT;
 /// A connection, what was read from it ahead, and the error of a write that failed. What the peer
 /// sent before that is read first, and then the error is told.
 #[derive(Drop)]
-pub struct Link<'a> {
+pub struct Link {
     stream: TcpStream,
     ahead: RefCell<Ahead>,
     failed: Cell<Option<io::Error>>,
     patience: Patience,
     // The door that is looked at between reads, if there is one.
-    door: Option<&'a Door<'a>>,
+    door: Option<Rc<Door>>,
 }
 
-impl<'a> Link<'a> {
+impl Link {
     /// A connection. Where nothing comes or goes for so many seconds, at least 1, it fails with
     /// `TimedOut`; without a timeout it waits for ever.
-    pub fn new(alloc: Global, stream: TcpStream, timeout: Option<u32>) -> io::Result<Link<'a>> {
+    pub fn new(alloc: Global, stream: TcpStream, timeout: Option<u32>) -> io::Result<Link> {
         stream.set_write_timeout(Some(Duration::from_millis(WRITE_WAIT)))?;
         stream.set_read_timeout(timeout.map(|seconds| Duration::from_secs(u64::from(seconds))))?;
         Ok(Link {
@@ -44,28 +45,30 @@ impl<'a> Link<'a> {
         })
     }
 
-    /// A connection without a timeout, of one that came through a door. That is looked at between
-    /// reads.
-    pub fn through(alloc: Global, stream: TcpStream, door: &'a Door<'a>) -> io::Result<Link<'a>> {
-        stream.set_write_timeout(Some(Duration::from_millis(WRITE_WAIT)))?;
-        stream.set_read_timeout(Some(Door::between_looks()))?;
-        Ok(Link {
-            stream,
-            ahead: RefCell::new(Ahead::new(alloc)),
-            failed: Cell::new(None),
-            patience: Patience::of(None),
-            door: Some(door),
-        })
+    /// A connection of a client that was let in by a door, without a timeout. That door is looked
+    /// at between reads.
+    pub fn through(alloc: Global, stream: TcpStream, door: Rc<Door>) -> io::Result<Link> {
+        let mut link = Link::new(alloc, stream, None)?;
+        link.stream.set_read_timeout(Some(Door::between_looks()))?;
+        link.door = Some(door);
+        Ok(link)
     }
 
-    // Looks at the door, if there is one. Returns whether there is.
+    // Looks at the door where nothing came for a while, if there is one. Returns whether there is.
     fn looks(&self) -> bool {
-        match self.door {
+        match &self.door {
             Some(door) => {
                 door.look();
                 true
             }
             None => false,
+        }
+    }
+
+    // Something came: the door is looked at now and then, if there is one.
+    fn counts(&self) {
+        if let Some(door) = &self.door {
+            door.count();
         }
     }
 
@@ -77,14 +80,17 @@ impl<'a> Link<'a> {
             return Err(io::Error::from(ErrorKind::Other));
         };
         for _ in 0..u64::MAX {
-            let looks = self.looks();
             match ahead.read(&mut &self.stream, piece) {
                 Err(error) if error.kind() == ErrorKind::Interrupted => {}
-                Err(error) if error.kind() == ErrorKind::WouldBlock && looks => {}
                 Err(error) if error.kind() == ErrorKind::WouldBlock => {
-                    return Err(io::Error::from(ErrorKind::TimedOut));
+                    if !self.looks() {
+                        return Err(io::Error::from(ErrorKind::TimedOut));
+                    }
                 }
-                read => return read,
+                read => {
+                    self.counts();
+                    return read;
+                }
             }
         }
         Err(io::Error::from(ErrorKind::Interrupted))
@@ -112,7 +118,7 @@ impl<'a> Link<'a> {
     }
 }
 
-impl Read for &Link<'_> {
+impl Read for &Link {
     fn read(&mut self, piece: &mut [u8]) -> io::Result<usize> {
         match self.read_on(piece) {
             Ok(n) if n > 0 => Ok(n),
@@ -124,7 +130,7 @@ impl Read for &Link<'_> {
     }
 }
 
-impl Write for &Link<'_> {
+impl Write for &Link {
     fn write(&mut self, octets: &[u8]) -> io::Result<usize> {
         match self.write_some(octets) {
             Ok(n) => Ok(n),
@@ -175,7 +181,7 @@ impl Patience {
 
 // A connection that is written to; a write waits for `WRITE_WAIT` milliseconds at most.
 #[derive(Drop)]
-struct Here<'a>(&'a Link<'a>);
+struct Here<'a>(&'a Link);
 
 impl Write for Here<'_> {
     fn write(&mut self, octets: &[u8]) -> io::Result<usize> {
@@ -198,7 +204,7 @@ impl Write for Here<'_> {
 
 // A connection that is read without waiting.
 #[derive(Drop)]
-struct There<'a>(&'a Link<'a>);
+struct There<'a>(&'a Link);
 
 impl Read for There<'_> {
     fn read(&mut self, piece: &mut [u8]) -> io::Result<usize> {

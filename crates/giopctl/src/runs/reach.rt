@@ -51,11 +51,11 @@ pub fn peer_of(rt: &HostRuntime, target: &str, endpoint: &Endpoint) -> Result<St
 
 /// A connection to where an object is reached. A name is looked up, and each of its addresses is
 /// tried. Where nothing comes or goes for so many seconds, if any are given, it fails.
-pub fn connected<'a>(
+pub fn connected(
     rt: &HostRuntime,
     endpoint: &Endpoint,
     timeout: Option<u32>,
-) -> Result<Link<'a>, Failure> {
+) -> Result<Link, Failure> {
     let Ok(host) = str::from_utf8(endpoint.host.as_slice()) else {
         return Err(Failure::Connection(io::Error::from(ErrorKind::InvalidInput)));
     };

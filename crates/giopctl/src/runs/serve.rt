@@ -17,6 +17,7 @@ use giop_commands::status::Status;
 use giop_commands::{Ending, Serving, serve_over};
 use std::io::{BufWriter, Write};
 use std::net::{Ipv4Addr, TcpListener, TcpStream};
+use std::rc::Rc;
 use std::{fs, io};
 
 // The address that is listened at, as standard error has it.
@@ -60,8 +61,10 @@ fn served(rt: &HostRuntime, words: &ServeWords<'_>) -> Result<Status, Status> {
         limits: words.limits,
     };
     let listener = listening(rt, words, all.type_id.as_slice(), key.as_slice())?;
-    let door = Door::new(rt, listener, words.connections);
-    Ok(serve_each(rt, &door, words, &serving))
+    match Door::new(rt, listener, words.connections) {
+        Ok(door) => Ok(serve_each(rt, &door, words, &serving)),
+        Err(error) => Err(report::answer(rt, HERE, Err(Failure::connection(error)))),
+    }
 }
 
 // The octets of an object key.
@@ -130,7 +133,7 @@ fn bound(rt: &HostRuntime, port: u16) -> io::Result<(TcpListener, u16)> {
 // one to the next.
 fn serve_each(
     rt: &HostRuntime,
-    door: &Door<'_>,
+    door: &Rc<Door>,
     words: &ServeWords<'_>,
     serving: &Serving<'_>,
 ) -> Status {
@@ -146,7 +149,7 @@ fn serve_each(
 // Waits for a connection, and serves it.
 fn serve_next(
     rt: &HostRuntime,
-    door: &Door<'_>,
+    door: &Rc<Door>,
     number: u32,
     words: &ServeWords<'_>,
     serving: &Serving<'_>,
@@ -166,14 +169,14 @@ fn serve_next(
 
 fn serve_stream(
     rt: &HostRuntime,
-    door: &Door<'_>,
+    door: &Rc<Door>,
     stream: TcpStream,
     number: u32,
     words: &ServeWords<'_>,
     serving: &Serving<'_>,
     passed: &mut Passed,
 ) -> Result<Ending, Failure> {
-    let link = match Link::through(rt.alloc(), stream, door) {
+    let link = match Link::through(rt.alloc(), stream, door.clone()?) {
         Ok(link) => link,
         Err(error) => return Err(Failure::connection(error)),
     };

@@ -106,11 +106,7 @@ fn written(rt: &HostRuntime, lines: LineForm, line: RefusalLine) -> Result<Statu
 
 /// A connection that is read while it is written to. Where nothing comes or goes for so many
 /// seconds, if any are given, it fails.
-pub fn linked<'a>(
-    rt: &HostRuntime,
-    stream: TcpStream,
-    timeout: Option<u32>,
-) -> Result<Link<'a>, Failure> {
+pub fn linked(rt: &HostRuntime, stream: TcpStream, timeout: Option<u32>) -> Result<Link, Failure> {
     match Link::new(rt.alloc(), stream, timeout) {
         Ok(link) => Ok(link),
         Err(error) => Err(Failure::connection(error)),
