@@ -1,6 +1,7 @@
 //! `locate --follow`: an object that is elsewhere is asked for where the reference says, over a
 //! connection of its own. What is sent and told is call/locate_following.rt of giop_commands.
 ghost use Rattle.std.specs.Prelude.{◌≡◌};
+ghost use Rattle.giop_commands.specs.Check.{AreLimits};
 
 use crate::cli::ObjectWords;
 use crate::files::OUTPUT_BUFFER;
@@ -107,6 +108,7 @@ fn ask_at(
 ) -> Result<Option<SessionFault>, Failure>
     requires interface { end.old.interface.now ≡ interface.now }
     requires limits { end.old.limits ≡ limits }
+    requires bounded { AreLimits limits }
 {
     let link = connected(rt, endpoint, words.timeout)?;
     let (mut reader, mut writer) = (&link, &link);

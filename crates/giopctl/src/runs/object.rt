@@ -2,6 +2,7 @@
 //! (CORBA 3.3 Part 2, 9.4.5), `ping` calls `_non_existent`, the operation by which a client asks
 //! whether an object is there (9.4.2.1), and tells how long that took.
 ghost use Rattle.std.specs.Prelude.{◌≡◌};
+ghost use Rattle.giop_commands.specs.Check.{AreLimits};
 
 use crate::cli::ObjectWords;
 use crate::files::OUTPUT_BUFFER;
@@ -107,6 +108,7 @@ pub fn calling_at<'a>(
     endpoint: &'a Endpoint,
     limits: Limits,
 ) -> Calling<'a>
+    requires { AreLimits limits }
     ensures interface { result.interface.now ≡ interface.now }
     ensures limits { result.limits ≡ limits }
 {
