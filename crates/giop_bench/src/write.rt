@@ -35,13 +35,13 @@ fn strings(alloc: Global, order: Order) -> Result<CdrOut, AllocError> {
 // The octets that are written, made out of line: of octets that the compiler knows it would make no
 // copy, but fill memory with them.
 #[inline(never)]
-fn piece(alloc: Global) -> Result<Vec<u8>, AllocError> {
-    Vec::from_elem(alloc, 7, 4096)
+fn piece() -> [u8; 4096] {
+    [7; 4096]
 }
 
 #[inline(never)]
 fn octets(alloc: Global, order: Order) -> Result<CdrOut, AllocError> {
-    let piece = piece(alloc)?;
+    let piece = piece();
     let mut out = CdrOut::new(alloc, order, 0);
     for _ in 0..PIECES {
         out.write_octets(&piece)?;
