@@ -32,13 +32,19 @@ fn strings(alloc: Global, order: Order) -> Result<CdrOut, AllocError> {
     Ok(out)
 }
 
-// The octets are made once: as a constant they would be laid out anew for each write.
+// The octets that are written, made out of line: of octets that the compiler knows it would make no
+// copy, but fill memory with them.
+#[inline(never)]
+fn piece() -> [u8; 4096] {
+    [7; 4096]
+}
+
 #[inline(never)]
 fn octets(alloc: Global, order: Order) -> Result<CdrOut, AllocError> {
-    let octets = [7; 4096];
+    let piece = piece();
     let mut out = CdrOut::new(alloc, order, 0);
     for _ in 0..PIECES {
-        out.write_octets(&octets)?;
+        out.write_octets(&piece)?;
     }
     Ok(out)
 }
