@@ -1,6 +1,7 @@
 -- What the headline rests on.
 pub mod ItemLemmas
 pub mod CutItemLemmas
+pub mod WrittenItemLemmas
 pub mod ServerItemLemmas
 pub mod ClientItemLemmas
 pub mod ServerHeadline

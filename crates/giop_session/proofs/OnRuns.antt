@@ -9,5 +9,6 @@ pub mod DrivenLemmas
 pub mod AheadLemmas
 pub mod AloneLemmas
 pub mod PlannedLemmas
+pub mod SeenLemmas
 pub mod ServerAloneLemmas
 pub mod ClientAloneLemmas

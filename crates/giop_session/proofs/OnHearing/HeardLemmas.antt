@@ -47,8 +47,11 @@ module _ {R E V A F : Type 0} (side : SideOf R E V A F) where
   one m h k None (Some (Ok id)) (inr (Err why, does, is)) = absurd cc
   one m h k None (Some (Ok id)) (inr (Ok reply, does, is)) =
       let moved = does.leaves in
-      let call = left (at h id) (turn_at side h.rule (at h id) (side.befalls m (at h id))) in
-      (ap (λ s. s.rule) moved, λ q. ap (λ s. at s q) moved ∙ table_apart (side.next h.rule) (side.closed h.rule) side.gathering h id call q ∙ by_id q (q == id) refl)
+      let call = left (at h id) (turn_at side h.rule (at h id) (side.befalls m (at h id))) in (
+        ap (λ s. s.rule) moved,
+        λ q. ap (λ s. at s q) moved ∙ table_apart (side.next h.rule) (side.closed h.rule) side.gathering h id call q
+            ∙ by_id q (q == id) refl,
+      )
     where
       by_id : (q : ℕ) (b : Bool) → (q == id) ≡ b
           → cond b (left (at h id) (turn_at side h.rule (at h id) (side.befalls m (at h id)))) (at h q)

@@ -304,7 +304,8 @@ module _ (interface : Interface) (limit : ℕ) where
       so e stands ok = let was = stray_refused m.more e slot.unsent pieces ok in (was.0, sym stands ∙ ap Some was.1)
 
       by_entry : (e : ClientEntry) → ◌≡◌ {A = Option ClientEntry} (Some e) entry
-          → Passes (with e slot.unsent pieces) (continues interface m (continued m.order (gathered_call (Some (record { entry = e; unsent = slot.unsent }))) pieces))
+          → Passes (with e slot.unsent pieces) (continues interface m
+          (continued m.order (gathered_call (Some (record { entry = e; unsent = slot.unsent }))) pieces))
           → (l : Late) × (entry ≡ Some (client.Cancelled l))
       by_entry (client.Gathering call) stands ok = absurd (let gathers : true ≡ false = subst IsAway (sym stands) away in cc)
       by_entry (client.Cancelled l) stands ok = so (client.Cancelled l) stands ok

@@ -227,7 +227,8 @@ opens interface m None held pieces uses k true is there ok = no_fault ok
 opens interface m None held pieces uses k false is there ok = no_fault ok
 opens interface m (Some slot) held pieces uses k more is there ok = by_entry slot.entry more there ok
   where
-    by_entry : (entry : ClientEntry) (more : Bool) → m.more ≡ more → Accepts interface m (slot_with entry slot.unsent) held pieces uses (Opens k m.version (not more) m)
+    by_entry : (entry : ClientEntry) (more : Bool) → m.more ≡ more
+        → Accepts interface m (slot_with entry slot.unsent) held pieces uses (Opens k m.version (not more) m)
         → Steps interface m (slot_with entry slot.unsent) held pieces uses (Opens k m.version (not more) m)
     by_entry (Waiting q) more there ok = opens_awaited interface m k q slot.unsent held pieces uses is more there ok
     by_entry (Cancelled late.None) more there ok = late_opens interface m k slot.unsent held pieces uses more is there

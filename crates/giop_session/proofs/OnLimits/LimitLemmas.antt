@@ -329,7 +329,8 @@ module _ {R E V A F : Type 0} (side : SideOf R E V A F) (asks : Kind → Bool) (
   heard_free m h k ids rest None (Some (Ok id)) why breaks_so fits listed (inr (Ok sends, does, is)) = absurd cc
   heard_free m h k ids rest None (Some (Ok id)) why breaks_so fits listed (inr (Err fault, does, is)) =
       let free = table_free id fault
-      (refused_free (side.next h.rule) (side.closed h.rule) side.gathering begins (begins_only h.rule) h k ids (octets_with m) rest id (side.befalls m (at h id)) fault
+      (refused_free (side.next h.rule) (side.closed h.rule) side.gathering begins (begins_only h.rule) h k ids (octets_with m) rest id
+      (side.befalls m (at h id)) fault
       fits (asked_named ids m h id listed) does) in
       let same : of_table (side.of_rule id) fault ≡ why = cc in
       subst IsUnlimited same free
@@ -361,7 +362,8 @@ module _ {R E V A F : Type 0} (side : SideOf R E V A F) (asks : Kind → Bool) (
       heard_fits m h k ids (sum_by octets_of events) (side.breaks m) (request_id_of m)
       (subst (Fits h ids) (sum_by-cons octets_of (Comes m) events) fits) (listed_first ids (Comes m) events listed) accepts
   first_fits h k ids (Does id (IsTold planned)) events fits listed (reply, does) =
-      fits_then (side.next h.rule) (side.closed h.rule) side.gathering begins (begins_only h.rule) h k ids 0 (sum_by octets_of events) id (Hears planned Nothing) (Ok reply)
+      fits_then (side.next h.rule) (side.closed h.rule) side.gathering begins (begins_only h.rule) h k ids 0 (sum_by octets_of events) id
+      (Hears planned Nothing) (Ok reply)
       (subst (Fits h ids) (sum_by-cons octets_of (Does id (IsTold planned)) events) fits)
       (asked_own ids id planned h.rule (listed_first ids (Does id (IsTold planned)) events listed)) does
   first_fits h k ids (Does id TakesOut) events fits listed (reply, does) =
@@ -375,7 +377,8 @@ module _ {R E V A F : Type 0} (side : SideOf R E V A F) (asks : Kind → Bool) (
       heard_free m h k ids (sum_by octets_of events) (side.breaks m) (request_id_of m) why (broken m)
       (subst (Fits h ids) (sum_by-cons octets_of (Comes m) events) fits) (listed_first ids (Comes m) events listed) heard
   first_free h ids (Does id (IsTold planned)) events why fits listed (k, fault, does, is) = subst IsUnlimited (sym is) (table_free id fault
-      (refused_free (side.next h.rule) (side.closed h.rule) side.gathering begins (begins_only h.rule) h k ids 0 (sum_by octets_of events) id (Hears planned Nothing) fault
+      (refused_free (side.next h.rule) (side.closed h.rule) side.gathering begins (begins_only h.rule) h k ids 0 (sum_by octets_of events) id
+      (Hears planned Nothing) fault
       (subst (Fits h ids) (sum_by-cons octets_of (Does id (IsTold planned)) events) fits)
       (asked_own ids id planned h.rule (listed_first ids (Does id (IsTold planned)) events listed)) does))
   first_free h ids (Does id TakesOut) events why fits listed (k, fault, does, is) = subst IsUnlimited (sym is) (table_free id fault

@@ -181,16 +181,19 @@ module _ {R E V A F I : Type 0} (side : SideOf R E V A F) (asks : Kind → Bool)
       → result ≡ told_of (side.of_rule id) answered
       → Fits k ids n × ((why : SessionFault) → result ≡ Err why → IsUnlimited why)
   befell_fits h k ids n id planned (Ok sends) result fits listed does told = (
-    fits_then (side.next h.rule) (side.closed h.rule) side.gathering begins (begins_only h.rule) h k ids 0 n id (Hears planned Nothing) _ (none_more h ids n fits)
+    fits_then (side.next h.rule) (side.closed h.rule) side.gathering begins (begins_only h.rule) h k ids 0 n id (Hears planned Nothing) _
+        (none_more h ids n fits)
         (listed, omega arith) does,
     λ why is. absurd cc,
   )
   befell_fits h k ids n id planned (Err fault) result fits listed does told = (
-    fits_then (side.next h.rule) (side.closed h.rule) side.gathering begins (begins_only h.rule) h k ids 0 n id (Hears planned Nothing) _ (none_more h ids n fits)
+    fits_then (side.next h.rule) (side.closed h.rule) side.gathering begins (begins_only h.rule) h k ids 0 n id (Hears planned Nothing) _
+        (none_more h ids n fits)
         (listed, omega arith) does,
     λ why is.
         let free = table_free side asks begins begins_only small own broken id fault
-        (refused_free (side.next h.rule) (side.closed h.rule) side.gathering begins (begins_only h.rule) h k ids 0 n id (Hears planned Nothing) fault (none_more h ids n fits)
+        (refused_free (side.next h.rule) (side.closed h.rule) side.gathering begins (begins_only h.rule) h k ids 0 n id (Hears planned Nothing) fault
+        (none_more h ids n fits)
         (listed, omega arith) does) in
         let same : of_table (side.of_rule id) fault ≡ why = cc in
         subst IsUnlimited same free,

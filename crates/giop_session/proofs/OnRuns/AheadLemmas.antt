@@ -323,7 +323,8 @@ module _ {R E V A F : Type 0} (side : SideOf R E V A F) where
     -- a message is to come: its call takes it, and what that leaves is the same
     pub comes_ahead : (h : Held R E) (id : ℕ) (m : Msg) (own : List (Met I)) (told : List (Answered E)) (end : EndState (Held R E))
         → IsMessage message m → request_id_of m ≡ Some (Ok id) → Ahead h id (Comes m ∷ own) told end
-        → (side.breaks m ≡ None) × IsOk (turn_by h.rule (at h id) (side.befalls m (at h id))) × ((k : Held R E) → ChangesSo h id (side.befalls m) k → Ahead k id own told end)
+        → (side.breaks m ≡ None) × IsOk (turn_by h.rule (at h id) (side.befalls m (at h id)))
+        × ((k : Held R E) → ChangesSo h id (side.befalls m) k → Ahead k id own told end)
     comes_ahead h id m own told end is name ahead = by_answers ahead.answers ahead.runs ahead.none ahead.told_is
       where
         Goal : Type 0

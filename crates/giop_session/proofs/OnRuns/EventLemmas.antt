@@ -88,7 +88,8 @@ module _ {R E V A F : Type 0} (side : SideOf R E V A F) where
 
       by_name : (here : Bool) → (id == (accepted e h mid first).0) ≡ here → (own : Bool) → own ≡ (id == (accepted e h mid first).0)
           → (call : Call E)
-          → call ≡ cond (id == (accepted e h mid first).0) (left (at h id) (turn_by h.rule (at h id) (what (turn_by h.rule) side.befalls e (at h id)))) (at h id)
+          → call ≡ cond (id == (accepted e h mid first).0) (left (at h id)
+          (turn_by h.rule (at h id) (what (turn_by h.rule) side.befalls e (at h id)))) (at h id)
           → Follows (turn_by h.rule) side.befalls call (own_events id events) (at k id)
           → Follows (turn_by h.rule) side.befalls (at h id) (cond own (e ∷ own_events id events) (own_events id events)) (at k id)
       by_name true is own same call now behind =

@@ -1,17 +1,15 @@
 -- Octets that arrive at an end of a world are acts of the lanes that their messages are on, and then a limit is met, if one is.
-use Rattle.std.proofs.Common.{◌≡◌, ◌≢◌, ℕ, List, [], ◌∷◌, ◌++◌, map, take, drop, Option, Some, None, Result, Ok, Err, refl, sym, ap, subst, ◌∙◌}
+use Rattle.std.proofs.Common.{◌≡◌, ◌≢◌, ◌⊎◌, ℕ, List, [], ◌∷◌, ◌++◌, map, take, drop, Option, Some, None, Result, Ok, Err, sym, ap, subst, inl, inr, ◌∙◌}
 use Rattle.std.proofs.lemmas.List.{take-append-drop}
 use Rattle.std.specs.Option.{option_map}
 use Rattle.giop_types.specs.declared.json.interface.Interface.{Interface}
 use Rattle.giop_msg.specs.declared.msg.Msg.{Msg}
-use Rattle.giop_calls.specs.Lane.{Codec, Lane, Message, Standing, ToClient, ToServer, later, step}
+use Rattle.giop_calls.specs.Lane.{Codec, Lane, Message, Standing, ToClient, ToServer, later}
 use Rattle.giop_calls.specs.Lane as lanes
 use Rattle.giop_calls.specs.declared.client.entry.ClientEntry.{ClientEntry}
 use Rattle.giop_calls.specs.declared.client.rule.ClientRule.{ClientRule}
 use Rattle.giop_calls.specs.declared.server.entry.ServerEntry.{ServerEntry}
 use Rattle.giop_calls.specs.declared.server.rule.ServerRule.{ServerRule}
-use Rattle.giop_session.specs.declared.laws.inputs.Answered.{Answered}
-use Rattle.giop_session.specs.declared.laws.inputs.Answered.TheVariants as answer
 use Rattle.giop_session.specs.declared.limits.Limits.{Limits}
 use Rattle.giop_session.specs.declared.session_fault.SessionFault.{SessionFault}
 use Rattle.giop_session.specs.declared.session_fault.SessionFault.TheVariants.{NoMemory}
@@ -19,7 +17,6 @@ use Rattle.giop_session.specs.Runs.Alone.{own_messages}
 use Rattle.giop_session.specs.Calls.CallTable.{Held, at}
 use Rattle.giop_session.specs.Hearing.ClientHears.{client_side}
 use Rattle.giop_session.specs.Worlds.Coding.{coding}
-use Rattle.giop_session.specs.Runs.Driven.{Feeds, IsDoneBy, IsGivenBy}
 use Rattle.giop_session.specs.Hearing.Feeding.{Fed, standing, with_octets}
 use Rattle.giop_session.specs.Hearing.Heard.{hears}
 use Rattle.giop_session.specs.Worlds.LaneAtEnds.{seen}
@@ -32,6 +29,7 @@ use Rattle.giop_session.proofs.OnLanes.ClientHearsNext.{client_hears_next}
 use Rattle.giop_session.proofs.OnWorlds.Feeds.{GoesBy, fed}
 use Rattle.giop_session.proofs.OnLanes.NextHeard.{ClientHearsIt, IsFull, ServerHearsIt}
 use Rattle.giop_session.proofs.OnWorlds.OwnMessages.{own_first, own_passed}
+use Rattle.giop_session.proofs.OnRuns.SeenLemmas.{IsFedSo, fed_or_failed}
 use Rattle.giop_session.proofs.OnLanes.ServerHearsNext.{server_hears_next}
 use Rattle.giop_session.proofs.OnWorlds.WorldTracks.{AreSound, IsAnswered, IsAsked, Tracks, at_each, runs_more}
 
@@ -197,15 +195,8 @@ module _ (interface : Interface) (are_sound : AreSound interface) where
     abbrev Tracked : WorldState → Type 0
     Tracked = Tracks interface client_limits server_limits
 
-    not_wanting : {E : Type 0} (fault : SessionFault) → (◌≢◌ {A = Answered E} (answer.Refused fault) (answer.Refused NoMemory))
-        → (◌≢◌ {A = Result (Unit {0}) SessionFault} (Err fault) (Err NoMemory))
-    not_wanting fault memory is = memory (ap answer.Refused (same_fault fault is))
-      where
-        same_fault : (fault : SessionFault) → ◌≡◌ {A = Result (Unit {0}) SessionFault} (Err fault) (Err NoMemory) → fault ≡ NoMemory
-        same_fault fault is = cc
-
     pub at_server : (w v : WorldState) (n : ℕ) (told : Told) → Tracked w → ArriveAtServer interface client_limits server_limits w n told v → Tracked v
-    at_server w v n told tracks (answered, (memory, is), tells, gone) = by_fault w.server.fault refl is
+    at_server w v n told tracks (answered, is, tells, gone) = by_case (fed_or_failed (server_side interface) w.server v.server octets answered is)
       where
         octets : List ℕ
         octets = take n w.client.outgoing
@@ -240,16 +231,9 @@ module _ (interface : Interface) (are_sound : AreSound interface) where
             } in
             subst Tracked (λ i. record { client = sym gone i; server = sym rest i }) now
 
-        by_answer : w.server.fault ≡ None → (one : Answered ServerEntry) → (one ≢ answer.Refused NoMemory)
-            → IsDoneBy (server_side interface) (Feeds octets) w.server one v.server → Tracked v
-        by_answer sound answer.Done memory (is_fed, rest) = by_fed sound (Ok tt) (λ wrong. absurd cc) is_fed rest
-        by_answer sound (answer.Refused why) memory (is_fed, rest) =
-            by_fed sound (Err why) (not_wanting {E = ServerEntry} why memory) is_fed rest
-        by_answer sound (answer.Taken entry) memory done = absurd done
-
-        by_fault : (fault : Option SessionFault) → w.server.fault ≡ fault
-            → IsGivenBy (server_side interface) fault (Feeds octets) w.server answered v.server → Tracked v
-        by_fault (Some why) failed (refused, stays) =
+        by_case : ((why : SessionFault) × (w.server.fault ≡ Some why) × (v.server ≡ w.server)) ⊎ IsFedSo (server_side interface) w.server octets
+            v.server → Tracked v
+        by_case (inl (why, failed, stays)) =
             let lost : Tracked (record w { client = record w.client { outgoing = behind } }) = record {
               asked = tracks.asked;
               answered = tracks.answered;
@@ -264,10 +248,10 @@ module _ (interface : Interface) (are_sound : AreSound interface) where
               server_met = tracks.server_met;
             } in
             subst Tracked (λ i. record { client = sym gone i; server = sym stays i }) lost
-        by_fault None sound done = by_answer sound answered memory done
+        by_case (inr so) = by_fed so.sound so.result so.wanting so.fed so.rest
 
     pub at_client : (w v : WorldState) (n : ℕ) (told : Told) → Tracked w → ArriveAtClient interface client_limits server_limits w n told v → Tracked v
-    at_client w v n told tracks (answered, (memory, is), tells, gone) = by_fault w.client.fault refl is
+    at_client w v n told tracks (answered, is, tells, gone) = by_case (fed_or_failed (client_side interface) w.client v.client octets answered is)
       where
         octets : List ℕ
         octets = take n w.server.outgoing
@@ -302,16 +286,9 @@ module _ (interface : Interface) (are_sound : AreSound interface) where
             } in
             subst Tracked (λ i. record { client = sym rest i; server = sym gone i }) now
 
-        by_answer : w.client.fault ≡ None → (one : Answered ClientEntry) → (one ≢ answer.Refused NoMemory)
-            → IsDoneBy (client_side interface) (Feeds octets) w.client one v.client → Tracked v
-        by_answer sound answer.Done memory (is_fed, rest) = by_fed sound (Ok tt) (λ wrong. absurd cc) is_fed rest
-        by_answer sound (answer.Refused why) memory (is_fed, rest) =
-            by_fed sound (Err why) (not_wanting {E = ClientEntry} why memory) is_fed rest
-        by_answer sound (answer.Taken entry) memory done = absurd done
-
-        by_fault : (fault : Option SessionFault) → w.client.fault ≡ fault
-            → IsGivenBy (client_side interface) fault (Feeds octets) w.client answered v.client → Tracked v
-        by_fault (Some why) failed (refused, stays) =
+        by_case : ((why : SessionFault) × (w.client.fault ≡ Some why) × (v.client ≡ w.client)) ⊎ IsFedSo (client_side interface) w.client octets
+            v.client → Tracked v
+        by_case (inl (why, failed, stays)) =
             let lost : Tracked (record w { server = record w.server { outgoing = behind } }) = record {
               asked = tracks.asked;
               answered = tracks.answered;
@@ -326,4 +303,4 @@ module _ (interface : Interface) (are_sound : AreSound interface) where
               server_met = tracks.server_met;
             } in
             subst Tracked (λ i. record { client = sym stays i; server = sym gone i }) lost
-        by_fault None sound done = by_answer sound answered memory done
+        by_case (inr so) = by_fed so.sound so.result so.wanting so.fed so.rest

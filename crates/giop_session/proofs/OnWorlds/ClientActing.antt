@@ -11,7 +11,7 @@ use Rattle.giop_msg.specs.declared.msg.Msg.{Msg}
 use Rattle.giop_msg.specs.declared.version.Version.{Version}
 use Rattle.giop_calls.specs.ClientTable.{client_step, is_closed, is_free, is_gathering, sending, sent}
 use Rattle.giop_calls.specs.ClientTable as client_table
-use Rattle.giop_calls.specs.Lane.{Cut, Lane, Message, Stops, count, fragments, is_last, later, next, pieces_of, tried}
+use Rattle.giop_calls.specs.Lane.{Cut, Lane, Stops, count, fragments, is_last, later, next, pieces_of, tried}
 use Rattle.giop_calls.specs.Lane as lanes
 use Rattle.giop_calls.specs.Messages.{is_oneway}
 use Rattle.giop_calls.specs.declared.client.call.Call.{Call}

@@ -9,7 +9,7 @@ use Rattle.giop_msg.specs.Msg.{message_octets}
 use Rattle.giop_msg.specs.declared.messages.reply.Reply.{Reply}
 use Rattle.giop_msg.specs.declared.messages.request.Request.{Request}
 use Rattle.giop_msg.specs.declared.msg.Msg.{Msg}
-use Rattle.giop_calls.specs.Lane.{Codec, Cut, Lane, Runs, count, fragments, is_last, later, new, next, pieces_of}
+use Rattle.giop_calls.specs.Lane.{Cut, Lane, count, fragments, is_last, later, next, pieces_of}
 use Rattle.giop_calls.specs.Lane as lanes
 use Rattle.giop_calls.specs.Messages.{is_same_version}
 use Rattle.giop_calls.specs.ServerTable.{becomes_if, is_closed, is_gathering, server_step}

@@ -15,7 +15,8 @@ returns-then-not-has_room c call pieces gathered there =
     let h = c.args.calls.now in
     let m = c.args.message.now in
     complete_refused h c.args.id call (behind_id m) c.args.interface.now m.version m.order (pieces.octets ++ behind_id m) gathered
-    (ap (λ octets. is_over h.room h.gathered (length octets)) (sym c.behind_id-octets.ensures) ∙ is_full _ (sym c.has_room.ensures.value ∙ c.if-not-has_room.true))
+    (ap (λ octets. is_over h.room h.gathered (length octets)) (sym c.behind_id-octets.ensures)
+    ∙ is_full _ (sym c.has_room.ensures.value ∙ c.if-not-has_room.true))
 
 pub complete-requires-clause-accepted : goal.complete-requires-clause-accepted
 complete-requires-clause-accepted c =

@@ -11,4 +11,5 @@ returns-then-not-has_room c pieces is =
     let m = c.args.message.now in
     complete_refused h c.args.id c.args.kind (heard_call c.args.interface.now c.args.kind m.version m.order (pieces.octets ++ behind_id m))
     (behind_id m) c.requires.gathered
-    (ap (λ octets. is_over h.room h.gathered (length octets)) (sym c.behind_id-octets.ensures) ∙ is_full _ (sym c.has_room.ensures.value ∙ c.if-not-has_room.true))
+    (ap (λ octets. is_over h.room h.gathered (length octets)) (sym c.behind_id-octets.ensures)
+    ∙ is_full _ (sym c.has_room.ensures.value ∙ c.if-not-has_room.true))

@@ -1,46 +1,27 @@
-use Rattle.std.proofs.Common.{◌≡◌, ◌∙◌, ap, subst}
+use Rattle.std.proofs.Common.{◌≡◌}
 use Rattle.giop_session.specs.Calls.Begun.{no_calls}
+use Rattle.giop_session.specs.Ends.View.{state_of}
 use Rattle.giop_session.specs.Runs.Driven.{end_state, new_end}
 use Rattle.giop_session.specs.Runs.Inputs.{nothing_unread}
 use Rattle.giop_session.specs.Hearing.ClientHears.{client_side}
-use Rattle.giop_session.specs.Runs.ClientRuns.{ClientIsGiven, ClientRuns, ClientRunsFrom, client_deed}
+use Rattle.giop_session.specs.Runs.ClientRuns.{ClientRuns, client_deed}
 use Rattle.giop_session.proofs.OnRuns.ClientAloneLemmas.{client_fits, client_said}
-use Rattle.giop_session.proofs.OnRuns.DrivenLemmas.{in_turn_seen, run_taken, taken_takes}
+use Rattle.giop_session.proofs.OnRuns.DrivenLemmas.{run_taken, taken_takes}
+use Rattle.giop_session.proofs.OnRuns.SeenLemmas.{run_seen}
 use Rattle.giop_session.proofs.OnActs.SidesPutOut.{client_puts_out}
 use Rattle.giop_session.proofs.OnItems.ClientHeadline.{client_answers, client_entries}
 use Rattle.giop_session.proofs.OnLimits.ClientRunLimitLemmas.{client_run_free}
 use Rattle.giop_session.proofs.laws.running.run_client.Goals as goal
 
--- the run, as contracts see an end
+-- the run, as one of the end's view
 seen : (c : goal.In_ok-answers)
     → ((c.take_all.new.driven.interface.now ≡ c.args.interface.now) × (c.take_all.new.driven.limits ≡ c.args.limits))
-    × ClientRuns c.args.interface.now c.args.limits c.args.inputs.items c.in_ok-answers.answers.items
-    (end_state c.take_all.new.driven.framer c.take_all.new.driven.calls c.take_all.new.driven.outgoing c.take_all.new.driven.fault)
+    × ClientRuns c.args.interface.now c.args.limits c.args.inputs.items c.in_ok-answers.answers.items (state_of c.take_all.new.driven)
 seen c =
     let new = c.new-client.ensures in
-    let run = in_turn_seen
-    (λ before input answered after. ClientIsGiven before.interface.now before.limits
-    (end_state before.framer before.calls before.outgoing before.fault) input answered
-    (end_state after.framer after.calls after.outgoing after.fault)
-    × (after ≡ record before { framer = after.framer; calls = after.calls; outgoing = after.outgoing; fault = after.fault }))
-    (ClientIsGiven c.args.interface.now c.args.limits)
-    (λ end. end_state end.framer end.calls end.outgoing end.fault)
-    (λ end. (end.interface.now ≡ c.args.interface.now) × (end.limits ≡ c.args.limits))
-    (λ before after input answered keeps given. (
-      (ap (λ e. e.interface.now) given.1 ∙ keeps.0, ap (λ e. e.limits) given.1 ∙ keeps.1),
-      subst (λ interface. ClientIsGiven interface c.args.limits
-          (end_state before.framer before.calls before.outgoing before.fault) input answered
-          (end_state after.framer after.calls after.outgoing after.fault)) keeps.0
-          (subst (λ limits. ClientIsGiven before.interface.now limits
-          (end_state before.framer before.calls before.outgoing before.fault) input answered
-          (end_state after.framer after.calls after.outgoing after.fault)) keeps.1 given.0),
-    ))
-    c.new-client.result c.take_all.new.driven c.args.inputs.items c.in_ok-answers.answers.items (new.interface, new.limits) c.in_ok-answers.ensures in (
-      run.0,
-      subst (λ begun. ClientRunsFrom c.args.interface.now c.args.limits begun c.args.inputs.items c.in_ok-answers.answers.items
-          (end_state c.take_all.new.driven.framer c.take_all.new.driven.calls c.take_all.new.driven.outgoing c.take_all.new.driven.fault))
-          (λ i. end_state (new.unread i) (new.calls i) (new.outgoing i) (new.fault i)) run.1,
-    )
+    run_seen client_side client_deed c.args.interface.now c.args.limits (record {}) c.new-client.result c.take_all.new.driven
+    c.args.inputs.items c.in_ok-answers.answers.items new.interface new.limits
+    (λ i. end_state (new.unread i) (new.calls i) (new.outgoing i) (new.fault i)) c.in_ok-answers.ensures
 
 pub returns-clause-value : goal.returns-clause-value
 returns-clause-value c = (seen c).1
@@ -52,7 +33,7 @@ pub returns-clause-taken : goal.returns-clause-taken
 returns-clause-taken c = λ none sound.
     run_taken (client_side c.args.interface.now)
     (client_deed c.args.interface.now c.args.limits) (new_end (record {}) c.args.limits)
-    (end_state c.take_all.new.driven.framer c.take_all.new.driven.calls c.take_all.new.driven.outgoing c.take_all.new.driven.fault)
+    (state_of c.take_all.new.driven)
     c.args.inputs.items c.in_ok-answers.answers.items (seen c).1 none sound
 
 pub returns-clause-table : goal.returns-clause-table
@@ -71,29 +52,29 @@ returns-clause-answers c = λ items holds id.
 pub returns-clause-within : goal.returns-clause-within
 returns-clause-within c = λ given.
     client_run_free c.args.interface.now c.args.limits c.args.inputs.items c.in_ok-answers.answers.items
-    (end_state c.take_all.new.driven.framer c.take_all.new.driven.calls c.take_all.new.driven.outgoing c.take_all.new.driven.fault)
+    (state_of c.take_all.new.driven)
     given (seen c).1
 
 -- what fits the end is refused nothing
 pub returns-clause-fits : goal.returns-clause-fits
 returns-clause-fits c = λ fits.
     let found = client_fits c.args.interface.now c.args.limits c.args.inputs.items c.in_ok-answers.answers.items
-    (end_state c.take_all.new.driven.framer c.take_all.new.driven.calls c.take_all.new.driven.outgoing c.take_all.new.driven.fault) fits (seen c).1 in
+    (state_of c.take_all.new.driven) fits (seen c).1 in
     (found.0, found.1)
 
 pub returns-clause-alone : goal.returns-clause-alone
 returns-clause-alone c = λ fits id.
     (client_fits c.args.interface.now c.args.limits c.args.inputs.items c.in_ok-answers.answers.items
-    (end_state c.take_all.new.driven.framer c.take_all.new.driven.calls c.take_all.new.driven.outgoing c.take_all.new.driven.fault) fits (seen c).1).2 id
+    (state_of c.take_all.new.driven) fits (seen c).1).2 id
 
 pub returns-clause-said : goal.returns-clause-said
 returns-clause-said c = λ fits calls says id.
     client_said c.args.interface.now c.args.limits c.args.inputs.items c.in_ok-answers.answers.items
-    (end_state c.take_all.new.driven.framer c.take_all.new.driven.calls c.take_all.new.driven.outgoing c.take_all.new.driven.fault)
+    (state_of c.take_all.new.driven)
     fits calls says (seen c).1 id
 
 pub returns-clause-put_out : goal.returns-clause-put_out
 returns-clause-put_out c =
     client_puts_out c.args.interface.now c.args.limits c.args.inputs.items c.in_ok-answers.answers.items
-    (end_state c.take_all.new.driven.framer c.take_all.new.driven.calls c.take_all.new.driven.outgoing c.take_all.new.driven.fault)
+    (state_of c.take_all.new.driven)
     (seen c).1

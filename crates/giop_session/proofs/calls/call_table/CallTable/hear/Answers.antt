@@ -39,7 +39,8 @@ returns g c =
     let entries = ap (λ m. m.entries) c.in-Ok.ensures.ok in
     let gathers_is = ap (λ m. gathers g.R.Side.gathering (finite.get m c.args.id)) entries
     ∙ ap (gathers g.R.Side.gathering) (get-put_same table c.args.id step.entry) in
-    let gathered = ap (λ g. g.lists) c.keep_if.ensures ∙ ap (put lists c.args.id) (c.is_kept.ensures ∙ ap (λ b. cond b (finite.get lists c.args.id) None) gathers_is) in
+    let gathered = ap (λ g. g.lists) c.keep_if.ensures ∙ ap (put lists c.args.id)
+    (c.is_kept.ensures ∙ ap (λ b. cond b (finite.get lists c.args.id) None) gathers_is) in
     let rule = ap (λ m. m.rule.rule) c.in-Ok.ensures.ok in
     let calls = ap (λ m. m.limit) c.in-Ok.ensures.ok in
     let room = ap (λ g. g.limit) c.keep_if.ensures in
