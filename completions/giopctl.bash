@@ -30,7 +30,7 @@ _giopctl() {
                 'giopctl convert encode:-'*) words='--desc --little -h --help' ;;
                 'giopctl convert decode:-'*) words='--desc --little --json-numbers -h --help' ;;
                 'giopctl call:-'*) words='--target --interface --json --json-numbers --stream --follow --timeout --piece --little --message-limit --calls-limit --gathered-limit -h --help' ;;
-                'giopctl locate:'*) words='--target --timeout --json --little -h --help' ;;
+                'giopctl locate:'*) words='--target --timeout --json --little --follow -h --help' ;;
                 'giopctl ping:'*) words='--target --timeout --json --little -h --help' ;;
                 'giopctl serve:'*) words='--port --interface --answers --key --key-text --ior-file --type-id --connections --json --json-numbers --stream --piece --little --message-limit --calls-limit --gathered-limit -h --help' ;;
                 'giopctl:'*) words='dump check trace convert call locate ping serve help' ;;
