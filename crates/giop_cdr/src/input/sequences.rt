@@ -109,6 +109,7 @@ impl<'a, S: Octets> CdrIn<'a, S> {
     ///
     /// The reader then stays where it was. No memory is asked for a length that is refused.
     #[tactic(auto, using(crate::proofs::Reading::CountSteps::octets_counted, crate::proofs::Reading::CountSteps::octets_there, crate::proofs::Reading::CountSteps::octets_uncounted))]
+    #[inline(always)]
     pub fn read_octets(&mut self, alloc: Global, bound: u32) -> Result<Vec<u8>, CdrFault>
         ensures value { Allocates (λ v. v.items) self.old result self.new
             (octets_at bound self.old) }
@@ -157,6 +158,7 @@ impl<'a, S: Octets> CdrIn<'a, S> {
     ///
     /// The reader then stays where it was. No memory is asked for a length that is refused.
     #[tactic(auto, using(crate::proofs::Reading::CountSteps::text_counted, crate::proofs::Reading::CountSteps::text_there, crate::proofs::Reading::CountSteps::text_uncounted))]
+    #[inline(always)]
     pub fn read_string(&mut self, alloc: Global, bound: u32) -> Result<Vec<u8>, CdrFault>
         ensures value { Allocates (λ v. v.items) self.old result self.new
             (string_at bound self.old) }

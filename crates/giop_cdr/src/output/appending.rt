@@ -21,22 +21,6 @@ pub fn push_zeros(octets: &mut Vec<u8>, count: usize, behind: usize) -> Result<(
     octets.extend_from_slice(&[0; 8][..count])
 }
 
-// Appends N octets, written over zeros as one value: a copy out of a slice is a loop, which asks
-// whether the two overlap.
-#[inline(always)]
-fn push_array<const N: usize>(octets: &mut Vec<u8>, field: [u8; N]) -> Result<(), AllocError>
-    ensures ok { OnOk result (octets.new.items ≡ octets.old.items ++ field.entry) }
-    ensures capacity { vec_capacity octets.old ≤ vec_capacity octets.new }
-    ensures err { OnErr result (octets.new.items ≡ octets.old.items) }
-    ensures succeeds { OnErr result (vec_capacity octets.old < vec_len octets.old + N) }
-{
-    octets.extend_from_slice(&[0; N])?;
-    if let Some(last) = octets.as_mut_slice().last_chunk_mut::<N>() {
-        *last = field;
-    }
-    Ok(())
-}
-
 /// Appends zeros up to the next multiple of N, and the N octets of a field. The end of the list has
 /// the offset `at`.
 #[inline(always)]
@@ -58,7 +42,7 @@ pub fn push_field<const N: usize>(
     if pad != 0 {
         push_zeros(octets, pad, N)?;
     }
-    push_array(octets, field)
+    octets.extend_from_slice(&field)
 }
 
 /// Appends a count, aligned to 4, and what it counts, in two parts. The end of the list has the
