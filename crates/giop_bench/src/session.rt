@@ -2,7 +2,7 @@
 //! answered, written and taken; answered at once, or with 512 calls that wait. And 64 MB of
 //! Requests of `put`, ten times, each of some 16 KB in messages of 512 octets, 64 of them piece by
 //! piece. `bench/session/twin.rs` does the same in plain Rust.
-ghost use Rattle.std.specs.Prelude.{◌≡◌, ◌<◌, ◌≤◌, length};
+ghost use Rattle.std.specs.Prelude.{◌≡◌, ◌<◌, ◌≤◌, ◌^◌, length};
 
 use giop_calls::ServerEntry;
 use giop_cdr::{OctetList, Order};
@@ -145,6 +145,7 @@ pub fn calls(
     ids: u32,
     waiting: u32,
 ) -> Option<u64>
+    requires held { limits.gathered ≤ 2 ^ 62 }
     requires some { 0 < waiting }
     requires most { waiting ≤ count }
     requires ids { 0 < ids }
