@@ -59,46 +59,31 @@ pub use world::{World, run_world};
 /// entry, the unsent messages, the pieces and the answers of its own acts alone, unless one of
 /// these met a limit or was out of memory.
 pub fn each_call_alone<R: Side>(rule: &R)
-    ensures value { (h k : Held R R.Entry) (acts results : _) (id : ℕ)
-        → Runs (rules_by R.Side rule.now) h acts results k → MeetsNoLimit is_of_call id acts results
-        → at k id ≡ alone (turn_by R.Side rule.now) (at h id) (own id acts) }
-    ensures told { (h k : Held R R.Entry) (acts results : _) (id : ℕ)
-        → Runs (rules_by R.Side rule.now) h acts results k → MeetsNoLimit is_of_call id acts results
-        → own id (addressed acts results) ≡ told_alone (turn_by R.Side rule.now) (at h id)
-        (own id acts) }
+    ensures value { (h k acts results : _) (id : ℕ) → Runs (rules_by R.Side rule.now) h acts results k → MeetsNone id acts results → at k id ≡ alone (turn_by R.Side rule.now) (at h id) (own id acts) }
+    ensures told { (h k acts results : _) (id : ℕ) → Runs (rules_by R.Side rule.now) h acts results k → MeetsNone id acts results → answers_of id acts results ≡ told_alone (turn_by R.Side rule.now) (at h id) (own id acts) }
 {}
 
 /// Two runs whose acts are equal for each id, in any interleaving, leave each call the same, where
 /// they meet no limit and are never out of memory.
 pub fn any_interleaving<R: Side>(rule: &R)
-    ensures { (h k k' : Held R R.Entry) (one other : _) (results results' : _)
-        → Runs (rules_by R.Side rule.now) h one results k
-        → Runs (rules_by R.Side rule.now) h other results' k' → MeetNone one results
-        → MeetNone other results' → ((id : ℕ) → own id one ≡ own id other) → SameCalls k k' }
+    ensures { (h k k' one other results results' : _) → RunsFreely (rules_by R.Side rule.now) h one results k → RunsFreely (rules_by R.Side rule.now) h other results' k' → SameActs one other → SameCalls k k' }
 {}
 
 /// A call is what its own messages make of it. After messages of which none is refused, what is
 /// stored for an id is what the messages that name it leave, one after another, of what was stored
 /// before. Messages that name other ids may lie between them anywhere.
 pub fn own_messages_alone<R: Hearing>(rule: &R)
-    ensures { (interface : Interface) (h k : Held R R.Entry) (messages : List Msg) (id : ℕ)
-        → Through (hears_in R.Hearing interface) h messages k → at k id ≡ alone_heard
-        (turn_by R.Side h.rule) (R.befalls interface) (at h id) (own_messages id messages) }
+    ensures { (interface : Interface) (h k messages id : _) → Through (hears_in R.Hearing interface) h messages k → at k id ≡ alone_heard (turn_by R.Side h.rule) (R.befalls interface) (at h id) (own_messages id messages) }
 {}
 
 /// Two ends that heard the same messages of each id, in the same order, hold the same calls,
 /// however the messages of different ids were interleaved.
 pub fn any_interleaving_of_messages<R: Hearing>(rule: &R)
-    ensures { (interface : Interface) (h k k' : Held R R.Entry) (one other : List Msg)
-        → Through (hears_in R.Hearing interface) h one k
-        → Through (hears_in R.Hearing interface) h other k' → SameOfEach one other
-        → SameCalls k k' }
+    ensures { (interface : Interface) (h k k' one other : _) → Through (hears_in R.Hearing interface) h one k → Through (hears_in R.Hearing interface) h other k' → SameOfEach one other → SameCalls k k' }
 {}
 
 /// Octets may be fed in any pieces: what an end makes of octets and then of more is what it makes
 /// of both at once.
 pub fn any_reads<R: Hearing>(rule: &R)
-    ensures { (interface : Interface) (unread left last : Unread) (h mid k : Held R R.Entry)
-        (more : List ℕ) (result : _)
-        → FedInTurn (hears_in R.Hearing interface) unread left last h mid k more result }
+    ensures { (interface : Interface) (unread left last h mid k more result : _) → FedInTurn (hears_in R.Hearing interface) unread left last h mid k more result }
 {}

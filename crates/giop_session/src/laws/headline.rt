@@ -45,14 +45,8 @@ pub fn each_call_of_a_run<R: Hearing>(rule: &R)
 /// So two runs that hold, for each id, the same calls in the same order end in the same entries,
 /// whatever their limits.
 pub fn same_calls_same_entries_at_server()
-    ensures value { (interface : Interface) (limits : Limits) (inputs : _) (left : _) (k : _)
-        (calls : ℕ → List ServerItem) → ServerTakes interface limits inputs left k
-        → ServerInputsHold interface limits inputs calls → ServerEntriesAre interface calls k }
-    ensures same { (interface : Interface) (limits limits' : Limits) (one other : _)
-        (left left' : _) (k k' : _) (calls : ℕ → List ServerItem)
-        → ServerTakes interface limits one left k → ServerTakes interface limits' other left' k'
-        → ServerInputsHold interface limits one calls
-        → ServerInputsHold interface limits' other calls → SameEntries k k' }
+    ensures value { (interface : Interface) (limits : Limits) (inputs calls k : _) → ServerTakesItems interface limits inputs calls k → ServerEntriesAre interface calls k }
+    ensures same { (interface : Interface) (limits limits' : Limits) (one other calls k k' : _) → ServerTakesItems interface limits one calls k → ServerTakesItems interface limits' other calls k' → SameEntries k k' }
 {}
 
 /// A client's end takes inputs, octets in reads of any size and its own acts, and refuses none of
@@ -64,40 +58,17 @@ pub fn same_calls_same_entries_at_server()
 /// So two runs that hold, for each id, the same items in the same order end in the same entries,
 /// whatever their limits.
 pub fn same_calls_same_entries_at_client()
-    ensures value { (interface : Interface) (limits : Limits) (inputs : _) (left : _) (k : _)
-        (calls : ℕ → List ClientItem) → ClientTakes interface limits inputs left k
-        → ClientInputsHold interface limits inputs calls → ClientEntriesAre interface calls k }
-    ensures same { (interface : Interface) (limits limits' : Limits) (one other : _)
-        (left left' : _) (k k' : _) (calls : ℕ → List ClientItem)
-        → ClientTakes interface limits one left k → ClientTakes interface limits' other left' k'
-        → ClientInputsHold interface limits one calls
-        → ClientInputsHold interface limits' other calls → SameEntries k k' }
+    ensures value { (interface : Interface) (limits : Limits) (inputs calls k : _) → ClientTakesItems interface limits inputs calls k → ClientEntriesAre interface calls k }
+    ensures same { (interface : Interface) (limits limits' : Limits) (one other calls k k' : _) → ClientTakesItems interface limits one calls k → ClientTakesItems interface limits' other calls k' → SameEntries k k' }
 {}
 
 /// A message that is cut into pieces of any size, in either byte order, is one item: its pieces are
 /// a series whose joined octets are those that were cut. So a Request, LocateRequest, Reply or
 /// LocateReply that is written and cut is carried as the value that it is.
 pub fn what_is_cut_is_carried()
-    ensures series { (version : Version) (kind : Kind) (order : Order) (octets : List ℕ)
-        (piece : ℕ) (messages : List Msg)
-        → CanCut kind octets piece → IsCut version kind order octets piece messages
-        → IsSeries kind version order false messages × (joined messages ≡ octets) }
-    ensures request { (interface : Interface) (version : Version) (order : Order) (asked : _)
-        (piece : ℕ) (messages : List Msg) (entry : _)
-        → IsWrittenAs (request interface version) order asked message.Request piece version messages
-        → CarryCall interface entry (call.Request asked) messages }
-    ensures locate { (interface : Interface) (version : Version) (order : Order) (asked : _)
-        (piece : ℕ) (messages : List Msg) (entry : _) → IsWrittenAs (ended (locate_request version))
-        order asked message.LocateRequest piece version messages
-        → CarryCall interface entry (call.Locate asked) messages }
-    ensures reply { (interface : Interface) (version : Version) (order : Order) (asked told : _)
-        (piece : ℕ) (messages : List Msg) (known : _)
-        → answered known.entry known.latest ≡ Some (question.Request asked) → IsWrittenAs
-        (reply interface (Some asked) version) order told message.Reply piece version messages
-        → CarryReply interface known (answer.Reply told) messages }
-    ensures located { (interface : Interface) (version : Version) (order : Order) (asked told : _)
-        (piece : ℕ) (messages : List Msg) (known : _)
-        → answered known.entry known.latest ≡ Some (question.Locate asked)
-        → IsWrittenAs (locate_reply version) order told message.LocateReply piece version messages
-        → CarryReply interface known (answer.Locate told) messages }
+    ensures series { (version kind order octets piece sent : _) → CanCut kind octets piece → IsCut version kind order octets piece sent → IsSeries kind version order false sent × (joined sent ≡ octets) }
+    ensures request { (interface version order asked piece sent entry : _) → IsRequestIn interface version order asked piece sent → CarryCall interface entry (call.Request asked) sent }
+    ensures locate { (interface version order asked piece sent entry : _) → IsLocateRequestIn version order asked piece sent → CarryCall interface entry (call.Locate asked) sent }
+    ensures reply { (interface version order asked told piece sent known : _) → Awaits known (question.Request asked) → IsReplyIn interface asked version order told piece sent → CarryReply interface known (answer.Reply told) sent }
+    ensures located { (interface version order asked told piece sent known : _) → Awaits known (question.Locate asked) → IsLocateReplyIn version order told piece sent → CarryReply interface known (answer.Locate told) sent }
 {}

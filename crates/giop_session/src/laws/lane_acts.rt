@@ -21,12 +21,8 @@ use giop_calls::laws::ends_of_one_lane_agree;
 /// that crosses the reply, an id that is used again. Only a limit of the end itself does, where it
 /// is met, or want of memory; then nothing changes.
 pub fn servers_do_the_lanes_act()
-    ensures heard { (interface : Interface) (acts : List Act) (lane : Lane) (id : ℕ) (m : Msg)
-        (later : List Message) (h k : Held ServerRule ServerEntry)
-        → ServerDoesLanesAct interface acts lane id m later h k }
-    ensures refused { (interface : Interface) (acts : List Act) (lane : Lane) (id : ℕ) (m : Msg)
-        (later : List Message) (h k : Held ServerRule ServerEntry) (why : _)
-        → ServerRefusesByLimits interface acts lane id m later h k why }
+    ensures heard { (interface acts lane id m later h k : _) → ServerDoesLanesAct interface acts lane id m later h k }
+    ensures refused { (interface acts lane id m later h k why : _) → ServerRefusesByLimits interface acts lane id m later h k why }
 {
     ends_of_one_lane_agree();
 }
@@ -34,12 +30,8 @@ pub fn servers_do_the_lanes_act()
 /// So a client's end, of a reply that is awaited, and of one that no call awaits any more since it
 /// was cancelled.
 pub fn clients_do_the_lanes_act()
-    ensures heard { (interface : Interface) (acts : List Act) (lane : Lane) (id : ℕ) (m : Msg)
-        (later : List Message) (h k : Held ClientRule ClientEntry)
-        → ClientDoesLanesAct interface acts lane id m later h k }
-    ensures refused { (interface : Interface) (acts : List Act) (lane : Lane) (id : ℕ) (m : Msg)
-        (later : List Message) (h k : Held ClientRule ClientEntry) (why : _)
-        → ClientRefusesByLimits interface acts lane id m later h k why }
+    ensures heard { (interface acts lane id m later h k : _) → ClientDoesLanesAct interface acts lane id m later h k }
+    ensures refused { (interface acts lane id m later h k why : _) → ClientRefusesByLimits interface acts lane id m later h k why }
 {
     ends_of_one_lane_agree();
 }

@@ -32,11 +32,7 @@ pub fn what_is_left_is_unsent_at_server()
     ensures located { (id : ℕ) (here : _) (order : _) (version : _) (planned : _)
         → IsLocateAnswer id here order (Some version) planned
         → ServerPlans planned.event planned.plan }
-    ensures left { (interface : Interface) (limits : Limits) (events : List (Event ServerEvent))
-        (k : Held ServerRule ServerEntry)
-        → Meets (server_side interface) (no_calls (record {}) limits) events k
-        → ArePlanned ServerPlans events → (id : ℕ)
-        → IsLeft server.left_of (finite.get k.table id) }
+    ensures left { (interface limits events k : _) → ServerMeets interface limits events k → ArePlanned ServerPlans events → (id : ℕ) → IsLeft server.left_of (finite.get k.table id) }
 {}
 
 /// A client's end hears messages and acts itself, and none of this is refused. It plans a call in
@@ -51,9 +47,5 @@ pub fn what_is_left_is_unsent_at_client()
         → IsLocate asked form planned → ClientPlans planned.event planned.plan }
     ensures cancelled { (id : ℕ) (order : _) (version : _) (planned : _)
         → IsCancel id order (Some version) planned → ClientPlans planned.event planned.plan }
-    ensures left { (interface : Interface) (limits : Limits) (events : List (Event ClientEvent))
-        (k : Held ClientRule ClientEntry)
-        → Meets (client_side interface) (no_calls (record {}) limits) events k
-        → ArePlanned ClientPlans events → (id : ℕ)
-        → IsLeft client.left_of (finite.get k.table id) }
+    ensures left { (interface limits events k : _) → ClientMeets interface limits events k → ArePlanned ClientPlans events → (id : ℕ) → IsLeft client.left_of (finite.get k.table id) }
 {}

@@ -67,9 +67,7 @@ pub fn run_server<'a>(
         → NoneRefused run.1.items × (run.0.fault ≡ None)) }
     ensures alone { IfOk result (λ run. (fits : ServerFits interface.now limits inputs.items)
         → (id : ℕ) → ServerIsAsAlone fits run.1.items run.0.calls id) }
-    ensures said { IfOk result (λ run. (fits : ServerFits interface.now limits inputs.items)
-        (calls : _) → ((id : ℕ) → ServerSays (fits.alone id) (calls id))
-        → (id : ℕ) → ServerIsAsSaid interface.now calls inputs.items run.1.items run.0.calls id) }
+    ensures said { IfOk result (λ run. (fits : ServerFits interface.now limits inputs.items) → ServerEndsAsSaid fits run.1.items run.0.calls) }
     ensures put_out { IfOk result (λ run. ArePutOut is_of_server run.0.outgoing) }
 {
     let mut server: ServerEnd<'a> = End::<ServerRule>::new(alloc, interface, limits);
@@ -122,9 +120,7 @@ pub fn run_client<'a>(
         → NoneRefused run.1.items × (run.0.fault ≡ None)) }
     ensures alone { IfOk result (λ run. (fits : ClientFits interface.now limits inputs.items)
         → (id : ℕ) → ClientIsAsAlone fits run.1.items run.0.calls id) }
-    ensures said { IfOk result (λ run. (fits : ClientFits interface.now limits inputs.items)
-        (calls : _) → ((id : ℕ) → ClientSays (fits.alone id) (calls id))
-        → (id : ℕ) → ClientIsAsSaid interface.now calls inputs.items run.1.items run.0.calls id) }
+    ensures said { IfOk result (λ run. (fits : ClientFits interface.now limits inputs.items) → ClientEndsAsSaid fits run.1.items run.0.calls) }
     ensures put_out { IfOk result (λ run. ArePutOut is_of_client run.0.outgoing) }
 {
     let mut client: ClientEnd<'a> = End::<ClientRule>::new(alloc, interface, limits);

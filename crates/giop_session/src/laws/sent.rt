@@ -58,21 +58,10 @@ pub fn what_is_sent_names_its_id()
 /// Of the values a caller has nothing to show: that they are planned so is what `ClientEnd::call`
 /// and `locate`, and `ServerEnd::answer` and `answer_locate`, say of what they put out.
 pub fn what_is_sent_is_an_item()
-    ensures request { (interface : Interface) (entry asked : _) (cut : Cut) (there : _)
-        → SendsCall interface entry (question.Request asked) cut
-        → CarryCall interface there (call.Request asked) (pieces_of cut) }
-    ensures locate { (interface : Interface) (entry asked : _) (cut : Cut) (there : _)
-        → SendsCall interface entry (question.Locate asked) cut
-        → CarryCall interface there (call.Locate asked) (pieces_of cut) }
-    ensures reply { (interface : Interface) (asked told : _) (cut : Cut) (known : _)
-        → answered known.entry known.latest ≡ Some (question.Request asked)
-        → SendsReply interface asked told cut
-        → CarryReply interface known (answer.Reply told) (pieces_of cut) }
-    ensures located { (interface : Interface) (asked here : _) (m : Msg) (known : _)
-        → answered known.entry known.latest ≡ Some (question.Locate asked)
-        → SendsLocated asked here m → (told : _)
-        × CarryReply interface known (answer.Locate told) (m ∷ [])
-        × (told.head.status ≡ (if here then 1 else 0)) × (told.rest ≡ []) }
+    ensures request { (interface entry asked cut there : _) → SendsCall interface entry (question.Request asked) cut → CarryCall interface there (call.Request asked) (pieces_of cut) }
+    ensures locate { (interface entry asked cut there : _) → SendsCall interface entry (question.Locate asked) cut → CarryCall interface there (call.Locate asked) (pieces_of cut) }
+    ensures reply { (interface asked told cut known : _) → Awaits known (question.Request asked) → SendsReply interface asked told cut → CarryReply interface known (answer.Reply told) (pieces_of cut) }
+    ensures located { (interface asked here m known : _) → Awaits known (question.Locate asked) → SendsLocated asked here m → (told : _) × CarryReply interface known (answer.Locate told) (m ∷ []) × SaysWhether here told }
 {
     what_is_cut_is_carried();
 }

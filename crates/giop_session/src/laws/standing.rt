@@ -16,20 +16,14 @@ use giop_calls::laws::{client_entry_stands, server_entry_stands};
 /// id's own messages, each as it is read where it comes, and acts. And it is what stands by those
 /// of its latest call, without steps.
 pub fn entries_stand_at_server()
-    ensures { (interface : Interface) (limits : Limits) (inputs answers left k : _)
-        (calls : ℕ → List ServerItem)
-        (held : ServerHolds interface limits inputs answers left k calls) (id : ℕ)
-        → ServerStands interface id (calls id) held.holds.0 (server_entry k id) }
+    ensures { (interface limits inputs answers left k calls : _) (held : ServerHolds interface limits inputs answers left k calls) (id : ℕ) → ServerStands interface id (calls id) held.holds.0 (server_entry k id) }
 {
     server_entry_stands();
 }
 
 /// So does a client's end, of what its server said and what it did itself.
 pub fn entries_stand_at_client()
-    ensures { (interface : Interface) (limits : Limits) (inputs answers left k : _)
-        (calls : ℕ → List ClientItem)
-        (held : ClientHolds interface limits inputs answers left k calls) (id : ℕ)
-        → ClientStands interface id (calls id) held.holds.0 (client_entry k id) }
+    ensures { (interface limits inputs answers left k calls : _) (held : ClientHolds interface limits inputs answers left k calls) (id : ℕ) → ClientStands interface id (calls id) held.holds.0 (client_entry k id) }
 {
     client_entry_stands();
 }
