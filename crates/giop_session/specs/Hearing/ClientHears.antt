@@ -92,6 +92,18 @@ abbrev pub gathered_call : Option (Slot ClientEntry) → Option Asked
 gathered_call None = None
 gathered_call (Some slot) = gathered_in slot.entry
 
+-- of a call that waits so under an id this is said, if one does
+abbrev pub OfAwaited : {R : Type 0} → CallKind → Version → Held R ClientEntry → ℕ
+    → (Asked → Type 0) → Type 0
+OfAwaited kind version h id Says =
+    (call : Asked) → awaited kind version (finite.get h.table id) ≡ Some call → Says call
+
+-- and of a call whose reply is gathered, with its pieces
+abbrev pub OfGathered : {R : Type 0} → Held R ClientEntry → ℕ → (Asked → Pieces → Type 0) → Type 0
+OfGathered h id Says = (call : Asked) (pieces : Pieces)
+    → gathered_call (finite.get h.table id) ≡ Some call
+    → finite.get h.gathered id ≡ Some pieces → Says call pieces
+
 -- the pieces that a Fragment of this byte order continues, with the call that they answer
 abbrev pub continued : Order → Option Asked → Option Pieces → Option (Asked × List ℕ)
 continued order (Some call) (Some pieces) =

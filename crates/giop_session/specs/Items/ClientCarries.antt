@@ -7,6 +7,7 @@ use Rattle.giop_msg.specs.declared.kind.Kind.{Kind}
 use Rattle.giop_msg.specs.declared.kind.Kind.TheVariants as message
 use Rattle.giop_msg.specs.declared.msg.Msg.{Msg}
 use Rattle.giop_msg.specs.declared.version.Version.{Version}
+use Rattle.giop_msg.specs.Locate.{AnyLocateRequest}
 use Rattle.giop_msg.specs.Messages.LocateReply.{locate_reply}
 use Rattle.giop_msg.specs.Messages.Reply.{reply}
 use Rattle.giop_msg.specs.declared.messages.locate_reply.LocateReply.{LocateReply}
@@ -118,9 +119,14 @@ abbrev pub CarryReply : Interface → Known → HeardReply → List Msg → Type
 CarryReply interface known reply messages =
     CarriesItem (client_telling interface) known (Got reply) (map Comes messages)
 
--- a client's next answer is to this call
-abbrev pub Awaits : Known → Asked → Type 0
-Awaits known call = answered known.entry known.latest ≡ Some call
+-- a client's next answer is to this Request, or to this LocateRequest
+abbrev pub AwaitsReply : Known → Request → Type 0
+AwaitsReply known request =
+    answered known.entry known.latest ≡ Some (asked.Request request)
+
+abbrev pub AwaitsLocateReply : Known → AnyLocateRequest → Type 0
+AwaitsLocateReply known request =
+    answered known.entry known.latest ≡ Some (asked.Locate request)
 
 -- these messages are a Reply to a Request, written in a version and a byte order and cut into pieces
 -- of a size

@@ -66,3 +66,10 @@ abbrev pub RunsFreely : {R E V A F : Type 0}
     → Rules (Held R E) (Call E) (Act V) (Reply E A) (TableFault F) → Held R E
     → List (Addressed (Act V)) → List (Result (Reply E A) (TableFault F)) → Held R E → Type 0
 RunsFreely rules h acts results k = Runs rules h acts results k × MeetNone acts results
+
+module _ {R E V A F : Type 0} (turn : Call E → Act V → Turned E A F)
+    (befalls : Msg → Call E → Act V) where
+  -- what is stored for an id is what its own of these messages leave of what was
+  abbrev pub IsHeardAlone : Held R E → List Msg → Held R E → ℕ → Type 0
+  IsHeardAlone h messages k id =
+      at k id ≡ alone_heard turn befalls (at h id) (own_messages id messages)
