@@ -55,7 +55,7 @@ same_by false false not_both = refl
 
 pub returns-clause-either : goal.returns-clause-either
 returns-clause-either c = λ k k' results results' run run' free free'.
-    c.any_interleaving.ensures (new limits) k k' (begins ∷ asks ∷ []) (asks ∷ begins ∷ []) results results' run run' free free'
+    c.any_interleaving.ensures (new limits) k k' (begins ∷ asks ∷ []) (asks ∷ begins ∷ []) results results' (run, free) (run', free')
     (λ id. same_by (7 == id) (9 == id) (apart id))
 
 own_is : own_events {V = ServerEvent} 7 (Comes door_begins ∷ Comes key_little ∷ []) ≡ Comes door_begins ∷ []

@@ -7,7 +7,9 @@ use Rattle.std.proofs.Common.{false}
 
 pub returns-clause-comes : goal.returns-clause-comes
 returns-clause-comes c = λ interface.
-    c.own_lanes_come_to_replies.ensures.located interface key false key_big unknown_big (asks_key_so interface) answers_so
+    let (told, lane, run, done) =
+    c.own_lanes_come_to_replies.ensures.located interface key false key_big unknown_big (asks_key_so interface, answers_so) in
+    (lane, told, run, done)
 
 pub returns-clause-answer : goal.returns-clause-answer
 returns-clause-answer c = λ interface lane told run is.

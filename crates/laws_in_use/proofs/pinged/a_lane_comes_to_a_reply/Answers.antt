@@ -14,5 +14,5 @@ returns-clause-answered c = refuses_in_one
 
 pub returns-clause-replied : goal.returns-clause-replied
 returns-clause-replied c = λ interface has.
-    c.own_lanes_come_to_replies.ensures.replied interface (ping V12) refusing ping_whole refusal_whole refl refl (pings_in_one interface has)
-    (refuses_in_one interface)
+    c.own_lanes_come_to_replies.ensures.replied interface (ping V12) refusing ping_whole refusal_whole (refl, refl)
+    (pings_in_one interface has, refuses_in_one interface)
