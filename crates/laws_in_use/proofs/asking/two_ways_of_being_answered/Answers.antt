@@ -19,12 +19,6 @@ use Rattle.laws_in_use.proofs.AskingMessages.{decoded}
 use Rattle.laws_in_use.proofs.AskingRuns.{one_taken, other_taken}
 use Rattle.laws_in_use.proofs.asking.two_ways_of_being_answered.Goals as goal
 
-pub returns-clause-one_taken : goal.returns-clause-one_taken
-returns-clause-one_taken c = λ interface. (_, _, one_taken interface)
-
-pub returns-clause-other_taken : goal.returns-clause-other_taken
-returns-clause-other_taken c = λ interface. (_, _, other_taken interface)
-
 pub returns-clause-one_holds : goal.returns-clause-one_holds
 returns-clause-one_holds c = λ interface.
     holds.one_holds interface (c.locate_replies_are_spelled.ensures V10) (c.locate_replies_are_spelled.ensures V12)
@@ -51,6 +45,12 @@ returns-clause-other_holds c = λ interface.
     (c.what_is_cut_is_carried.ensures.located interface V12 Little door here 24 (here_little ∷ [])
     (holds.asked_then interface (c.locate_replies_are_spelled.ensures V10) (c.locate_replies_are_spelled.ensures V12)) refl
     (returns-clause-written c))
+
+pub returns-clause-one_taken : goal.returns-clause-one_taken
+returns-clause-one_taken c = λ interface. (_, (_, one_taken interface), returns-clause-one_holds c interface)
+
+pub returns-clause-other_taken : goal.returns-clause-other_taken
+returns-clause-other_taken c = λ interface. (_, (_, other_taken interface), returns-clause-other_holds c interface)
 
 pub returns-clause-seven : goal.returns-clause-seven
 returns-clause-seven c = λ interface left k taken.

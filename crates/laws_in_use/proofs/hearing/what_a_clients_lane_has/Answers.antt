@@ -21,6 +21,9 @@ returns-clause-opens c = λ interface.
     let read = (decoded interface).here_little in cc in
     (brings, befalls ∙ ap (λ (e : ClientEvent). Hears (kept e) brings) (sym is))
 
+pub returns-clause-gathers : goal.returns-clause-gathers
+returns-clause-gathers c = (refl, refl)
+
 pub returns-clause-continues : goal.returns-clause-continues
 returns-clause-continues c = λ interface.
     let (heard_it, lane, befalls) =

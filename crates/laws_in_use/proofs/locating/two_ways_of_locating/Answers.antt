@@ -12,11 +12,8 @@ use Rattle.laws_in_use.proofs.LocatingRuns.{one_taken, other_taken}
 use Rattle.laws_in_use.proofs.LocatingSpelled.{door_cut}
 use Rattle.laws_in_use.proofs.locating.two_ways_of_locating.Goals as goal
 
-pub returns-clause-one_taken : goal.returns-clause-one_taken
-returns-clause-one_taken c = λ interface. (_, _, one_taken interface)
-
-pub returns-clause-other_taken : goal.returns-clause-other_taken
-returns-clause-other_taken c = λ interface. (_, _, other_taken interface)
+pub returns-clause-written : goal.returns-clause-written
+returns-clause-written c = door_cut
 
 pub returns-clause-one_holds : goal.returns-clause-one_holds
 returns-clause-one_holds c = λ interface.
@@ -27,6 +24,12 @@ pub returns-clause-other_holds : goal.returns-clause-other_holds
 returns-clause-other_holds c = λ interface.
     holds.other_holds interface (c.locate_requests_are_spelled.ensures V10) (c.locate_requests_are_spelled.ensures V12)
     (c.what_is_cut_is_carried.ensures.locate interface V12 Big door 24 (door_begins ∷ door_ends ∷ []) None door_cut)
+
+pub returns-clause-one_taken : goal.returns-clause-one_taken
+returns-clause-one_taken c = λ interface. (_, (_, one_taken interface), returns-clause-one_holds c interface)
+
+pub returns-clause-other_taken : goal.returns-clause-other_taken
+returns-clause-other_taken c = λ interface. (_, (_, other_taken interface), returns-clause-other_holds c interface)
 
 pub returns-clause-seven : goal.returns-clause-seven
 returns-clause-seven c = λ interface left k taken.
