@@ -1,14 +1,14 @@
 //! The table of an end's calls: for each request id its entry, its messages that are still to be
 //! sent, and the pieces gathered for it (CORBA 3.3 Part 2, 9.4.9). What an act does to one call,
 //! and what the whole refuses, is `rules_of` in specs/Calls/CallTable.antt: change both.
-ghost use Rattle.std.specs.Prelude.{◌≡◌, ◌==◌, ◌&&◌, ◌≤◌, ◌^◌, ◌+◌, ◌/◌, not, is_some, true, false, Ok, None, length, is_none, IfNone, IfErr, IfOk, IfSome, IsOk, OnErr, IsSome, option_copied};
+ghost use Rattle.std.specs.Prelude.{if◌then◌else◌, ◌≡◌, ◌==◌, ◌&&◌, ◌≤◌, ◌^◌, ◌+◌, ◌/◌, not, is_some, true, false, Ok, None, length, is_none, IfNone, IfErr, IfOk, IfSome, IsOk, OnErr, IsSome, option_copied};
 ghost use Rattle.std.specs.FinMap as finite;
 ghost use Rattle.std.specs.Option.{option_map};
 ghost use Rattle.giop_frag.specs.Gathered.{blocks_of, is_over, octets_in, order_fault};
 ghost use Rattle.giop_ids.specs.ById.{put};
 ghost use Rattle.giop_mux.specs.Calls.{is_one_too_many, judged};
 ghost use Rattle.giop_session.specs.Calls.Sending.{step_at};
-ghost use Rattle.giop_session.specs.Calls.CallTable.{DoesTo, event_reply, First, gathers, gathers_at, Hears, IsTaken, More, Nothing, Stays, stepped, take_reply, GoesOn, IsOpenAt, without};
+ghost use Rattle.giop_session.specs.Calls.CallTable.{Answers, DoesTo, event_reply, First, gathers, gathers_at, Hears, IsTaken, More, Nothing, Stays, stepped, take_reply, GoesOn, IsOpenAt, without};
 
 use crate::calls::plan::Planned;
 use crate::calls::sending::{Sending, Sends};
@@ -215,9 +215,22 @@ impl<R: Side> CallTable<R> {
         if !self.has_room(octets.len()) {
             return Err(TableFault::GatherFull);
         }
+        Ok(self.finish(id, planned))
+    }
+
+    /// What `complete` does with a last piece whose octets have room, which `has_room` says. It
+    /// takes no memory.
+    pub fn finish(&mut self, id: u32, planned: Planned<R::Event>) -> Sends<R::Answer>
+        requires comes { gathers_at R.Side self.old id ≡ true }
+        requires accepted { IsOk (stepped R.Side self.old id planned).outcome }
+        requires ends { gathers R.gathering (stepped R.Side self.old id planned).entry ≡ false }
+        ensures { (octets : _) → is_over self.old.room self.old.gathered (length octets) ≡ false
+            → DoesTo R.Side self.old id (Hears planned (More octets)) (Ok (Answers result))
+            self.new }
+    {
         let sends = stay(&mut self.mux, id, planned);
         self.gather.discard(id);
-        Ok(sends)
+        sends
     }
 
     /// Takes out what is stored for the id, where its call is over, and returns it; `None` where

@@ -245,7 +245,8 @@ fn complete(
         in_order: true,
         reply,
     });
-    told(id, calls.complete(id, last, octets))
+    calls.finish(id, last);
+    Ok(())
 }
 
 // The call whose reply is gathered, if one is.

@@ -2,6 +2,7 @@
 //! law; the bodies are empty, and no program calls these.
 ghost use Rattle.std.specs.Prelude.{◌≡◌, ◌++◌, ◌<◌, ◌∷◌, [], All, length, List, Some};
 ghost use Rattle.std.specs.List.{AllByRecursion};
+ghost use Rattle.giop_types.specs.declared.json.interface.Interface.{Interface};
 ghost use Rattle.giop_msg.specs.Fault.{fault};
 ghost use Rattle.giop_msg.specs.Msg.{message_octets};
 ghost use Rattle.giop_msg.specs.Stream.{BeginsWithFault};
@@ -30,7 +31,7 @@ pub fn what_is_sent_is_framed()
         → SendsCall interface entry call cut → All IsFramed (pieces_of cut) }
     ensures reply { (interface q r cut : _) → SendsReply interface q r cut
         → All IsFramed (pieces_of cut) }
-    ensures located { (interface q here piece : _) → SendsLocated q here piece
+    ensures located { (interface : Interface) (q here piece : _) → SendsLocated q here piece
         → IsFramed piece }
     ensures cancelled { (id order version m : _)
         → IsCancel id order (Some version) (sends_one at_client.Cancel m) → IsFramed m }
