@@ -1,6 +1,7 @@
 //! The session's own ends over one lane: what they send is read back, and so they agree. Each
 //! function's contract is a law, and no program calls these.
 ghost use Rattle.std.specs.Prelude.{◌≡◌, ◌++◌, ◌∷◌, [], false, true, map, Some};
+ghost use Rattle.giop_types.specs.declared.json.interface.Interface.{Interface};
 ghost use Rattle.giop_msg.specs.declared.msg.Msg.{Msg};
 ghost use Rattle.giop_calls.specs.Lane.{Cut, CutsCall, CutsLocated, CutsReply, IsSound, Runs};
 ghost use Rattle.giop_calls.specs.Lane.{kind_of, new, Opens, pieces_of, version_of};
@@ -89,7 +90,7 @@ pub fn what_is_sent_is_a_lanes()
         → map seen (pieces_of cut) ≡ carried (kind_of call) (version_of call) cut }
     ensures reply { (interface q r cut : _) → SendsReply interface q r cut
         → map seen (pieces_of cut) ≡ carried kind.Request r.version cut }
-    ensures located { (q here piece : _) → SendsLocated q here piece
+    ensures located { (interface : Interface) (q here piece : _) → SendsLocated q here piece
         → seen piece ≡ Opens kind.Locate q.version true piece }
 {}
 

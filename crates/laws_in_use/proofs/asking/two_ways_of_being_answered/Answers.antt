@@ -47,10 +47,10 @@ returns-clause-other_holds c = λ interface.
     (returns-clause-written c))
 
 pub returns-clause-one_taken : goal.returns-clause-one_taken
-returns-clause-one_taken c = λ interface. (_, (_, one_taken interface), returns-clause-one_holds c interface)
+returns-clause-one_taken c = λ interface. (_, ((_, one_taken interface), returns-clause-one_holds c interface))
 
 pub returns-clause-other_taken : goal.returns-clause-other_taken
-returns-clause-other_taken c = λ interface. (_, (_, other_taken interface), returns-clause-other_holds c interface)
+returns-clause-other_taken c = λ interface. (_, ((_, other_taken interface), returns-clause-other_holds c interface))
 
 pub returns-clause-seven : goal.returns-clause-seven
 returns-clause-seven c = λ interface left k taken.

@@ -28,8 +28,7 @@ returns-clause-free c = λ id. free_by (7 == id) (9 == id)
 pub returns-clause-run : goal.returns-clause-run
 returns-clause-run c = λ interface. (
   one_2 interface,
-  (one_1 interface, begun_act interface, (one_2 interface, asked_act interface, refl)),
-  returns-clause-free c,
+  ((one_1 interface, begun_act interface, (one_2 interface, asked_act interface, refl)), returns-clause-free c),
 )
 
 pub returns-clause-seven : goal.returns-clause-seven

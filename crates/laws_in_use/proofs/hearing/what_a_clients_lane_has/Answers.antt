@@ -15,7 +15,7 @@ use Rattle.laws_in_use.proofs.hearing.what_a_clients_lane_has.Goals as goal
 
 pub returns-clause-opens : goal.returns-clause-opens
 returns-clause-opens c = λ interface.
-    let (brings, heard_it, lane, befalls) =
+    let (brings, (heard_it, lane, befalls)) =
     c.clients_hear_the_lanes_event.ensures.opens interface kind.Locate (asked.Locate door) here_little waits waiting refl refl refl in
     let is : event.Whole kind.Locate V12 (heard.Locate here) ≡ heard_it =
     let read = (decoded interface).here_little in cc in

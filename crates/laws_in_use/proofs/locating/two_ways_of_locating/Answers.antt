@@ -26,10 +26,10 @@ returns-clause-other_holds c = λ interface.
     (c.what_is_cut_is_carried.ensures.locate interface V12 Big door 24 (door_begins ∷ door_ends ∷ []) None door_cut)
 
 pub returns-clause-one_taken : goal.returns-clause-one_taken
-returns-clause-one_taken c = λ interface. (_, (_, one_taken interface), returns-clause-one_holds c interface)
+returns-clause-one_taken c = λ interface. (_, ((_, one_taken interface), returns-clause-one_holds c interface))
 
 pub returns-clause-other_taken : goal.returns-clause-other_taken
-returns-clause-other_taken c = λ interface. (_, (_, other_taken interface), returns-clause-other_holds c interface)
+returns-clause-other_taken c = λ interface. (_, ((_, other_taken interface), returns-clause-other_holds c interface))
 
 pub returns-clause-seven : goal.returns-clause-seven
 returns-clause-seven c = λ interface left k taken.

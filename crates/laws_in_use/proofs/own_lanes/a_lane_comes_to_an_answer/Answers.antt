@@ -10,7 +10,7 @@ returns-clause-sent c = λ interface. (asks_key_so interface, answers_so)
 
 pub returns-clause-comes : goal.returns-clause-comes
 returns-clause-comes c = λ interface.
-    let (told, lane, run, done) =
+    let (told, (lane, run, done)) =
     c.own_lanes_come_to_replies.ensures.located interface key false key_big unknown_big (returns-clause-sent c interface) in
     (lane, told, run, done)
 

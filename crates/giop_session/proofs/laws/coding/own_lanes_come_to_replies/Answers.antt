@@ -7,4 +7,4 @@ returns-clause-replied c = λ interface q r one other (asks, version) (call, rep
 
 pub returns-clause-located : goal.returns-clause-located
 returns-clause-located c = λ interface q here one other (call, reply).
-    let (lane, told, run, done) = call_located interface q here one other call reply in (told, lane, run, done)
+    let (lane, told, run, done) = call_located interface q here one other call reply in (told, (lane, run, done))
