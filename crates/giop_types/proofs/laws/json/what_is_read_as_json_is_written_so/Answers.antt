@@ -17,8 +17,8 @@ read_fits s None t read = absurd cc
 read_fits s (Some u) t read = when_fit s (fits s u) u t refl read
 
 pub returns-clause-fits : goal.returns-clause-fits
-returns-clause-fits c = λ shape data tree read. read_fits shape (shown shape data) tree read
+returns-clause-fits c = λ shape form tree read. read_fits shape (shown shape form) tree read
 
 pub returns-clause-written : goal.returns-clause-written
-returns-clause-written c = λ shape checked plain data tree read numbers.
-    c.json_gives_values_back.ensures shape checked plain tree (read_fits shape (shown shape data) tree read) numbers
+returns-clause-written c = λ shape checked plain form tree read numbers.
+    c.json_gives_values_back.ensures shape checked plain tree (read_fits shape (shown shape form) tree read) numbers
