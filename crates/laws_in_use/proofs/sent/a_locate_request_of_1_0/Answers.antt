@@ -78,5 +78,6 @@ returns-clause-waits c = refl
 
 pub returns-clause-item_back : goal.returns-clause-item_back
 returns-clause-item_back c = λ interface.
-    c.what_is_sent_is_an_item.ensures.located interface key false unknown_big
-    (record { entry = None; latest = Some (asked.Locate key) }) refl answers_so
+    let (told, carried, says) = c.what_is_sent_is_an_item.ensures.located interface key false unknown_big
+    (record { entry = None; latest = Some (asked.Locate key) }) refl answers_so in
+    (told, carried, says.0, says.1)
