@@ -73,6 +73,9 @@ pub returns-clause-item : goal.returns-clause-item
 returns-clause-item c = λ interface there.
     c.what_is_sent_is_an_item.ensures.locate interface None key (alone key_big) there (asks_key_so interface)
 
+pub returns-clause-waits : goal.returns-clause-waits
+returns-clause-waits c = refl
+
 pub returns-clause-item_back : goal.returns-clause-item_back
 returns-clause-item_back c = λ interface.
     c.what_is_sent_is_an_item.ensures.located interface key false unknown_big

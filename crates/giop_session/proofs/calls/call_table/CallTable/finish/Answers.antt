@@ -3,7 +3,7 @@ use Rattle.std.specs.FinMap as finite
 use Rattle.giop_session.specs.Calls.Sending.{sending_step}
 use Rattle.giop_session.specs.Calls.CallTable.{Held, gathers}
 use Rattle.giop_session.proofs.OnCalls.TableLemmas.{tied_after, as_many_blocks}
-use Rattle.giop_session.proofs.calls.call_table.CallTable.complete.Goals as goal
+use Rattle.giop_session.proofs.calls.call_table.CallTable.finish.Goals as goal
 
 pub invariant_of-self : goal.invariant_of-self
 invariant_of-self g c =
