@@ -21,6 +21,22 @@ pub fn push_zeros(octets: &mut Vec<u8>, count: usize, behind: usize) -> Result<(
     octets.extend_from_slice(&[0; 8][..count])
 }
 
+// Appends N octets, one by one behind one test of the room: the compiler stores them as one value.
+// A copy out of a slice would ask whether the two overlap.
+#[inline(always)]
+fn push_array<const N: usize>(octets: &mut Vec<u8>, field: [u8; N]) -> Result<(), AllocError>
+    ensures ok { OnOk result (octets.new.items ≡ octets.old.items ++ field.entry) }
+    ensures capacity { vec_capacity octets.old ≤ vec_capacity octets.new }
+    ensures err { OnErr result (octets.new.items ≡ octets.old.items) }
+    ensures succeeds { OnErr result (vec_capacity octets.old < vec_len octets.old + N) }
+{
+    octets.reserve(N)?;
+    for i in 0..N {
+        octets.push_reserved(field[i]);
+    }
+    Ok(())
+}
+
 /// Appends zeros up to the next multiple of N, and the N octets of a field. The end of the list has
 /// the offset `at`.
 #[inline(always)]
@@ -42,7 +58,7 @@ pub fn push_field<const N: usize>(
     if pad != 0 {
         push_zeros(octets, pad, N)?;
     }
-    octets.extend_from_slice(&field)
+    push_array(octets, field)
 }
 
 /// Appends a count, aligned to 4, and what it counts, in two parts. The end of the list has the
