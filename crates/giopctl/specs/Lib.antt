@@ -1,1 +1,1 @@
-pub mod Usage
+pub mod Report

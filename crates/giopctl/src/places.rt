@@ -1,11 +1,10 @@
 //! Where a refused file of an interface, a description or a value is at fault, as giop_where tells
 //! it. Nothing is told where that isn't known, as when it is out of memory.
 
-pub mod answers;
 mod names;
-pub mod sessions;
+pub mod parts;
 
-use crate::interface_text::InterfaceText;
+use crate::files::interface_text::InterfaceText;
 use crate::places::names::path_in_file;
 use giop_types::{FormFault, parse_json};
 use giop_where::{Part, Place, Role, fault_code};
@@ -40,8 +39,8 @@ pub fn of_value(alloc: Global, desc: &[u8], text: &[u8], fault: FormFault) -> Op
     }
 }
 
-/// The first fault of this number in a part, by what stands beside it.
-pub fn found(alloc: Global, role: Role, beside: &Json, json: &Json, number: u8) -> Option<Place> {
+// The first fault of this number in a part, by what stands beside it.
+fn found(alloc: Global, role: Role, beside: &Json, json: &Json, number: u8) -> Option<Place> {
     match Place::find(alloc, Part { role, beside, json }, number) {
         Ok(place) => Some(place),
         Err(_) => None,
