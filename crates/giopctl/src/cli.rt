@@ -69,7 +69,7 @@ examples/calls.json
 
 /// What the words ask for, of which the first is the program's name. There is no task where they
 /// are refused or ask for help or the version: then the error has the text to print.
-pub fn task_of<'a>(alloc: Global, words: &'a [String]) -> Result<Option<Task<'a>>, Error> {
+pub(crate) fn task_of<'a>(alloc: Global, words: &'a [String]) -> Result<Option<Task<'a>>, Error> {
     let matches = giopctl(alloc)?.try_get_matches_from(words)?;
     if let Some(dump) = matches.subcommand_matches("dump") {
         return or_usage_error(alloc, dump_task(dump));

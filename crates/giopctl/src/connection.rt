@@ -15,7 +15,7 @@ use std::{io, str};
 
 /// A connection to where an object is reached. A name is looked up, and each of its addresses is
 /// tried. Where nothing comes or goes for so many seconds, if any are given, it fails.
-pub fn connect(
+pub(crate) fn connect(
     rt: &HostRuntime,
     endpoint: &Endpoint,
     timeout: Option<u32>,

@@ -30,7 +30,7 @@ pub fn apart(one: &str, other: &str) -> Result<(), &'static str>
 }
 
 /// The octets of a file, or of the standard input where it is `-`.
-pub fn read(rt: &HostRuntime, file: &str) -> Result<Vec<u8>, Failure> {
+pub(crate) fn read(rt: &HostRuntime, file: &str) -> Result<Vec<u8>, Failure> {
     if file != "-" {
         return fs::read(rt, file).map_err(Failure::input);
     }
@@ -42,7 +42,7 @@ pub fn read(rt: &HostRuntime, file: &str) -> Result<Vec<u8>, Failure> {
 }
 
 /// The octets of a file, or the status where it can't be read, which is reported.
-pub fn read_or_report(rt: &HostRuntime, file: &str) -> Result<Vec<u8>, Status> {
+pub(crate) fn read_or_report(rt: &HostRuntime, file: &str) -> Result<Vec<u8>, Status> {
     match read(rt, file) {
         Ok(octets) => Ok(octets),
         Err(failure) => Err(report::status_of(rt, file, Err(failure))),
@@ -50,13 +50,16 @@ pub fn read_or_report(rt: &HostRuntime, file: &str) -> Result<Vec<u8>, Status> {
 }
 
 /// The text of an interface's file.
-pub fn read_interface(rt: &HostRuntime, file: &str) -> Result<InterfaceText, Failure> {
+pub(crate) fn read_interface(rt: &HostRuntime, file: &str) -> Result<InterfaceText, Failure> {
     InterfaceText::new(rt.alloc(), read(rt, file)?)
 }
 
 /// A file to be read piece by piece. A regular one is read to its end even behind a fault; a pipe
 /// or a device may have no end.
-pub fn open_in_pieces(rt: &HostRuntime, file: &str) -> Result<(fs::File, BehindFault), Failure> {
+pub(crate) fn open_in_pieces(
+    rt: &HostRuntime,
+    file: &str,
+) -> Result<(fs::File, BehindFault), Failure> {
     match open(rt, file) {
         Ok(opened) => Ok(opened),
         Err(error) => Err(Failure::input(error)),
@@ -104,12 +107,12 @@ pub struct FileFront {
 
 impl FileFront {
     /// Whether its first octet that is no white space begins a JSON list.
-    pub fn is_list(&self) -> bool {
+    pub(crate) fn is_list(&self) -> bool {
         self.front.iter().find(|octet| !is_white(**octet)) == Some(&b'[')
     }
 
     /// All of its octets.
-    pub fn whole(mut self) -> Result<Vec<u8>, Failure> {
+    pub(crate) fn whole(mut self) -> Result<Vec<u8>, Failure> {
         match self.rest.read_to_end(&mut self.front) {
             Ok(_) => Ok(self.front),
             Err(error) => Err(Failure::input(error)),
@@ -118,7 +121,7 @@ impl FileFront {
 }
 
 /// A file, or the standard input where it is `-`, read up to an octet that is no white space.
-pub fn front_of(rt: &HostRuntime, file: &str) -> Result<FileFront, Failure> {
+pub(crate) fn front_of(rt: &HostRuntime, file: &str) -> Result<FileFront, Failure> {
     if file == "-" {
         return front_at(rt.alloc(), Pieces::Input(rt.reader()), true);
     }

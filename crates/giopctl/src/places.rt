@@ -12,7 +12,7 @@ use serde_json::Value as Json;
 use std::alloc::Global;
 
 /// The first fault of this kind in a text of this role, which stands by itself.
-pub fn of_file(alloc: Global, role: Role, text: &[u8], fault: FormFault) -> Option<Place> {
+pub(crate) fn of_file(alloc: Global, role: Role, text: &[u8], fault: FormFault) -> Option<Place> {
     match parse_json(alloc, text) {
         Ok(json) => found(alloc, role, &json, &json, fault_code(fault)),
         Err(_) => None,
@@ -20,7 +20,7 @@ pub fn of_file(alloc: Global, role: Role, text: &[u8], fault: FormFault) -> Opti
 }
 
 /// The first fault of this kind in the text of an interface's file, where it has a plain form.
-pub fn of_interface(alloc: Global, text: &InterfaceText, fault: FormFault) -> Option<Place> {
+pub(crate) fn of_interface(alloc: Global, text: &InterfaceText, fault: FormFault) -> Option<Place> {
     let mut place = of_file(alloc, Role::Interface, text.as_slice(), fault)?;
     match parse_json(alloc, text.given()) {
         Ok(file) => {
@@ -32,7 +32,7 @@ pub fn of_interface(alloc: Global, text: &InterfaceText, fault: FormFault) -> Op
 }
 
 /// The first fault of this kind in the text of a value, by the text of its description.
-pub fn of_value(alloc: Global, desc: &[u8], text: &[u8], fault: FormFault) -> Option<Place> {
+pub(crate) fn of_value(alloc: Global, desc: &[u8], text: &[u8], fault: FormFault) -> Option<Place> {
     match (parse_json(alloc, desc), parse_json(alloc, text)) {
         (Ok(desc), Ok(json)) => found(alloc, Role::Value, &desc, &json, fault_code(fault)),
         _ => None,

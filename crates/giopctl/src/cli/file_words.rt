@@ -17,7 +17,7 @@ pub struct FileWord<'a> {
 
 impl FileWord<'_> {
     /// The key of its object, where it is of a single one.
-    pub fn key(&self) -> Option<&[u8]> {
+    pub(crate) fn key(&self) -> Option<&[u8]> {
         match &self.key {
             Some(key) => Some(key.as_slice()),
             None => None,
@@ -38,7 +38,7 @@ const TWICE: &str =
     "an object has one file of --interface and one of --answers, and so have all others together";
 
 /// The option of the files of interfaces.
-pub fn interface_option<'a>(alloc: Global) -> Arg<'a> {
+pub(crate) fn interface_option<'a>(alloc: Global) -> Arg<'a> {
     Arg::new(alloc, "interface")
         .long("interface")
         .required(true)
@@ -48,7 +48,7 @@ pub fn interface_option<'a>(alloc: Global) -> Arg<'a> {
 }
 
 /// The option of the files of answers.
-pub fn answers_option<'a>(alloc: Global) -> Arg<'a> {
+pub(crate) fn answers_option<'a>(alloc: Global) -> Arg<'a> {
     Arg::new(alloc, "answers")
         .long("answers")
         .required(true)
@@ -59,7 +59,7 @@ pub fn answers_option<'a>(alloc: Global) -> Arg<'a> {
 
 /// The files of an option, in their order, or what is wrong with one of its words. What stands
 /// before the first `=` of a word is the key; where nothing does, there is none.
-pub fn file_words<'a>(
+pub(crate) fn file_words<'a>(
     alloc: Global,
     matches: &ArgMatches<'a>,
     name: &str,
@@ -109,7 +109,7 @@ fn key_of(alloc: Global, text: &[u8]) -> Result<Option<Vec<u8>>, AllocError> {
 
 /// Refuses files of which more than one is the standard input, which is read once; one other file
 /// is judged with them. It says why.
-pub fn apart_from(words: &[FileWord<'_>], other: &str) -> Result<(), &'static str> {
+pub(crate) fn apart_from(words: &[FileWord<'_>], other: &str) -> Result<(), &'static str> {
     let mut one = other;
     for word in words {
         apart(one, word.file)?;

@@ -14,7 +14,7 @@ use std::alloc::{AllocError, Global};
 const MOST_GATHERED: u64 = 1 << 62;
 
 /// The option of the greatest message size.
-pub fn message_limit_option<'a>(alloc: Global) -> Arg<'a> {
+pub(crate) fn message_limit_option<'a>(alloc: Global) -> Arg<'a> {
     number_option(
         alloc,
         "message-limit",
@@ -25,7 +25,10 @@ pub fn message_limit_option<'a>(alloc: Global) -> Arg<'a> {
 }
 
 /// A command with the options of all limits of an end.
-pub fn with_limits<'a>(alloc: Global, command: Command<'a>) -> Result<Command<'a>, AllocError> {
+pub(crate) fn with_limits<'a>(
+    alloc: Global,
+    command: Command<'a>,
+) -> Result<Command<'a>, AllocError> {
     let calls = number_option(
         alloc,
         "calls-limit",
@@ -40,7 +43,7 @@ pub fn with_limits<'a>(alloc: Global, command: Command<'a>) -> Result<Command<'a
 }
 
 /// The option of the most octets that are gathered.
-pub fn gathered_limit_option<'a>(alloc: Global) -> Arg<'a> {
+pub(crate) fn gathered_limit_option<'a>(alloc: Global) -> Arg<'a> {
     number_option(
         alloc,
         "gathered-limit",
@@ -51,7 +54,7 @@ pub fn gathered_limit_option<'a>(alloc: Global) -> Arg<'a> {
 }
 
 /// The greatest message size, or what is wrong with its word.
-pub fn message_limit_of(matches: &ArgMatches) -> Result<u32, &'static str> {
+pub(crate) fn message_limit_of(matches: &ArgMatches) -> Result<u32, &'static str> {
     match short_number_of(matches, "message-limit") {
         Some(message) => Ok(message),
         None => Err("--message-limit is a number from 0 to 4294967295"),

@@ -24,7 +24,7 @@ pub struct ObjectWords<'a> {
 }
 
 /// A command that asks something of an object, by its name, with what it does and its help.
-pub fn object_command<'a>(
+pub(crate) fn object_command<'a>(
     alloc: Global,
     name: &'a str,
     about: &'a str,
@@ -40,7 +40,7 @@ pub fn object_command<'a>(
 }
 
 /// What such a command is asked for, or what is wrong with a word. Forwards aren't followed.
-pub fn object_words<'a>(matches: &ArgMatches<'a>) -> Result<ObjectWords<'a>, &'static str> {
+pub(crate) fn object_words<'a>(matches: &ArgMatches<'a>) -> Result<ObjectWords<'a>, &'static str> {
     match matches.get_str("target") {
         Some(target) => Ok(ObjectWords {
             target,

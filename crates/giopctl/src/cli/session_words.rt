@@ -13,7 +13,7 @@ use giop_session::Form;
 use std::alloc::{AllocError, Global};
 
 /// The option of the object that is called.
-pub fn target_option<'a>(alloc: Global) -> Arg<'a> {
+pub(crate) fn target_option<'a>(alloc: Global) -> Arg<'a> {
     Arg::new(alloc, "target")
         .long("target")
         .required(true)
@@ -22,7 +22,7 @@ pub fn target_option<'a>(alloc: Global) -> Arg<'a> {
 }
 
 /// The option of how long nothing may come or go.
-pub fn timeout_option<'a>(alloc: Global) -> Arg<'a> {
+pub(crate) fn timeout_option<'a>(alloc: Global) -> Arg<'a> {
     Arg::new(alloc, "timeout")
         .long("timeout")
         .value_name("SECONDS")
@@ -31,7 +31,7 @@ pub fn timeout_option<'a>(alloc: Global) -> Arg<'a> {
 }
 
 /// The option by which forwards are followed.
-pub fn follow_option<'a>(alloc: Global, help: &'a str) -> Arg<'a> {
+pub(crate) fn follow_option<'a>(alloc: Global, help: &'a str) -> Arg<'a> {
     Arg::new(alloc, "follow")
         .long("follow")
         .action(ArgAction::SetTrue)
@@ -39,7 +39,7 @@ pub fn follow_option<'a>(alloc: Global, help: &'a str) -> Arg<'a> {
 }
 
 /// The option by which each call is told as soon as it is over.
-pub fn stream_option<'a>(alloc: Global) -> Arg<'a> {
+pub(crate) fn stream_option<'a>(alloc: Global) -> Arg<'a> {
     Arg::new(alloc, "stream")
         .long("stream")
         .action(ArgAction::SetTrue)
@@ -47,7 +47,7 @@ pub fn stream_option<'a>(alloc: Global) -> Arg<'a> {
 }
 
 /// The option of the byte order of what is sent.
-pub fn little_option<'a>(alloc: Global) -> Arg<'a> {
+pub(super) fn little_option<'a>(alloc: Global) -> Arg<'a> {
     Arg::new(alloc, "little")
         .long("little")
         .action(ArgAction::SetTrue)
@@ -55,7 +55,10 @@ pub fn little_option<'a>(alloc: Global) -> Arg<'a> {
 }
 
 /// A command with the options of how messages are sent, and of all limits of an end.
-pub fn with_sending<'a>(alloc: Global, command: Command<'a>) -> Result<Command<'a>, AllocError> {
+pub(crate) fn with_sending<'a>(
+    alloc: Global,
+    command: Command<'a>,
+) -> Result<Command<'a>, AllocError> {
     let piece = number_option(
         alloc,
         "piece",
@@ -67,7 +70,7 @@ pub fn with_sending<'a>(alloc: Global, command: Command<'a>) -> Result<Command<'
 }
 
 /// When calls are told.
-pub fn telling_of(matches: &ArgMatches) -> Telling {
+pub(crate) fn telling_of(matches: &ArgMatches) -> Telling {
     if matches.get_flag("stream") {
         Telling::WhenOver
     } else {
@@ -77,7 +80,7 @@ pub fn telling_of(matches: &ArgMatches) -> Telling {
 
 /// For how many seconds nothing may come or go, where that is bounded; or what is wrong with the
 /// word.
-pub fn timeout_of(matches: &ArgMatches) -> Result<Option<u32>, &'static str> {
+pub(crate) fn timeout_of(matches: &ArgMatches) -> Result<Option<u32>, &'static str> {
     if matches.get_str("timeout").is_none() {
         return Ok(None);
     }

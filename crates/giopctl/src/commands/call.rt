@@ -40,7 +40,7 @@ pub struct Object<'a> {
 /// Reads the file of the interface and that of the calls, connects to where the target says, and
 /// calls. What is refused is reported before anything is connected: the target, the interface, the
 /// calls, in this order.
-pub fn call(rt: &HostRuntime, words: CallWords) -> Status {
+pub(crate) fn call(rt: &HostRuntime, words: CallWords) -> Status {
     match try_call(rt, words) {
         Ok(status) => status,
         Err(status) => status,

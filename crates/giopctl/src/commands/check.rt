@@ -16,7 +16,7 @@ use std::io;
 use std::io::{BufWriter, Read, Write};
 
 /// Reads the files of interfaces, then checks the other one piece by piece.
-pub fn check(rt: &HostRuntime, words: &CheckWords<'_>) -> Status {
+pub(crate) fn check(rt: &HostRuntime, words: &CheckWords<'_>) -> Status {
     let offered = match read_each(rt, words.interfaces.as_slice()) {
         Ok(offered) => offered,
         Err(status) => return status,

@@ -20,7 +20,7 @@ use std::io::{BufWriter, Write};
 
 /// Reads the file, then that of the description where the kind has one, and writes what becomes of
 /// it. Where a text is refused, it says which file is at fault, and where.
-pub fn convert(rt: &HostRuntime, file: &str, kind: ConvertKind) -> Status {
+pub(crate) fn convert(rt: &HostRuntime, file: &str, kind: ConvertKind) -> Status {
     let octets = match read(rt, file) {
         Ok(octets) => octets,
         Err(failure) => return report::status_of(rt, file, Err(failure)),

@@ -16,7 +16,7 @@ use std::io::{BufWriter, Read, Write};
 
 /// Reads the file of the interface, if there is one, then shows the messages of the other one piece
 /// by piece.
-pub fn dump(rt: &HostRuntime, words: DumpWords) -> Status {
+pub(crate) fn dump(rt: &HostRuntime, words: DumpWords) -> Status {
     let Some(interface) = words.interface else {
         return report::status_of(rt, words.file, dump_file(rt, None, words));
     };

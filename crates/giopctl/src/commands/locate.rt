@@ -23,7 +23,7 @@ use std::io::{BufWriter, Write};
 /// Connects to where the target says, and asks where the object is; where forwards are followed, up
 /// to five times more where it is said to be. A refused target is reported before anything is
 /// connected.
-pub fn locate(rt: &HostRuntime, words: ObjectWords) -> Status {
+pub(crate) fn locate(rt: &HostRuntime, words: ObjectWords) -> Status {
     let status = if words.follow {
         locate_and_follow(rt, words)
     } else {

@@ -18,7 +18,7 @@ const OFFERED: &[u8] =
     b"{\"operations\":{\"_non_existent\":{\"outs\":[[\"result\",\"boolean\"]]}}}";
 
 /// What each object offers: the operation by which it is asked whether it is there.
-pub fn object_interface(alloc: Global) -> Result<Interface, Failure> {
+pub(super) fn object_interface(alloc: Global) -> Result<Interface, Failure> {
     match Interface::from_json(alloc, OFFERED) {
         Ok(interface) => Ok(interface),
         Err(_) => Err(Failure::Memory),

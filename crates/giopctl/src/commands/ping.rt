@@ -22,7 +22,7 @@ use std::time::Instant;
 
 /// Connects to where the target says, asks the object whether it is there, and tells how long that
 /// took. A refused target is reported before anything is connected.
-pub fn ping(rt: &HostRuntime, words: ObjectWords) -> Status {
+pub(crate) fn ping(rt: &HostRuntime, words: ObjectWords) -> Status {
     match try_ping(rt, words) {
         Ok(status) => status,
         Err(status) => status,

@@ -30,7 +30,7 @@ use std::rc::Rc;
 /// Reads the files of interfaces and those of answers, listens at a port of 127.0.0.1, and serves
 /// so many connections one after the other. The status is the greatest of theirs. What is refused
 /// is reported before the port is bound: the interfaces, then the answers.
-pub fn serve(rt: &HostRuntime, words: &ServeWords<'_>) -> Status {
+pub(crate) fn serve(rt: &HostRuntime, words: &ServeWords<'_>) -> Status {
     match try_serve(rt, words) {
         Ok(status) => status,
         Err(status) => status,

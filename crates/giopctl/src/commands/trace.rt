@@ -20,7 +20,7 @@ const EITHER: &str = "CLIENT or SERVER";
 
 /// Reads the files of interfaces, then traces the others piece by piece. A file that can't be
 /// opened is named; nothing is written then.
-pub fn trace(rt: &HostRuntime, words: &TraceWords<'_>) -> Status {
+pub(crate) fn trace(rt: &HostRuntime, words: &TraceWords<'_>) -> Status {
     let offered = match read_each(rt, words.interfaces.as_slice()) {
         Ok(offered) => offered,
         Err(status) => return status,

@@ -33,7 +33,11 @@ pub struct Door {
 
 impl Door {
     /// The door of a listener, through which so many clients are let, one after the other.
-    pub fn new(rt: &HostRuntime, listener: TcpListener, connections: u32) -> io::Result<Rc<Door>> {
+    pub(crate) fn new(
+        rt: &HostRuntime,
+        listener: TcpListener,
+        connections: u32,
+    ) -> io::Result<Rc<Door>> {
         let door = Door {
             listener,
             waiting: RefCell::new(Vec::new(rt.alloc())),
@@ -46,12 +50,12 @@ impl Door {
     }
 
     /// How long a read may wait before the door is looked at.
-    pub fn between_looks() -> Duration {
+    pub(crate) fn between_looks() -> Duration {
         Duration::from_millis(BETWEEN_LOOKS)
     }
 
     /// The client that waits longest, or else the next one. It is the connection of this number.
-    pub fn admit(&self, number: u32) -> io::Result<Client> {
+    pub(crate) fn admit(&self, number: u32) -> io::Result<Client> {
         self.served.set(number);
         match self.first() {
             Some(client) => Ok(client),
@@ -71,7 +75,7 @@ impl Door {
     }
 
     /// Counts a read that brought something, and looks where that is due.
-    pub fn count(&self) {
+    pub(crate) fn count(&self) {
         let reads = self.reads.get().saturating_add(1);
         if reads < READS_BETWEEN_LOOKS {
             self.reads.set(reads);
@@ -81,7 +85,7 @@ impl Door {
     }
 
     /// Looks whether clients came, and tells that each of them waits, once.
-    pub fn look(&self) {
+    pub(crate) fn look(&self) {
         self.reads.set(0);
         let _ = self.hold_all();
     }

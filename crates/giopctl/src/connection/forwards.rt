@@ -11,7 +11,7 @@ pub const MOST_FORWARDS: usize = 5;
 
 /// The text of the corbaloc of an object, escaped where a character isn't printable; none where it
 /// is out of memory.
-pub fn place_text(alloc: Global, to: &Endpoint) -> Option<String> {
+pub(crate) fn place_text(alloc: Global, to: &Endpoint) -> Option<String> {
     let Ok(octets) = endpoint_text(alloc, to) else {
         return None;
     };

@@ -33,7 +33,7 @@ pub struct Link {
 impl Link {
     /// A connection. Where nothing comes or goes for so many seconds, at least 1, it fails with
     /// `TimedOut`; without a timeout it waits for ever.
-    pub fn new(alloc: Global, stream: TcpStream, timeout: Option<u32>) -> io::Result<Link> {
+    pub(crate) fn new(alloc: Global, stream: TcpStream, timeout: Option<u32>) -> io::Result<Link> {
         stream.set_write_timeout(Some(Duration::from_millis(WRITE_WAIT)))?;
         stream.set_read_timeout(timeout.map(|seconds| Duration::from_secs(u64::from(seconds))))?;
         Ok(Link {
@@ -47,7 +47,7 @@ impl Link {
 
     /// A connection of a client that was let in by a door, without a timeout. That door is looked
     /// at between reads.
-    pub fn through(alloc: Global, stream: TcpStream, door: Rc<Door>) -> io::Result<Link> {
+    pub(crate) fn through(alloc: Global, stream: TcpStream, door: Rc<Door>) -> io::Result<Link> {
         let mut link = Link::new(alloc, stream, None)?;
         link.stream.set_read_timeout(Some(Door::between_looks()))?;
         link.door = Some(door);

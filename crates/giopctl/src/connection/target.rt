@@ -11,7 +11,7 @@ use giop_lines::EscapedText;
 
 /// The text of a target: itself, or behind `@` that of a file, of which a newline at the end is
 /// dropped.
-pub fn target_text(rt: &HostRuntime, target: &str) -> Result<Vec<u8>, Status> {
+pub(crate) fn target_text(rt: &HostRuntime, target: &str) -> Result<Vec<u8>, Status> {
     let text = match target.strip_prefix('@') {
         Some(file) => Vec::from_slice(rt.alloc(), unended(read_or_report(rt, file)?.as_slice())),
         None => Vec::from_slice(rt.alloc(), target.as_bytes()),
@@ -23,7 +23,7 @@ pub fn target_text(rt: &HostRuntime, target: &str) -> Result<Vec<u8>, Status> {
 }
 
 /// The object of a target's text. Where the text is refused, its line is written in a form.
-pub fn endpoint_of(
+pub(crate) fn endpoint_of(
     rt: &HostRuntime,
     lines: LineForm,
     target: &str,
@@ -37,7 +37,11 @@ pub fn endpoint_of(
 }
 
 /// The name of a peer, as standard error has it: `HOST:PORT`.
-pub fn peer_of(rt: &HostRuntime, target: &str, endpoint: &Endpoint) -> Result<String, Status> {
+pub(crate) fn peer_of(
+    rt: &HostRuntime,
+    target: &str,
+    endpoint: &Endpoint,
+) -> Result<String, Status> {
     let host = EscapedText(endpoint.host.as_slice());
     match format!(in rt.alloc(); "{host}:{}", endpoint.port) {
         Ok(peer) => Ok(peer),

@@ -15,7 +15,7 @@ pub struct InterfaceText {
 
 impl InterfaceText {
     /// The text that a file has.
-    pub fn new(alloc: Global, given: Vec<u8>) -> Result<InterfaceText, Failure> {
+    pub(crate) fn new(alloc: Global, given: Vec<u8>) -> Result<InterfaceText, Failure> {
         let plain = match plain_interface(alloc, given.as_slice()) {
             Ok(plain) => Some(plain),
             Err(FormFault::NoMemory) => return Err(Failure::Memory),
@@ -25,7 +25,7 @@ impl InterfaceText {
     }
 
     /// The text in the plain form; as it was given where it has none, and is refused by that.
-    pub fn as_slice(&self) -> &[u8] {
+    pub(crate) fn as_slice(&self) -> &[u8] {
         match &self.plain {
             Some(plain) => plain.as_bytes(),
             None => self.given.as_slice(),
@@ -33,12 +33,12 @@ impl InterfaceText {
     }
 
     /// The text as it was given.
-    pub fn given(&self) -> &[u8] {
+    pub(crate) fn given(&self) -> &[u8] {
         self.given.as_slice()
     }
 
     /// Whether it has a plain form.
-    pub fn is_plain(&self) -> bool {
+    pub(crate) fn is_plain(&self) -> bool {
         self.plain.is_some()
     }
 }

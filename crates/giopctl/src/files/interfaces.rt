@@ -44,7 +44,7 @@ pub enum By<'a> {
 
 /// The files that words name, in their order, or the status where one can't be read, which is
 /// reported.
-pub fn read_each<'a>(
+pub(crate) fn read_each<'a>(
     rt: &HostRuntime,
     words: &'a [FileWord<'a>],
 ) -> Result<Vec<Offered<'a>>, Status> {
@@ -68,7 +68,7 @@ pub fn read_each<'a>(
 
 /// What these files offer: each object that has one what its own says, and all others what the one
 /// without a key does; nothing where there is none.
-pub fn join_offers<'b, 'a>(
+pub(crate) fn join_offers<'b, 'a>(
     alloc: Global,
     offered: &'b [Offered<'a>],
 ) -> Result<Joined<'b, 'a>, AllocError> {
@@ -93,7 +93,7 @@ pub fn join_offers<'b, 'a>(
 
 /// What these files offer, as `join_offers` says, or the status where one is refused, which is
 /// reported.
-pub fn interface_of_each(
+pub(crate) fn interface_of_each(
     rt: &HostRuntime,
     lines: LineForm,
     offered: &[Offered<'_>],
@@ -107,7 +107,7 @@ pub fn interface_of_each(
 
 /// The file of the object of a key: its own, else that of all others; `None` where there is
 /// neither.
-pub fn own_of<'b, 'a>(offered: &'b [Offered<'a>], key: &[u8]) -> Option<&'b Offered<'a>> {
+pub(crate) fn own_of<'b, 'a>(offered: &'b [Offered<'a>], key: &[u8]) -> Option<&'b Offered<'a>> {
     match offered.iter().find(|one| one.key == Some(key)) {
         Some(own) => Some(own),
         None => offered.iter().find(|one| one.key.is_none()),

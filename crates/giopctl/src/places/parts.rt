@@ -5,7 +5,7 @@ use serde_json::Value as Json;
 use std::alloc::{AllocError, Global};
 
 /// The fault of what stands under a key, by the name of its description.
-pub fn leaf_place(
+pub(crate) fn leaf_place(
     alloc: Global,
     name: &str,
     desc: &str,
@@ -26,7 +26,7 @@ pub fn leaf_place(
 }
 
 /// The fault of a list of values, or of the whole that it stands in.
-pub fn arguments_place(
+pub(crate) fn arguments_place(
     alloc: Global,
     name: &str,
     beside: &Json,
@@ -48,7 +48,7 @@ pub fn arguments_place(
 }
 
 /// A part that is at fault as a whole.
-pub fn whole(alloc: Global, role: Role, json: &Json, number: u8) -> Result<Place, NoPlace> {
+pub(crate) fn whole(alloc: Global, role: Role, json: &Json, number: u8) -> Result<Place, NoPlace> {
     let part = Part {
         role,
         beside: json,
@@ -58,6 +58,6 @@ pub fn whole(alloc: Global, role: Role, json: &Json, number: u8) -> Result<Place
 }
 
 /// The step to what stands under a key.
-pub fn key(alloc: Global, name: &str) -> Result<Step, AllocError> {
+pub(crate) fn key(alloc: Global, name: &str) -> Result<Step, AllocError> {
     Ok(Step::Key(String::from_str(alloc, name)?))
 }

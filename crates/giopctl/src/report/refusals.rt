@@ -15,7 +15,7 @@ use std::io;
 use std::io::{BufWriter, Write};
 
 /// Reports that the text of an interface's file is refused, and where it is at fault.
-pub fn refused_interface(
+pub(crate) fn refused_interface(
     rt: &HostRuntime,
     lines: LineForm,
     file: &str,
@@ -31,7 +31,7 @@ pub fn refused_interface(
 }
 
 /// Reports that the text of a file of calls or answers is refused, and where it is at fault.
-pub fn refused_form(
+pub(crate) fn refused_form(
     rt: &HostRuntime,
     lines: LineForm,
     file: &str,
@@ -44,7 +44,7 @@ pub fn refused_form(
 }
 
 /// Reports that an answer of a file passes a limit, and where that answer stands.
-pub fn refused_unsent(
+pub(crate) fn refused_unsent(
     rt: &HostRuntime,
     lines: LineForm,
     file: &str,
@@ -56,7 +56,7 @@ pub fn refused_unsent(
 }
 
 /// Reports that a call by words is refused, and where it is at fault.
-pub fn refused_words(
+pub(crate) fn refused_words(
     rt: &HostRuntime,
     lines: LineForm,
     name: &str,
@@ -72,7 +72,7 @@ pub fn refused_words(
 }
 
 /// Writes the line of a refusal to the standard output.
-pub fn refused(rt: &HostRuntime, lines: LineForm, line: RefusalLine) -> Status {
+pub(crate) fn refused(rt: &HostRuntime, lines: LineForm, line: RefusalLine) -> Status {
     refused_line(rt, lines, "-", Ok(line))
 }
 

@@ -14,7 +14,7 @@ use std::io;
 
 /// Prints what is wrong with the text of an interface, and where, as far as that is known; nothing
 /// where it is an interface.
-pub fn interface(rt: &impl Eprint, alloc: Global, file: &str, text: &InterfaceText) {
+pub(crate) fn interface(rt: &impl Eprint, alloc: Global, file: &str, text: &InterfaceText) {
     let Err(fault) = Interface::from_json(alloc, text.as_slice()) else {
         return;
     };
@@ -31,7 +31,13 @@ pub fn interface(rt: &impl Eprint, alloc: Global, file: &str, text: &InterfaceTe
 }
 
 /// Prints what is wrong with the text of a description, and where, as far as that is known.
-pub fn description(rt: &impl Eprint, alloc: Global, file: &str, text: &[u8], fault: FormFault) {
+pub(crate) fn description(
+    rt: &impl Eprint,
+    alloc: Global,
+    file: &str,
+    text: &[u8],
+    fault: FormFault,
+) {
     let other = "JSON, but not in the form of a description";
     said(rt, alloc, file, text, fault, other);
     let at = places::of_file(alloc, Role::Description, text, fault);
@@ -39,7 +45,7 @@ pub fn description(rt: &impl Eprint, alloc: Global, file: &str, text: &[u8], fau
 }
 
 /// Prints what is wrong with the text of a value, and where.
-pub fn value(
+pub(crate) fn value(
     rt: &impl Eprint,
     alloc: Global,
     file: &str,
@@ -56,7 +62,7 @@ pub fn value(
 }
 
 /// Prints what is wrong with the text of calls or answers, and where, as far as that is known.
-pub fn form(
+pub(super) fn form(
     rt: &impl Eprint,
     alloc: Global,
     file: &str,
@@ -75,7 +81,7 @@ pub fn form(
 }
 
 /// Prints the option of the limit that an answer of a file passes, and where that answer stands.
-pub fn unsent(rt: &impl Eprint, file: &str, limit: Limit, at: Option<Place>) {
+pub(super) fn unsent(rt: &impl Eprint, file: &str, limit: Limit, at: Option<Place>) {
     let _ = match at {
         Some(place) => {
             let path = PathShown(place.path.as_slice());
@@ -90,19 +96,19 @@ pub fn unsent(rt: &impl Eprint, file: &str, limit: Limit, at: Option<Place>) {
 }
 
 /// Prints which of some words are no JSON, and where they cease to be.
-pub fn words(rt: &impl Eprint, alloc: Global, words: &[&str]) {
+pub(crate) fn words(rt: &impl Eprint, alloc: Global, words: &[&str]) {
     for word in words {
         let _ = bad_json(rt, alloc, word, word.as_bytes());
     }
 }
 
 /// Prints what is wrong with a text that is no JSON.
-pub fn text(rt: &impl Eprint, file: &str, wrong: &str) {
+pub(crate) fn text(rt: &impl Eprint, file: &str, wrong: &str) {
     let _ = eprintln!(rt; "giopctl: {file}: {wrong}");
 }
 
 /// Prints why hexadecimal digits are refused, and where: the first of them has this offset.
-pub fn digits(rt: &impl Eprint, file: &str, offset: usize, fault: FromHexError) {
+pub(crate) fn digits(rt: &impl Eprint, file: &str, offset: usize, fault: FromHexError) {
     let _ = match fault {
         FromHexError::InvalidHexCharacter { index, .. } => {
             eprintln!(rt;

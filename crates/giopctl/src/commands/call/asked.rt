@@ -36,7 +36,7 @@ pub enum Given {
 /// Where the calls stand, or the status where their file can't be read, which is reported. One word
 /// is the name of a file, unless there is none and one of these interfaces has an operation of that
 /// name.
-pub fn asked_in(
+pub(super) fn asked_in(
     rt: &HostRuntime,
     words: &CallWords<'_>,
     offered: &[Offered<'_>],
@@ -89,7 +89,7 @@ fn offers(rt: &HostRuntime, offered: &[Offered<'_>], name: &str) -> Result<bool,
 }
 
 /// The calls that are given, or the status where they are refused, which is reported.
-pub fn calls_given(
+pub(super) fn calls_given(
     rt: &HostRuntime,
     words: &CallWords<'_>,
     object: Object<'_>,

@@ -49,7 +49,7 @@ impl Sessions<'_> {
 
 /// Makes calls, and again those that are forwarded, up to five times each. Then tells them all, by
 /// what they came to where they were made last.
-pub fn call_and_follow(
+pub(super) fn call_and_follow(
     rt: &HostRuntime,
     words: &CallWords<'_>,
     object: Object<'_>,

@@ -20,7 +20,7 @@ use std::io::{BufWriter, Cursor, Read, Write};
 
 /// Makes the calls of the lines of a file. A line that is refused is reported behind all that was
 /// told.
-pub fn call_lines(
+pub(super) fn call_lines(
     rt: &HostRuntime,
     file: FileFront,
     object: Object<'_>,

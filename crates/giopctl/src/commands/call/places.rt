@@ -9,7 +9,12 @@ use serde_json::{Value as Json, json};
 use std::alloc::{AllocError, Global};
 
 /// Where the texts of an interface and of calls of it, which are refused with this fault, have it.
-pub fn of_calls(alloc: Global, interface: &[u8], calls: &[u8], fault: FormFault) -> Option<Place> {
+pub(super) fn of_calls(
+    alloc: Global,
+    interface: &[u8],
+    calls: &[u8],
+    fault: FormFault,
+) -> Option<Place> {
     let (Ok(offered), Ok(calls)) = (parse_json(alloc, interface), parse_json(alloc, calls)) else {
         return None;
     };
@@ -24,7 +29,12 @@ pub fn of_calls(alloc: Global, interface: &[u8], calls: &[u8], fault: FormFault)
 
 /// Where the texts of an interface and of one call of it, which is refused with this fault, have
 /// it.
-pub fn of_call(alloc: Global, interface: &[u8], call: &[u8], fault: FormFault) -> Option<Place> {
+pub(super) fn of_call(
+    alloc: Global,
+    interface: &[u8],
+    call: &[u8],
+    fault: FormFault,
+) -> Option<Place> {
     let (Ok(offered), Ok(call)) = (parse_json(alloc, interface), parse_json(alloc, call)) else {
         return None;
     };
@@ -39,7 +49,7 @@ pub fn of_call(alloc: Global, interface: &[u8], call: &[u8], fault: FormFault) -
 
 /// Where a call by words, which is refused with this fault, has it: by the texts of an interface
 /// and of each value, and the name of the operation.
-pub fn of_words(
+pub(super) fn of_words(
     alloc: Global,
     interface: &[u8],
     name: &str,
@@ -66,7 +76,7 @@ fn call_json(alloc: Global, name: &str, values: &[&str]) -> Result<Json, FormFau
 }
 
 /// The JSON values of some texts; BadJson where one of them is none.
-pub fn each_json(alloc: Global, texts: &[&str]) -> Result<Vec<Json>, FormFault> {
+pub(super) fn each_json(alloc: Global, texts: &[&str]) -> Result<Vec<Json>, FormFault> {
     let mut values = Vec::with_capacity(alloc, texts.len())?;
     for text in texts {
         values.push(parse_json(alloc, text.as_bytes())?)?;

@@ -48,7 +48,7 @@ pub struct CallWords<'a> {
 }
 
 /// The command `call`.
-pub fn call_command<'a>(alloc: Global) -> Result<Command<'a>, AllocError> {
+pub(crate) fn call_command<'a>(alloc: Global) -> Result<Command<'a>, AllocError> {
     let file = Arg::new(alloc, "FILE").required(true).help(
         "The file of the calls, in JSON, or - for the standard input; or an operation's name",
     );
@@ -73,7 +73,7 @@ pub fn call_command<'a>(alloc: Global) -> Result<Command<'a>, AllocError> {
 }
 
 /// What `call` is asked for with these files and values, or what is wrong with a word.
-pub fn call_task<'a>(
+pub(crate) fn call_task<'a>(
     matches: &ArgMatches<'a>,
     interfaces: Files<'a>,
     values: Vec<&'a str>,
@@ -115,7 +115,10 @@ fn call_words<'a>(
 }
 
 /// The values that `call` is asked for behind an operation.
-pub fn values_of<'a>(alloc: Global, matches: &ArgMatches<'a>) -> Result<Vec<&'a str>, AllocError> {
+pub(crate) fn values_of<'a>(
+    alloc: Global,
+    matches: &ArgMatches<'a>,
+) -> Result<Vec<&'a str>, AllocError> {
     match matches.get_strs("VALUE") {
         Some(values) => Vec::from_slice(alloc, values),
         None => Ok(Vec::new(alloc)),

@@ -28,7 +28,7 @@ pub struct CheckWords<'a> {
 }
 
 /// The command `check`.
-pub fn check_command<'a>(alloc: Global) -> Result<Command<'a>, AllocError> {
+pub(crate) fn check_command<'a>(alloc: Global) -> Result<Command<'a>, AllocError> {
     let strict = Arg::new(alloc, "strict")
         .long("strict")
         .action(ArgAction::SetTrue)
@@ -47,7 +47,7 @@ pub fn check_command<'a>(alloc: Global) -> Result<Command<'a>, AllocError> {
 }
 
 /// What `check` is asked for with these files, or what is wrong with a word.
-pub fn check_task<'a>(
+pub(crate) fn check_task<'a>(
     matches: &ArgMatches<'a>,
     interfaces: Files<'a>,
 ) -> Result<Option<Task<'a>>, &'static str> {

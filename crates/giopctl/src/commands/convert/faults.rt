@@ -12,7 +12,7 @@ use giop_types::{
 const IOR_PREFIX: usize = 4;
 
 /// Prints what is wrong with the text of a reference, and where.
-pub fn print_ior_fault(rt: &HostRuntime, file: &str, text: &[u8]) {
+pub(super) fn print_ior_fault(rt: &HostRuntime, file: &str, text: &[u8]) {
     match ior_octets_from_text(rt.alloc(), text) {
         Err(IorTextFault::BadHex) if text.len() > IOR_PREFIX => {
             print_digits_fault(rt, file, &text[IOR_PREFIX..], IOR_PREFIX);
@@ -23,7 +23,7 @@ pub fn print_ior_fault(rt: &HostRuntime, file: &str, text: &[u8]) {
 }
 
 /// Prints which of the two files of a value is at fault, and where.
-pub fn print_value_fault(
+pub(super) fn print_value_fault(
     rt: &HostRuntime,
     file: &str,
     octets: &[u8],

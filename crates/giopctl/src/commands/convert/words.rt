@@ -31,7 +31,7 @@ pub enum ConvertKind<'a> {
 }
 
 /// The command `convert`.
-pub fn convert_command<'a>(alloc: Global) -> Result<Command<'a>, AllocError> {
+pub(crate) fn convert_command<'a>(alloc: Global) -> Result<Command<'a>, AllocError> {
     Command::new(alloc, "convert")
         .about("Writes what a file holds in another form")
         .subcommand_required(true)
@@ -105,7 +105,7 @@ fn kind<'a>(
 }
 
 /// What `convert` is asked for, or what is wrong with a word.
-pub fn convert_task<'a>(convert: &ArgMatches<'a>) -> Result<Option<Task<'a>>, &'static str> {
+pub(crate) fn convert_task<'a>(convert: &ArgMatches<'a>) -> Result<Option<Task<'a>>, &'static str> {
     if let Some(ior) = convert.subcommand_matches("ior") {
         return Ok(task_of_kind(ior, Some(ConvertKind::Ior(plain_lines_of(ior)))));
     }

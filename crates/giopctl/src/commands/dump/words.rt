@@ -30,7 +30,7 @@ pub struct DumpWords<'a> {
 }
 
 /// The command `dump`.
-pub fn dump_command<'a>(alloc: Global) -> Result<Command<'a>, AllocError> {
+pub(crate) fn dump_command<'a>(alloc: Global) -> Result<Command<'a>, AllocError> {
     let file = Arg::new(alloc, "FILE")
         .required(true)
         .help("A file of GIOP messages, or - for the standard input");
@@ -50,7 +50,7 @@ pub fn dump_command<'a>(alloc: Global) -> Result<Command<'a>, AllocError> {
 }
 
 /// What `dump` is asked for, or what is wrong with a word.
-pub fn dump_task<'a>(matches: &ArgMatches<'a>) -> Result<Option<Task<'a>>, &'static str> {
+pub(crate) fn dump_task<'a>(matches: &ArgMatches<'a>) -> Result<Option<Task<'a>>, &'static str> {
     let limit = message_limit_of(matches)?;
     let gathered = gathered_limit_of(matches)?;
     let Some(file) = matches.get_str("FILE") else {

@@ -32,7 +32,7 @@ enum Outcome {
 
 /// Asks where the object is, and again where it is said to be. Tells what came of it where it was
 /// asked for last.
-pub fn locate_and_follow(rt: &HostRuntime, words: ObjectWords) -> Result<Status, Status> {
+pub(super) fn locate_and_follow(rt: &HostRuntime, words: ObjectWords) -> Result<Status, Status> {
     let text = target_text(rt, words.target)?;
     let mut endpoint = endpoint_of(rt, words.lines, words.target, text.as_slice())?;
     let interface = match object_interface(rt.alloc()) {

@@ -8,14 +8,14 @@ use clap::{ArgMatches, Command};
 use std::alloc::{AllocError, Global};
 
 /// The command `locate`.
-pub fn locate_command<'a>(alloc: Global) -> Result<Command<'a>, AllocError> {
+pub(crate) fn locate_command<'a>(alloc: Global) -> Result<Command<'a>, AllocError> {
     let about = "Asks a server where an object is";
     let help = "An object that is elsewhere is asked for there, up to five times";
     object_command(alloc, "locate", about, LOCATE_HELP)?.arg(follow_option(alloc, help))
 }
 
 /// What `locate` is asked for, or what is wrong with a word.
-pub fn locate_task<'a>(matches: &ArgMatches<'a>) -> Result<Option<Task<'a>>, &'static str> {
+pub(crate) fn locate_task<'a>(matches: &ArgMatches<'a>) -> Result<Option<Task<'a>>, &'static str> {
     Ok(Some(Task::Locate(locate_words(matches)?)))
 }
 

@@ -7,12 +7,12 @@ use clap::{ArgMatches, Command};
 use std::alloc::{AllocError, Global};
 
 /// The command `ping`.
-pub fn ping_command<'a>(alloc: Global) -> Result<Command<'a>, AllocError> {
+pub(crate) fn ping_command<'a>(alloc: Global) -> Result<Command<'a>, AllocError> {
     let about = "Asks an object whether it is there, and tells how long that took";
     object_command(alloc, "ping", about, PING_HELP)
 }
 
 /// What `ping` is asked for, or what is wrong with a word.
-pub fn ping_task<'a>(matches: &ArgMatches<'a>) -> Result<Option<Task<'a>>, &'static str> {
+pub(crate) fn ping_task<'a>(matches: &ArgMatches<'a>) -> Result<Option<Task<'a>>, &'static str> {
     Ok(Some(Task::Ping(object_words(matches)?)))
 }

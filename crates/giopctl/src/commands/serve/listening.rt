@@ -13,7 +13,7 @@ pub const HERE: &str = "127.0.0.1";
 
 /// Listens at a port, or where that is 0 at one that is free, writes the file of the reference of
 /// the object of this type and key, and says which port it is.
-pub fn listen(
+pub(super) fn listen(
     rt: &HostRuntime,
     words: &ServeWords<'_>,
     type_id: &[u8],

@@ -22,7 +22,7 @@ pub struct Texts {
 
 /// These texts of an object whose type has this id: with what every object answers by itself, where
 /// the id isn't empty.
-pub fn texts_of(
+pub(super) fn texts_of(
     alloc: Global,
     interface: &[u8],
     type_id: &[u8],

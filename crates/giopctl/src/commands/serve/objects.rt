@@ -64,7 +64,7 @@ pub struct Objects {
 
 /// The files of answers that words name, in their order, or the status where one can't be read,
 /// which is reported.
-pub fn read_answers<'a>(
+pub(super) fn read_answers<'a>(
     rt: &HostRuntime,
     words: &'a [FileWord<'a>],
 ) -> Result<Vec<Given<'a>>, Status> {
@@ -85,7 +85,7 @@ pub fn read_answers<'a>(
 /// The objects, of which that of --key has this one, by the interface of all files; or the status
 /// where answers are refused, which is reported. Where no file is of a single object, the interface
 /// is that of the one object.
-pub fn objects_of(
+pub(super) fn objects_of(
     rt: &HostRuntime,
     asked: Asked<'_, '_>,
     key: &[u8],

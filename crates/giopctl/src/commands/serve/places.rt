@@ -36,7 +36,7 @@ struct Sought {
 
 /// Where the texts of an interface and of answers, which are sent so and are refused with
 /// this fault, have it.
-pub fn of_answers(
+pub(super) fn of_answers(
     alloc: Global,
     interface: &[u8],
     answers: &[u8],

@@ -46,7 +46,7 @@ pub struct ServeWords<'a> {
 }
 
 /// The command `serve`.
-pub fn serve_command<'a>(alloc: Global) -> Result<Command<'a>, AllocError> {
+pub(crate) fn serve_command<'a>(alloc: Global) -> Result<Command<'a>, AllocError> {
     let port = number_option(
         alloc,
         "port",
@@ -110,7 +110,7 @@ fn key_group<'a>(alloc: Global) -> Result<ArgGroup<'a>, AllocError> {
 }
 
 /// What `serve` is asked for with these files, or what is wrong with a word.
-pub fn serve_task<'a>(
+pub(crate) fn serve_task<'a>(
     matches: &ArgMatches<'a>,
     interfaces: Files<'a>,
     answers: Files<'a>,

@@ -26,7 +26,7 @@ pub struct TraceWords<'a> {
 }
 
 /// The command `trace`.
-pub fn trace_command<'a>(alloc: Global) -> Result<Command<'a>, AllocError> {
+pub(crate) fn trace_command<'a>(alloc: Global) -> Result<Command<'a>, AllocError> {
     let client = Arg::new(alloc, "CLIENT").required(true).help(
         "A file of what the client sent, or - for the standard input",
     );
@@ -43,7 +43,7 @@ pub fn trace_command<'a>(alloc: Global) -> Result<Command<'a>, AllocError> {
 }
 
 /// What `trace` is asked for with these files, or what is wrong with a word.
-pub fn trace_task<'a>(
+pub(crate) fn trace_task<'a>(
     matches: &ArgMatches<'a>,
     interfaces: Files<'a>,
 ) -> Result<Option<Task<'a>>, &'static str> {
