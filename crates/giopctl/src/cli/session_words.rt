@@ -1,6 +1,6 @@
 //! The options of a session that several commands have: the object that is called, how messages are
 //! sent, and when calls are told. A change here is one in docs/giopctl.md and tests/program too.
-ghost use Rattle.std.specs.Prelude.{IfOk};
+ghost use Rattle.std.specs.Prelude.{◌≤◌, IfOk, IfSome};
 ghost use Rattle.giop_session.specs.Acts.Form.{IsForm};
 
 use crate::cli::limit_words::with_limits;
@@ -80,7 +80,10 @@ pub(crate) fn telling_of(matches: &ArgMatches) -> Telling {
 
 /// For how many seconds nothing may come or go, where that is bounded; or what is wrong with the
 /// word.
-pub(crate) fn timeout_of(matches: &ArgMatches) -> Result<Option<u32>, &'static str> {
+pub fn timeout_of(matches: &ArgMatches) -> Result<Option<u32>, &'static str>
+    ensures { IfOk result (λ timeout. IfSome timeout (λ seconds.
+        (1 ≤ seconds) × (seconds ≤ 86400))) }
+{
     if matches.get_str("timeout").is_none() {
         return Ok(None);
     }

@@ -2,7 +2,7 @@
 
 use crate::files::read_or_report;
 use crate::report;
-use crate::report::refusals::refused;
+use crate::report::refusals::refuse;
 use giop_commands::convert::unended;
 use giop_commands::failure::Failure;
 use giop_commands::status::Status;
@@ -31,7 +31,7 @@ pub(crate) fn endpoint_of(
 ) -> Result<Endpoint, Status> {
     match target_of(rt.alloc(), text) {
         Ok(Targeted::At(endpoint)) => Ok(endpoint),
-        Ok(Targeted::Refused(line)) => Err(refused(rt, lines, line)),
+        Ok(Targeted::Refused(line)) => Err(refuse(rt, lines, line)),
         Err(failure) => Err(report::status_of(rt, target, Err(failure))),
     }
 }

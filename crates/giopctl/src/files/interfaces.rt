@@ -2,7 +2,7 @@
 
 use crate::cli::file_words::FileWord;
 use crate::files::interface_text::InterfaceText;
-use crate::report::refusals::refused_interface;
+use crate::report::refusals::refuse_interface;
 use crate::{files, report};
 use giop_commands::LineForm;
 use giop_commands::failure::Failure;
@@ -100,7 +100,7 @@ pub(crate) fn interface_of_each(
 ) -> Result<Interface, Status> {
     match join_offers(rt.alloc(), offered) {
         Ok(Joined::Whole(interface)) => Ok(interface),
-        Ok(Joined::Refused(one)) => Err(refused_interface(rt, lines, one.file, &one.text)),
+        Ok(Joined::Refused(one)) => Err(refuse_interface(rt, lines, one.file, &one.text)),
         Err(_) => Err(report::status_of(rt, "--interface", Err(Failure::Memory))),
     }
 }

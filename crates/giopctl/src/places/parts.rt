@@ -1,4 +1,8 @@
 //! Where a part of calls or answers is at fault, by the number of the fault.
+ghost use Rattle.std.specs.Prelude.{◌≡◌, IfOk};
+ghost use Rattle.serde_json.specs.View.{view};
+ghost use Rattle.giop_where.specs.First.{IsPlace};
+ghost use Rattle.giop_where.specs.Parts.{key as key_step, step_view};
 
 use giop_where::{NoPlace, Part, Place, Role, Step};
 use serde_json::Value as Json;
@@ -48,7 +52,10 @@ pub(crate) fn arguments_place(
 }
 
 /// A part that is at fault as a whole.
-pub(crate) fn whole(alloc: Global, role: Role, json: &Json, number: u8) -> Result<Place, NoPlace> {
+pub fn whole(alloc: Global, role: Role, json: &Json, number: u8) -> Result<Place, NoPlace>
+    ensures { IfOk result (IsPlace number
+        (record { role = role; beside = view json.now; content = view json.now })) }
+{
     let part = Part {
         role,
         beside: json,
@@ -58,6 +65,8 @@ pub(crate) fn whole(alloc: Global, role: Role, json: &Json, number: u8) -> Resul
 }
 
 /// The step to what stands under a key.
-pub(crate) fn key(alloc: Global, name: &str) -> Result<Step, AllocError> {
+pub fn key(alloc: Global, name: &str) -> Result<Step, AllocError>
+    ensures { IfOk result (λ step. step_view step ≡ key_step name.now) }
+{
     Ok(Step::Key(String::from_str(alloc, name)?))
 }

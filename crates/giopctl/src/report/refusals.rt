@@ -15,7 +15,7 @@ use std::io;
 use std::io::{BufWriter, Write};
 
 /// Reports that the text of an interface's file is refused, and where it is at fault.
-pub(crate) fn refused_interface(
+pub(crate) fn refuse_interface(
     rt: &HostRuntime,
     lines: LineForm,
     file: &str,
@@ -25,13 +25,13 @@ pub(crate) fn refused_interface(
         Ok(_) => Status::Done,
         Err(fault) => {
             texts::interface(rt, rt.alloc(), file, text);
-            refused_line(rt, lines, file, form_refusal(fault))
+            refuse_line(rt, lines, file, form_refusal(fault))
         }
     }
 }
 
 /// Reports that the text of a file of calls or answers is refused, and where it is at fault.
-pub(crate) fn refused_form(
+pub(crate) fn refuse_form(
     rt: &HostRuntime,
     lines: LineForm,
     file: &str,
@@ -40,11 +40,11 @@ pub(crate) fn refused_form(
     at: Option<Place>,
 ) -> Status {
     texts::form(rt, rt.alloc(), file, text, fault, at);
-    refused_line(rt, lines, file, form_refusal(fault))
+    refuse_line(rt, lines, file, form_refusal(fault))
 }
 
 /// Reports that an answer of a file passes a limit, and where that answer stands.
-pub(crate) fn refused_unsent(
+pub(crate) fn refuse_unsent(
     rt: &HostRuntime,
     lines: LineForm,
     file: &str,
@@ -52,11 +52,11 @@ pub(crate) fn refused_unsent(
     at: Option<Place>,
 ) -> Status {
     texts::unsent(rt, file, limit, at);
-    refused_line(rt, lines, file, form_refusal(FormFault::Unfit))
+    refuse_line(rt, lines, file, form_refusal(FormFault::Unfit))
 }
 
 /// Reports that a call by words is refused, and where it is at fault.
-pub(crate) fn refused_words(
+pub(crate) fn refuse_words(
     rt: &HostRuntime,
     lines: LineForm,
     name: &str,
@@ -68,15 +68,15 @@ pub(crate) fn refused_words(
         FormFault::BadJson => texts::words(rt, rt.alloc(), values),
         _ => texts::form(rt, rt.alloc(), name, name.as_bytes(), fault, at),
     }
-    refused_line(rt, lines, name, form_refusal(fault))
+    refuse_line(rt, lines, name, form_refusal(fault))
 }
 
 /// Writes the line of a refusal to the standard output.
-pub(crate) fn refused(rt: &HostRuntime, lines: LineForm, line: RefusalLine) -> Status {
-    refused_line(rt, lines, "-", Ok(line))
+pub(crate) fn refuse(rt: &HostRuntime, lines: LineForm, line: RefusalLine) -> Status {
+    refuse_line(rt, lines, "-", Ok(line))
 }
 
-fn refused_line(
+fn refuse_line(
     rt: &HostRuntime,
     lines: LineForm,
     file: &str,

@@ -25,9 +25,9 @@ pub(crate) fn interface(rt: &impl Eprint, alloc: Global, file: &str, text: &Inte
         return;
     }
     let other = "JSON, but not in the form of an interface";
-    said(rt, alloc, file, text.given(), fault, other);
+    print_fault(rt, alloc, file, text.given(), fault, other);
     let at = places::of_interface(alloc, text, fault);
-    place(rt, file, fault, at);
+    print_place(rt, file, fault, at);
 }
 
 /// Prints what is wrong with the text of a description, and where, as far as that is known.
@@ -39,9 +39,9 @@ pub(crate) fn description(
     fault: FormFault,
 ) {
     let other = "JSON, but not in the form of a description";
-    said(rt, alloc, file, text, fault, other);
+    print_fault(rt, alloc, file, text, fault, other);
     let at = places::of_file(alloc, Role::Description, text, fault);
-    place(rt, file, fault, at);
+    print_place(rt, file, fault, at);
 }
 
 /// Prints what is wrong with the text of a value, and where.
@@ -54,11 +54,11 @@ pub(crate) fn value(
     at: Option<Place>,
 ) {
     let other = "JSON, but not in the form that its description wants";
-    said(rt, alloc, file, text, fault, other);
+    print_fault(rt, alloc, file, text, fault, other);
     if fault == FormFault::Unfit {
         let _ = eprintln!(rt; "giopctl: {file}: a value that doesn't fit its description");
     }
-    place(rt, file, fault, at);
+    print_place(rt, file, fault, at);
 }
 
 /// Prints what is wrong with the text of calls or answers, and where, as far as that is known.
@@ -71,13 +71,13 @@ pub(super) fn form(
     at: Option<Place>,
 ) {
     let other = "JSON, but not in the form that is wanted, or not of the interface";
-    said(rt, alloc, file, text, fault, other);
+    print_fault(rt, alloc, file, text, fault, other);
     if fault == FormFault::Unfit {
         let _ = eprintln!(rt;
             "giopctl: {file}: a value, or their number, doesn't fit the interface"
         );
     }
-    place(rt, file, fault, at);
+    print_place(rt, file, fault, at);
 }
 
 /// Prints the option of the limit that an answer of a file passes, and where that answer stands.
@@ -98,7 +98,7 @@ pub(super) fn unsent(rt: &impl Eprint, file: &str, limit: Limit, at: Option<Plac
 /// Prints which of some words are no JSON, and where they cease to be.
 pub(crate) fn words(rt: &impl Eprint, alloc: Global, words: &[&str]) {
     for word in words {
-        let _ = bad_json(rt, alloc, word, word.as_bytes());
+        let _ = print_json_error(rt, alloc, word, word.as_bytes());
     }
 }
 
@@ -124,9 +124,16 @@ pub(crate) fn digits(rt: &impl Eprint, file: &str, offset: usize, fault: FromHex
 }
 
 // Prints what is wrong with a text; where it is JSON of another form, that is said so.
-fn said(rt: &impl Eprint, alloc: Global, file: &str, text: &[u8], fault: FormFault, other: &str) {
+fn print_fault(
+    rt: &impl Eprint,
+    alloc: Global,
+    file: &str,
+    text: &[u8],
+    fault: FormFault,
+    other: &str,
+) {
     let _ = match fault {
-        FormFault::BadJson => bad_json(rt, alloc, file, text),
+        FormFault::BadJson => print_json_error(rt, alloc, file, text),
         FormFault::BadShape => eprintln!(rt; "giopctl: {file}: {other}"),
         FormFault::BadDesc(fault) => {
             eprintln!(rt; "giopctl: {file}: a description of no type: {fault}")
@@ -136,7 +143,7 @@ fn said(rt: &impl Eprint, alloc: Global, file: &str, text: &[u8], fault: FormFau
 }
 
 // Prints where a file is at fault, where that is known; where memory is wanting, no part is.
-fn place(rt: &impl Eprint, file: &str, fault: FormFault, place: Option<Place>) {
+fn print_place(rt: &impl Eprint, file: &str, fault: FormFault, place: Option<Place>) {
     match place {
         Some(place) if fault != FormFault::NoMemory => {
             let _ = eprintln!(rt; "giopctl: {file}: at {place}");
@@ -146,7 +153,7 @@ fn place(rt: &impl Eprint, file: &str, fault: FormFault, place: Option<Place>) {
 }
 
 // Prints where a text ceases to be JSON.
-fn bad_json(rt: &impl Eprint, alloc: Global, file: &str, text: &[u8]) -> io::Result<()> {
+fn print_json_error(rt: &impl Eprint, alloc: Global, file: &str, text: &[u8]) -> io::Result<()> {
     match Json::from_slice(alloc, text) {
         Err(error) => eprintln!(rt; "giopctl: {file}: {error}"),
         Ok(_) => Ok(()),

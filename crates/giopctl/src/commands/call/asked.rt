@@ -5,7 +5,7 @@ use crate::commands::call::places::{each_json, of_calls, of_words};
 use crate::commands::call::words::CallWords;
 use crate::files::FileFront;
 use crate::files::interfaces::Offered;
-use crate::report::refusals::{refused_form, refused_words};
+use crate::report::refusals::{refuse_form, refuse_words};
 use crate::{files, report};
 use giop_commands::call::calls::{CallLine, calls_from_json};
 use giop_commands::call::words::call_from_words;
@@ -112,7 +112,7 @@ fn calls_in_file(
         Ok(calls) => Ok(calls),
         Err(fault) => {
             let at = of_calls(rt.alloc(), object.text, text, fault);
-            Err(refused_form(rt, words.lines, words.file, text, fault, at))
+            Err(refuse_form(rt, words.lines, words.file, text, fault, at))
         }
     }
 }
@@ -132,7 +132,7 @@ fn calls_in_words(
         Ok(calls) => Ok(calls),
         Err(fault) => {
             let at = of_words(rt.alloc(), object.text, name, values, fault);
-            Err(refused_words(rt, words.lines, name, values, fault, at))
+            Err(refuse_words(rt, words.lines, name, values, fault, at))
         }
     }
 }

@@ -7,7 +7,7 @@ use crate::connection::connect;
 use crate::connection::target::peer_of;
 use crate::files::{FileFront, OUTPUT_BUFFER};
 use crate::report;
-use crate::report::refusals::refused_form;
+use crate::report::refusals::refuse_form;
 use giop_commands::call::feed::LineFeed;
 use giop_commands::call::lines::CallLines;
 use giop_commands::call::streaming::feeding::call_fed;
@@ -41,7 +41,7 @@ pub(super) fn call_lines(
         answered => report::call_status(rt, peer.as_str(), words.timeout, answered),
     };
     match feed.lines.refused {
-        Some(fault) => Ok(refused_line(rt, words, object.text, &feed.lines, fault, status)),
+        Some(fault) => Ok(refuse_line(rt, words, object.text, &feed.lines, fault, status)),
         None => Ok(status),
     }
 }
@@ -71,7 +71,7 @@ fn call_lines_at<S: Read + Drop>(
 }
 
 // Reports the line that is refused, of a session with a status.
-fn refused_line(
+fn refuse_line(
     rt: &HostRuntime,
     words: &CallWords<'_>,
     offered: &[u8],
@@ -85,7 +85,7 @@ fn refused_line(
         Ok(name) => name,
         Err(_) => return report::status_of(rt, words.file, Err(Failure::Memory)),
     };
-    match refused_form(rt, words.lines, name.as_str(), text, fault, at) {
+    match refuse_form(rt, words.lines, name.as_str(), text, fault, at) {
         Status::Refused => status,
         failed => failed,
     }

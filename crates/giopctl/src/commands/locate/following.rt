@@ -69,7 +69,7 @@ fn session_at(
     let refused = match ask_at(rt, words, interface, endpoint, limits, &mut end) {
         Ok(refused) => refused,
         Err(failure) => {
-            let failed = failure_told(rt, words, interface, &end, failure);
+            let failed = tell_failure(rt, words, interface, &end, failure);
             return Ok(Outcome::Told(report::call_status(
                 rt,
                 peer.as_str(),
@@ -112,7 +112,7 @@ fn ask_at(
 
 // Writes the line of the LocateRequest behind a connection that failed, unless that was want of
 // memory. Returns what failed.
-fn failure_told(
+fn tell_failure(
     rt: &HostRuntime,
     words: ObjectWords,
     interface: &Interface,

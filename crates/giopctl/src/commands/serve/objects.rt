@@ -9,7 +9,7 @@ use crate::files::interface_text::InterfaceText;
 use crate::files::interfaces::{NOTHING, Offered, own_of};
 use crate::files::read_or_report;
 use crate::report;
-use crate::report::refusals::{refused_form, refused_unsent};
+use crate::report::refusals::{refuse_form, refuse_unsent};
 use crate::report::texts;
 use giop_commands::failure::Failure;
 use giop_commands::serve::answers::{Answers, answers_from_json};
@@ -236,23 +236,23 @@ fn answers_of(
 ) -> Result<Answers, Status> {
     let (alloc, lines, file) = (rt.alloc(), words.lines, given.file);
     let (answers, text) = (texts.answers.as_slice(), given.text.as_slice());
-    let sending = within(words, words.limits);
+    let sending = sending_within(words, words.limits);
     let fault = match answers_from_json(alloc, interface, sending, answers) {
         Ok(answers) => return Ok(answers),
         Err(fault) => fault,
     };
-    let wide = within(words, WIDE);
+    let wide = sending_within(words, WIDE);
     if fault == FormFault::Unfit && answers_from_json(alloc, interface, wide, answers).is_ok() {
         let at = of_answers(alloc, texts.interface.as_slice(), text, sending, fault);
         let limit = limit_passed(alloc, words, interface, answers);
-        return Err(refused_unsent(rt, lines, file, limit, at));
+        return Err(refuse_unsent(rt, lines, file, limit, at));
     }
     let at = of_answers(alloc, texts.interface.as_slice(), text, wide, fault);
-    Err(refused_form(rt, lines, file, text, fault, at))
+    Err(refuse_form(rt, lines, file, text, fault, at))
 }
 
 // How answers are sent within limits.
-fn within(words: &ServeWords<'_>, limits: Limits) -> Sending {
+fn sending_within(words: &ServeWords<'_>, limits: Limits) -> Sending {
     Sending {
         form: words.form,
         limits,
@@ -269,7 +269,7 @@ fn limit_passed(
 ) -> Limit {
     let mut limits = words.limits;
     limits.message = u32::MAX;
-    match answers_from_json(alloc, interface, within(words, limits), answers) {
+    match answers_from_json(alloc, interface, sending_within(words, limits), answers) {
         Ok(_) => Limit::Message,
         Err(_) => Limit::Gathered,
     }

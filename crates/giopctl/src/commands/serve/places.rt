@@ -153,12 +153,12 @@ fn answer_place(
     if let Some(list) = answer.as_array() {
         for (i, one) in list.as_slice().iter().enumerate() {
             if item_refusal(alloc, offered, name, operation, one, sending)? == sought.number {
-                let place = refused_answer(alloc, offered, operation, one, sought)?;
+                let place = refused_answer_place(alloc, offered, operation, one, sought)?;
                 return Ok(Some(place.under(Step::Index(i))?));
             }
         }
     }
-    Ok(Some(refused_answer(alloc, offered, operation, answer, sought)?))
+    Ok(Some(refused_answer_place(alloc, offered, operation, answer, sought)?))
 }
 
 // The number of the fault of an answer of a list, of which none is a list itself.
@@ -206,7 +206,7 @@ fn answer_refusal(
 }
 
 // Where a refused answer has the fault: at a part of it, or as a whole.
-fn refused_answer(
+fn refused_answer_place(
     alloc: Global,
     offered: &Json,
     operation: &Json,
