@@ -11,4 +11,7 @@ pub use primitives::{
     booleans_are_spelled, encapsulations_are_opened_again, numbers_are_spelled, octets_are_spelled,
     padding_is_least, strings_are_spelled, written_values_are_read_back,
 };
-pub use refusals::{no_fault_is_told_as_want_of_memory, what_is_refused_is_refused_again};
+pub use refusals::{
+    no_fault_is_told_as_want_of_memory, what_is_not_written_may_be_written_again,
+    what_is_refused_is_refused_again,
+};

@@ -17,6 +17,7 @@ pub mod Observed
 pub mod OwnLanes
 pub mod Pinged
 pub mod Referred
+pub mod Refused
 pub mod Runs
 pub mod Sent
 pub mod ServerCalls

@@ -25,6 +25,7 @@ mod on_the_way;
 mod own_lanes;
 mod pinged;
 mod referred;
+mod refused;
 mod replies;
 mod runs;
 mod sent;

@@ -1,10 +1,13 @@
-//! Laws of what a call of a reader says by its result, above the words of specs/Reading/Outcome.antt:
-//! a refusal is told as it is, and again where the call is made again. Each function's contract is a
-//! law; the bodies are empty, and no program calls these.
-ghost use Rattle.std.specs.Prelude.{◌≡◌, ℕ, List, Err, IsErr};
+//! Laws of what a call of a reader or a writer says by its result, above the words of
+//! specs/Reading/Outcome.antt and specs/Writing/Outcome.antt: a refusal is told as it is, and leaves
+//! the call to be made again. Each function's contract is a law; the bodies are empty, and no program
+//! calls these.
+ghost use Rattle.std.specs.Prelude.{◌≡◌, ℕ, List, Err, Ok};
 ghost use Rattle.giop_cdr.specs.Reading.Cursor.{Cursor};
 ghost use Rattle.giop_cdr.specs.Reading.Outcome.{Allocates, Passes, Reads, ReadsAs};
 ghost use Rattle.giop_cdr.specs.Reading.Values.{Reading};
+ghost use Rattle.giop_cdr.specs.Writing.Outcome.{Grows, Writes};
+ghost use Rattle.giop_cdr.specs.Writing.Output.{Output};
 ghost use Rattle.giop_cdr.specs.declared.fault.CdrFault.{CdrFault};
 
 /// A refused call leaves the reader where it was: the same call is refused there again for the same
@@ -29,4 +32,12 @@ pub fn no_fault_is_told_as_want_of_memory()
     ensures { (read : Cursor → Reading (List ℕ)) (old new : Cursor) (e fault : CdrFault)
         → Allocates (λ octets. octets) old (Err e) new (read old) → read old ≡ Err fault
         → e ≡ fault }
+{}
+
+/// A write that is out of memory leaves what was there: where it is made again, it writes what it
+/// would have written, behind what was there.
+pub fn what_is_not_written_may_be_written_again()
+    ensures { (write : Output → Output) (old mid new : Output) (e x : ℕ)
+        → Writes {X = ℕ} old (Err e) mid (write old)
+        → Writes {E = ℕ} mid (Ok x) new (write mid) → (new ≡ write old) × Grows old new }
 {}
