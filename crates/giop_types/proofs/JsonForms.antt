@@ -8,6 +8,7 @@ pub mod NumberShownLemmas
 pub mod JsonLeavesBack
 pub mod JsonObjects
 pub mod JsonBack
+pub mod DescBack
 pub mod ReferenceLemmas
 pub mod JsonFloatLemmas
 pub mod ValuesTextLemmas

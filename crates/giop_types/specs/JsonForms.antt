@@ -7,6 +7,7 @@ pub mod FormFault
 pub mod FromJson
 pub mod Ordinals
 pub mod DescFromJson
+pub mod DescToJson
 pub mod InterfaceFromJson
 pub mod InterfaceForms
 pub mod Plain
