@@ -9,6 +9,7 @@ pub mod Ordinals
 pub mod DescFromJson
 pub mod DescToJson
 pub mod InterfaceFromJson
+pub mod InterfaceToJson
 pub mod InterfaceForms
 pub mod Plain
 pub mod Parse

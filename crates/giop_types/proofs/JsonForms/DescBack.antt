@@ -60,7 +60,7 @@ branches_are : (bs : Branches) → branches_of (branches_listed bs) ≡ bs
 branches_are no_branches = refl
 branches_are (branch ls name s bs) = ap (branch ls name s) (branches_are bs)
 
-member_back : (inner : json.Data → Option Shape) (name : List ℕ) (s : Shape) (written : json.Data) → are_octets name ≡ true → inner written ≡ Some s
+pub member_back : (inner : json.Data → Option Shape) (name : List ℕ) (s : Shape) (written : json.Data) → are_octets name ≡ true → inner written ≡ Some s
     → member_in inner (pair (text_data name) written) ≡ Some (record { name = name; shape = s })
 member_back inner name s written fine back = rw (named_back name fine, back) refl
 

@@ -1,6 +1,6 @@
 //! Laws of values as JSON, above the definitions of specs/JsonForms. The first two are laws alone, and
 //! the body of the third makes the calls that it is about. No program calls these.
-ghost use Rattle.std.specs.Prelude.{◌≡◌, ◌↔◌, true, false, None, Ok, IfOk, IsErrOf};
+ghost use Rattle.std.specs.Prelude.{◌≡◌, ◌↔◌, true, false, None, Ok, Some, IfOk, IsErrOf};
 ghost use Rattle.serde_json.specs.Data.{Data};
 ghost use Rattle.giop_types.specs.declared.json.form_fault.FormFault.TheVariants.{Unfit};
 ghost use Rattle.giop_types.specs.declared.json.number_form.NumberForm.{NumberForm};
@@ -11,6 +11,8 @@ ghost use Rattle.giop_types.specs.Values.Fits.{fits};
 ghost use Rattle.giop_types.specs.JsonForms.DescFromJson.{desc_in, described};
 ghost use Rattle.giop_types.specs.JsonForms.DescToJson.{desc_data, is_sayable};
 ghost use Rattle.giop_types.specs.JsonForms.FromJson.{from_data, ReadsBack};
+ghost use Rattle.giop_types.specs.JsonForms.InterfaceFromJson.{Offer, offer_in};
+ghost use Rattle.giop_types.specs.JsonForms.InterfaceToJson.{offer_data, offer_sayable};
 ghost use Rattle.giop_types.specs.Descriptions.Shape.{Shape};
 ghost use Rattle.giop_types.specs.JsonForms.ToJson.{to_data};
 ghost use Rattle.giop_types.specs.Values.Tree.{Tree};
@@ -51,6 +53,12 @@ pub fn what_is_read_as_json_is_written_so()
 pub fn json_gives_descriptions_back()
     ensures { (shape : Shape) → desc_fault 1 shape ≡ None → is_plain shape ≡ true
         → is_sayable shape ≡ true → described (desc_in 128 (desc_data shape)) ≡ Ok shape }
+{}
+
+/// And so an interface, its operations and exceptions in any order: where JSON can say it, what it is
+/// written as is a form of it and of no other.
+pub fn json_gives_interfaces_back()
+    ensures { (offer : Offer) → offer_sayable offer ≡ true → offer_in (offer_data offer) ≡ Some offer }
 {}
 
 /// Writes a value as JSON and reads that again. Refused as Unfit where the value isn't of the
