@@ -8,6 +8,8 @@ pub mod NumberShownLemmas
 pub mod JsonLeavesBack
 pub mod JsonObjects
 pub mod JsonBack
+pub mod DescBack
+pub mod InterfaceBack
 pub mod ReferenceLemmas
 pub mod JsonFloatLemmas
 pub mod ValuesTextLemmas

@@ -7,7 +7,9 @@ pub mod FormFault
 pub mod FromJson
 pub mod Ordinals
 pub mod DescFromJson
+pub mod DescToJson
 pub mod InterfaceFromJson
+pub mod InterfaceToJson
 pub mod InterfaceForms
 pub mod Plain
 pub mod Parse

@@ -6,7 +6,8 @@ mod values;
 
 pub use ior_texts::{ior_texts_are_read, written_ior_texts_are_read_back};
 pub use json::{
-    json_gives_values_back, what_is_read_as_json_is_written_so, written_and_read_as_json,
+    json_gives_descriptions_back, json_gives_interfaces_back, json_gives_values_back,
+    what_is_read_as_json_is_written_so, written_and_read_as_json,
 };
 pub use values::{
     descriptions_are_checked_node_by_node, encoded_and_decoded, equal_values_are_the_same,

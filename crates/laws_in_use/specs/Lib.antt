@@ -8,6 +8,7 @@ pub mod Framed
 pub mod Gathering
 pub mod Heard
 pub mod Hearing
+pub mod InJson
 pub mod LaneActs
 pub mod Lanes
 pub mod Left

@@ -14,6 +14,7 @@ mod feeding;
 mod gathering;
 mod heard;
 mod hearing;
+mod in_json;
 mod lane_acts;
 mod lanes;
 mod left;

@@ -53,11 +53,11 @@ listed (tree t ts) = ap (tree t) (listed ts)
 
 -- ---- a node without a fault
 
-no_fault : (a b : Option DescFault) → option_or a b ≡ None → (a ≡ None) × (b ≡ None)
+pub no_fault : (a b : Option DescFault) → option_or a b ≡ None → (a ≡ None) × (b ≡ None)
 no_fault None b h = (refl, h)
 no_fault (Some e) b h = absurd cc
 
-unfaulted : (b : Bool) (e : DescFault) → fault_if b e ≡ None → b ≡ false
+pub unfaulted : (b : Bool) (e : DescFault) → fault_if b e ≡ None → b ≡ false
 unfaulted true e h = absurd cc
 unfaulted false e h = refl
 
@@ -69,7 +69,7 @@ no_doubles depth s h =
     let last = (no_fault (fault_if (has_bad_discriminant s) BadDiscriminant) (fault_if (has_doubles s) Doubled) more).1 in
     unfaulted (has_doubles s) Doubled last
 
-apart_at : (depth : ℕ) (disc : Shape) → desc_fault depth disc ≡ None → AreApart disc
+pub apart_at : (depth : ℕ) (disc : Shape) → desc_fault depth disc ≡ None → AreApart disc
 unfolding desc_fault
 apart_at depth (labels names) h = no_doubles depth (labels names) h
 apart_at depth boolean h = tt

@@ -1,6 +1,6 @@
 //! Laws of values as JSON, above the definitions of specs/JsonForms. The first two are laws alone, and
 //! the body of the third makes the calls that it is about. No program calls these.
-ghost use Rattle.std.specs.Prelude.{◌≡◌, ◌↔◌, true, false, None, Ok, IfOk, IsErrOf};
+ghost use Rattle.std.specs.Prelude.{◌≡◌, ◌↔◌, true, false, None, Ok, Some, IfOk, IsErrOf};
 ghost use Rattle.serde_json.specs.Data.{Data};
 ghost use Rattle.giop_types.specs.declared.json.form_fault.FormFault.TheVariants.{Unfit};
 ghost use Rattle.giop_types.specs.declared.json.number_form.NumberForm.{NumberForm};
@@ -8,7 +8,11 @@ ghost use Rattle.giop_types.specs.Descriptions.Checked.{desc_fault};
 ghost use Rattle.giop_types.specs.Descriptions.CheckedShape.{checked_shape};
 ghost use Rattle.giop_types.specs.JsonForms.Plain.{is_plain};
 ghost use Rattle.giop_types.specs.Values.Fits.{fits};
+ghost use Rattle.giop_types.specs.JsonForms.DescFromJson.{desc_in, described};
+ghost use Rattle.giop_types.specs.JsonForms.DescToJson.{desc_data, is_sayable};
 ghost use Rattle.giop_types.specs.JsonForms.FromJson.{from_data, ReadsBack};
+ghost use Rattle.giop_types.specs.JsonForms.InterfaceFromJson.{Offer, offer_in};
+ghost use Rattle.giop_types.specs.JsonForms.InterfaceToJson.{offer_data, offer_sayable};
 ghost use Rattle.giop_types.specs.Descriptions.Shape.{Shape};
 ghost use Rattle.giop_types.specs.JsonForms.ToJson.{to_data};
 ghost use Rattle.giop_types.specs.Values.Tree.{Tree};
@@ -42,6 +46,20 @@ pub fn what_is_read_as_json_is_written_so()
 {
     json_gives_values_back();
 }
+
+/// A description that is written as JSON is read as that description. That holds of every one without a
+/// fault that JSON can say: its names are octets, its bounds and lengths unsigned longs, its labels those
+/// of their discriminants, as in each `Desc`.
+pub fn json_gives_descriptions_back()
+    ensures { (shape : Shape) → desc_fault 1 shape ≡ None → is_plain shape ≡ true
+        → is_sayable shape ≡ true → described (desc_in 128 (desc_data shape)) ≡ Ok shape }
+{}
+
+/// And so an interface, its operations and exceptions in any order: where JSON can say it, what it is
+/// written as is a form of it and of no other.
+pub fn json_gives_interfaces_back()
+    ensures { (offer : Offer) → offer_sayable offer ≡ true → offer_in (offer_data offer) ≡ Some offer }
+{}
 
 /// Writes a value as JSON and reads that again. Refused as Unfit where the value isn't of the
 /// description, or as NoMemory. `value_from_json` returns the value for what `value_to_json_in`
