@@ -1,13 +1,12 @@
 -- A description that is written as JSON is read back.
-use Rattle.std.proofs.Common.{◌≡◌, ◌<◌, ◌≤◌, ◌^◌, ◌+◌, ℕ, zero, suc, ℤ, nat_lt, ◌&&◌, ◌==◌, codes, Bool}
-use Rattle.std.proofs.Common.{true, false, not, if◌then◌else◌, List, [], ◌∷◌, map, Option, Some, None, option_map, option_and_then, Ok, refl, ap, ◌∙◌, arith}
+use Rattle.std.proofs.Common.{◌≡◌, ◌≤◌, ◌+◌, ℕ, zero, suc, ℤ, nat_lt, ◌&&◌, ◌==◌, Bool}
+use Rattle.std.proofs.Common.{true, false, not, List, [], ◌∷◌, map, Option, Some, None, option_map, option_and_then, Ok, refl, ap, ◌∙◌, arith}
 use Rattle.std.proofs.lemmas.Bool.{lt-ltb, and_parts}
 use Rattle.std.proofs.lemmas.Bool.Decides.{nat_tests}
 use Rattle.std.specs.List.{list_all}
 use Rattle.std.specs.Option.{option_or}
 use Rattle.serde_json.specs.Data as json
 use Rattle.serde_json.specs.View.{items_of as json_items}
-use Rattle.giop_types.specs.declared.description.desc_fault.DescFault.{DescFault}
 use Rattle.giop_types.specs.declared.description.desc_fault.DescFault.TheVariants.{BadDiscriminant, Doubled, Empty, TooDeep}
 use Rattle.giop_types.specs.declared.json.number_form.NumberForm.TheVariants.{Plain}
 use Rattle.giop_types.specs.Descriptions.Shape.{Shape, boolean, octet, char, short, ushort, long, ulong, longlong}
@@ -15,8 +14,8 @@ use Rattle.giop_types.specs.Descriptions.Shape.{ulonglong, text, octets, labels,
 use Rattle.giop_types.specs.Descriptions.Shape.{no_fields, field, Branches, no_branches, branch}
 use Rattle.giop_types.specs.Descriptions.Checked.{all_labels, branches_fault, desc_fault, fault_if, fields_fault, has_bad_discriminant, has_doubles, is_empty, is_label_of, node_fault, own_fault}
 use Rattle.giop_types.specs.Descriptions.Full.{is_discriminant}
-use Rattle.giop_types.specs.JsonForms.DescFromJson.{case_in, default_beside, desc_in, described, if_positive, if_ulong, member_in}
-use Rattle.giop_types.specs.JsonForms.DescToJson.{branches_sayable, cases_data, default_data, desc_data, fields_sayable, is_sayable, members_data, one_key, pair, two_keys}
+use Rattle.giop_types.specs.JsonForms.DescFromJson.{case_in, desc_in, described, if_positive, if_ulong, member_in}
+use Rattle.giop_types.specs.JsonForms.DescToJson.{branches_sayable, cases_data, desc_data, fields_sayable, is_sayable, members_data, pair}
 use Rattle.giop_types.specs.JsonForms.FromJson.{items_shown, label_shown, octets_shown}
 use Rattle.giop_types.specs.JsonForms.Plain.{branches_plain, fields_plain, is_plain, is_single}
 use Rattle.giop_types.specs.JsonForms.ToJson.{label_data, text_data}

@@ -1,5 +1,5 @@
 -- An interface that is written as JSON is read back.
-use Rattle.std.proofs.Common.{◌≡◌, ℕ, ◌&&◌, ◌||◌, not, is_none, Bool, true, false, List, [], ◌∷◌, Option, Some, None, if◌then◌else◌, refl, ap, ◌∙◌, arith}
+use Rattle.std.proofs.Common.{◌≡◌, ℕ, ◌&&◌, ◌||◌, not, is_none, Bool, true, false, List, [], ◌∷◌, Option, Some, None, refl, arith}
 use Rattle.std.proofs.lemmas.Bool.{and_parts}
 use Rattle.std.specs.List.{list_all, list_any}
 use Rattle.serde_json.specs.Data as json
@@ -9,7 +9,7 @@ use Rattle.giop_types.specs.Descriptions.Checked.{desc_fault, field_names, has_d
 use Rattle.giop_types.specs.JsonForms.DescFromJson.{desc_in, member_in}
 use Rattle.giop_types.specs.JsonForms.DescToJson.{desc_data, is_sayable, members_data}
 use Rattle.giop_types.specs.JsonForms.FromJson.{items_shown}
-use Rattle.giop_types.specs.JsonForms.InterfaceFromJson.{Offer, Signature, entries_in, lawful_parameters, name_in, offer_in, parameters_in, signature_in, signature_of}
+use Rattle.giop_types.specs.JsonForms.InterfaceFromJson.{Offer, Signature, entries_in, name_in, offer_in, parameters_in, signature_in, signature_of}
 use Rattle.giop_types.specs.JsonForms.InterfaceToJson.{are_outs, entries_data, offer_data, offer_sayable, parameter_sayable, parameters_data, parameters_sayable, signature_data, signature_sayable, table_sayable}
 use Rattle.giop_types.specs.JsonForms.JsonText as utf8
 use Rattle.giop_types.specs.JsonForms.Plain.{is_plain}

@@ -1,5 +1,5 @@
 -- The JSON value that an interface is written as: one of those that InterfaceFromJson reads as it.
-use Rattle.std.specs.Prelude.{ℕ, ◌&&◌, ◌||◌, not, is_none, codes, Bool, true, false, List, [], ◌∷◌}
+use Rattle.std.specs.Prelude.{ℕ, ◌&&◌, ◌||◌, not, is_none, codes, Bool, true, List, [], ◌∷◌}
 use Rattle.std.specs.List.{list_all, list_any}
 use Rattle.serde_json.specs.Data as json
 use Rattle.giop_cdr.specs.Reading.Values.{has_null}

@@ -1,4 +1,4 @@
-use Rattle.std.proofs.Common.{◌≡◌, ◌++◌, ◌<◌, map, drop, nat_lt}
+use Rattle.std.proofs.Common.{◌≡◌, ◌++◌, map, drop, nat_lt}
 use Rattle.std.specs.String.{string_bytes}
 use Rattle.serde_json.specs.Data.{array}
 use Rattle.serde_json.specs.View.{items_of}
