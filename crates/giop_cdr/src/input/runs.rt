@@ -18,9 +18,9 @@ pub fn field_of<S: Octets, const N: usize>(source: &S, from: usize, skipped: usi
     let run = source.run(from);
     if skipped + N <= run.len() {
         let behind = &run[skipped..];
-        let mut octets = [0; N];
-        octets.copy_from_slice(&behind[..N]);
-        return octets;
+        if let Ok(octets) = <[u8; N]>::try_from(&behind[..N]) {
+            return octets;
+        }
     }
     scattered_field(source, from + skipped)
 }

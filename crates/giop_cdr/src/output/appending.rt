@@ -5,6 +5,7 @@ ghost use Rattle.std.specs.Vec.{vec_len, vec_capacity};
 ghost use Rattle.giop_cdr.specs.Reading.Cursor.{pad};
 
 use std::alloc::AllocError;
+use std::mem;
 
 /// Appends `count` zeros, and makes room for `behind` octets after them.
 pub fn push_zeros(octets: &mut Vec<u8>, count: usize, behind: usize) -> Result<(), AllocError>
@@ -19,6 +20,40 @@ pub fn push_zeros(octets: &mut Vec<u8>, count: usize, behind: usize) -> Result<(
 {
     octets.reserve(count + behind)?;
     octets.extend_from_slice(&[0; 8][..count])
+}
+
+// Appends N octets, which the compiler stores as one value. A copy out of a slice would ask whether
+// the two overlap. Of eight octets it stores one value only where they come to a list of its own.
+#[inline(always)]
+fn push_array<const N: usize>(octets: &mut Vec<u8>, field: [u8; N]) -> Result<(), AllocError>
+    ensures ok { OnOk result (octets.new.items ≡ octets.old.items ++ field.entry) }
+    ensures capacity { vec_capacity octets.old ≤ vec_capacity octets.new }
+    ensures err { OnErr result (octets.new.items ≡ octets.old.items) }
+    ensures succeeds { OnErr result (vec_capacity octets.old < vec_len octets.old + N) }
+{
+    octets.reserve(N)?;
+    if N < 8 {
+        push_each(octets, field);
+        return Ok(());
+    }
+    let nothing = Vec::new(*octets.allocator());
+    let mut list = mem::replace(octets, nothing);
+    push_each(&mut list, field);
+    // What is put back replaces a list without memory, which needs no drop.
+    mem::forget(mem::replace(octets, list));
+    Ok(())
+}
+
+// Appends N octets where there is room for them.
+#[inline(always)]
+fn push_each<const N: usize>(octets: &mut Vec<u8>, field: [u8; N])
+    requires { vec_len octets.old + N ≤ vec_capacity octets.old }
+    ensures items { octets.new.items ≡ octets.old.items ++ field.entry }
+    ensures capacity { vec_capacity octets.new ≡ vec_capacity octets.old }
+{
+    for i in 0..N {
+        octets.push_reserved(field[i]);
+    }
 }
 
 /// Appends zeros up to the next multiple of N, and the N octets of a field. The end of the list has
@@ -42,7 +77,7 @@ pub fn push_field<const N: usize>(
     if pad != 0 {
         push_zeros(octets, pad, N)?;
     }
-    octets.extend_from_slice(&field)
+    push_array(octets, field)
 }
 
 /// Appends a count, aligned to 4, and what it counts, in two parts. The end of the list has the
