@@ -17,7 +17,7 @@ use crate::form::LineForm;
 use crate::status::Status;
 use crate::trace::call_line::{Unanswered, write_call};
 use crate::trace::incoming::{Brought, Incoming};
-use giop_trace::{Direction, Observer};
+use giop_trace::{Direction, Flow, Observer};
 use giop_types::Interface;
 use std::alloc::{AllocError, Global};
 use std::io;
@@ -41,6 +41,21 @@ struct Tracing {
     client: Incoming,
     server: Incoming,
     held: Option<Brought>,
+}
+
+impl Tracing {
+    // Gives the memory of a call that is over back to the directions that brought its messages.
+    #[inline(always)]
+    fn give_back(&mut self, flow: &mut Flow)
+        ensures { self.new ≡ self.old }
+    {
+        if let Some(message) = flow.asked.take() {
+            self.client.reuse(message);
+        }
+        if let Some(message) = flow.answer.take() {
+            self.server.reuse(message);
+        }
+    }
 }
 
 /// Writes a line for each call of a connection when it is over, then one for each that is open, by
@@ -230,18 +245,20 @@ fn tell<W: Write>(
     ensures client { tracing.new.client ≡ tracing.old.client }
     ensures server { tracing.new.server ≡ tracing.old.server }
 {
-    let told = tracing.observer.hear(direction, brought.message)?;
+    let mut told = tracing.observer.hear(direction, brought.message)?;
     let form = tracing.form;
     let unanswered = match told.id {
         Some(_) if !tracing.observer.alone => Unanswered::Oneway,
         _ => still_open(&tracing.observer),
     };
-    if let Some(flow) = &told.earlier {
+    if let Some(flow) = &mut told.earlier {
         let open = still_open(&tracing.observer);
         write_call(alloc, interface, form, told.id, flow, open, writer)?;
+        tracing.give_back(flow);
     }
-    if let Some(flow) = &told.over {
+    if let Some(flow) = &mut told.over {
         write_call(alloc, interface, form, told.id, flow, unanswered, writer)?;
+        tracing.give_back(flow);
     }
     Ok(())
 }

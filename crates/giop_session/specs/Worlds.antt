@@ -4,5 +4,6 @@ pub mod Coding
 pub mod LaneAtEnds
 pub mod OnTheWay
 pub mod OwnLane
+pub mod Reading
 pub mod Tracks
 pub mod World

@@ -2,16 +2,14 @@
 //! at and closed. What its own program answers is end/answering.rt, what it calls is
 //! end/calling.rt, and end/writing.rt writes what is outgoing. What feeding does is `Fed` in
 //! specs/Hearing/Feeding.antt.
-ghost use Rattle.std.specs.Prelude.{◌≡◌, ◌≤◌, ◌^◌, ◌+◌, ◌/◌, ◌++◌, [], drop, false, None, Some, Err, Ok, length, option_copied, IfErr, IfOk, OnErr, OnOk};
+ghost use Rattle.std.specs.Prelude.{◌≡◌, ◌≤◌, ◌^◌, ◌+◌, ◌/◌, ◌++◌, [], drop, None, Some, Err, Ok, length, option_copied, IfErr, IfOk, OnErr, OnOk};
 ghost use Rattle.std.specs.FinMap as finite;
-ghost use Rattle.std.specs.Option.{option_map};
 ghost use Rattle.giop_cdr.specs.declared.order.Order.TheVariants.{Big};
 ghost use Rattle.giop_frag.specs.Gathered.{blocks_of};
-ghost use Rattle.giop_ids.specs.ById.{put};
 ghost use Rattle.giop_msg.specs.Msg.{message_octets};
 ghost use Rattle.giop_session.specs.declared.session_fault.SessionFault.TheVariants.{Closed, NoMemory, StillOpen};
 ghost use Rattle.giop_session.specs.Calls.Begun.{no_calls};
-ghost use Rattle.giop_session.specs.Calls.CallTable.{DoesTo, entry_at, Gives, IsTaken};
+ghost use Rattle.giop_session.specs.Calls.CallTable.{DoesTo, entry_at, Gives, IsTaken, IsOpenAt, without};
 ghost use Rattle.giop_session.specs.Hearing.Feeding.{Fed, standing, with_octets};
 ghost use Rattle.giop_session.specs.Hearing.Heard.{hears_in};
 ghost use Rattle.giop_session.specs.Acts.Sent.{close_connection};
@@ -239,16 +237,11 @@ impl<'a, R: Hearing> End<'a, R> {
     pub fn take(&mut self, id: u32) -> Result<Option<R::Entry>, SessionFault>
         ensures failed { (why : _) → self.old.fault ≡ Some why → result ≡ Err why }
         ensures value { IfOk result (λ taken. (taken ≡ entry_at self.old.calls id)
-            × (self.new ≡ record self.old {
-              calls = record self.old.calls {
-                table = put self.old.calls.table id None;
-              };
-            })) }
+            × (self.new ≡ record self.old { calls = without self.old.calls id })) }
         ensures does { IfOk result (λ taken. DoesTo R.Side self.old.calls id IsTaken
             (Ok (Gives (finite.get self.old.calls.table id))) self.new.calls) }
         ensures open { self.old.fault ≡ None → IfErr result (λ why. (why ≡ StillOpen)
-            × (option_map (λ slot. R.closed self.old.calls.rule slot.entry)
-            (finite.get self.old.calls.table id) ≡ Some false)) }
+            × IsOpenAt R.Side self.old.calls id) }
         ensures kept { IfErr result (λ why. self.new ≡ self.old) }
     {
         take(&mut self.calls, self.fault, id)

@@ -3,15 +3,12 @@
 //! calls end in the same entries, and `run_server`, `run_client` and `run_world` make runs.
 //!
 //! A function with an empty body is a law: its contract is what counts, and no program calls it.
-ghost use Rattle.std.specs.Prelude.{◌≡◌, ℕ, List};
-ghost use Rattle.giop_ids.specs.Runs.{own, alone, told_alone, Runs, addressed, MeetsNoLimit};
-ghost use Rattle.giop_types.specs.declared.json.interface.Interface.{Interface};
-ghost use Rattle.giop_msg.specs.declared.msg.Msg.{Msg};
-ghost use Rattle.giop_msg.specs.Stream.{Unread};
-ghost use Rattle.giop_session.specs.Runs.Alone.{alone_heard, MeetNone, own_messages, SameCalls, SameOfEach};
+ghost use Rattle.std.specs.Prelude.{◌≡◌};
+ghost use Rattle.giop_ids.specs.Runs.{own, alone, told_alone, Runs};
+ghost use Rattle.giop_session.specs.Runs.Alone.{SameCalls, SameOfEach, RunsFreely, SameActs, answers_of, MeetsNone, IsHeardAlone};
 ghost use Rattle.giop_session.specs.Hearing.Feeding.{FedInTurn, Through};
 ghost use Rattle.giop_session.specs.Hearing.Heard.{hears_in};
-ghost use Rattle.giop_session.specs.Calls.CallTable.{at, Held, is_of_call, rules_by, turn_by};
+ghost use Rattle.giop_session.specs.Calls.CallTable.{at, rules_by, turn_by};
 
 mod acting;
 mod agreement;
@@ -59,38 +56,35 @@ pub use world::{World, run_world};
 /// entry, the unsent messages, the pieces and the answers of its own acts alone, unless one of
 /// these met a limit or was out of memory.
 pub fn each_call_alone<R: Side>(rule: &R)
-    ensures value { (h k : Held R R.Entry) (acts results : _) (id : ℕ)
-        → Runs (rules_by R.Side rule.now) h acts results k → MeetsNoLimit is_of_call id acts results
+    ensures value { (h k acts results id : _) → Runs (rules_by R.Side rule.now) h acts results k
+        → MeetsNone id acts results
         → at k id ≡ alone (turn_by R.Side rule.now) (at h id) (own id acts) }
-    ensures told { (h k : Held R R.Entry) (acts results : _) (id : ℕ)
-        → Runs (rules_by R.Side rule.now) h acts results k → MeetsNoLimit is_of_call id acts results
-        → own id (addressed acts results) ≡ told_alone (turn_by R.Side rule.now) (at h id)
-        (own id acts) }
+    ensures told { (h k acts results id : _) → Runs (rules_by R.Side rule.now) h acts results k
+        → MeetsNone id acts results → answers_of id acts results
+        ≡ told_alone (turn_by R.Side rule.now) (at h id) (own id acts) }
 {}
 
 /// Two runs whose acts are equal for each id, in any interleaving, leave each call the same, where
 /// they meet no limit and are never out of memory.
 pub fn any_interleaving<R: Side>(rule: &R)
-    ensures { (h k k' : Held R R.Entry) (one other : _) (results results' : _)
-        → Runs (rules_by R.Side rule.now) h one results k
-        → Runs (rules_by R.Side rule.now) h other results' k' → MeetNone one results
-        → MeetNone other results' → ((id : ℕ) → own id one ≡ own id other) → SameCalls k k' }
+    ensures { (h k k' one other results results' : _)
+        → RunsFreely (rules_by R.Side rule.now) h one results k
+        → RunsFreely (rules_by R.Side rule.now) h other results' k'
+        → SameActs one other → SameCalls k k' }
 {}
 
 /// A call is what its own messages make of it. After messages of which none is refused, what is
 /// stored for an id is what the messages that name it leave, one after another, of what was stored
 /// before. Messages that name other ids may lie between them anywhere.
 pub fn own_messages_alone<R: Hearing>(rule: &R)
-    ensures { (interface : Interface) (h k : Held R R.Entry) (messages : List Msg) (id : ℕ)
-        → Through (hears_in R.Hearing interface) h messages k → at k id ≡ alone_heard
-        (turn_by R.Side h.rule) (R.befalls interface) (at h id) (own_messages id messages) }
+    ensures { (interface h k messages id : _) → Through (hears_in R.Hearing interface) h messages k
+        → IsHeardAlone (turn_by R.Side h.rule) (R.befalls interface) h messages k id }
 {}
 
 /// Two ends that heard the same messages of each id, in the same order, hold the same calls,
 /// however the messages of different ids were interleaved.
 pub fn any_interleaving_of_messages<R: Hearing>(rule: &R)
-    ensures { (interface : Interface) (h k k' : Held R R.Entry) (one other : List Msg)
-        → Through (hears_in R.Hearing interface) h one k
+    ensures { (interface h k k' one other : _) → Through (hears_in R.Hearing interface) h one k
         → Through (hears_in R.Hearing interface) h other k' → SameOfEach one other
         → SameCalls k k' }
 {}
@@ -98,7 +92,6 @@ pub fn any_interleaving_of_messages<R: Hearing>(rule: &R)
 /// Octets may be fed in any pieces: what an end makes of octets and then of more is what it makes
 /// of both at once.
 pub fn any_reads<R: Hearing>(rule: &R)
-    ensures { (interface : Interface) (unread left last : Unread) (h mid k : Held R R.Entry)
-        (more : List ℕ) (result : _)
+    ensures { (interface unread left last h mid k more result : _)
         → FedInTurn (hears_in R.Hearing interface) unread left last h mid k more result }
 {}

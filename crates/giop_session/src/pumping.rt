@@ -1,8 +1,8 @@
 //! An end between a reader and a writer: it writes what is outgoing and hears what is read, turn
 //! after turn. Its meaning is `Turned` and `Pumped` in specs/Pumping.antt: change both.
 ghost use Rattle.giop_session.specs.Hearing.Heard.{hears_in};
-ghost use Rattle.giop_session.specs.Pumping.{Pumped, Turned, Writes};
-ghost use Rattle.giop_session.specs.Ends.View.{end_between, IsTurned};
+ghost use Rattle.giop_session.specs.Pumping.{Writes};
+ghost use Rattle.giop_session.specs.Ends.View.{IsTurned, TurnedAt, PumpedAt};
 
 use crate::end::{End, write_out};
 use crate::hearing::Hearing;
@@ -29,9 +29,9 @@ pub fn turn<R: Hearing, I: Read, W: Write>(
     reader: &mut I,
     writer: &mut W,
 ) -> Result<usize, PumpFault>
-    ensures turned { Turned (hears_in R.Hearing end.old.interface.now) (end_between
-        (I.remaining reader.old) (W.contents writer.old) end.old) result (end_between
-        (I.remaining reader.new) (W.contents writer.new) end.new) }
+    ensures turned { TurnedAt (hears_in R.Hearing end.old.interface.now)
+        (I.remaining reader.old) (W.contents writer.old) end.old result
+        (I.remaining reader.new) (W.contents writer.new) end.new }
     ensures others { IsTurned end.old end.new }
 {
     write_out(end, writer).map_err(PumpFault::Write)?;
@@ -50,9 +50,9 @@ pub fn pump<R: Hearing, I: Read, W: Write>(
     writer: &mut W,
     turns: usize,
 ) -> Result<(), PumpFault>
-    ensures pumped { Pumped (hears_in R.Hearing end.old.interface.now) turns (end_between
-        (I.remaining reader.old) (W.contents writer.old) end.old) result (end_between
-        (I.remaining reader.new) (W.contents writer.new) end.new) }
+    ensures pumped { PumpedAt (hears_in R.Hearing end.old.interface.now) turns
+        (I.remaining reader.old) (W.contents writer.old) end.old result
+        (I.remaining reader.new) (W.contents writer.new) end.new }
     ensures writes { Writes (W.contents writer.old) (W.contents writer.new) end.old.outgoing
         end.new.outgoing }
     ensures others { IsTurned end.old end.new }

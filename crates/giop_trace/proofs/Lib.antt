@@ -1,4 +1,5 @@
 pub mod AloneLemmas
 pub mod ContinuedLemmas
+pub mod OnewayLemmas
 pub mod StrayLemmas
 pub mod TableLemmas

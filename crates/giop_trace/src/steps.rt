@@ -5,8 +5,8 @@ ghost use Rattle.giop_trace.specs.Effects.{answered_by, answers, answers_call, a
 ghost use Rattle.giop_trace.specs.Flows.{continues, is_oneway, is_over, is_told, is_whole, joined, same_order};
 
 use crate::{Direction, Flow, Heard};
-use giop_cdr::{Order, SliceOctets};
-use giop_msg::{Kind, Msg, RequestHead};
+use giop_cdr::{CdrIn, Order, SliceOctets};
+use giop_msg::{Kind, Msg, RequestHead, Version};
 use std::alloc::AllocError;
 
 // The most octets of a message that are read.
@@ -293,7 +293,43 @@ fn is_oneway(message: &Msg) -> Result<bool, AllocError>
     }
 }
 
+#[inline(always)]
 fn is_oneway_request(message: &Msg) -> bool
+    requires { length message.now.payload ≤ 2 ^ 62 }
+    ensures { result ≡ is_oneway Kind.Request message.now }
+{
+    !asks_for_reply(message) && is_oneway_by_head(message)
+}
+
+// Whether the flags of a Request of 1.2 ask for a reply. They lie behind its id, so most Requests
+// are known to be no oneway without the rest of their heads.
+#[inline(always)]
+fn asks_for_reply(message: &Msg) -> bool
+    requires { length message.now.payload ≤ 2 ^ 62 }
+    ensures { result ≡ true → is_oneway Kind.Request message.now ≡ false }
+{
+    match message.version {
+        Version::V10 | Version::V11 => false,
+        Version::V12 => has_flags_behind_id(message),
+    }
+}
+
+// Whether an octet other than 0 stands behind an unsigned long at the front of a message.
+#[inline(always)]
+fn has_flags_behind_id(message: &Msg) -> bool
+    requires { length message.now.payload ≤ 2 ^ 62 }
+    ensures { message.now.version ≡ Version.V12 → result ≡ true
+        → is_oneway Kind.Request message.now ≡ false }
+{
+    let joined = SliceOctets::new(message.payload.as_slice());
+    let mut input = CdrIn::new(&joined, message.order, 12);
+    let (Ok(_), Ok(flags)) = (input.read_ulong(), input.read_octet()) else {
+        return false;
+    };
+    flags != 0
+}
+
+fn is_oneway_by_head(message: &Msg) -> bool
     requires { length message.now.payload ≤ 2 ^ 62 }
     ensures { result ≡ is_oneway Kind.Request message.now }
 {

@@ -1,10 +1,15 @@
 //! The files that a command reads; `-` is the standard input.
 ghost use Rattle.std.specs.Prelude.{◌≡◌, ◌≢◌, IfErr, OnOk, codes};
 
-use crate::interface_text::InterfaceText;
+pub mod interface_text;
+pub mod interfaces;
+
+use crate::files::interface_text::InterfaceText;
+use crate::report;
 use giop_commands::BehindFault;
 use giop_commands::failure::Failure;
 use giop_commands::pieces::PieceBuffer;
+use giop_commands::status::Status;
 use std::alloc::{AllocError, Global};
 use std::io::Read;
 use std::{fs, io};
@@ -25,7 +30,7 @@ pub fn apart(one: &str, other: &str) -> Result<(), &'static str>
 }
 
 /// The octets of a file, or of the standard input where it is `-`.
-pub fn read(rt: &HostRuntime, file: &str) -> Result<Vec<u8>, Failure> {
+pub(crate) fn read(rt: &HostRuntime, file: &str) -> Result<Vec<u8>, Failure> {
     if file != "-" {
         return fs::read(rt, file).map_err(Failure::input);
     }
@@ -36,14 +41,25 @@ pub fn read(rt: &HostRuntime, file: &str) -> Result<Vec<u8>, Failure> {
     }
 }
 
+/// The octets of a file, or the status where it can't be read, which is reported.
+pub(crate) fn read_or_report(rt: &HostRuntime, file: &str) -> Result<Vec<u8>, Status> {
+    match read(rt, file) {
+        Ok(octets) => Ok(octets),
+        Err(failure) => Err(report::status_of(rt, file, Err(failure))),
+    }
+}
+
 /// The text of an interface's file.
-pub fn read_interface(rt: &HostRuntime, file: &str) -> Result<InterfaceText, Failure> {
+pub(crate) fn read_interface(rt: &HostRuntime, file: &str) -> Result<InterfaceText, Failure> {
     InterfaceText::new(rt.alloc(), read(rt, file)?)
 }
 
 /// A file to be read piece by piece. A regular one is read to its end even behind a fault; a pipe
 /// or a device may have no end.
-pub fn opened(rt: &HostRuntime, file: &str) -> Result<(fs::File, BehindFault), Failure> {
+pub(crate) fn open_in_pieces(
+    rt: &HostRuntime,
+    file: &str,
+) -> Result<(fs::File, BehindFault), Failure> {
     match open(rt, file) {
         Ok(opened) => Ok(opened),
         Err(error) => Err(Failure::input(error)),
@@ -91,12 +107,12 @@ pub struct FileFront {
 
 impl FileFront {
     /// Whether its first octet that is no white space begins a JSON list.
-    pub fn is_list(&self) -> bool {
+    pub(crate) fn is_list(&self) -> bool {
         self.front.iter().find(|octet| !is_white(**octet)) == Some(&b'[')
     }
 
     /// All of its octets.
-    pub fn whole(mut self) -> Result<Vec<u8>, Failure> {
+    pub(crate) fn whole(mut self) -> Result<Vec<u8>, Failure> {
         match self.rest.read_to_end(&mut self.front) {
             Ok(_) => Ok(self.front),
             Err(error) => Err(Failure::input(error)),
@@ -105,11 +121,11 @@ impl FileFront {
 }
 
 /// A file, or the standard input where it is `-`, read up to an octet that is no white space.
-pub fn front_of(rt: &HostRuntime, file: &str) -> Result<FileFront, Failure> {
+pub(crate) fn front_of(rt: &HostRuntime, file: &str) -> Result<FileFront, Failure> {
     if file == "-" {
         return front_at(rt.alloc(), Pieces::Input(rt.reader()), true);
     }
-    let (file, behind) = opened(rt, file)?;
+    let (file, behind) = open_in_pieces(rt, file)?;
     let waits = behind == BehindFault::Leave;
     front_at(rt.alloc(), Pieces::File(file), waits)
 }

@@ -3,14 +3,14 @@
 #![tactic(auto)]
 
 mod cli;
+mod commands;
+mod connection;
 mod files;
-mod interface_text;
-mod object_operations;
 mod places;
 mod report;
-mod runs;
 
 use cli::Task;
+use commands::{call, check, convert, dump, locate, ping, serve, trace};
 use giop_commands::status::Status;
 use std::process::ExitCode;
 use std::{env, io};
@@ -22,19 +22,19 @@ fn main(rt: HostRuntime) -> ExitCode {
 fn run(rt: &HostRuntime) -> Status {
     let words = match words(rt) {
         Ok(words) => words,
-        Err(error) => return report::arguments(rt, &error),
+        Err(error) => return report::command_line_status(rt, &error),
     };
     match cli::task_of(rt.alloc(), words.as_slice()) {
-        Ok(Some(Task::Dump(words))) => runs::dump::dump(rt, words),
-        Ok(Some(Task::Check(words))) => runs::check::check(rt, &words),
-        Ok(Some(Task::Trace(words))) => runs::trace::trace(rt, &words),
-        Ok(Some(Task::Convert { file, kind })) => runs::convert::convert(rt, file, kind),
-        Ok(Some(Task::Call(words))) => runs::call::call(rt, words),
-        Ok(Some(Task::Locate(words))) => runs::locating::locate(rt, words),
-        Ok(Some(Task::Ping(words))) => runs::object::ping(rt, words),
-        Ok(Some(Task::Serve(words))) => runs::serve::serve(rt, &words),
+        Ok(Some(Task::Dump(words))) => dump::dump(rt, words),
+        Ok(Some(Task::Check(words))) => check::check(rt, &words),
+        Ok(Some(Task::Trace(words))) => trace::trace(rt, &words),
+        Ok(Some(Task::Convert { file, kind })) => convert::convert(rt, file, kind),
+        Ok(Some(Task::Call(words))) => call::call(rt, words),
+        Ok(Some(Task::Locate(words))) => locate::locate(rt, words),
+        Ok(Some(Task::Ping(words))) => ping::ping(rt, words),
+        Ok(Some(Task::Serve(words))) => serve::serve(rt, &words),
         Ok(None) => Status::Usage,
-        Err(error) => report::usage(rt, &error),
+        Err(error) => report::usage_status(rt, &error),
     }
 }
 

@@ -4,16 +4,14 @@ ghost use Rattle.std.specs.FinMap as finite;
 ghost use Rattle.giop_cdr.specs.declared.fault.CdrKind.TheVariants.{Short};
 ghost use Rattle.giop_cdr.specs.declared.order.Order.TheVariants.{Little};
 ghost use Rattle.giop_types.specs.declared.json.interface.Interface.{Interface};
-ghost use Rattle.giop_msg.specs.Messages.LocateReply.{locate_reply};
-ghost use Rattle.giop_msg.specs.declared.kind.Kind.TheVariants.{LocateReply};
 ghost use Rattle.giop_msg.specs.declared.version.Version.TheVariants.{V12};
 ghost use Rattle.giop_calls.specs.declared.client.call.Call.TheVariants as asked;
 ghost use Rattle.giop_calls.specs.declared.client.entry.ClientEntry.TheVariants.{LocateDone, Undecoded};
-ghost use Rattle.giop_session.specs.Items.Carries.{IsWrittenAs};
-ghost use Rattle.giop_session.specs.Runs.EndRuns.{ClientInputsHold, ClientTakes};
+ghost use Rattle.giop_session.specs.Runs.EndRuns.{ClientInputsHold, ClientTakes, ClientTakesItems};
 ghost use Rattle.giop_session.specs.Calls.Sending.{entry_of};
 ghost use Rattle.laws_in_use.specs.Asking.{here, one_way, other_way, told};
 ghost use Rattle.laws_in_use.specs.Locating.{door, here_little, key, limits, tight_limits};
+ghost use Rattle.giop_session.specs.Items.ClientCarries.{IsLocateReplyIn};
 
 use giop_msg::laws::locate_replies_are_spelled;
 use giop_session::laws::{same_calls_same_entries_at_client, what_is_cut_is_carried};
@@ -24,14 +22,13 @@ use giop_session::laws::{same_calls_same_entries_at_client, what_is_cut_is_carri
 /// two ids in another order. Neither end refuses anything, both hold the same calls, and each id
 /// has the same entry, whatever the interface.
 pub fn two_ways_of_being_answered()
-    ensures one_taken { (interface : Interface) → (left : _) × (k : _)
-        × ClientTakes interface limits one_way left k }
-    ensures other_taken { (interface : Interface) → (left : _) × (k : _)
-        × ClientTakes interface tight_limits other_way left k }
+    ensures one_taken { (interface : Interface) → (k : _)
+        × ClientTakesItems interface limits one_way told k }
+    ensures other_taken { (interface : Interface) → (k : _)
+        × ClientTakesItems interface tight_limits other_way told k }
     ensures one_holds { (interface : Interface)
         → ClientInputsHold interface limits one_way told }
-    ensures written { IsWrittenAs (locate_reply V12) Little here LocateReply 24 V12
-        (here_little ∷ []) }
+    ensures written { IsLocateReplyIn V12 Little here 24 (here_little ∷ []) }
     ensures other_holds { (interface : Interface)
         → ClientInputsHold interface tight_limits other_way told }
     ensures seven { (interface : Interface) (left k : _)

@@ -23,20 +23,21 @@ ghost use Rattle.giop_types.specs.Values.Tree.{boolean_of, choice_of, items_of, 
 ghost use Rattle.giop_types.specs.Values.Views.{value_view};
 ghost use Rattle.giop_types.specs.declared.json.form_fault.FormFault.TheVariants.{Unfit};
 ghost use Rattle.giop_types.specs.declared.value.Value.{Value as Seen};
-ghost use Rattle.laws_in_use.specs.Described.{doubled, many, pair, value, value_octets};
+ghost use Rattle.laws_in_use.specs.Described.{doubled, many, pair, told, value, value_octets};
 
 use giop_cdr::{CdrFault, EncodeFault, Order};
 use giop_types::laws::{
     descriptions_are_checked_node_by_node, encoded_and_decoded, equal_values_are_the_same,
     ior_texts_are_read, json_gives_values_back, leaves_count_every_part, spelled_values_fit,
-    values_are_bounded, values_are_spelled, written_and_read_as_json,
-    written_ior_texts_are_read_back, written_values_are_read_back,
+    values_are_bounded, values_are_spelled, what_is_read_as_json_is_written_so,
+    written_and_read_as_json, written_ior_texts_are_read_back, written_values_are_read_back,
 };
 use giop_types::{CheckedDesc, FormFault, NumberForm, Value};
 use std::alloc::Global;
 
 /// A struct of a number and a text is written from the offset 1 on, read back with what stands
-/// behind it, and no other value is spelled so.
+/// behind it, and no other value is spelled so. In JSON it has two forms, of which the one with its
+/// number as a text isn't written: both are read as the same value.
 pub fn a_struct_at_one()
     ensures back { decode_at pair (record { order = Big; at = 1; rest = value_octets ++ 9 ∷ [] })
         ≡ Ok (value, record { order = Big; at = 11; rest = 9 ∷ [] }) }
@@ -46,10 +47,15 @@ pub fn a_struct_at_one()
     ensures alone { (other : Tree) (octets rest : List ℕ) → Spells pair Big 1 other octets
         → octets ++ rest ≡ value_octets ++ 9 ∷ [] → other ≡ value }
     ensures json { (numbers : NumberForm) → from_data pair (to_data numbers pair value) ≡ Ok value }
+    ensures told { from_data pair told ≡ Ok value }
+    ensures fits { fits pair value ≡ true }
+    ensures written { (numbers : NumberForm) (tree : Tree) → from_data pair told ≡ Ok tree
+        → from_data pair (to_data numbers pair tree) ≡ Ok tree }
 {
     written_values_are_read_back();
     values_are_spelled();
     json_gives_values_back();
+    what_is_read_as_json_is_written_so();
 }
 
 /// Whatever sequence five octets spell has at most five leaves, and fits its description.

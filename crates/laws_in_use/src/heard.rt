@@ -2,15 +2,15 @@
 //! whatever lies between them, in whatever reads and order they come.
 ghost use Rattle.std.specs.Prelude.{◌≡◌, ◌∷◌, [], ℕ, Ok};
 ghost use Rattle.std.specs.FinMap as finite;
-ghost use Rattle.giop_ids.specs.Runs.{addressed, MeetsNoLimit, own, Runs};
+ghost use Rattle.giop_ids.specs.Runs.{Runs};
 ghost use Rattle.giop_types.specs.declared.json.interface.Interface.{Interface};
 ghost use Rattle.giop_calls.specs.ServerTable.{is_closed, is_gathering, left_of, server_step};
-ghost use Rattle.giop_session.specs.Calls.CallTable.{at, is_of_call, rules_of};
-ghost use Rattle.giop_session.specs.Runs.Alone.{MeetNone, SameOfEach};
+ghost use Rattle.giop_session.specs.Calls.CallTable.{at, rules_of};
+ghost use Rattle.giop_session.specs.Runs.Alone.{SameOfEach, RunsFreely, SameActs, answers_of, MeetsNone};
 ghost use Rattle.giop_session.specs.Runs.Events.{Comes, Meets};
 ghost use Rattle.giop_session.specs.Hearing.Feeding.{Fed, Through};
 ghost use Rattle.giop_session.specs.Hearing.Heard.{hears};
-ghost use Rattle.giop_session.specs.Runs.LeftToSend.{ArePlanned, IsLeft, ServerPlans};
+ghost use Rattle.giop_session.specs.Runs.LeftToSend.{ArePlanned, IsLeft, ServerPlans, ServerMeets};
 ghost use Rattle.giop_session.specs.Hearing.ServerHears.{server_side};
 ghost use Rattle.laws_in_use.specs.Heard.{asked_and_begun, asks, begins, begun_and_asked, gathering, reads, silence, unread};
 ghost use Rattle.laws_in_use.specs.Limited.{new_server};
@@ -40,10 +40,10 @@ pub fn two_messages_are_heard(rule: &ServerRule)
         × Fed (hears (server_side interface)) reads (new_server limits) (Ok tt)
         unread k }
     ensures came { (interface : Interface) → (k : _)
-        × Meets (server_side interface) (new_server limits) (Comes door_begins ∷ []) k }
+        × ServerMeets interface limits (Comes door_begins ∷ []) k }
     ensures planned { ArePlanned ServerPlans (Comes door_begins ∷ []) }
     ensures left { (interface : Interface) (k : _)
-        → Meets (server_side interface) (new_server limits) (Comes door_begins ∷ []) k
+        → ServerMeets interface limits (Comes door_begins ∷ []) k
         → (id : ℕ) → IsLeft left_of (finite.get k.table id) }
 {
     own_messages_alone(rule);
@@ -56,25 +56,22 @@ pub fn two_messages_are_heard(rule: &ServerRule)
 /// alone, and in the other order it has the same. So it is where the messages are met as events.
 pub fn two_acts_in_two_orders(rule: &ServerRule)
     ensures run { (interface : Interface) → (k : _)
-        × Runs (rules_of server_step is_closed is_gathering) (new_server limits)
+        × RunsFreely (rules_of server_step is_closed is_gathering) (new_server limits)
         (begins ∷ asks ∷ []) (silence ∷ silence ∷ []) k }
-    ensures free { (id : ℕ)
-        → MeetsNoLimit is_of_call id (begins ∷ asks ∷ []) (silence ∷ silence ∷ []) }
-    ensures none { MeetNone (begins ∷ asks ∷ []) (silence ∷ silence ∷ []) }
+    ensures free { (id : ℕ) → MeetsNone id (begins ∷ asks ∷ []) (silence ∷ silence ∷ []) }
+    ensures same { SameActs (begins ∷ asks ∷ []) (asks ∷ begins ∷ []) }
     ensures seven { (k : _) → Runs (rules_of server_step is_closed is_gathering)
         (new_server limits) (begins ∷ asks ∷ []) (silence ∷ silence ∷ []) k
         → at k 7 ≡ gathering }
     ensures told { (k results : _) → Runs (rules_of server_step is_closed is_gathering)
         (new_server limits) (begins ∷ asks ∷ []) results k
-        → MeetsNoLimit is_of_call 7 (begins ∷ asks ∷ []) results
-        → own 7 (addressed (begins ∷ asks ∷ []) results) ≡ silence ∷ [] }
+        → MeetsNone 7 (begins ∷ asks ∷ []) results
+        → answers_of 7 (begins ∷ asks ∷ []) results ≡ silence ∷ [] }
     ensures either { (k k' results results' : _)
-        → Runs (rules_of server_step is_closed is_gathering) (new_server limits)
+        → RunsFreely (rules_of server_step is_closed is_gathering) (new_server limits)
         (begins ∷ asks ∷ []) results k
-        → Runs (rules_of server_step is_closed is_gathering) (new_server limits)
+        → RunsFreely (rules_of server_step is_closed is_gathering) (new_server limits)
         (asks ∷ begins ∷ []) results' k'
-        → ((id : ℕ) → MeetsNoLimit is_of_call id (begins ∷ asks ∷ []) results)
-        → ((id : ℕ) → MeetsNoLimit is_of_call id (asks ∷ begins ∷ []) results')
         → (id : ℕ) → at k id ≡ at k' id }
     ensures met { (interface : Interface) (k : _)
         → Meets (server_side interface) (new_server limits)

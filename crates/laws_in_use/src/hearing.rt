@@ -15,8 +15,10 @@ ghost use Rattle.giop_session.specs.Hearing.Heard.{behind_id, kept};
 ghost use Rattle.giop_session.specs.Worlds.LaneAtEnds.{gathered_in};
 ghost use Rattle.giop_session.specs.Hearing.ServerHears.{server_befalls};
 ghost use Rattle.laws_in_use.specs.Asking.{here, here_begins, here_ends};
-ghost use Rattle.laws_in_use.specs.Hearing.{door_begun, door_goes_on, gathers_door, gathers_here, waits};
+ghost use Rattle.laws_in_use.specs.Hearing.{door_begun, door_goes_on, gathers_door, gathers_here, waits, here_begun, here_standing};
 ghost use Rattle.laws_in_use.specs.Locating.{cancel_big, door, door_begins, door_ends, here_little, key, key_big};
+ghost use Rattle.giop_session.specs.Worlds.Reading.{IsContinuedBy, IsGathering};
+ghost use Rattle.giop_calls.specs.declared.client.call.Call.TheVariants as asked;
 
 use giop_session::laws::{
     clients_hear_the_lanes_event, clients_read_as_coding, pieces_are_gathered_as_they_come,
@@ -30,6 +32,7 @@ pub fn what_a_server_hears()
         ≡ Hears (kept (at_server.Whole (heard.Locate key))) Nothing }
     ensures first { (interface : Interface) (call : _) → server_befalls interface door_begins call
         ≡ Hears (kept (at_server.First kind.Locate)) (First Big door_begins.payload) }
+    ensures goes_on { IsContinuedBy door_begun door_goes_on }
     ensures more { (interface : Interface) → server_befalls interface door_goes_on gathers_door
         ≡ Hears (kept (at_server.More true)) (More (codes "do")) }
     ensures last { (interface : Interface) → server_befalls interface door_ends gathers_door
@@ -68,6 +71,7 @@ pub fn what_a_client_hears()
 
 /// The same events are those that its lane has of these messages.
 pub fn what_a_clients_lane_has()
+    ensures gathers { IsGathering (asked.Locate door) here_begun here_standing }
     ensures opens { (interface : Interface) → (brings : Brings)
         × (client_befalls interface here_little waits
         ≡ Hears (kept (at_client.Whole kind.Locate V12 (reply.Locate here))) brings) }

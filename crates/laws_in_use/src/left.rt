@@ -18,16 +18,15 @@ ghost use Rattle.giop_calls.specs.ServerTable as server;
 ghost use Rattle.giop_session.specs.declared.session_fault.SessionFault.TheVariants.{Call as InCall};
 ghost use Rattle.giop_session.specs.Calls.CallTable.{Held, rules_of};
 ghost use Rattle.giop_session.specs.Acts.ClientCalls.{IsCall, IsCancel, IsLocate};
-ghost use Rattle.giop_session.specs.Hearing.ClientHears.{client_side};
-ghost use Rattle.giop_session.specs.Runs.Events.{Does, Meets};
+ghost use Rattle.giop_session.specs.Runs.Events.{Does};
 ghost use Rattle.giop_session.specs.Hearing.Heard.{in_call};
-ghost use Rattle.giop_session.specs.Runs.LeftToSend.{ArePlanned, ClientPlans, IsLeft};
+ghost use Rattle.giop_session.specs.Runs.LeftToSend.{ArePlanned, ClientPlans, IsLeft, ClientMeets};
 ghost use Rattle.giop_session.specs.Acts.Putting.{Befell};
 ghost use Rattle.giop_session.specs.Calls.Sending.{entry_of};
 ghost use Rattle.giop_session.specs.Acts.ServerAnswers.{IsAnswer, IsLocateAnswer};
 ghost use Rattle.laws_in_use.specs.Asking.{asking};
 ghost use Rattle.laws_in_use.specs.Exchange.{ping, pong};
-ghost use Rattle.laws_in_use.specs.Left.{form, new_client, ping_sent, pong_sent, sends};
+ghost use Rattle.laws_in_use.specs.Left.{form, ping_sent, pong_sent, sends};
 ghost use Rattle.laws_in_use.specs.Limited.{new_server};
 ghost use Rattle.laws_in_use.specs.Locating.{cancel_little, door, door_begins, door_ends, here_big, limits};
 ghost use Rattle.laws_in_use.specs.Pinged.{HasPing};
@@ -56,11 +55,9 @@ pub fn what_a_client_plans()
         → length messages ≡ 1 }
     ensures planned { ArePlanned ClientPlans (Does 7 asking ∷ []) }
     ensures met { (interface : Interface) → (k : _)
-        × Meets (client_side interface) (new_client limits)
-        (Does 7 asking ∷ []) k }
+        × ClientMeets interface limits (Does 7 asking ∷ []) k }
     ensures left { (interface : Interface) (k : _)
-        → Meets (client_side interface) (new_client limits)
-        (Does 7 asking ∷ []) k
+        → ClientMeets interface limits (Does 7 asking ∷ []) k
         → (id : ℕ) → IsLeft client.left_of (finite.get k.table id) }
 {
     what_is_left_is_unsent_at_client();

@@ -1,15 +1,17 @@
 //! The headline in use: two ways in which a server's end is given the same calls.
-ghost use Rattle.std.specs.Prelude.{◌≡◌, ◌≢◌, ℕ, true, Some, None};
+ghost use Rattle.std.specs.Prelude.{◌≡◌, ◌≢◌, ℕ, true, Some, None, ◌∷◌, []};
 ghost use Rattle.std.specs.FinMap as finite;
 ghost use Rattle.giop_cdr.specs.declared.fault.CdrKind.TheVariants.{BadCount};
 ghost use Rattle.giop_types.specs.declared.json.interface.Interface.{Interface};
 ghost use Rattle.giop_msg.specs.declared.messages.request_fault.RequestFault.TheVariants.{Header};
-ghost use Rattle.giop_msg.specs.declared.version.Version.TheVariants.{V10};
+ghost use Rattle.giop_msg.specs.declared.version.Version.TheVariants.{V10, V12};
 ghost use Rattle.giop_calls.specs.declared.kind.CallKind.TheVariants as kind;
 ghost use Rattle.giop_calls.specs.declared.server.entry.ServerEntry.TheVariants.{LocateAnswered, Undecoded};
-ghost use Rattle.giop_session.specs.Runs.EndRuns.{ServerInputsHold, ServerTakes};
+ghost use Rattle.giop_session.specs.Runs.EndRuns.{ServerInputsHold, ServerTakes, ServerTakesItems};
 ghost use Rattle.giop_session.specs.Calls.Sending.{entry_of};
-ghost use Rattle.laws_in_use.specs.Locating.{door, limits, one_way, other_way, said, tight_limits};
+ghost use Rattle.laws_in_use.specs.Locating.{door, limits, one_way, other_way, said, tight_limits, door_begins, door_ends};
+ghost use Rattle.giop_session.specs.Items.ServerCarries.{IsLocateRequestIn};
+ghost use Rattle.giop_cdr.specs.declared.order.Order.TheVariants.{Big};
 
 use giop_msg::laws::locate_requests_are_spelled;
 use giop_session::laws::{same_calls_same_entries_at_server, what_is_cut_is_carried};
@@ -20,10 +22,11 @@ use giop_session::laws::{same_calls_same_entries_at_server, what_is_cut_is_carri
 /// uncut. Neither end refuses anything, both hold the same calls, and each id has the same entry,
 /// whatever the interface.
 pub fn two_ways_of_locating()
-    ensures one_taken { (interface : Interface) → (left : _) × (k : _)
-        × ServerTakes interface limits one_way left k }
-    ensures other_taken { (interface : Interface) → (left : _) × (k : _)
-        × ServerTakes interface tight_limits other_way left k }
+    ensures one_taken { (interface : Interface) → (k : _)
+        × ServerTakesItems interface limits one_way said k }
+    ensures other_taken { (interface : Interface) → (k : _)
+        × ServerTakesItems interface tight_limits other_way said k }
+    ensures written { IsLocateRequestIn V12 Big door 24 (door_begins ∷ door_ends ∷ []) }
     ensures one_holds { (interface : Interface)
         → ServerInputsHold interface limits one_way said }
     ensures other_holds { (interface : Interface)

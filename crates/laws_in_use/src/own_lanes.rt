@@ -1,6 +1,6 @@
 //! Lanes of the session's own acts in use: a cancel that crosses its answer, an id used again, and
 //! a LocateRequest that is answered.
-ghost use Rattle.std.specs.Prelude.{◌≡◌, ◌∷◌, [], Some, false, true};
+ghost use Rattle.std.specs.Prelude.{◌≡◌, [], Some, false, true};
 ghost use Rattle.std.specs.Option.{option_map};
 ghost use Rattle.giop_types.specs.declared.json.interface.Interface.{Interface};
 ghost use Rattle.giop_calls.specs.declared.client.entry.ClientEntry.TheVariants as client;
@@ -8,9 +8,8 @@ ghost use Rattle.giop_calls.specs.declared.outcome.Outcome.TheVariants.{Cancelle
 ghost use Rattle.giop_calls.specs.declared.server.entry.ServerEntry.TheVariants as server;
 ghost use Rattle.giop_calls.specs.ClientTable as client_table;
 ghost use Rattle.giop_calls.specs.Lane.{Lane, new, Runs};
-ghost use Rattle.giop_calls.specs.ServerTable as server_table;
 ghost use Rattle.giop_session.specs.Worlds.Coding.{coding};
-ghost use Rattle.giop_session.specs.Worlds.OwnLane.{located_run, OwnRuns};
+ghost use Rattle.giop_session.specs.Worlds.OwnLane.{located_run, OwnRuns, IsLocated};
 ghost use Rattle.laws_in_use.specs.Asking.{here, unknown_big};
 ghost use Rattle.laws_in_use.specs.Locating.{door, key, key_big};
 ghost use Rattle.laws_in_use.specs.OwnLanes.{again, answered, crossed, crossing};
@@ -44,6 +43,7 @@ pub fn a_cancel_crosses_its_answer()
 /// Where `k` is asked for and answered in 1.0, the client has an answer; and so it is what the
 /// server gave: no such object.
 pub fn a_lane_comes_to_an_answer()
+    ensures sent { (interface : Interface) → IsLocated interface key false key_big unknown_big }
     ensures comes { (interface : Interface) → (lane : Lane) × (told : _)
         × OwnRuns interface new (located_run key false key_big unknown_big) lane
         × (lane.client.entry ≡ Some (client.LocateDone key told)) }

@@ -5,30 +5,27 @@ ghost use Rattle.std.specs.List.{AllByRecursion};
 ghost use Rattle.giop_cdr.specs.declared.order.Order.TheVariants.{Big};
 ghost use Rattle.giop_types.specs.declared.json.interface.Interface.{Interface};
 ghost use Rattle.giop_msg.specs.Cut.{joined};
-ghost use Rattle.giop_msg.specs.Messages.Reply.{reply};
-ghost use Rattle.giop_msg.specs.Messages.Request.{request};
 ghost use Rattle.giop_msg.specs.declared.kind.Kind.TheVariants as message;
 ghost use Rattle.giop_msg.specs.declared.version.Version.TheVariants.{V12};
 ghost use Rattle.giop_calls.specs.Lane.{Continues, Lane, new, Opens};
 ghost use Rattle.giop_calls.specs.declared.client.call.Call.TheVariants as asked;
 ghost use Rattle.giop_calls.specs.declared.client.entry.ClientEntry.TheVariants as client;
-ghost use Rattle.giop_calls.specs.declared.client.event.ClientEvent.TheVariants as at_client;
 ghost use Rattle.giop_calls.specs.declared.client.heard.HeardReply.TheVariants as told;
 ghost use Rattle.giop_calls.specs.declared.kind.CallKind.TheVariants as kind;
-ghost use Rattle.giop_calls.specs.declared.server.event.ServerEvent.TheVariants as at_server;
 ghost use Rattle.giop_calls.specs.declared.server.heard.HeardCall.TheVariants as call;
-ghost use Rattle.giop_session.specs.Items.Carries.{CarriesItem, Got, IsSeries, IsWrittenAs};
-ghost use Rattle.giop_session.specs.Items.ClientCarries.{client_telling};
+ghost use Rattle.giop_session.specs.Items.Carries.{CarriesItem, Got, IsSeries};
+ghost use Rattle.giop_session.specs.Items.ClientCarries.{client_telling, IsReplyIn, AwaitsReply};
 ghost use Rattle.giop_session.specs.Worlds.Coding.{coding};
 ghost use Rattle.giop_session.specs.Runs.Events.{Comes};
 ghost use Rattle.giop_session.specs.Worlds.LaneAtEnds.{seen};
 ghost use Rattle.giop_session.specs.Worlds.OnTheWay.{IsFramed, Names};
-ghost use Rattle.giop_session.specs.Worlds.OwnLane.{alone, OwnRuns, PlansCall, PlansReply, replied_run, sends_cut, SendsCall, SendsReply};
-ghost use Rattle.giop_session.specs.Items.ServerCarries.{server_telling};
+ghost use Rattle.giop_session.specs.Worlds.OwnLane.{alone, PlansReply, sends_cut, OwnRuns, replied_run, SendsCall, SendsReply, IsAnswerable, IsReplied};
+ghost use Rattle.giop_session.specs.Items.ServerCarries.{server_telling, IsRequestIn};
 ghost use Rattle.laws_in_use.specs.Exchange.{ping};
 ghost use Rattle.laws_in_use.specs.Framed.{refusing};
 ghost use Rattle.laws_in_use.specs.Pinged.{HasPing, ping_back, ping_begins, ping_cut, ping_ends, ping_front, ping_whole};
 ghost use Rattle.laws_in_use.specs.Pinged.{refusal_begins, refusal_cut, refusal_ends, refusal_whole};
+ghost use Rattle.giop_calls.specs.declared.server.event.ServerEvent.TheVariants as at_server;
 
 use giop_session::laws::{
     own_lanes_come_to_replies, what_is_cut_is_carried, what_is_sent_is_a_lanes,
@@ -91,8 +88,7 @@ pub fn a_reply_in_two_pieces()
 /// that were cut, and are carried as the Request and the Reply that they are.
 pub fn both_are_carried()
     ensures written { (interface : Interface) → HasPing interface
-        → IsWrittenAs (request interface V12) Big (ping V12) message.Request 40 V12
-        (ping_begins ∷ ping_ends ∷ []) }
+        → IsRequestIn interface V12 Big (ping V12) 40 (ping_begins ∷ ping_ends ∷ []) }
     ensures series { (interface : Interface) → HasPing interface
         → IsSeries message.Request V12 Big false (ping_begins ∷ ping_ends ∷ []) }
     ensures again { (interface : Interface) → HasPing interface
@@ -101,8 +97,11 @@ pub fn both_are_carried()
         → CarriesItem (server_telling interface) entry (Got (call.Request (ping V12)))
         (Comes ping_begins ∷ Comes ping_ends ∷ []) }
     ensures written_back { (interface : Interface)
-        → IsWrittenAs (reply interface (Some (ping V12)) V12) Big refusing message.Reply 32 V12
+        → IsReplyIn interface (ping V12) V12 Big refusing 32
         (refusal_begins ∷ refusal_ends ∷ []) }
+    ensures waits { AwaitsReply
+        (record { entry = Some (client.Waiting (asked.Request (ping V12))); latest = None })
+        (ping V12) }
     ensures reply { (interface : Interface) → CarriesItem (client_telling interface)
         (record { entry = Some (client.Waiting (asked.Request (ping V12))); latest = None })
         (Got (told.Reply refusing)) (Comes refusal_begins ∷ Comes refusal_ends ∷ []) }
@@ -113,11 +112,11 @@ pub fn both_are_carried()
 /// Where both are in one message, their lane comes to the reply: the client has this Reply to this
 /// Request.
 pub fn a_lane_comes_to_a_reply()
-    ensures asked { (interface : Interface) → HasPing interface
-        → PlansCall interface None (asked.Request (ping V12))
-        (sends_cut (at_client.Call (asked.Request (ping V12))) (alone ping_whole)) }
     ensures answered { (interface : Interface) → PlansReply interface (ping V12) refusing
         (sends_cut (at_server.Answer refusing) (alone refusal_whole)) }
+    ensures answerable { IsAnswerable (ping V12) refusing }
+    ensures sent { (interface : Interface) → HasPing interface
+        → IsReplied interface (ping V12) refusing ping_whole refusal_whole }
     ensures replied { (interface : Interface) → HasPing interface → (lane : Lane)
         × OwnRuns interface new (replied_run (ping V12) refusing ping_whole refusal_whole) lane
         × (lane.client.entry ≡ Some (client.Done (ping V12) refusing)) }

@@ -12,7 +12,7 @@ ghost use Rattle.giop_calls.specs.declared.kind.CallKind.TheVariants as kind;
 ghost use Rattle.giop_calls.specs.declared.server.heard.HeardCall.TheVariants as call;
 ghost use Rattle.giop_session.specs.Acts.ClientCalls.{IsCancel};
 ghost use Rattle.giop_session.specs.Items.Carries.{CarriesItem, Got};
-ghost use Rattle.giop_session.specs.Items.ClientCarries.{client_telling};
+ghost use Rattle.giop_session.specs.Items.ClientCarries.{client_telling, AwaitsLocateReply};
 ghost use Rattle.giop_session.specs.Items.ServerCarries.{server_telling};
 ghost use Rattle.giop_session.specs.Runs.Events.{Comes};
 ghost use Rattle.giop_session.specs.Worlds.Coding.{coding};
@@ -56,6 +56,7 @@ pub fn a_locate_request_of_1_0()
     ensures item { (interface : Interface) (there : _)
         → CarriesItem (server_telling interface) there (Got (call.Locate key))
         (Comes key_big ∷ []) }
+    ensures waits { AwaitsLocateReply (record { entry = None; latest = Some (asked.Locate key) }) key }
     ensures item_back { (interface : Interface) → (told : _)
         × CarriesItem (client_telling interface)
         (record { entry = None; latest = Some (asked.Locate key) }) (Got (reply.Locate told))

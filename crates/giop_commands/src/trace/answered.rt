@@ -32,6 +32,7 @@ pub enum Answered {
 
 /// What a message of the server is, decoded by an interface and the Request that it answers, where
 /// that was decoded.
+#[inline(always)]
 pub fn answered_by(
     alloc: Global,
     interface: &Interface,
@@ -49,6 +50,7 @@ pub fn answered_by(
     }
 }
 
+#[inline(always)]
 fn reply_in(
     alloc: Global,
     interface: &Interface,

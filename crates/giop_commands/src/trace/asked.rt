@@ -38,6 +38,7 @@ impl Asked {
 }
 
 /// What a message of the client is, decoded by an interface.
+#[inline(always)]
 pub fn asked_of(
     alloc: Global,
     interface: &Interface,
@@ -57,6 +58,7 @@ pub fn asked_of(
     }
 }
 
+#[inline(always)]
 fn request_of(alloc: Global, interface: &Interface, message: &Msg) -> Result<Asked, Failure>
     requires { length message.now.payload ≤ 2 ^ 62 }
 {

@@ -1,14 +1,16 @@
 //! The line of a call, in text or in JSON.
 
+use crate::call::table::brought_by;
 use crate::failure::Failure;
 use crate::form::LineForm;
+use crate::serve::table::request_ins;
 use crate::trace::answer_part::write_answer;
 use crate::trace::answered::{Answered, answered_by};
 use crate::trace::asked::{Asked, asked_of, request_in};
 use crate::trace::asked_part::write_asked;
 use crate::trace::json::write_call_json;
-use giop_lines::IdText;
-use giop_msg::{Msg, Request};
+use giop_lines::{EscapedText, IdText, OwnTargetText};
+use giop_msg::{Msg, ReplyBody, Request};
 use giop_trace::Flow;
 use giop_types::{Interface, NumberForm};
 use std::alloc::Global;
@@ -69,6 +71,7 @@ pub fn write_call<W: Write>(
 }
 
 // What the answer of a call is, if it has one.
+#[inline(always)]
 fn answered_of(
     alloc: Global,
     interface: &Interface,
@@ -82,6 +85,49 @@ fn answered_of(
 }
 
 fn write_call_text<W: Write>(
+    alloc: Global,
+    interface: &Interface,
+    told: Told<'_>,
+    writer: &mut W,
+) -> Result<(), Failure> {
+    match (told.asked, told.answered) {
+        (Asked::Request(request), Some(Answered::Reply(reply))) if is_result(&reply.body) => {
+            write_result(alloc, interface, told, request, &reply.body, writer)
+        }
+        _ => write_parts(alloc, interface, told, writer),
+    }
+}
+
+// Whether a Reply brought the outs of its operation.
+fn is_result(body: &ReplyBody) -> bool {
+    matches!(body, ReplyBody::NoException(_))
+}
+
+// The line of a call that brought its outs, as most do, at once: each part by itself takes longer.
+fn write_result<W: Write>(
+    alloc: Global,
+    interface: &Interface,
+    told: Told<'_>,
+    request: &Request,
+    body: &ReplyBody,
+    writer: &mut W,
+) -> Result<(), Failure> {
+    let ins = request_ins(alloc, told.numbers, interface, request)?;
+    let outs = brought_by(alloc, told.numbers, interface, request, body)?;
+    let (id, target) = (IdText(told.id), OwnTargetText(&request.head.target));
+    let operation = EscapedText(request.head.operation.as_slice());
+    writeln!(
+        writer,
+        "{id} Asked {target} {operation} {} Done 0 {}",
+        ins.as_str(),
+        outs.as_str()
+    )?;
+    Ok(())
+}
+
+// The line of any call, part by part.
+#[inline(never)]
+fn write_parts<W: Write>(
     alloc: Global,
     interface: &Interface,
     told: Told<'_>,

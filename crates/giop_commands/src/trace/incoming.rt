@@ -15,6 +15,9 @@ use std::alloc::{AllocError, Global};
 use std::io;
 use std::io::{ErrorKind, Read, Write};
 
+// The most octets of a message whose memory serves for a later one.
+const MOST_REUSED: usize = 1024;
+
 /// The octets of a direction that were read and are no message yet, and room for more.
 #[derive(Drop)]
 pub struct Incoming {
@@ -77,6 +80,17 @@ impl Incoming {
             }
         }
         Err(Failure::Input(io::Error::from(ErrorKind::FileTooLarge)))
+    }
+
+    /// Takes a message that is no longer needed, whose memory may serve for one that comes. That of
+    /// a large message doesn't, since a call that is open would hold more than its own octets.
+    #[inline(always)]
+    pub fn reuse(&mut self, message: Msg)
+        ensures { self.new ≡ self.old }
+    {
+        if message.payload.len() <= MOST_REUSED {
+            self.framer.reuse(message);
+        }
     }
 
     /// The last line of a direction: how many octets are left, or what is wrong with the header

@@ -66,6 +66,10 @@ pub is_full : (b : Bool) → not b ≡ false → b ≡ true
 is_full true is = refl
 is_full false is = absurd cc
 
+pub isnt_full : (full : Bool) → not full ≡ true → full ≡ false
+isnt_full true free = absurd cc
+isnt_full false free = refl
+
 -- the last piece of a message, where there is no room for it
 module _ {R : Type 0} (h : Held R ServerEntry) (id : ℕ) (kind : CallKind) (call : HeardCall) (octets : List ℕ) where
   over : (slot : Option (Slot ServerEntry)) (unsent : List Msg) → slot ≡ Some (record { entry = Gathering kind; unsent = unsent })

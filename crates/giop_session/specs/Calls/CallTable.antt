@@ -205,6 +205,15 @@ module _ {R E V A F : Type 0} (of : RuleOf R E V A F) where
   abbrev pub gathers_at : Held R E → ℕ → Bool
   gathers_at h id = gathers of.gathering (finite.get h.table id)
 
+  -- something is stored for an id, and its call isn't over
+  abbrev pub IsOpenAt : Held R E → ℕ → Type 0
+  IsOpenAt h id =
+      option_map (λ slot. of.closed h.rule slot.entry) (finite.get h.table id) ≡ Some false
+
+-- the calls without what is stored for an id
+abbrev pub without : {R E : Type 0} → Held R E → ℕ → Held R E
+without h id = record h { table = put h.table id None }
+
 -- an event changes nothing at its call, and is answered so
 abbrev pub Stays : {E A F : Type 0} → Step (Slot E) (Sends A) F → Option (Slot E) → Sends A → Type 0
 Stays step slot sends = step ≡ record { entry = slot; outcome = Ok sends }
@@ -214,14 +223,6 @@ abbrev pub answered : {A F : Type 0}
     → Sends A → Result (Unit {0}) (TableFault F) → Result (Sends A) (TableFault F)
 answered sends (Ok done) = Ok sends
 answered sends (Err fault) = Err fault
-
--- whether a call's own rule refuses, and not a limit or an end that is out of memory
-abbrev pub is_of_call : {F : Type 0} → TableFault F → Bool
-is_of_call (Rule fault) = true
-is_of_call StillOpen = true
-is_of_call TooManyCalls = false
-is_of_call GatherFull = false
-is_of_call NoMemory = false
 
 -- what is returned to the caller for an event, and for a take
 abbrev pub event_reply : {E A F : Type 0}
@@ -233,6 +234,21 @@ abbrev pub take_reply : {E A F : Type 0}
     → Result (Option (Slot E)) (TableFault F) → Result (Reply E A) (TableFault F)
 take_reply (Ok slot) = Ok (Gives slot)
 take_reply (Err fault) = Err fault
+
+-- a further piece of what is gathered comes with an event that changes nothing at its call
+module _ {R E V A F : Type 0} (of : RuleOf R E V A F) where
+  abbrev pub GoesOn : Held R E → ℕ → Planned V → List ℕ → Sends A
+      → Result (Unit {0}) (TableFault F) → Held R E → Type 0
+  GoesOn h id planned octets sends result k =
+      DoesTo of h id (Hears planned (More octets)) (event_reply (answered sends result)) k
+
+-- whether a call's own rule refuses, and not a limit or an end that is out of memory
+abbrev pub is_of_call : {F : Type 0} → TableFault F → Bool
+is_of_call (Rule fault) = true
+is_of_call StillOpen = true
+is_of_call TooManyCalls = false
+is_of_call GatherFull = false
+is_of_call NoMemory = false
 
 -- the calls of an end are stored as the tuple of their fields
 abbrev pub held_code : {R E : Type 0} → Coded R → Coded (Slot E) → Coded (Held R E)

@@ -1,5 +1,7 @@
 -- A call's entry and its messages that are still to be sent, in one slot: one event changes both.
-use Rattle.std.specs.Prelude.{◌≡◌, List, [], Option, Some, None, Result, Ok, Err, IsErr, drop, refl}
+use Rattle.std.specs.Prelude.{◌≡◌, ℕ, List, [], Option, Some, None, Result, Ok, Err, IsErr, drop, refl}
+use Rattle.std.specs.FinMap as finite
+use Rattle.giop_ids.specs.ById.{ById}
 use Rattle.giop_mux.specs.Faults.{no_fault}
 use Rattle.giop_mux.specs.declared.step.Step.{Step}
 use Rattle.giop_msg.specs.declared.msg.Msg.{Msg}
@@ -56,6 +58,11 @@ abbrev pub sending_step : {E V A F : Type 0} → (Option E → V → Step E A F)
 sending_step next slot planned =
     settled_by (next (entry_of slot) planned.event).entry planned.plan (unsent_of slot)
     (next (entry_of slot) planned.event).outcome
+
+-- and what it does to the slot of an id, where these are stored
+abbrev pub step_at : {E V A F : Type 0} → (Option E → V → Step E A F)
+    → ById (Slot E) → ℕ → Planned V → Step (Slot E) (Sends A) F
+step_at next slots id planned = sending_step next (finite.get slots id) planned
 
 -- a slot is its entry and its messages
 slot_is : {E : Type 0} (slot : Option (Slot E)) → slot_of (entry_of slot) (unsent_of slot) ≡ slot

@@ -1,8 +1,11 @@
 -- What runs see of an end, and what stays of an end that changes so.
-use Rattle.std.specs.Prelude.{◌≡◌, ℕ, List, Option}
+use Rattle.std.specs.Prelude.{◌≡◌, ℕ, List, Option, Result}
 use Rattle.giop_session.specs.declared.end.End.{End}
 use Rattle.giop_session.specs.Calls.CallTable.{Held}
-use Rattle.giop_session.specs.Pumping.{Between, between}
+use Rattle.giop_msg.specs.declared.msg.Msg.{Msg}
+use Rattle.giop_session.specs.declared.pump_fault.PumpFault.{PumpFault}
+use Rattle.giop_session.specs.declared.session_fault.SessionFault.{SessionFault}
+use Rattle.giop_session.specs.Pumping.{Between, Pumped, Turned, between}
 use Rattle.giop_session.specs.Runs.Driven.{EndState, end_state}
 
 module _ {R E V A F : Type 0} where
@@ -13,6 +16,20 @@ module _ {R E V A F : Type 0} where
   -- so it stands between a reader and a writer of these octets
   abbrev pub end_between : (input output : Option (List ℕ)) → End R E V A F → Between (Held R E)
   end_between input output e = between input output e.outgoing e.framer e.calls e.fault
+
+  -- and so a turn goes, from one reader, writer and end to what they are then
+  abbrev pub TurnedAt : (Msg → Held R E → Result (Unit {0}) SessionFault → Held R E → Type 0)
+      → (input output : Option (List ℕ)) → End R E V A F → Result ℕ PumpFault
+      → (input' output' : Option (List ℕ)) → End R E V A F → Type 0
+  TurnedAt hears input output e result input' output' e' =
+      Turned hears (end_between input output e) result (end_between input' output' e')
+
+  -- and a pump of so many turns at most
+  abbrev pub PumpedAt : (Msg → Held R E → Result (Unit {0}) SessionFault → Held R E → Type 0)
+      → ℕ → (input output : Option (List ℕ)) → End R E V A F → Result (Unit {0}) PumpFault
+      → (input' output' : Option (List ℕ)) → End R E V A F → Type 0
+  PumpedAt hears turns input output e result input' output' e' =
+      Pumped hears turns (end_between input output e) result (end_between input' output' e')
 
   -- an act of its own program changes its calls and what is outgoing, and all else stays
   abbrev pub IsActedOn : (old new : End R E V A F) → Type 0

@@ -1,5 +1,5 @@
 -- What a message of the server does at a client (CORBA 3.3 Part 2, 9.4).
-use Rattle.std.specs.Prelude.{ℕ, true, false, if◌then◌else◌, List, ◌++◌, Option, Some, None, Result, Ok, Err}
+use Rattle.std.specs.Prelude.{◌≡◌, ℕ, true, false, if◌then◌else◌, List, ◌++◌, Option, Some, None, Result, Ok, Err}
 use Rattle.std.specs.FinMap as finite
 use Rattle.giop_cdr.specs.declared.order.Order.{Order}
 use Rattle.giop_cdr.specs.declared.fault.CdrFault.{CdrFault}
@@ -91,6 +91,18 @@ gathered_in _ = None
 abbrev pub gathered_call : Option (Slot ClientEntry) → Option Asked
 gathered_call None = None
 gathered_call (Some slot) = gathered_in slot.entry
+
+-- of a call that waits so under an id this is said, if one does
+abbrev pub OfAwaited : {R : Type 0} → CallKind → Version → Held R ClientEntry → ℕ
+    → (Asked → Type 0) → Type 0
+OfAwaited kind version h id Says =
+    (call : Asked) → awaited kind version (finite.get h.table id) ≡ Some call → Says call
+
+-- and of a call whose reply is gathered, with its pieces
+abbrev pub OfGathered : {R : Type 0} → Held R ClientEntry → ℕ → (Asked → Pieces → Type 0) → Type 0
+OfGathered h id Says = (call : Asked) (pieces : Pieces)
+    → gathered_call (finite.get h.table id) ≡ Some call
+    → finite.get h.gathered id ≡ Some pieces → Says call pieces
 
 -- the pieces that a Fragment of this byte order continues, with the call that they answer
 abbrev pub continued : Order → Option Asked → Option Pieces → Option (Asked × List ℕ)

@@ -7,8 +7,12 @@ use Rattle.giop_msg.specs.declared.kind.Kind.{Kind}
 use Rattle.giop_msg.specs.declared.kind.Kind.TheVariants as message
 use Rattle.giop_msg.specs.declared.msg.Msg.{Msg}
 use Rattle.giop_msg.specs.declared.version.Version.{Version}
+use Rattle.giop_msg.specs.Locate.{AnyLocateRequest}
 use Rattle.giop_msg.specs.Messages.LocateReply.{locate_reply}
 use Rattle.giop_msg.specs.Messages.Reply.{reply}
+use Rattle.giop_msg.specs.declared.messages.locate_reply.LocateReply.{LocateReply}
+use Rattle.giop_msg.specs.declared.messages.reply.Reply.{Reply}
+use Rattle.giop_msg.specs.declared.messages.request.Request.{Request}
 use Rattle.giop_mux.specs.Runs.{Hears, IsTaken}
 use Rattle.giop_calls.specs.declared.client.call.Call.{Call as Asked}
 use Rattle.giop_calls.specs.declared.client.call.Call.TheVariants as asked
@@ -24,7 +28,7 @@ use Rattle.giop_calls.specs.declared.kind.CallKind.{CallKind}
 use Rattle.giop_calls.specs.declared.kind.CallKind.TheVariants as kind
 use Rattle.giop_calls.specs.ClientTable.{client_step, settles}
 use Rattle.giop_session.specs.Runs.Events.{Comes}
-use Rattle.giop_session.specs.Items.Carries.{CarriesItem, Item, Telling, Got, Bad, Begun, Rest, Cancel, Did}
+use Rattle.giop_session.specs.Items.Carries.{CarriesItem, IsWrittenAs, Item, Telling, Got, Bad, Begun, Rest, Cancel, Did}
 use Rattle.giop_session.specs.Hearing.ClientHears.{heard_reply}
 
 -- what is said of one call at a client
@@ -114,3 +118,23 @@ client_telling interface = record {
 abbrev pub CarryReply : Interface → Known → HeardReply → List Msg → Type 0
 CarryReply interface known reply messages =
     CarriesItem (client_telling interface) known (Got reply) (map Comes messages)
+
+-- a client's next answer is to this Request, or to this LocateRequest
+abbrev pub AwaitsReply : Known → Request → Type 0
+AwaitsReply known request =
+    answered known.entry known.latest ≡ Some (asked.Request request)
+
+abbrev pub AwaitsLocateReply : Known → AnyLocateRequest → Type 0
+AwaitsLocateReply known request =
+    answered known.entry known.latest ≡ Some (asked.Locate request)
+
+-- these messages are a Reply to a Request, written in a version and a byte order and cut into pieces
+-- of a size
+abbrev pub IsReplyIn : Interface → Request → Version → Order → Reply → ℕ → List Msg → Type 0
+IsReplyIn interface asked version order told piece sent =
+    IsWrittenAs (reply interface (Some asked) version) order told message.Reply piece version sent
+
+-- and these a LocateReply
+abbrev pub IsLocateReplyIn : Version → Order → LocateReply → ℕ → List Msg → Type 0
+IsLocateReplyIn version order told piece sent =
+    IsWrittenAs (locate_reply version) order told message.LocateReply piece version sent

@@ -2,14 +2,16 @@
 -- 9.4.2, 9.4.4 and 9.4.5).
 use Rattle.std.specs.Prelude.{◌≡◌, ℕ, Bool, List, map, Option, Some, None}
 use Rattle.giop_cdr.specs.declared.order.Order.{Order}
+use Rattle.giop_cdr.specs.Ending.{ended}
 use Rattle.giop_types.specs.declared.json.interface.Interface.{Interface}
 use Rattle.giop_msg.specs.declared.kind.Kind.{Kind}
 use Rattle.giop_msg.specs.declared.kind.Kind.TheVariants as message
 use Rattle.giop_msg.specs.declared.msg.Msg.{Msg}
 use Rattle.giop_msg.specs.declared.version.Version.{Version}
 use Rattle.giop_msg.specs.Joined.{AreWhole}
-use Rattle.giop_msg.specs.Locate.{locate_request}
+use Rattle.giop_msg.specs.Locate.{AnyLocateRequest, locate_request}
 use Rattle.giop_msg.specs.Messages.Request.{request}
+use Rattle.giop_msg.specs.declared.messages.request.Request.{Request}
 use Rattle.giop_mux.specs.Runs.{Hears, IsTaken}
 use Rattle.giop_calls.specs.declared.kind.CallKind.{CallKind}
 use Rattle.giop_calls.specs.declared.kind.CallKind.TheVariants as kind
@@ -21,7 +23,7 @@ use Rattle.giop_calls.specs.declared.server.heard.HeardCall.{HeardCall}
 use Rattle.giop_calls.specs.declared.server.heard.HeardCall.TheVariants as heard
 use Rattle.giop_calls.specs.ServerTable.{arrived, server_step}
 use Rattle.giop_session.specs.Runs.Events.{Comes}
-use Rattle.giop_session.specs.Items.Carries.{CarriesItem, Item, Telling, Got, Bad, Begun, Rest, Cancel, Did}
+use Rattle.giop_session.specs.Items.Carries.{CarriesItem, IsWrittenAs, Item, Telling, Got, Bad, Begun, Rest, Cancel, Did}
 use Rattle.giop_session.specs.Hearing.Decoding.{heard_call}
 
 -- what is said of one call at a server
@@ -68,3 +70,13 @@ server_telling interface = record {
 abbrev pub CarryCall : Interface → Option ServerEntry → HeardCall → List Msg → Type 0
 CarryCall interface entry call messages =
     CarriesItem (server_telling interface) entry (Got call) (map Comes messages)
+
+-- these messages are a Request, written in a version and a byte order and cut into pieces of a size
+abbrev pub IsRequestIn : Interface → Version → Order → Request → ℕ → List Msg → Type 0
+IsRequestIn interface version order asked piece sent =
+    IsWrittenAs (request interface version) order asked message.Request piece version sent
+
+-- and these a LocateRequest
+abbrev pub IsLocateRequestIn : Version → Order → AnyLocateRequest → ℕ → List Msg → Type 0
+IsLocateRequestIn version order asked piece sent =
+    IsWrittenAs (ended (locate_request version)) order asked message.LocateRequest piece version sent

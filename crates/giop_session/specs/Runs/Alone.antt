@@ -4,7 +4,7 @@ use Rattle.giop_cdr.specs.declared.fault.CdrFault.{CdrFault}
 use Rattle.giop_msg.specs.declared.msg.Msg.{Msg}
 use Rattle.giop_msg.specs.RequestId.{request_id_of}
 use Rattle.giop_ids.specs.declared.addressed.Addressed.{Addressed}
-use Rattle.giop_ids.specs.Runs.{MeetsNoLimit, left}
+use Rattle.giop_ids.specs.Runs.{MeetsNoLimit, Rules, Runs, addressed, left, own}
 use Rattle.giop_session.specs.declared.calls.table_fault.TableFault.{TableFault}
 use Rattle.giop_session.specs.Calls.CallTable.{Act, Call, Held, Reply, Turned, at, is_of_call}
 
@@ -31,10 +31,24 @@ SameOfEach one other = (id : ℕ) → own_messages id one ≡ own_messages id ot
 abbrev pub SameCalls : {R E : Type 0} → Held R E → Held R E → Type 0
 SameCalls h k = (id : ℕ) → at h id ≡ at k id
 
--- no act of a run meets a limit, or want of memory
+-- two lists of acts have the same of each id, in the same order
+abbrev pub SameActs : {V : Type 0} → List (Addressed (Act V)) → List (Addressed (Act V)) → Type 0
+SameActs one other = (id : ℕ) → own id one ≡ own id other
+
+-- what was answered to the acts of an id
+abbrev pub answers_of : {E V A F : Type 0} → ℕ → List (Addressed (Act V))
+    → List (Result (Reply E A) (TableFault F)) → List (Result (Reply E A) (TableFault F))
+answers_of id acts results = own id (addressed acts results)
+
+-- no act of an id meets a limit, or want of memory
+abbrev pub MeetsNone : {E V A F : Type 0} → ℕ → List (Addressed (Act V))
+    → List (Result (Reply E A) (TableFault F)) → Type 0
+MeetsNone id acts results = MeetsNoLimit is_of_call id acts results
+
+-- and none of a run does
 abbrev pub MeetNone : {E V A F : Type 0} → List (Addressed (Act V))
     → List (Result (Reply E A) (TableFault F)) → Type 0
-MeetNone acts results = (id : ℕ) → MeetsNoLimit is_of_call id acts results
+MeetNone acts results = (id : ℕ) → MeetsNone id acts results
 
 module _ {E V A F : Type 0} (turn : Call E → Act V → Turned E A F)
     (befalls : Msg → Call E → Act V) where
@@ -46,3 +60,16 @@ module _ {E V A F : Type 0} (turn : Call E → Act V → Turned E A F)
   abbrev pub alone_heard : Call E → List Msg → Call E
   alone_heard call [] = call
   alone_heard call (m ∷ messages) = alone_heard (call_after m call) messages
+
+-- acts run by these rules, and none of them meets a limit, or want of memory
+abbrev pub RunsFreely : {R E V A F : Type 0}
+    → Rules (Held R E) (Call E) (Act V) (Reply E A) (TableFault F) → Held R E
+    → List (Addressed (Act V)) → List (Result (Reply E A) (TableFault F)) → Held R E → Type 0
+RunsFreely rules h acts results k = Runs rules h acts results k × MeetNone acts results
+
+module _ {R E V A F : Type 0} (turn : Call E → Act V → Turned E A F)
+    (befalls : Msg → Call E → Act V) where
+  -- what is stored for an id is what its own of these messages leave of what was
+  abbrev pub IsHeardAlone : Held R E → List Msg → Held R E → ℕ → Type 0
+  IsHeardAlone h messages k id =
+      at k id ≡ alone_heard turn befalls (at h id) (own_messages id messages)

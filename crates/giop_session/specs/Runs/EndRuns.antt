@@ -45,6 +45,20 @@ abbrev pub ClientInputsHold : Interface → Limits → List (Input ClientEvent) 
 ClientInputsHold interface limits inputs calls =
     Holds (client_telling interface) unknown limits.message inputs calls
 
+-- a new server's end takes inputs that hold these items for each id, and refuses none of them
+abbrev pub ServerTakesItems : Interface → Limits → List (Input ServerEvent) → (ℕ → List ServerItem)
+    → Held ServerRule ServerEntry → Type 0
+ServerTakesItems interface limits inputs calls k =
+    ((left : Unread) × ServerTakes interface limits inputs left k)
+    × ServerInputsHold interface limits inputs calls
+
+-- and a client's
+abbrev pub ClientTakesItems : Interface → Limits → List (Input ClientEvent) → (ℕ → List ClientItem)
+    → Held ClientRule ClientEntry → Type 0
+ClientTakesItems interface limits inputs calls k =
+    ((left : Unread) × ClientTakes interface limits inputs left k)
+    × ClientInputsHold interface limits inputs calls
+
 -- the entry of each id is what its items leave
 abbrev pub ServerEntriesAre : Interface → (ℕ → List ServerItem) → Held ServerRule ServerEntry
     → Type 0

@@ -104,6 +104,14 @@ pub record ServerIsAsSaid (interface : Interface) (calls : ℕ → List ServerIt
   pub told : own_answers server_named id inputs answers
       ≡ item_answers (server_telling interface) (λ entry. entry) None (calls id)
 
+-- so of each id, whatever items are what was said of its call alone
+abbrev pub ServerEndsAsSaid : {interface : Interface} {limits : Limits} {inputs : List ServerInput}
+    → ServerFits interface limits inputs → List (Answered ServerEntry) → Held ServerRule ServerEntry
+    → Type 0
+ServerEndsAsSaid {interface} {limits} {inputs} fits answers k = (calls : ℕ → List ServerItem)
+    → ((id : ℕ) → ServerSays (fits.alone id) (calls id))
+    → (id : ℕ) → ServerIsAsSaid interface calls inputs answers k id
+
 -- what a server's table is told of the calls of an id: their own messages, each as it is read where
 -- it comes, and acts
 abbrev pub server_history : Interface → ℕ → List (Event ServerEvent) → List (Happening ServerEvent)
@@ -160,6 +168,14 @@ pub record ClientIsAsSaid (interface : Interface) (calls : ℕ → List ClientIt
       ≡ (behind_all (client_telling interface) unknown (calls id)).entry
   pub told : own_answers client_named id inputs answers
       ≡ item_answers (client_telling interface) (λ known. known.entry) unknown (calls id)
+
+-- so of each id, whatever items are what was said of its call alone
+abbrev pub ClientEndsAsSaid : {interface : Interface} {limits : Limits} {inputs : List ClientInput}
+    → ClientFits interface limits inputs → List (Answered ClientEntry) → Held ClientRule ClientEntry
+    → Type 0
+ClientEndsAsSaid {interface} {limits} {inputs} fits answers k = (calls : ℕ → List ClientItem)
+    → ((id : ℕ) → ClientSays (fits.alone id) (calls id))
+    → (id : ℕ) → ClientIsAsSaid interface calls inputs answers k id
 
 -- what a client's table is told of the calls of an id
 abbrev pub client_history : Interface → ℕ → List (Event ClientEvent) → List (Happening ClientEvent)

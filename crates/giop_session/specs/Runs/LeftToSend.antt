@@ -8,7 +8,17 @@ use Rattle.giop_calls.specs.declared.server.event.ServerEvent.TheVariants as ser
 use Rattle.giop_session.specs.declared.calls.plan.Plan.{Plan}
 use Rattle.giop_session.specs.declared.calls.plan.Plan.TheVariants.{Put, Next}
 use Rattle.giop_session.specs.declared.calls.slot.Slot.{Slot}
-use Rattle.giop_session.specs.Runs.Events.{Event, Comes, Does}
+use Rattle.giop_types.specs.declared.json.interface.Interface.{Interface}
+use Rattle.giop_calls.specs.declared.client.entry.ClientEntry.{ClientEntry}
+use Rattle.giop_calls.specs.declared.client.rule.ClientRule.{ClientRule}
+use Rattle.giop_calls.specs.declared.server.entry.ServerEntry.{ServerEntry}
+use Rattle.giop_calls.specs.declared.server.rule.ServerRule.{ServerRule}
+use Rattle.giop_session.specs.declared.limits.Limits.{Limits}
+use Rattle.giop_session.specs.Calls.Begun.{no_calls}
+use Rattle.giop_session.specs.Calls.CallTable.{Held}
+use Rattle.giop_session.specs.Hearing.ClientHears.{client_side}
+use Rattle.giop_session.specs.Hearing.ServerHears.{server_side}
+use Rattle.giop_session.specs.Runs.Events.{Event, Comes, Does, Meets}
 use Rattle.giop_session.specs.Calls.Sending.{entry_of, unsent_of}
 
 -- what a server's own events do to the messages of their calls: a Reply is sent in as many as its
@@ -43,3 +53,15 @@ left_in left (Some entry) = left entry
 -- so many are left
 abbrev pub IsLeft : {E : Type 0} → (E → ℕ) → Option (Slot E) → Type 0
 IsLeft left slot = left_in left (entry_of slot) ≡ length (unsent_of slot)
+
+-- a new server's end meets these events, and refuses none of them
+abbrev pub ServerMeets : Interface → Limits → List (Event ServerEvent)
+    → Held ServerRule ServerEntry → Type 0
+ServerMeets interface limits events k =
+    Meets (server_side interface) (no_calls (record {}) limits) events k
+
+-- and a new client's
+abbrev pub ClientMeets : Interface → Limits → List (Event ClientEvent)
+    → Held ClientRule ClientEntry → Type 0
+ClientMeets interface limits events k =
+    Meets (client_side interface) (no_calls (record {}) limits) events k

@@ -1,13 +1,15 @@
 -- What the session's own ends put on a lane: the calls and replies that they plan to send (CORBA
 -- 3.3 Part 2, 9.4.2, 9.4.3, 9.4.5, 9.4.6 and 9.4.9).
-use Rattle.std.specs.Prelude.{◌≡◌, ℕ, Bool, List, [], ◌∷◌, Option, Some, None}
+use Rattle.std.specs.Prelude.{◌≡◌, ℕ, Bool, false, if◌then◌else◌, List, [], ◌∷◌, Option, Some, None, true}
 use Rattle.giop_cdr.specs.declared.order.Order.{Order}
 use Rattle.giop_types.specs.declared.json.interface.Interface.{Interface}
 use Rattle.giop_msg.specs.Locate.{AnyLocateRequest}
+use Rattle.giop_msg.specs.declared.messages.locate_reply.LocateReply.{LocateReply}
 use Rattle.giop_msg.specs.declared.messages.reply.Reply.{Reply}
 use Rattle.giop_msg.specs.declared.messages.request.Request.{Request}
 use Rattle.giop_calls.specs.Lane.{Act, Cut, Lane, Piece, count, pieces_of, step}
 use Rattle.giop_calls.specs.Lane as lanes
+use Rattle.giop_calls.specs.Messages.{is_oneway, is_same_version}
 use Rattle.giop_calls.specs.declared.client.call.Call.{Call}
 use Rattle.giop_calls.specs.declared.client.call.Call.TheVariants as asked
 use Rattle.giop_calls.specs.declared.client.entry.ClientEntry.{ClientEntry}
@@ -107,3 +109,22 @@ abbrev pub located_run : AnyLocateRequest → Bool → (one other : Piece) → L
 located_run q here one other =
     lanes.Calls (asked.Locate q) (alone one) ∷ lanes.ToServer
     ∷ lanes.Locates here other ∷ lanes.ToClient ∷ []
+
+-- a Request wants a Reply, and this one is of its version
+abbrev pub IsAnswerable : Request → Reply → Type 0
+IsAnswerable q r =
+    (is_oneway q ≡ false) × (is_same_version q.head.version r.version ≡ true)
+
+-- a client's end sends a Request in one piece, and a server's end a Reply to it in one
+abbrev pub IsReplied : Interface → Request → Reply → (one other : Piece) → Type 0
+IsReplied interface q r one other =
+    SendsCall interface None (asked.Request q) (alone one) × SendsReply interface q r (alone other)
+
+-- so a LocateRequest, and a LocateReply to it
+abbrev pub IsLocated : Interface → AnyLocateRequest → Bool → (one other : Piece) → Type 0
+IsLocated interface q here one other =
+    SendsCall interface None (asked.Locate q) (alone one) × SendsLocated q here other
+
+-- a LocateReply says whether the object is here, and no more (9.4.6)
+abbrev pub SaysWhether : Bool → LocateReply → Type 0
+SaysWhether here told = (told.head.status ≡ (if here then 1 else 0)) × (told.rest ≡ [])

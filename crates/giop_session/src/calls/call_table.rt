@@ -1,14 +1,14 @@
 //! The table of an end's calls: for each request id its entry, its messages that are still to be
 //! sent, and the pieces gathered for it (CORBA 3.3 Part 2, 9.4.9). What an act does to one call,
 //! and what the whole refuses, is `rules_of` in specs/Calls/CallTable.antt: change both.
-ghost use Rattle.std.specs.Prelude.{◌≡◌, ◌==◌, ◌&&◌, ◌≤◌, ◌^◌, ◌+◌, ◌/◌, not, is_some, true, false, if◌then◌else◌, Ok, None, length, is_none, IfNone, IfErr, IfOk, IfSome, IsOk, OnErr, IsSome, option_copied};
+ghost use Rattle.std.specs.Prelude.{if◌then◌else◌, ◌≡◌, ◌==◌, ◌&&◌, ◌≤◌, ◌^◌, ◌+◌, ◌/◌, not, is_some, true, false, Ok, None, length, is_none, IfNone, IfErr, IfOk, IfSome, IsOk, OnErr, IsSome, option_copied};
 ghost use Rattle.std.specs.FinMap as finite;
 ghost use Rattle.std.specs.Option.{option_map};
 ghost use Rattle.giop_frag.specs.Gathered.{blocks_of, is_over, octets_in, order_fault};
 ghost use Rattle.giop_ids.specs.ById.{put};
 ghost use Rattle.giop_mux.specs.Calls.{is_one_too_many, judged};
-ghost use Rattle.giop_session.specs.Calls.Sending.{sending_step};
-ghost use Rattle.giop_session.specs.Calls.CallTable.{answered, DoesTo, event_reply, First, gathers, gathers_at, Hears, IsTaken, More, Nothing, Stays, stepped, take_reply};
+ghost use Rattle.giop_session.specs.Calls.Sending.{step_at};
+ghost use Rattle.giop_session.specs.Calls.CallTable.{Answers, DoesTo, event_reply, First, gathers, gathers_at, Hears, IsTaken, More, Nothing, Stays, stepped, take_reply, GoesOn, IsOpenAt, without};
 
 use crate::calls::plan::Planned;
 use crate::calls::sending::{Sending, Sends};
@@ -186,10 +186,9 @@ impl<R: Side> CallTable<R> {
     ) -> Result<(), TableFault<R::Fault>>
         requires comes { gathers_at R.Side self.old id ≡ true }
         requires in_order { order_fault (finite.get self.old.gathered id) order ≡ None }
-        ensures { (planned : _) (sends : _)
+        ensures { (planned sends : _)
             → Stays (stepped R.Side self.old id planned) (finite.get self.old.table id) sends
-            → DoesTo R.Side self.old id (Hears planned (More octets.now))
-            (event_reply (answered sends result)) self.new }
+            → GoesOn R.Side self.old id planned octets.now sends result self.new }
     {
         if let Err(fault) = self.gather.add(id, order, octets) {
             return Err(TableFault::from(fault));
@@ -216,9 +215,22 @@ impl<R: Side> CallTable<R> {
         if !self.has_room(octets.len()) {
             return Err(TableFault::GatherFull);
         }
+        Ok(self.finish(id, planned))
+    }
+
+    /// What `complete` does with a last piece whose octets have room, which `has_room` says. It
+    /// takes no memory.
+    pub fn finish(&mut self, id: u32, planned: Planned<R::Event>) -> Sends<R::Answer>
+        requires comes { gathers_at R.Side self.old id ≡ true }
+        requires accepted { IsOk (stepped R.Side self.old id planned).outcome }
+        requires ends { gathers R.gathering (stepped R.Side self.old id planned).entry ≡ false }
+        ensures { (octets : _) → is_over self.old.room self.old.gathered (length octets) ≡ false
+            → DoesTo R.Side self.old id (Hears planned (More octets)) (Ok (Answers result))
+            self.new }
+    {
         let sends = stay(&mut self.mux, id, planned);
         self.gather.discard(id);
-        Ok(sends)
+        sends
     }
 
     /// Takes out what is stored for the id, where its call is over, and returns it; `None` where
@@ -227,9 +239,8 @@ impl<R: Side> CallTable<R> {
     pub fn take(&mut self, id: u32) -> Result<Option<Slot<R::Entry>>, TableFault<R::Fault>>
         ensures does { DoesTo R.Side self.old id IsTaken (take_reply result) self.new }
         ensures value { IfOk result (λ slot. (slot ≡ finite.get self.old.table id)
-            × (self.new ≡ record self.old { table = put self.old.table id None })) }
-        ensures open { IfErr result (λ why. option_map (λ slot. R.closed self.old.rule slot.entry)
-            (finite.get self.old.table id) ≡ Some false) }
+            × (self.new ≡ without self.old id)) }
+        ensures open { IfErr result (λ why. IsOpenAt R.Side self.old id) }
         ensures kept { OnErr result (self.new ≡ self.old) }
     {
         let Ok(slot) = self.mux.take(id) else {
@@ -274,18 +285,17 @@ fn enter<R: Side>(
     id: u32,
     planned: Planned<R::Event>,
 ) -> Option<Sends<R::Answer>>
-    requires accepted { IsOk (sending_step (R.next mux.old.rule.rule)
-        (finite.get mux.old.entries id) planned).outcome }
+    requires accepted { IsOk
+        (step_at (R.next mux.old.rule.rule) mux.old.entries id planned).outcome }
     requires room { is_one_too_many mux.old.entries mux.old.limit id
-        (sending_step (R.next mux.old.rule.rule) (finite.get mux.old.entries id) planned).entry
+        (step_at (R.next mux.old.rule.rule) mux.old.entries id planned).entry
         ≡ false }
-    ensures some { IfSome result (λ sends. (judged mux.old.entries mux.old.limit id
-        (sending_step (R.next mux.old.rule.rule) (finite.get mux.old.entries id) planned)
-        ≡ Ok sends)
-        × (mux.new ≡ record mux.old {
-          entries = put mux.old.entries id (sending_step (R.next mux.old.rule.rule)
-              (finite.get mux.old.entries id) planned).entry;
-        })) }
+    ensures some { IfSome result (λ sends. judged mux.old.entries mux.old.limit id
+        (step_at (R.next mux.old.rule.rule) mux.old.entries id planned) ≡ Ok sends) }
+    ensures after { IfSome result (λ sends. mux.new ≡ record mux.old {
+      entries = put mux.old.entries id
+          (step_at (R.next mux.old.rule.rule) mux.old.entries id planned).entry;
+    }) }
     ensures none { IfNone result (mux.new ≡ mux.old) }
     ensures within { finite.len mux.new.entries ≤ mux.new.limit }
 {
@@ -295,14 +305,14 @@ fn enter<R: Side>(
 // Applies an event that the rule accepts to a call that has an entry, which takes no memory.
 fn stay<R: Side>(mux: &mut Mux<Sending<R>>, id: u32, planned: Planned<R::Event>) -> Sends<R::Answer>
     requires present { IsSome (finite.get mux.old.entries id) }
-    requires accepted { IsOk (sending_step (R.next mux.old.rule.rule)
-        (finite.get mux.old.entries id) planned).outcome }
+    requires accepted { IsOk
+        (step_at (R.next mux.old.rule.rule) mux.old.entries id planned).outcome }
     ensures value { judged mux.old.entries mux.old.limit id
-        (sending_step (R.next mux.old.rule.rule) (finite.get mux.old.entries id) planned)
+        (step_at (R.next mux.old.rule.rule) mux.old.entries id planned)
         ≡ Ok result }
     ensures after { mux.new ≡ record mux.old {
-      entries = put mux.old.entries id (sending_step (R.next mux.old.rule.rule)
-          (finite.get mux.old.entries id) planned).entry;
+      entries = put mux.old.entries id
+          (step_at (R.next mux.old.rule.rule) mux.old.entries id planned).entry;
     } }
     ensures within { finite.len mux.new.entries ≤ mux.new.limit }
 {

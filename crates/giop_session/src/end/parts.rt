@@ -1,14 +1,12 @@
 //! What an end's parts undergo when it is fed, closed, asked for its MessageError, or when an entry
 //! is taken out of it, whether the end is attached to its interface or not. What feeding does is
 //! `Fed` in specs/Hearing/Feeding.antt.
-ghost use Rattle.std.specs.Prelude.{◌≡◌, ◌≤◌, ◌^◌, ◌++◌, None, Some, Err, Ok, false, length, IfErr, IfOk, OnErr, OnOk};
+ghost use Rattle.std.specs.Prelude.{◌≡◌, ◌≤◌, ◌^◌, ◌++◌, None, Some, Err, Ok, length, IfErr, IfOk, OnErr, OnOk};
 ghost use Rattle.std.specs.FinMap as finite;
-ghost use Rattle.std.specs.Option.{option_map};
 ghost use Rattle.giop_cdr.specs.declared.order.Order.TheVariants.{Big};
-ghost use Rattle.giop_ids.specs.ById.{put};
 ghost use Rattle.giop_msg.specs.Msg.{message_octets};
 ghost use Rattle.giop_session.specs.declared.session_fault.SessionFault.TheVariants.{Closed, NoMemory, StillOpen};
-ghost use Rattle.giop_session.specs.Calls.CallTable.{DoesTo, entry_at, Gives, IsTaken};
+ghost use Rattle.giop_session.specs.Calls.CallTable.{DoesTo, entry_at, Gives, IsTaken, IsOpenAt, without};
 ghost use Rattle.giop_session.specs.Hearing.Feeding.{Fed, standing, with_octets};
 ghost use Rattle.giop_session.specs.Hearing.Heard.{hears_in};
 ghost use Rattle.giop_session.specs.Acts.Sent.{close_connection};
@@ -99,13 +97,12 @@ pub fn take<R: Hearing>(
     id: u32,
 ) -> Result<Option<R::Entry>, SessionFault>
     ensures failed { (why : _) → fault ≡ Some why → result ≡ Err why }
-    ensures value { IfOk result (λ taken. (taken ≡ entry_at calls.old id) × (calls.new ≡ record
-        calls.old { table = put calls.old.table id None })) }
+    ensures value { IfOk result (λ taken. (taken ≡ entry_at calls.old id)
+        × (calls.new ≡ without calls.old id)) }
     ensures does { IfOk result (λ taken. DoesTo R.Side calls.old id IsTaken
         (Ok (Gives (finite.get calls.old.table id))) calls.new) }
     ensures open { fault ≡ None → IfErr result (λ why. (why ≡ StillOpen)
-        × (option_map (λ slot. R.closed calls.old.rule slot.entry)
-        (finite.get calls.old.table id) ≡ Some false)) }
+        × IsOpenAt R.Side calls.old id) }
     ensures kept { IfErr result (λ why. calls.new ≡ calls.old) }
 {
     if let Some(fault) = fault {

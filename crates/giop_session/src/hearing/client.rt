@@ -1,12 +1,10 @@
 //! What a message of the server does at a client (CORBA 3.3 Part 2, 9.4), a function for each kind.
 //! Its meaning is `client_breaks` and `client_befalls` in specs/Hearing/ClientHears.antt: change both.
-ghost use Rattle.std.specs.Prelude.{◌≡◌, ◌≤◌, ◌^◌, ◌+◌, ◌++◌, length, option_copied, is_some, true, Some, IfSome};
+ghost use Rattle.std.specs.Prelude.{◌≡◌, ◌≤◌, ◌^◌, ◌+◌, ◌++◌, length, option_copied, is_some, true, IfSome};
 ghost use Rattle.std.specs.FinMap as finite;
 ghost use Rattle.giop_frag.specs.Gathered.{octets_in};
 ghost use Rattle.giop_msg.specs.RequestId.{request_id_of};
-ghost use Rattle.giop_calls.specs.declared.client.event.ClientEvent.TheVariants as event;
-ghost use Rattle.giop_calls.specs.declared.client.heard.HeardReply.TheVariants as heard;
-ghost use Rattle.giop_session.specs.Hearing.ClientHears.{arrives, AtClient, awaited, awaited_in, begins, comes, completes, continued_at, continues, gathered_call, gathered_in, goes_on, reply_in};
+ghost use Rattle.giop_session.specs.Hearing.ClientHears.{arrives, AtClient, awaited, awaited_in, begins, comes, completes, continued_at, continues, gathered_in, goes_on, reply_in, OfAwaited, OfGathered};
 ghost use Rattle.giop_session.specs.Hearing.Heard.{Befalls, behind_id, named};
 
 use crate::calls::call_table::CallTable;
@@ -132,9 +130,8 @@ fn arrive(
     message: &Msg,
 ) -> Result<(), SessionFault>
     requires { length message.now.payload ≤ 2 ^ 62 }
-    ensures { (call : _)
-        → awaited kind message.now.version (finite.get calls.old.table id) ≡ Some call → AtClient
-        (Befalls id (arrives interface.now kind message.now call)) calls.old result calls.new }
+    ensures { OfAwaited kind message.now.version calls.old id (λ call. AtClient
+        (Befalls id (arrives interface.now kind message.now call)) calls.old result calls.new) }
 {
     let Some(reply) = reply_to(alloc, interface, calls, id, kind, message) else {
         return Err(SessionFault::NoMemory);
@@ -159,9 +156,8 @@ fn reply_to(
     message: &Msg,
 ) -> Option<HeardReply>
     requires { length message.now.payload ≤ 2 ^ 62 }
-    ensures { IfSome result (λ reply. (call : _) → awaited kind message.now.version
-        (finite.get calls.now.table id) ≡ Some call → reply ≡ reply_in interface.now call
-        message.now message.now.payload) }
+    ensures { IfSome result (λ reply. OfAwaited kind message.now.version calls.now id
+        (λ call. reply ≡ reply_in interface.now call message.now message.now.payload)) }
 {
     let call = awaited_in(kind, message.version, &calls.slot(id)?.entry)?;
     let joined = SliceOctets::new(message.payload.as_slice());
@@ -234,9 +230,9 @@ fn complete(
     message: &Msg,
 ) -> Result<(), SessionFault>
     requires { is_some (continued_at calls.old id message.now.order) ≡ true }
-    ensures { (call pieces : _) → gathered_call (finite.get calls.old.table id) ≡ Some call
-        → finite.get calls.old.gathered id ≡ Some pieces → AtClient (Befalls id (completes
-        interface.now call message.now pieces.octets)) calls.old result calls.new }
+    ensures { OfGathered calls.old id (λ call pieces. AtClient
+        (Befalls id (completes interface.now call message.now pieces.octets))
+        calls.old result calls.new) }
 {
     let octets = behind_id(message);
     if !calls.has_room(octets.len()) {
@@ -249,7 +245,8 @@ fn complete(
         in_order: true,
         reply,
     });
-    told(id, calls.complete(id, last, octets))
+    calls.finish(id, last);
+    Ok(())
 }
 
 // The call whose reply is gathered, if one is.
@@ -273,10 +270,8 @@ fn joined_reply(
 ) -> Option<HeardReply>
     requires { octets_in (finite.get calls.now.gathered id)
         + length (behind_id message.now) ≤ 2 ^ 62 }
-    ensures { IfSome result (λ reply. (call pieces : _) → gathered_call
-        (finite.get calls.now.table id) ≡ Some call → finite.get calls.now.gathered id ≡ Some pieces
-        → reply ≡ reply_in interface.now call message.now (pieces.octets ++ behind_id
-        message.now)) }
+    ensures { IfSome result (λ reply. OfGathered calls.now id (λ call pieces.
+        reply ≡ reply_in interface.now call message.now (pieces.octets ++ behind_id message.now))) }
 {
     let call = gathered_in(&calls.slot(id)?.entry)?;
     let (_, gathered) = calls.pieces(id)?;

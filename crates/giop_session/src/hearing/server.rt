@@ -207,7 +207,8 @@ fn complete(
         in_order: true,
         call,
     });
-    told(id, calls.complete(id, last, octets))
+    calls.finish(id, last);
+    Ok(())
 }
 
 // What the gathered pieces and the last one decode to, read where they lie. `None` where it is out

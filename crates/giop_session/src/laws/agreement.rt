@@ -1,11 +1,8 @@
 //! Two ends that hear one another agree on each call. The function's contract is a law, and no
 //! program calls it; docs/AGREEMENT.md reads it aloud.
-ghost use Rattle.std.specs.Prelude.{◌≡◌, List, None};
-ghost use Rattle.giop_types.specs.declared.json.interface.Interface.{Interface};
+ghost use Rattle.std.specs.Prelude.{◌≡◌, None};
 ghost use Rattle.giop_session.specs.Worlds.Agreement.{Agreed, FailsByLimits};
-ghost use Rattle.giop_session.specs.Worlds.World.{WorldRuns, WorldState};
-ghost use Rattle.giop_session.specs.declared.laws.inputs.WorldEvent.{WorldEvent};
-ghost use Rattle.giop_session.specs.declared.limits.Limits.{Limits};
+ghost use Rattle.giop_session.specs.Worlds.World.{WorldRuns};
 
 use super::coding::own_ends_of_one_lane_agree;
 
@@ -16,12 +13,10 @@ use super::coding::own_ends_of_one_lane_agree;
 /// And an end fails for its own limits alone: at a message that is too large, for want of room for
 /// one more call, or of room to gather.
 pub fn two_ends_agree()
-    ensures agreed { (interface : Interface) (client_limits server_limits : Limits)
-        (schedule : List WorldEvent) (told : _) (w : WorldState)
-        → WorldRuns interface client_limits server_limits schedule told w
-        → w.client.fault ≡ None → w.server.fault ≡ None → Agreed w }
-    ensures fails { (interface : Interface) (client_limits server_limits : Limits)
-        (schedule : List WorldEvent) (told : _) (w : WorldState)
+    ensures agreed { (interface client_limits server_limits schedule told w : _)
+        → WorldRuns interface client_limits server_limits schedule told w → w.client.fault ≡ None
+        → w.server.fault ≡ None → Agreed w }
+    ensures fails { (interface client_limits server_limits schedule told w : _)
         → WorldRuns interface client_limits server_limits schedule told w
         → FailsByLimits client_limits server_limits w }
 {

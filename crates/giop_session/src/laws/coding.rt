@@ -1,13 +1,10 @@
 //! The session's own ends over one lane: what they send is read back, and so they agree. Each
 //! function's contract is a law, and no program calls these.
-ghost use Rattle.std.specs.Prelude.{◌≡◌, ◌++◌, ◌∷◌, [], false, true, List, map, None, Some};
+ghost use Rattle.std.specs.Prelude.{◌≡◌, ◌++◌, ◌∷◌, [], false, true, map, Some};
 ghost use Rattle.giop_types.specs.declared.json.interface.Interface.{Interface};
-ghost use Rattle.giop_msg.specs.declared.kind.Kind.TheVariants as message;
 ghost use Rattle.giop_msg.specs.declared.msg.Msg.{Msg};
-ghost use Rattle.giop_calls.specs.Lane.{Act, Cut, CutsCall, CutsLocated, CutsReply, IsSound, Lane, Runs};
-ghost use Rattle.giop_calls.specs.Lane.{kind_of, new, Opens, Piece, pieces_of, version_of};
-ghost use Rattle.giop_calls.specs.Messages.{is_oneway, is_same_version};
-ghost use Rattle.giop_calls.specs.declared.client.call.Call.TheVariants as asked;
+ghost use Rattle.giop_calls.specs.Lane.{Cut, CutsCall, CutsLocated, CutsReply, IsSound, Runs};
+ghost use Rattle.giop_calls.specs.Lane.{kind_of, new, Opens, pieces_of, version_of};
 ghost use Rattle.giop_calls.specs.declared.client.entry.ClientEntry.TheVariants as client;
 ghost use Rattle.giop_calls.specs.declared.client.event.ClientEvent.TheVariants as at_client;
 ghost use Rattle.giop_calls.specs.declared.kind.CallKind.TheVariants as kind;
@@ -19,11 +16,12 @@ ghost use Rattle.giop_session.specs.Hearing.ClientHears.{awaited, client_befalls
 ghost use Rattle.giop_session.specs.Worlds.Coding.{coding};
 ghost use Rattle.giop_session.specs.Hearing.Heard.{behind_id, kept};
 ghost use Rattle.giop_session.specs.Worlds.LaneAtEnds.{carried, gathered_in, gathers, seen};
-ghost use Rattle.giop_session.specs.Worlds.OwnLane.{alone, BringsClient, located_run, OwnRuns, PlansCall, PlansLocated, SendsCall, SendsLocated, SendsReply};
+ghost use Rattle.giop_session.specs.Worlds.OwnLane.{BringsClient, located_run, OwnRuns, PlansCall, PlansLocated, SendsCall, SendsLocated, SendsReply, IsAnswerable, IsReplied, IsLocated};
 ghost use Rattle.giop_session.specs.Worlds.OwnLane.{PlansReply, replied_run, sends_cut};
 ghost use Rattle.giop_session.specs.Acts.Sent.{sends_one};
 ghost use Rattle.giop_session.specs.Items.ServerCarries.{asks};
 ghost use Rattle.giop_session.specs.Hearing.ServerHears.{server_befalls};
+ghost use Rattle.giop_session.specs.Worlds.Reading.{IsContinuedBy, whole_call, last_of_call, whole_reply, first_of_reply, last_of_reply};
 
 use giop_calls::laws::ends_of_one_lane_agree;
 
@@ -32,16 +30,13 @@ use giop_calls::laws::ends_of_one_lane_agree;
 /// in either byte order and in pieces of any size. The pieces have one byte order, and it is read as
 /// the value that was sent.
 pub fn what_is_sent_is_read()
-    ensures call { (interface : Interface) (entry call : _) (planned : _)
-        → PlansCall interface entry call planned
+    ensures call { (interface entry call planned : _) → PlansCall interface entry call planned
         → (cut : Cut) × (planned ≡ sends_cut (at_client.Call call) cut)
         × CutsCall (coding interface) call (pieces_of cut) }
-    ensures reply { (interface : Interface) (q r : _) (planned : _)
-        → PlansReply interface q r planned
+    ensures reply { (interface q r planned : _) → PlansReply interface q r planned
         → (cut : Cut) × (planned ≡ sends_cut (at_server.Answer r) cut)
         × CutsReply (coding interface) q r (pieces_of cut) }
-    ensures located { (interface : Interface) (q here : _) (planned : _)
-        → PlansLocated q here planned
+    ensures located { (interface q here planned : _) → PlansLocated q here planned
         → (piece told : _) × (planned ≡ sends_one (at_server.AnswerLocate here) piece)
         × CutsLocated (coding interface) q here piece told }
 {}
@@ -50,44 +45,33 @@ pub fn what_is_sent_is_read()
 /// Fragment comes, is heard as the call that `coding` reads in all of its pieces. Those before the
 /// last one are gathered.
 pub fn servers_read_as_coding()
-    ensures whole { (interface : Interface) (k : _) (m : Msg) (call : _)
-        → m.kind ≡ asks k → m.more ≡ false → server_befalls interface m call
-        ≡ Hears (kept (at_server.Whole ((coding interface).read_call (m ∷ [])))) Nothing }
-    ensures first { (interface : Interface) (k : _) (m : Msg) (call : _)
-        → m.kind ≡ asks k → m.more ≡ true → server_befalls interface m call
+    ensures whole { (interface k m call : _) → m.kind ≡ asks k → m.more ≡ false
+        → server_befalls interface m call ≡ Hears (whole_call interface m) Nothing }
+    ensures first { (interface k m call : _) → m.kind ≡ asks k → m.more ≡ true
+        → server_befalls interface m call
         ≡ Hears (kept (at_server.First k)) (First m.order m.payload) }
-    ensures more { (interface : Interface) (k : _) (cut : Cut) (m : Msg) (unsent : _)
-        → m.kind ≡ message.Fragment → m.more ≡ true → m.order ≡ cut.first.order
+    ensures more { (interface k cut m unsent : _) → IsContinuedBy cut m → m.more ≡ true
         → server_befalls interface m (gathers (server.Gathering k) unsent cut)
         ≡ Hears (kept (at_server.More true)) (More (behind_id m)) }
-    ensures last { (interface : Interface) (k : _) (cut : Cut) (m : Msg) (unsent : _)
-        → cut.first.kind ≡ asks k → m.kind ≡ message.Fragment → m.more ≡ false
-        → m.order ≡ cut.first.order
-        → server_befalls interface m (gathers (server.Gathering k) unsent cut)
-        ≡ Hears (kept (at_server.Last true
-        ((coding interface).read_call (pieces_of cut ++ m ∷ [])))) (More (behind_id m)) }
+    ensures last { (interface k cut m unsent : _) → cut.first.kind ≡ asks k → IsContinuedBy cut m
+        → m.more ≡ false → server_befalls interface m (gathers (server.Gathering k) unsent cut)
+        ≡ last_of_call interface cut m }
 {}
 
 /// And how a client's end reads the reply to a call that waits for it, or whose reply it gathers.
 pub fn clients_read_as_coding()
-    ensures whole { (interface : Interface) (k q : _) (m : Msg) (call : _)
-        → m.kind ≡ replies k → m.more ≡ false → awaited k m.version call.slot ≡ Some q
-        → client_befalls interface m call
-        ≡ Hears (kept (at_client.Whole k m.version
-        ((coding interface).read_reply q (m ∷ [])))) Nothing }
-    ensures first { (interface : Interface) (k q : _) (m : Msg) (call : _)
-        → m.kind ≡ replies k → m.more ≡ true → awaited k m.version call.slot ≡ Some q
-        → client_befalls interface m call
-        ≡ Hears (kept (at_client.First k m.version)) (First m.order m.payload) }
-    ensures more { (interface : Interface) (q : _) (cut : Cut) (m : Msg) (unsent : _)
-        → m.kind ≡ message.Fragment → m.more ≡ true → m.order ≡ cut.first.order
+    ensures whole { (interface k q m call : _) → m.kind ≡ replies k → m.more ≡ false
+        → awaited k m.version call.slot ≡ Some q → client_befalls interface m call
+        ≡ Hears (whole_reply interface k q m) Nothing }
+    ensures first { (interface k q m call : _) → m.kind ≡ replies k → m.more ≡ true
+        → awaited k m.version call.slot ≡ Some q → client_befalls interface m call
+        ≡ first_of_reply k m }
+    ensures more { (interface q cut m unsent : _) → IsContinuedBy cut m → m.more ≡ true
         → client_befalls interface m (gathers (client.Gathering q) unsent cut)
         ≡ Hears (kept (at_client.More true)) (More (behind_id m)) }
-    ensures last { (interface : Interface) (q : _) (cut : Cut) (m : Msg) (unsent : _)
-        → m.kind ≡ message.Fragment → m.more ≡ false → m.order ≡ cut.first.order
+    ensures last { (interface q cut m unsent : _) → IsContinuedBy cut m → m.more ≡ false
         → client_befalls interface m (gathers (client.Gathering q) unsent cut)
-        ≡ Hears (kept (at_client.Last true
-        ((coding interface).read_reply q (pieces_of cut ++ m ∷ [])))) (More (behind_id m)) }
+        ≡ last_of_reply interface q cut m }
 {}
 
 /// What an end gathers are the joined octets of the pieces that came, in the order of the first.
@@ -102,14 +86,11 @@ pub fn pieces_are_gathered_as_they_come()
 /// headers of these messages, the first opens a call or an answer of its version, each behind it
 /// continues it, and the last alone says that no more follow.
 pub fn what_is_sent_is_a_lanes()
-    ensures call { (interface : Interface) (entry call : _) (cut : Cut)
-        → PlansCall interface entry call (sends_cut (at_client.Call call) cut)
+    ensures call { (interface entry call cut : _) → SendsCall interface entry call cut
         → map seen (pieces_of cut) ≡ carried (kind_of call) (version_of call) cut }
-    ensures reply { (interface : Interface) (q r : _) (cut : Cut)
-        → PlansReply interface q r (sends_cut (at_server.Answer r) cut)
+    ensures reply { (interface q r cut : _) → SendsReply interface q r cut
         → map seen (pieces_of cut) ≡ carried kind.Request r.version cut }
-    ensures located { (interface : Interface) (q here : _) (piece : Msg)
-        → PlansLocated q here (sends_one (at_server.AnswerLocate here) piece)
+    ensures located { (interface : Interface) (q here piece : _) → SendsLocated q here piece
         → seen piece ≡ Opens kind.Locate q.version true piece }
 {}
 
@@ -117,9 +98,9 @@ pub fn what_is_sent_is_a_lanes()
 /// order, an id used again included, as long as each pipe keeps its order: all that
 /// `giop_calls::laws::ends_of_one_lane_agree` says, of the session's own pieces and reading.
 pub fn own_ends_of_one_lane_agree()
-    ensures read { (interface : Interface) (acts : List Act) (lane : Lane)
+    ensures read { (interface acts lane : _)
         → Runs (coding interface) new acts lane → IsSound (coding interface) lane }
-    ensures own { (interface : Interface) (acts : List Act) (lane : Lane)
+    ensures own { (interface acts lane : _)
         → OwnRuns interface new acts lane → IsSound (coding interface) lane }
 {
     ends_of_one_lane_agree();
@@ -129,13 +110,10 @@ pub fn own_ends_of_one_lane_agree()
 /// is answered in one message of its version, and that arrives: the client has that Reply. So a
 /// LocateRequest: the client has its LocateReply.
 pub fn own_lanes_come_to_replies()
-    ensures replied { (interface : Interface) (q r : _) (one other : Piece) → is_oneway q ≡ false
-        → is_same_version q.head.version r.version ≡ true
-        → SendsCall interface None (asked.Request q) (alone one)
-        → SendsReply interface q r (alone other)
-        → BringsClient interface (replied_run q r one other) (client.Done q r) }
-    ensures located { (interface : Interface) (q here : _) (one other : Piece)
-        → SendsCall interface None (asked.Locate q) (alone one) → SendsLocated q here other
-        → (lane : Lane) × (told : _) × OwnRuns interface new (located_run q here one other) lane
-        × (lane.client.entry ≡ Some (client.LocateDone q told)) }
+    ensures replied { (interface q r one other : _) → IsAnswerable q r
+        → IsReplied interface q r one other → BringsClient interface (replied_run q r one other)
+        (client.Done q r) }
+    ensures located { (interface q here one other : _) → IsLocated interface q here one other
+        → (told : _) × BringsClient interface (located_run q here one other) (client.LocateDone q
+        told) }
 {}

@@ -1,10 +1,7 @@
 //! What feeding an end comes to, in whatever reads its octets come. A function's contract is a
 //! law; the body is empty, and no program calls it. Its meaning is `Feeds` in specs/Pumping.antt.
-ghost use Rattle.std.specs.Prelude.{ℕ, List};
-ghost use Rattle.giop_types.specs.declared.json.interface.Interface.{Interface};
-ghost use Rattle.giop_session.specs.Calls.CallTable.{Held};
 ghost use Rattle.giop_session.specs.Hearing.Heard.{hears_in};
-ghost use Rattle.giop_session.specs.Pumping.{AreOneRead, State, StaysRefused};
+ghost use Rattle.giop_session.specs.Pumping.{AreOneRead, StaysRefused};
 
 use crate::Hearing;
 
@@ -19,10 +16,8 @@ use crate::Hearing;
 ///
 /// What is outgoing is the same in any case: `End::feed` changes none of it.
 pub fn any_reads_leave_the_same<R: Hearing>(rule: &R)
-    ensures ok { (interface : Interface) (s mid t u : State (Held R R.Entry)) (octets more : List ℕ)
-        (second both : _)
+    ensures ok { (interface s mid t u octets more second both : _)
         → AreOneRead (hears_in R.Hearing interface) s mid t u octets more second both }
-    ensures refused { (interface : Interface) (s mid t u : State (Held R R.Entry))
-        (octets more : List ℕ) (why second both : _)
+    ensures refused { (interface s mid t u octets more why second both : _)
         → StaysRefused (hears_in R.Hearing interface) s mid t u octets more why second both }
 {}

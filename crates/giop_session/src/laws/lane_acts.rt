@@ -1,14 +1,5 @@
 //! What an end hears is an act of the lane of its id. Each function's contract is a law, and no
 //! program calls these.
-ghost use Rattle.std.specs.Prelude.{ℕ, List};
-ghost use Rattle.giop_types.specs.declared.json.interface.Interface.{Interface};
-ghost use Rattle.giop_msg.specs.declared.msg.Msg.{Msg};
-ghost use Rattle.giop_calls.specs.Lane.{Act, Lane, Message};
-ghost use Rattle.giop_calls.specs.declared.client.entry.ClientEntry.{ClientEntry};
-ghost use Rattle.giop_calls.specs.declared.client.rule.ClientRule.{ClientRule};
-ghost use Rattle.giop_calls.specs.declared.server.entry.ServerEntry.{ServerEntry};
-ghost use Rattle.giop_calls.specs.declared.server.rule.ServerRule.{ServerRule};
-ghost use Rattle.giop_session.specs.Calls.CallTable.{Held};
 ghost use Rattle.giop_session.specs.Worlds.Tracks.{ClientDoesLanesAct, ClientRefusesByLimits, ServerDoesLanesAct, ServerRefusesByLimits};
 
 use giop_calls::laws::ends_of_one_lane_agree;
@@ -21,11 +12,9 @@ use giop_calls::laws::ends_of_one_lane_agree;
 /// that crosses the reply, an id that is used again. Only a limit of the end itself does, where it
 /// is met, or want of memory; then nothing changes.
 pub fn servers_do_the_lanes_act()
-    ensures heard { (interface : Interface) (acts : List Act) (lane : Lane) (id : ℕ) (m : Msg)
-        (later : List Message) (h k : Held ServerRule ServerEntry)
+    ensures heard { (interface acts lane id m later h k : _)
         → ServerDoesLanesAct interface acts lane id m later h k }
-    ensures refused { (interface : Interface) (acts : List Act) (lane : Lane) (id : ℕ) (m : Msg)
-        (later : List Message) (h k : Held ServerRule ServerEntry) (why : _)
+    ensures refused { (interface acts lane id m later h k why : _)
         → ServerRefusesByLimits interface acts lane id m later h k why }
 {
     ends_of_one_lane_agree();
@@ -34,11 +23,9 @@ pub fn servers_do_the_lanes_act()
 /// So a client's end, of a reply that is awaited, and of one that no call awaits any more since it
 /// was cancelled.
 pub fn clients_do_the_lanes_act()
-    ensures heard { (interface : Interface) (acts : List Act) (lane : Lane) (id : ℕ) (m : Msg)
-        (later : List Message) (h k : Held ClientRule ClientEntry)
+    ensures heard { (interface acts lane id m later h k : _)
         → ClientDoesLanesAct interface acts lane id m later h k }
-    ensures refused { (interface : Interface) (acts : List Act) (lane : Lane) (id : ℕ) (m : Msg)
-        (later : List Message) (h k : Held ClientRule ClientEntry) (why : _)
+    ensures refused { (interface acts lane id m later h k why : _)
         → ClientRefusesByLimits interface acts lane id m later h k why }
 {
     ends_of_one_lane_agree();

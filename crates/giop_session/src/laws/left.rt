@@ -1,42 +1,26 @@
 //! As many messages are still to be sent as an entry says (CORBA 3.3 Part 2, 9.4.9). Each
 //! function's contract is a law; the bodies are empty, and no program calls these.
-ghost use Rattle.std.specs.Prelude.{◌≡◌, ℕ, List, Some};
+ghost use Rattle.std.specs.Prelude.{ℕ, Some};
 ghost use Rattle.std.specs.FinMap as finite;
-ghost use Rattle.giop_types.specs.declared.json.interface.Interface.{Interface};
 ghost use Rattle.giop_calls.specs.ClientTable as client;
 ghost use Rattle.giop_calls.specs.ServerTable as server;
-ghost use Rattle.giop_calls.specs.declared.client.entry.ClientEntry.{ClientEntry};
-ghost use Rattle.giop_calls.specs.declared.client.event.ClientEvent.{ClientEvent};
-ghost use Rattle.giop_calls.specs.declared.client.rule.ClientRule.{ClientRule};
-ghost use Rattle.giop_calls.specs.declared.server.entry.ServerEntry.{ServerEntry};
-ghost use Rattle.giop_calls.specs.declared.server.event.ServerEvent.{ServerEvent};
-ghost use Rattle.giop_calls.specs.declared.server.rule.ServerRule.{ServerRule};
-ghost use Rattle.giop_session.specs.declared.limits.Limits.{Limits};
-ghost use Rattle.giop_session.specs.Calls.Begun.{no_calls};
-ghost use Rattle.giop_session.specs.Calls.CallTable.{Held};
 ghost use Rattle.giop_session.specs.Acts.ClientCalls.{IsCall, IsCancel, IsLocate};
-ghost use Rattle.giop_session.specs.Hearing.ClientHears.{client_side};
-ghost use Rattle.giop_session.specs.Runs.Events.{Event, Meets};
-ghost use Rattle.giop_session.specs.Runs.LeftToSend.{ArePlanned, ClientPlans, IsLeft, ServerPlans};
+ghost use Rattle.giop_session.specs.Runs.LeftToSend.{ArePlanned, ClientPlans, IsLeft, ServerPlans, ServerMeets, ClientMeets};
 ghost use Rattle.giop_session.specs.Acts.ServerAnswers.{IsAnswer, IsLocateAnswer};
-ghost use Rattle.giop_session.specs.Hearing.ServerHears.{server_side};
 
 /// A server's end hears messages and acts itself, and none of this is refused. It plans a Reply in
 /// as many messages as its event says, a LocateReply in one, and a further piece as the next one:
 /// `ServerEnd::answer`, `answer_locate` and `send` do. Then as many messages of each call are still
 /// to be sent as its entry says to be left. So `send` has one wherever it is accepted.
 pub fn what_is_left_is_unsent_at_server()
-    ensures answered { (interface : Interface) (question : _) (answer : _) (form : _) (planned : _)
+    ensures answered { (interface question answer form planned : _)
         → IsAnswer interface (Some question) answer form planned
         → ServerPlans planned.event planned.plan }
-    ensures located { (id : ℕ) (here : _) (order : _) (version : _) (planned : _)
+    ensures located { (id here order version planned : _)
         → IsLocateAnswer id here order (Some version) planned
         → ServerPlans planned.event planned.plan }
-    ensures left { (interface : Interface) (limits : Limits) (events : List (Event ServerEvent))
-        (k : Held ServerRule ServerEntry)
-        → Meets (server_side interface) (no_calls (record {}) limits) events k
-        → ArePlanned ServerPlans events → (id : ℕ)
-        → IsLeft server.left_of (finite.get k.table id) }
+    ensures left { (interface limits events k : _) → ServerMeets interface limits events k
+        → ArePlanned ServerPlans events → (id : ℕ) → IsLeft server.left_of (finite.get k.table id) }
 {}
 
 /// A client's end hears messages and acts itself, and none of this is refused. It plans a call in
@@ -45,15 +29,12 @@ pub fn what_is_left_is_unsent_at_server()
 /// as many messages of each call are still to be sent as its entry says to be left. So `send` has
 /// one wherever it is accepted.
 pub fn what_is_left_is_unsent_at_client()
-    ensures called { (interface : Interface) (asked : _) (form : _) (planned : _)
-        → IsCall interface asked form planned → ClientPlans planned.event planned.plan }
-    ensures located { (asked : _) (form : _) (planned : _)
-        → IsLocate asked form planned → ClientPlans planned.event planned.plan }
-    ensures cancelled { (id : ℕ) (order : _) (version : _) (planned : _)
-        → IsCancel id order (Some version) planned → ClientPlans planned.event planned.plan }
-    ensures left { (interface : Interface) (limits : Limits) (events : List (Event ClientEvent))
-        (k : Held ClientRule ClientEntry)
-        → Meets (client_side interface) (no_calls (record {}) limits) events k
-        → ArePlanned ClientPlans events → (id : ℕ)
-        → IsLeft client.left_of (finite.get k.table id) }
+    ensures called { (interface asked form planned : _) → IsCall interface asked form planned
+        → ClientPlans planned.event planned.plan }
+    ensures located { (asked form planned : _) → IsLocate asked form planned
+        → ClientPlans planned.event planned.plan }
+    ensures cancelled { (id order version planned : _) → IsCancel id order (Some version) planned
+        → ClientPlans planned.event planned.plan }
+    ensures left { (interface limits events k : _) → ClientMeets interface limits events k
+        → ArePlanned ClientPlans events → (id : ℕ) → IsLeft client.left_of (finite.get k.table id) }
 {}

@@ -1,12 +1,8 @@
 //! Limits in any order: events that are within the limits of an end meet none. Each function's
 //! contract is a law; the bodies are empty, and no program calls these.
-ghost use Rattle.std.specs.Prelude.{◌≤◌, List, length, sum_by};
-ghost use Rattle.giop_types.specs.declared.json.interface.Interface.{Interface};
-ghost use Rattle.giop_calls.specs.declared.client.event.ClientEvent.{ClientEvent};
-ghost use Rattle.giop_calls.specs.declared.server.event.ServerEvent.{ServerEvent};
+ghost use Rattle.std.specs.Prelude.{◌≤◌, length, sum_by};
 ghost use Rattle.giop_session.specs.declared.limits.Limits.{Limits};
 ghost use Rattle.giop_session.specs.Hearing.ClientHears.{client_side};
-ghost use Rattle.giop_session.specs.Runs.Events.{Event};
 ghost use Rattle.giop_session.specs.Runs.Limits.{AreWithinAtClient, AreWithinAtServer, MeetNoLimit, payload_of};
 ghost use Rattle.giop_session.specs.Hearing.ServerHears.{server_side};
 
@@ -18,12 +14,10 @@ ghost use Rattle.giop_session.specs.Hearing.ServerHears.{server_side};
 /// This holds of any events, at most `calls` of them, whose messages have at most `gathered` octets
 /// in all.
 pub fn limits_in_any_order_at_server()
-    ensures order { (interface : Interface) (limits : Limits) (all : List (Event ServerEvent))
-        → AreWithinAtServer limits all
+    ensures order { (interface limits all : _) → AreWithinAtServer limits all
         → MeetNoLimit (server_side interface) (record {}) limits all }
-    ensures few { (limits : Limits) (all : List (Event ServerEvent))
-        → length all ≤ limits.calls → sum_by payload_of all ≤ limits.gathered
-        → AreWithinAtServer limits all }
+    ensures few { (limits : Limits) (all : _) → length all ≤ limits.calls
+        → sum_by payload_of all ≤ limits.gathered → AreWithinAtServer limits all }
 {}
 
 /// Let the calls and locates of a client's own program have at most as many distinct ids as its
@@ -34,10 +28,8 @@ pub fn limits_in_any_order_at_server()
 /// This holds of any events, at most `calls` of them, whose messages have at most `gathered` octets
 /// in all.
 pub fn limits_in_any_order_at_client()
-    ensures order { (interface : Interface) (limits : Limits) (all : List (Event ClientEvent))
-        → AreWithinAtClient limits all
+    ensures order { (interface limits all : _) → AreWithinAtClient limits all
         → MeetNoLimit (client_side interface) (record {}) limits all }
-    ensures few { (limits : Limits) (all : List (Event ClientEvent))
-        → length all ≤ limits.calls → sum_by payload_of all ≤ limits.gathered
-        → AreWithinAtClient limits all }
+    ensures few { (limits : Limits) (all : _) → length all ≤ limits.calls
+        → sum_by payload_of all ≤ limits.gathered → AreWithinAtClient limits all }
 {}

@@ -6,7 +6,7 @@ ghost use Rattle.giop_session.specs.declared.laws.inputs.Answered.TheVariants.{R
 ghost use Rattle.giop_session.specs.declared.session_fault.SessionFault.TheVariants.{NoMemory};
 ghost use Rattle.giop_session.specs.Runs.ClientRuns.{ClientHasAnswers, ClientHasEntries, ClientRuns, ClientTakesAs};
 ghost use Rattle.giop_session.specs.Runs.Driven.{answer_of, Closes, Feeds, InTurn, IsGiven, NoneRefused, TakesOut};
-ghost use Rattle.giop_session.specs.Runs.Fits.{ClientFits, ClientIsAsAlone, ClientIsAsSaid, ClientSays, ServerFits, ServerIsAsAlone, ServerIsAsSaid, ServerSays};
+ghost use Rattle.giop_session.specs.Runs.Fits.{ClientFits, ClientIsAsAlone, ServerFits, ServerIsAsAlone, ServerEndsAsSaid, ClientEndsAsSaid};
 ghost use Rattle.giop_session.specs.Acts.PutOut.{ArePutOut, is_of_client, is_of_server};
 ghost use Rattle.giop_session.specs.Runs.RunLimits.{ClientIsGivenWithin, NoneForALimit, ServerIsGivenWithin};
 ghost use Rattle.giop_session.specs.Runs.ServerRuns.{ServerHasAnswers, ServerHasEntries, ServerRuns, ServerTakesAs};
@@ -68,8 +68,7 @@ pub fn run_server<'a>(
     ensures alone { IfOk result (λ run. (fits : ServerFits interface.now limits inputs.items)
         → (id : ℕ) → ServerIsAsAlone fits run.1.items run.0.calls id) }
     ensures said { IfOk result (λ run. (fits : ServerFits interface.now limits inputs.items)
-        (calls : _) → ((id : ℕ) → ServerSays (fits.alone id) (calls id))
-        → (id : ℕ) → ServerIsAsSaid interface.now calls inputs.items run.1.items run.0.calls id) }
+        → ServerEndsAsSaid fits run.1.items run.0.calls) }
     ensures put_out { IfOk result (λ run. ArePutOut is_of_server run.0.outgoing) }
 {
     let mut server: ServerEnd<'a> = End::<ServerRule>::new(alloc, interface, limits);
@@ -123,8 +122,7 @@ pub fn run_client<'a>(
     ensures alone { IfOk result (λ run. (fits : ClientFits interface.now limits inputs.items)
         → (id : ℕ) → ClientIsAsAlone fits run.1.items run.0.calls id) }
     ensures said { IfOk result (λ run. (fits : ClientFits interface.now limits inputs.items)
-        (calls : _) → ((id : ℕ) → ClientSays (fits.alone id) (calls id))
-        → (id : ℕ) → ClientIsAsSaid interface.now calls inputs.items run.1.items run.0.calls id) }
+        → ClientEndsAsSaid fits run.1.items run.0.calls) }
     ensures put_out { IfOk result (λ run. ArePutOut is_of_client run.0.outgoing) }
 {
     let mut client: ClientEnd<'a> = End::<ClientRule>::new(alloc, interface, limits);

@@ -1,10 +1,6 @@
 //! What is stored for an id, by steps and without them (docs/HEADLINE.md). Each function's contract
 //! is a law, and no program calls these.
-ghost use Rattle.std.specs.Prelude.{ℕ, List};
-ghost use Rattle.giop_types.specs.declared.json.interface.Interface.{Interface};
-ghost use Rattle.giop_session.specs.declared.limits.Limits.{Limits};
-ghost use Rattle.giop_session.specs.Items.ClientCarries.{ClientItem};
-ghost use Rattle.giop_session.specs.Items.ServerCarries.{ServerItem};
+ghost use Rattle.std.specs.Prelude.{ℕ};
 ghost use Rattle.giop_session.specs.Runs.ClientRuns.{client_entry, ClientHolds};
 ghost use Rattle.giop_session.specs.Runs.Fits.{ClientStands, ServerStands};
 ghost use Rattle.giop_session.specs.Runs.ServerRuns.{server_entry, ServerHolds};
@@ -16,8 +12,7 @@ use giop_calls::laws::{client_entry_stands, server_entry_stands};
 /// id's own messages, each as it is read where it comes, and acts. And it is what stands by those
 /// of its latest call, without steps.
 pub fn entries_stand_at_server()
-    ensures { (interface : Interface) (limits : Limits) (inputs answers left k : _)
-        (calls : ℕ → List ServerItem)
+    ensures { (interface limits inputs answers left k calls : _)
         (held : ServerHolds interface limits inputs answers left k calls) (id : ℕ)
         → ServerStands interface id (calls id) held.holds.0 (server_entry k id) }
 {
@@ -26,8 +21,7 @@ pub fn entries_stand_at_server()
 
 /// So does a client's end, of what its server said and what it did itself.
 pub fn entries_stand_at_client()
-    ensures { (interface : Interface) (limits : Limits) (inputs answers left k : _)
-        (calls : ℕ → List ClientItem)
+    ensures { (interface limits inputs answers left k calls : _)
         (held : ClientHolds interface limits inputs answers left k calls) (id : ℕ)
         → ClientStands interface id (calls id) held.holds.0 (client_entry k id) }
 {

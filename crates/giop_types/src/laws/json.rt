@@ -1,6 +1,7 @@
-//! Laws of values as JSON, above the definitions of specs/JsonForms. The body of the first is
-//! empty, and that of the second makes the calls that it is about. No program calls these.
+//! Laws of values as JSON, above the definitions of specs/JsonForms. The first two are laws alone, and
+//! the body of the third makes the calls that it is about. No program calls these.
 ghost use Rattle.std.specs.Prelude.{◌≡◌, ◌↔◌, true, false, None, Ok, IfOk, IsErrOf};
+ghost use Rattle.serde_json.specs.Data.{Data};
 ghost use Rattle.giop_types.specs.declared.json.form_fault.FormFault.TheVariants.{Unfit};
 ghost use Rattle.giop_types.specs.declared.json.number_form.NumberForm.{NumberForm};
 ghost use Rattle.giop_types.specs.Descriptions.Checked.{desc_fault};
@@ -28,6 +29,19 @@ pub fn json_gives_values_back()
         → (tree : Tree) → fits shape tree ≡ true → (numbers : NumberForm)
         → from_data shape (to_data numbers shape tree) ≡ Ok tree }
 {}
+
+/// A JSON value that is read as a value is a form of it: the value fits its description, and what it is
+/// written as, with its numbers in either form, is read as the same value. So among the forms that are
+/// read as a value, the writer's is the one that stands for all.
+pub fn what_is_read_as_json_is_written_so()
+    ensures fits { (shape : Shape) (read : Data) (tree : Tree) → from_data shape read ≡ Ok tree
+        → fits shape tree ≡ true }
+    ensures written { (shape : Shape) → desc_fault 1 shape ≡ None → is_plain shape ≡ true
+        → (read : Data) (tree : Tree) → from_data shape read ≡ Ok tree
+        → (numbers : NumberForm) → from_data shape (to_data numbers shape tree) ≡ Ok tree }
+{
+    json_gives_values_back();
+}
 
 /// Writes a value as JSON and reads that again. Refused as Unfit where the value isn't of the
 /// description, or as NoMemory. `value_from_json` returns the value for what `value_to_json_in`

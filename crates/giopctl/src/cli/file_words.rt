@@ -17,13 +17,16 @@ pub struct FileWord<'a> {
 
 impl FileWord<'_> {
     /// The key of its object, where it is of a single one.
-    pub fn key(&self) -> Option<&[u8]> {
+    pub(crate) fn key(&self) -> Option<&[u8]> {
         match &self.key {
             Some(key) => Some(key.as_slice()),
             None => None,
         }
     }
 }
+
+/// The files of an option, in their order, or what is wrong with one of its words.
+pub type Files<'a> = Result<Vec<FileWord<'a>>, &'static str>;
 
 // What stands before a key, so that it is read as that of a corbaloc.
 const BEFORE: &[u8] = b"corbaloc::h/";
@@ -35,7 +38,7 @@ const TWICE: &str =
     "an object has one file of --interface and one of --answers, and so have all others together";
 
 /// The option of the files of interfaces.
-pub fn interfaces<'a>(alloc: Global) -> Arg<'a> {
+pub(crate) fn interface_option<'a>(alloc: Global) -> Arg<'a> {
     Arg::new(alloc, "interface")
         .long("interface")
         .required(true)
@@ -45,7 +48,7 @@ pub fn interfaces<'a>(alloc: Global) -> Arg<'a> {
 }
 
 /// The option of the files of answers.
-pub fn answers<'a>(alloc: Global) -> Arg<'a> {
+pub(crate) fn answers_option<'a>(alloc: Global) -> Arg<'a> {
     Arg::new(alloc, "answers")
         .long("answers")
         .required(true)
@@ -54,13 +57,13 @@ pub fn answers<'a>(alloc: Global) -> Arg<'a> {
         .help("The file of the answers, in JSON; KEY=FILE is that of one object alone")
 }
 
-/// The files of an option, in their order, or what is wrong with one of its words. What stands before
-/// the first `=` of a word is the key; where nothing does, there is none.
-pub fn file_words<'a>(
+/// The files of an option, in their order, or what is wrong with one of its words. What stands
+/// before the first `=` of a word is the key; where nothing does, there is none.
+pub(crate) fn file_words<'a>(
     alloc: Global,
     matches: &ArgMatches<'a>,
     name: &str,
-) -> Result<Result<Vec<FileWord<'a>>, &'static str>, AllocError> {
+) -> Result<Files<'a>, AllocError> {
     let mut words: Vec<FileWord<'a>> = Vec::new(alloc);
     let Some(texts) = matches.get_strs(name) else {
         return Ok(Ok(words));
@@ -104,9 +107,9 @@ fn key_of(alloc: Global, text: &[u8]) -> Result<Option<Vec<u8>>, AllocError> {
     }
 }
 
-/// Refuses files of which more than one is the standard input, which is read once; one other file is
-/// judged with them. It says why.
-pub fn apart_from(words: &[FileWord<'_>], other: &str) -> Result<(), &'static str> {
+/// Refuses files of which more than one is the standard input, which is read once; one other file
+/// is judged with them. It says why.
+pub(crate) fn apart_from(words: &[FileWord<'_>], other: &str) -> Result<(), &'static str> {
     let mut one = other;
     for word in words {
         apart(one, word.file)?;

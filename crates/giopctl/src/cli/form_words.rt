@@ -8,7 +8,7 @@ use giop_types::NumberForm;
 use std::alloc::Global;
 
 /// The option of a command that may write lines of JSON.
-pub fn json<'a>(alloc: Global) -> Arg<'a> {
+pub(crate) fn json_option<'a>(alloc: Global) -> Arg<'a> {
     Arg::new(alloc, "json")
         .long("json")
         .action(ArgAction::SetTrue)
@@ -16,7 +16,7 @@ pub fn json<'a>(alloc: Global) -> Arg<'a> {
 }
 
 /// The option of a command that writes values.
-pub fn json_numbers<'a>(alloc: Global) -> Arg<'a> {
+pub(crate) fn json_numbers_option<'a>(alloc: Global) -> Arg<'a> {
     Arg::new(alloc, "json-numbers")
         .long("json-numbers")
         .value_name("FORM")
@@ -26,24 +26,24 @@ pub fn json_numbers<'a>(alloc: Global) -> Arg<'a> {
 }
 
 /// The form of the lines of a command that takes `--json` alone.
-pub fn plain_lines_of(matches: &ArgMatches<'_>) -> LineForm {
-    form_of(matches, NumberForm::Plain)
+pub(crate) fn plain_lines_of(matches: &ArgMatches<'_>) -> LineForm {
+    line_form(matches, NumberForm::Plain)
 }
 
 /// The form of the lines of a command that takes `--json` and `--json-numbers`.
-pub fn lines_of(matches: &ArgMatches<'_>) -> LineForm {
-    form_of(matches, numbers_of(matches))
+pub(crate) fn lines_of(matches: &ArgMatches<'_>) -> LineForm {
+    line_form(matches, numbers_of(matches))
 }
 
 /// The form of numbers in values, of a command that takes `--json-numbers`.
-pub fn numbers_of(matches: &ArgMatches<'_>) -> NumberForm {
+pub(crate) fn numbers_of(matches: &ArgMatches<'_>) -> NumberForm {
     match matches.get_str("json-numbers") {
         Some("text") => NumberForm::Quoted,
         _ => NumberForm::Plain,
     }
 }
 
-fn form_of(matches: &ArgMatches<'_>, numbers: NumberForm) -> LineForm {
+fn line_form(matches: &ArgMatches<'_>, numbers: NumberForm) -> LineForm {
     match matches.get_flag("json") {
         true => LineForm::Json(numbers),
         false => LineForm::Text(numbers),

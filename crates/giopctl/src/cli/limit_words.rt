@@ -1,8 +1,10 @@
 //! The options of what is held at most: --message-limit, --calls-limit and --gathered-limit. Their
-//! defaults are those of giop_session's `Limits`: change both.
+//! defaults are those of giop_session's `Limits`: change both. A change here is one in
+//! docs/giopctl.md and tests/program too.
 ghost use Rattle.std.specs.Prelude.{◌≤◌, ◌^◌, IfOk};
 ghost use Rattle.giop_commands.specs.Check.{AreLimits};
 
+use crate::cli::number_words::{number_of, number_option, short_number_of};
 use clap::builder::ValueParser;
 use clap::{Arg, ArgMatches, Command};
 use giop_session::Limits;
@@ -12,8 +14,8 @@ use std::alloc::{AllocError, Global};
 const MOST_GATHERED: u64 = 1 << 62;
 
 /// The option of the greatest message size.
-pub fn message_limit<'a>(alloc: Global) -> Arg<'a> {
-    limit(
+pub(crate) fn message_limit_option<'a>(alloc: Global) -> Arg<'a> {
+    number_option(
         alloc,
         "message-limit",
         "The most octets of a message, its header not counted",
@@ -23,8 +25,11 @@ pub fn message_limit<'a>(alloc: Global) -> Arg<'a> {
 }
 
 /// A command with the options of all limits of an end.
-pub fn limited<'a>(alloc: Global, command: Command<'a>) -> Result<Command<'a>, AllocError> {
-    let calls = limit(
+pub(crate) fn with_limits<'a>(
+    alloc: Global,
+    command: Command<'a>,
+) -> Result<Command<'a>, AllocError> {
+    let calls = number_option(
         alloc,
         "calls-limit",
         "The most calls in the table, those that are over included",
@@ -32,14 +37,14 @@ pub fn limited<'a>(alloc: Global, command: Command<'a>) -> Result<Command<'a>, A
     .default_value("1024")
     .value_parser(ValueParser::Unsigned(0, 4_294_967_295));
     command
-        .arg(message_limit(alloc))?
+        .arg(message_limit_option(alloc))?
         .arg(calls)?
-        .arg(gathered_limit(alloc))
+        .arg(gathered_limit_option(alloc))
 }
 
 /// The option of the most octets that are gathered.
-pub fn gathered_limit<'a>(alloc: Global) -> Arg<'a> {
-    limit(
+pub(crate) fn gathered_limit_option<'a>(alloc: Global) -> Arg<'a> {
+    number_option(
         alloc,
         "gathered-limit",
         "The most octets of all messages of which a piece is still to come",
@@ -48,17 +53,30 @@ pub fn gathered_limit<'a>(alloc: Global) -> Arg<'a> {
     .value_parser(ValueParser::Unsigned(0, MOST_GATHERED))
 }
 
-fn limit<'a>(alloc: Global, name: &'a str, help: &'a str) -> Arg<'a> {
-    Arg::new(alloc, name).long(name).value_name("N").help(help)
+/// The greatest message size, or what is wrong with its word.
+pub(crate) fn message_limit_of(matches: &ArgMatches) -> Result<u32, &'static str> {
+    match short_number_of(matches, "message-limit") {
+        Some(message) => Ok(message),
+        None => Err("--message-limit is a number from 0 to 4294967295"),
+    }
 }
 
-/// The greatest message size, or what is wrong with its word.
-pub fn message_limit_of(matches: &ArgMatches) -> Result<u32, &'static str> {
-    short(
-        matches,
-        "message-limit",
-        "--message-limit is a number from 0 to 4294967295",
-    )
+/// The most octets that are gathered, or what is wrong with the word.
+pub fn gathered_limit_of(matches: &ArgMatches) -> Result<u64, &'static str>
+    ensures { IfOk result (λ gathered. gathered ≤ 2 ^ 62) }
+{
+    match number_of(matches, "gathered-limit") {
+        Some(gathered) if gathered <= MOST_GATHERED => Ok(gathered),
+        _ => Err("--gathered-limit is a number from 0 to 4611686018427387904"),
+    }
+}
+
+// The most calls in the table, or what is wrong with the word.
+fn calls_limit_of(matches: &ArgMatches) -> Result<u32, &'static str> {
+    match short_number_of(matches, "calls-limit") {
+        Some(calls) => Ok(calls),
+        None => Err("--calls-limit is a number from 0 to 4294967295"),
+    }
 }
 
 /// The limits of an end, or what is wrong with a word.
@@ -66,46 +84,11 @@ pub fn limits_of(matches: &ArgMatches) -> Result<Limits, &'static str>
     ensures { IfOk result (λ limits. AreLimits limits) }
 {
     let message = message_limit_of(matches)?;
-    let calls = short(
-        matches,
-        "calls-limit",
-        "--calls-limit is a number from 0 to 4294967295",
-    )?;
+    let calls = calls_limit_of(matches)?;
     let gathered = gathered_limit_of(matches)?;
     Ok(Limits {
         calls,
         message,
         gathered,
     })
-}
-
-/// The most octets that are gathered, or what is wrong with the word.
-pub fn gathered_limit_of(matches: &ArgMatches) -> Result<u64, &'static str>
-    ensures { IfOk result (λ gathered. gathered ≤ 2 ^ 62) }
-{
-    match number(matches, "gathered-limit") {
-        Some(gathered) if gathered <= MOST_GATHERED => Ok(gathered),
-        _ => Err("--gathered-limit is a number from 0 to 4611686018427387904"),
-    }
-}
-
-// The number of an option that is below 2^32.
-fn short(matches: &ArgMatches, name: &str, wrong: &'static str) -> Result<u32, &'static str> {
-    match number(matches, name) {
-        Some(number) => match u32::try_from(number) {
-            Ok(number) => Ok(number),
-            Err(_) => Err(wrong),
-        },
-        None => Err(wrong),
-    }
-}
-
-// The number of an option, where its word is decimal digits and nothing else.
-fn number(matches: &ArgMatches, name: &str) -> Option<u64> {
-    let text = matches.get_str(name)?;
-    if text.as_bytes().iter().all(|octet| octet.is_ascii_digit()) {
-        text.parse::<u64>().ok()
-    } else {
-        None
-    }
 }

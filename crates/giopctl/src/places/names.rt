@@ -9,7 +9,11 @@ use std::alloc::{AllocError, Global};
 const NAMES: u32 = 256;
 
 /// A path in the plain form of a file, as one in the file.
-pub fn path_in_file(alloc: Global, file: &Json, path: Vec<Step>) -> Result<Vec<Step>, AllocError> {
+pub(super) fn path_in_file(
+    alloc: Global,
+    file: &Json,
+    path: Vec<Step>,
+) -> Result<Vec<Step>, AllocError> {
     let mut told = Vec::new(alloc);
     let mut part = Some(file);
     for step in path {

@@ -6,7 +6,7 @@ use Rattle.giop_session.proofs.OnCalls.TableLemmas.{table_apart, told_apart}
 use Rattle.giop_session.proofs.laws.any_interleaving.Goals as goal
 
 pub returns : goal.returns
-returns g c = λ h k k' one other results results' run run' free free' same id.
+returns g c = λ h k k' one other results results' (run, free) (run', free') same id.
     let next = g.R.CallRule.next c.args.rule.now in
     let closed = g.R.CallRule.closed c.args.rule.now in
     let rules = rules_of next closed g.R.Side.gathering in

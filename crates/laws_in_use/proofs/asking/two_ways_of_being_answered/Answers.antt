@@ -19,12 +19,6 @@ use Rattle.laws_in_use.proofs.AskingMessages.{decoded}
 use Rattle.laws_in_use.proofs.AskingRuns.{one_taken, other_taken}
 use Rattle.laws_in_use.proofs.asking.two_ways_of_being_answered.Goals as goal
 
-pub returns-clause-one_taken : goal.returns-clause-one_taken
-returns-clause-one_taken c = λ interface. (_, _, one_taken interface)
-
-pub returns-clause-other_taken : goal.returns-clause-other_taken
-returns-clause-other_taken c = λ interface. (_, _, other_taken interface)
-
 pub returns-clause-one_holds : goal.returns-clause-one_holds
 returns-clause-one_holds c = λ interface.
     holds.one_holds interface (c.locate_replies_are_spelled.ensures V10) (c.locate_replies_are_spelled.ensures V12)
@@ -52,23 +46,29 @@ returns-clause-other_holds c = λ interface.
     (holds.asked_then interface (c.locate_replies_are_spelled.ensures V10) (c.locate_replies_are_spelled.ensures V12)) refl
     (returns-clause-written c))
 
+pub returns-clause-one_taken : goal.returns-clause-one_taken
+returns-clause-one_taken c = λ interface. (_, ((_, one_taken interface), returns-clause-one_holds c interface))
+
+pub returns-clause-other_taken : goal.returns-clause-other_taken
+returns-clause-other_taken c = λ interface. (_, ((_, other_taken interface), returns-clause-other_holds c interface))
+
 pub returns-clause-seven : goal.returns-clause-seven
 returns-clause-seven c = λ interface left k taken.
-    c.same_calls_same_entries_at_client.ensures.value interface limits one_way left k told taken (returns-clause-one_holds c interface) 7
+    c.same_calls_same_entries_at_client.ensures.value interface limits one_way told k ((left, taken), returns-clause-one_holds c interface) 7
 
 pub returns-clause-nine : goal.returns-clause-nine
 returns-clause-nine c = λ interface left k taken.
-    c.same_calls_same_entries_at_client.ensures.value interface limits one_way left k told taken (returns-clause-one_holds c interface) 9
+    c.same_calls_same_entries_at_client.ensures.value interface limits one_way told k ((left, taken), returns-clause-one_holds c interface) 9
     ∙ ap (λ told. (settles (Waiting (asked.Locate key)) (asked.Locate key) told).entry) (decoded interface).short
 
 pub returns-clause-others : goal.returns-clause-others
 returns-clause-others c = λ interface left k taken id seven nine.
-    c.same_calls_same_entries_at_client.ensures.value interface limits one_way left k told taken (returns-clause-one_holds c interface) id
+    c.same_calls_same_entries_at_client.ensures.value interface limits one_way told k ((left, taken), returns-clause-one_holds c interface) id
     ∙ ap (λ items. (behind_all (client_telling interface) unknown items).entry)
     (ap (λ b. if b then told_of_seven else if id == 9 then told_of_nine else []) (eq_apart id 7 seven)
     ∙ ap (λ b. if b then told_of_nine else []) (eq_apart id 9 nine))
 
 pub returns-clause-same : goal.returns-clause-same
 returns-clause-same c = λ interface left left' k k' taken taken'.
-    c.same_calls_same_entries_at_client.ensures.same interface limits tight_limits one_way other_way left left' k k' told taken taken'
-    (returns-clause-one_holds c interface) (returns-clause-other_holds c interface)
+    c.same_calls_same_entries_at_client.ensures.same interface limits tight_limits one_way other_way told k k'
+    ((left, taken), returns-clause-one_holds c interface) ((left', taken'), returns-clause-other_holds c interface)

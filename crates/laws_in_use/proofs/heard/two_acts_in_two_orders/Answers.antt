@@ -15,9 +15,6 @@ use Rattle.laws_in_use.specs.Locating.{door_begins, key_little, limits}
 use Rattle.laws_in_use.proofs.LocatingRuns.{asked_act, begun_act, new, none_at, one_1, one_2}
 use Rattle.laws_in_use.proofs.heard.two_acts_in_two_orders.Goals as goal
 
-pub returns-clause-run : goal.returns-clause-run
-returns-clause-run c = λ interface. (one_2 interface, (one_1 interface, begun_act interface, (one_2 interface, asked_act interface, refl)))
-
 free_by : (seven nine : Bool) → AllByRecursion (λ result. is_own is_of_call result ≡ true)
     (if seven then silence ∷ (if nine then silence ∷ [] else []) else if nine then silence ∷ [] else [])
 free_by true true = (refl, (refl, tt))
@@ -28,8 +25,11 @@ free_by false false = tt
 pub returns-clause-free : goal.returns-clause-free
 returns-clause-free c = λ id. free_by (7 == id) (9 == id)
 
-pub returns-clause-none : goal.returns-clause-none
-returns-clause-none c = returns-clause-free c
+pub returns-clause-run : goal.returns-clause-run
+returns-clause-run c = λ interface. (
+  one_2 interface,
+  ((one_1 interface, begun_act interface, (one_2 interface, asked_act interface, refl)), returns-clause-free c),
+)
 
 pub returns-clause-seven : goal.returns-clause-seven
 returns-clause-seven c = λ k run.
@@ -53,10 +53,12 @@ same_by true false not_both = refl
 same_by false true not_both = refl
 same_by false false not_both = refl
 
+pub returns-clause-same : goal.returns-clause-same
+returns-clause-same c = λ id. same_by (7 == id) (9 == id) (apart id)
+
 pub returns-clause-either : goal.returns-clause-either
-returns-clause-either c = λ k k' results results' run run' free free'.
-    c.any_interleaving.ensures (new limits) k k' (begins ∷ asks ∷ []) (asks ∷ begins ∷ []) results results' run run' free free'
-    (λ id. same_by (7 == id) (9 == id) (apart id))
+returns-clause-either c = λ k k' results results' run run'.
+    c.any_interleaving.ensures (new limits) k k' (begins ∷ asks ∷ []) (asks ∷ begins ∷ []) results results' run run' (returns-clause-same c)
 
 own_is : own_events {V = ServerEvent} 7 (Comes door_begins ∷ Comes key_little ∷ []) ≡ Comes door_begins ∷ []
 unfolding request_id_layout chosen number number_at field_at

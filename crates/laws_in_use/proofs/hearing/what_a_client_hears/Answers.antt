@@ -22,9 +22,9 @@ returns-clause-first c = λ interface.
 
 pub returns-clause-more : goal.returns-clause-more
 returns-clause-more c = λ interface.
-    c.clients_read_as_coding.ensures.more interface (asked.Locate door) here_begun door_goes_on [] refl refl refl
+    c.clients_read_as_coding.ensures.more interface (asked.Locate door) here_begun door_goes_on [] (refl, refl) refl
 
 pub returns-clause-last : goal.returns-clause-last
 returns-clause-last c = λ interface.
-    c.clients_read_as_coding.ensures.last interface (asked.Locate door) here_begun here_ends [] refl refl refl
+    c.clients_read_as_coding.ensures.last interface (asked.Locate door) here_begun here_ends [] (refl, refl) refl
     ∙ ap (λ read. Hears (kept (event.Last true read)) (More (behind_id here_ends))) (decoded interface).here_joined

@@ -15,16 +15,19 @@ use Rattle.laws_in_use.proofs.hearing.what_a_clients_lane_has.Goals as goal
 
 pub returns-clause-opens : goal.returns-clause-opens
 returns-clause-opens c = λ interface.
-    let (heard_it, brings, lane, befalls) =
+    let (brings, (heard_it, lane, befalls)) =
     c.clients_hear_the_lanes_event.ensures.opens interface kind.Locate (asked.Locate door) here_little waits waiting refl refl refl in
     let is : event.Whole kind.Locate V12 (heard.Locate here) ≡ heard_it =
     let read = (decoded interface).here_little in cc in
     (brings, befalls ∙ ap (λ (e : ClientEvent). Hears (kept e) brings) (sym is))
 
+pub returns-clause-gathers : goal.returns-clause-gathers
+returns-clause-gathers c = (refl, refl)
+
 pub returns-clause-continues : goal.returns-clause-continues
 returns-clause-continues c = λ interface.
     let (heard_it, lane, befalls) =
-    c.clients_hear_the_lanes_event.ensures.continues interface (asked.Locate door) here_begun here_ends [] here_standing refl refl refl refl in
+    c.clients_hear_the_lanes_event.ensures.continues interface (asked.Locate door) here_begun here_ends [] here_standing (refl, refl) (refl, refl) in
     let is : event.Last true (heard.Locate here) ≡ heard_it =
     let read = (decoded interface).here_joined in cc in
     befalls ∙ ap (λ (e : ClientEvent). Hears (kept e) (More (behind_id here_ends))) (sym is)

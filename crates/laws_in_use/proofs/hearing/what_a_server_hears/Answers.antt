@@ -16,10 +16,13 @@ returns-clause-whole c = λ interface call.
 pub returns-clause-first : goal.returns-clause-first
 returns-clause-first c = λ interface call. c.servers_read_as_coding.ensures.first interface kind.Locate door_begins call refl refl
 
+pub returns-clause-goes_on : goal.returns-clause-goes_on
+returns-clause-goes_on c = (refl, refl)
+
 pub returns-clause-more : goal.returns-clause-more
-returns-clause-more c = λ interface. c.servers_read_as_coding.ensures.more interface kind.Locate door_begun door_goes_on [] refl refl refl
+returns-clause-more c = λ interface. c.servers_read_as_coding.ensures.more interface kind.Locate door_begun door_goes_on [] (refl, refl) refl
 
 pub returns-clause-last : goal.returns-clause-last
 returns-clause-last c = λ interface.
-    c.servers_read_as_coding.ensures.last interface kind.Locate door_begun door_ends [] refl refl refl refl
+    c.servers_read_as_coding.ensures.last interface kind.Locate door_begun door_ends [] refl (refl, refl) refl
     ∙ ap (λ read. Hears (kept (event.Last true read)) (More (behind_id door_ends))) (decoded interface).door_joined

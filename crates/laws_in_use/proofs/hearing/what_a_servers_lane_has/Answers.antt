@@ -15,7 +15,7 @@ returns-clause-opens c = λ interface call.
 
 pub returns-clause-continues : goal.returns-clause-continues
 returns-clause-continues c = λ interface.
-    c.servers_hear_the_lanes_event.ensures.continues interface kind.Locate door_begun door_ends [] refl refl refl
+    c.servers_hear_the_lanes_event.ensures.continues interface kind.Locate door_begun door_ends [] refl (refl, refl)
     ∙ ap (λ read. Hears (kept (event.Last true read)) (More (behind_id door_ends))) (decoded interface).door_joined
 
 pub returns-clause-stops : goal.returns-clause-stops

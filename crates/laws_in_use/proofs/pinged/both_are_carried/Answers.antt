@@ -33,6 +33,9 @@ returns-clause-request c = λ interface entry has.
 pub returns-clause-written_back : goal.returns-clause-written_back
 returns-clause-written_back c = refusal_as
 
+pub returns-clause-waits : goal.returns-clause-waits
+returns-clause-waits c = refl
+
 pub returns-clause-reply : goal.returns-clause-reply
 returns-clause-reply c = λ interface.
     c.what_is_cut_is_carried.ensures.reply interface V12 Big (ping V12) refusing 32 (refusal_begins ∷ refusal_ends ∷ [])

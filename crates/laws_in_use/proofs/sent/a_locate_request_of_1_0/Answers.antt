@@ -73,7 +73,11 @@ pub returns-clause-item : goal.returns-clause-item
 returns-clause-item c = λ interface there.
     c.what_is_sent_is_an_item.ensures.locate interface None key (alone key_big) there (asks_key_so interface)
 
+pub returns-clause-waits : goal.returns-clause-waits
+returns-clause-waits c = refl
+
 pub returns-clause-item_back : goal.returns-clause-item_back
 returns-clause-item_back c = λ interface.
-    c.what_is_sent_is_an_item.ensures.located interface key false unknown_big
-    (record { entry = None; latest = Some (asked.Locate key) }) refl answers_so
+    let (told, carried, says) = c.what_is_sent_is_an_item.ensures.located interface key false unknown_big
+    (record { entry = None; latest = Some (asked.Locate key) }) refl answers_so in
+    (told, carried, says.0, says.1)

@@ -8,7 +8,7 @@ pub returns-clause-first : goal.returns-clause-first
 returns-clause-first c = first_reply
 
 pub returns-clause-more : goal.returns-clause-more
-returns-clause-more c = more_reply
+returns-clause-more c = λ interface q cut m unsent (fragment, order) more. more_reply interface q cut m unsent fragment more order
 
 pub returns-clause-last : goal.returns-clause-last
-returns-clause-last c = last_reply
+returns-clause-last c = λ interface q cut m unsent (fragment, order) last. last_reply interface q cut m unsent fragment last order

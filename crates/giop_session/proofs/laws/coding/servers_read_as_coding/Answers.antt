@@ -8,7 +8,7 @@ pub returns-clause-first : goal.returns-clause-first
 returns-clause-first c = first_call
 
 pub returns-clause-more : goal.returns-clause-more
-returns-clause-more c = more_call
+returns-clause-more c = λ interface k cut m unsent (fragment, order) more. more_call interface k cut m unsent fragment more order
 
 pub returns-clause-last : goal.returns-clause-last
-returns-clause-last c = last_call
+returns-clause-last c = λ interface k cut m unsent asks (fragment, order) last. last_call interface k cut m unsent asks fragment last order

@@ -3,8 +3,9 @@ use Rattle.giop_session.proofs.OnItems.ServerHeadline.{server_entries}
 use Rattle.giop_session.proofs.laws.headline.same_calls_same_entries_at_server.Goals as goal
 
 pub returns-clause-value : goal.returns-clause-value
-returns-clause-value c = server_entries
+returns-clause-value c = λ interface limits inputs calls k (takes, holds). server_entries interface limits inputs takes.0 k calls takes.1 holds
 
 pub returns-clause-same : goal.returns-clause-same
-returns-clause-same c = λ interface limits limits' one other left left' k k' calls takes takes' holds holds' id.
-    server_entries interface limits one left k calls takes holds id ∙ sym (server_entries interface limits' other left' k' calls takes' holds' id)
+returns-clause-same c = λ interface limits limits' one other calls k k' (takes, holds) (takes', holds') id.
+    server_entries interface limits one takes.0 k calls takes.1 holds id
+    ∙ sym (server_entries interface limits' other takes'.0 k' calls takes'.1 holds' id)

@@ -5,7 +5,8 @@ pub returns-clause-opens : goal.returns-clause-opens
 returns-clause-opens c = server_opens
 
 pub returns-clause-continues : goal.returns-clause-continues
-returns-clause-continues c = server_continues
+returns-clause-continues c = λ interface k cut m unsent asks (fragment, order).
+    server_continues interface k cut m unsent asks fragment order
 
 pub returns-clause-stops : goal.returns-clause-stops
 returns-clause-stops c = server_stops

@@ -24,6 +24,5 @@ returns-clause-located c = λ interface asked here m known waits (id, order, is)
   told_of asked.version id here,
   c.what_is_cut_is_carried.ensures.located interface asked.version order asked (told_of asked.version id here) 24 (m ∷ []) known waits
       (located_written id here order asked.version m is),
-  refl,
-  refl,
+  (refl, refl),
 )

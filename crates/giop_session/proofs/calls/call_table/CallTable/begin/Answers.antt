@@ -26,7 +26,7 @@ invariant_of-self-in-Some g c =
     record {
       tied = tied_after g.R.Side.gathering m.entries _ c.self.inside.gather.lists _ c.args.id step.entry
           (Some (record { order = c.args.order; octets = c.args.octets.now })) c.self.invariant.tied
-          (ap (λ m. m.entries) c.in-Some.ensures.some.1) (ap (λ g. g.lists) c.in_default.ensures.ok)
+          (ap (λ m. m.entries) c.in-Some.ensures.after) (ap (λ g. g.lists) c.in_default.ensures.ok)
           (sym (subst (λ (h : Held g.row.R.Denot g.row.R-Entry.Denot).
           gathers g.R.Side.gathering (sending_step (g.R.CallRule.next h.rule) (finite.get h.table c.args.id) c.args.planned).entry ≡ true)
           (sym c.self.view_is) c.requires.gathers));
@@ -34,7 +34,7 @@ invariant_of-self-in-Some g c =
       blocks = enough_blocks g.R.Side.gathering m c.self.inside.gather c.args.id (Some (record { order = c.args.order; octets = c.args.octets.now }))
           (length c.args.octets.now) _ _ _ comes
           (not_over (is_over c.self.inside.gather.limit c.self.inside.gather.lists (length c.args.octets.now)) c.in_default.ensures.only)
-          (ap (λ g. g.limit) c.in_default.ensures.ok) (ap (λ m. m.limit) c.in-Some.ensures.some.1) (ap (λ g. g.blocks) c.in_default.ensures.ok);
+          (ap (λ g. g.limit) c.in_default.ensures.ok) (ap (λ m. m.limit) c.in-Some.ensures.after) (ap (λ g. g.blocks) c.in_default.ensures.ok);
     }
 
 pub invariant_of-self-2 : goal.invariant_of-self-2

@@ -1,0 +1,12 @@
+//! A folder for each command: its words and help, and the files, connections and standard output
+//! that it runs over. What it prints is giop_commands', over any reader and writer.
+
+pub mod call;
+pub mod check;
+pub mod convert;
+pub mod dump;
+pub mod locate;
+mod object;
+pub mod ping;
+pub mod serve;
+pub mod trace;

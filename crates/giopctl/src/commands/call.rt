@@ -1,0 +1,133 @@
+//! `call` over files, a connection and the standard output. What it sends, reads and prints is
+//! giop_commands' call.rt, over any reader and writer.
+ghost use Rattle.std.specs.Prelude.{◌≡◌};
+
+mod asked;
+mod following;
+mod help;
+mod lines;
+mod places;
+pub mod words;
+
+use crate::commands::call::asked::{Asked, asked_in, calls_given};
+use crate::commands::call::following::call_and_follow;
+use crate::commands::call::lines::call_lines;
+use crate::commands::call::words::CallWords;
+use crate::connection::connect;
+use crate::connection::target::{endpoint_of, peer_of, target_text};
+use crate::files::OUTPUT_BUFFER;
+use crate::files::interfaces::{NOTHING, Offered, interface_of_each, own_of, read_each};
+use crate::report;
+use giop_commands::call::calls::CallLine;
+use giop_commands::call::streaming::call_stream;
+use giop_commands::failure::Failure;
+use giop_commands::serve::given::Telling;
+use giop_commands::status::Status;
+use giop_commands::{Calling, Ending, Endpoint, call_over};
+use giop_types::Interface;
+use std::io;
+use std::io::{BufWriter, Write};
+
+/// What the object that is called offers, also where it forwards calls to.
+#[derive(Clone, Copy)]
+pub struct Object<'a> {
+    /// The text of its interface.
+    pub text: &'a [u8],
+    /// What that says.
+    pub interface: &'a Interface,
+}
+
+/// Reads the file of the interface and that of the calls, connects to where the target says, and
+/// calls. What is refused is reported before anything is connected: the target, the interface, the
+/// calls, in this order.
+pub(crate) fn call(rt: &HostRuntime, words: CallWords) -> Status {
+    match try_call(rt, words) {
+        Ok(status) => status,
+        Err(status) => status,
+    }
+}
+
+fn try_call(rt: &HostRuntime, words: CallWords) -> Result<Status, Status> {
+    let target = target_text(rt, words.target)?;
+    let offered = read_each(rt, words.interfaces.as_slice())?;
+    let asked = asked_in(rt, &words, offered.as_slice())?;
+    let endpoint = endpoint_of(rt, words.lines, words.target, target.as_slice())?;
+    interface_of_each(rt, words.lines, offered.as_slice())?;
+    let (interface, text) = object_of(rt, offered.as_slice(), endpoint.key.as_slice())?;
+    let object = Object {
+        text,
+        interface: &interface,
+    };
+    let given = match asked {
+        Asked::Lines(file) => return call_lines(rt, file, object, &endpoint, &words),
+        Asked::Given(given) => given,
+    };
+    if words.follow {
+        return call_and_follow(rt, &words, object, &given, &endpoint);
+    }
+    let calls = calls_given(rt, &words, object, &given)?;
+    let peer = peer_of(rt, words.target, &endpoint)?;
+    let answered = call_at(
+        rt,
+        calls,
+        &endpoint,
+        &words,
+        calling_of(&words, &interface, &endpoint),
+    );
+    Ok(report::call_status(rt, peer.as_str(), words.timeout, answered))
+}
+
+// What the object of a key offers, and the text of that.
+fn object_of<'b>(
+    rt: &HostRuntime,
+    offered: &'b [Offered<'_>],
+    key: &[u8],
+) -> Result<(Interface, &'b [u8]), Status> {
+    let text = match own_of(offered, key) {
+        Some(one) => one.text.as_slice(),
+        None => NOTHING,
+    };
+    match Interface::from_json(rt.alloc(), text) {
+        Ok(interface) => Ok((interface, text)),
+        Err(_) => Err(report::status_of(rt, "--interface", Err(Failure::Memory))),
+    }
+}
+
+/// How the object of an endpoint is called.
+pub fn calling_of<'a>(
+    words: &CallWords<'_>,
+    interface: &'a Interface,
+    endpoint: &'a Endpoint,
+) -> Calling<'a>
+    ensures interface { result.interface.now ≡ interface.now }
+    ensures limits { result.limits ≡ words.now.limits }
+{
+    Calling {
+        interface,
+        key: endpoint.key.as_slice(),
+        version: endpoint.version,
+        form: words.form,
+        limits: words.limits,
+    }
+}
+
+// Makes calls in a session with the object of an endpoint, and tells them.
+fn call_at(
+    rt: &HostRuntime,
+    calls: Vec<CallLine>,
+    endpoint: &Endpoint,
+    words: &CallWords<'_>,
+    calling: Calling<'_>,
+) -> Result<Ending, Failure> {
+    let link = connect(rt, endpoint, words.timeout)?;
+    let mut out = BufWriter::with_capacity(rt.alloc(), OUTPUT_BUFFER, io::writer(rt))?;
+    let (mut reader, mut writer) = (&link, &link);
+    let (reader, writer) = (&mut reader, &mut writer);
+    let (alloc, lines) = (rt.alloc(), words.lines);
+    let ending = match words.telling {
+        Telling::AtTheEnd => call_over(alloc, calling, calls, lines, reader, writer, &mut out)?,
+        Telling::WhenOver => call_stream(alloc, calling, calls, lines, reader, writer, &mut out)?,
+    };
+    out.flush()?;
+    Ok(ending)
+}

@@ -1,0 +1,268 @@
+//! `call --follow`: calls that are forwarded are made again where the reference says, over a
+//! connection of their own. What is sent and told is giop_commands' call/following.rt.
+ghost use Rattle.std.specs.Prelude.{◌≡◌};
+
+use crate::commands::call::asked::{Given, calls_given};
+use crate::commands::call::words::CallWords;
+use crate::commands::call::{Object, calling_of};
+use crate::connection::connect;
+use crate::connection::forwards::{MOST_FORWARDS, place_text};
+use crate::connection::target::peer_of;
+use crate::files::OUTPUT_BUFFER;
+use crate::report;
+use giop_commands::Endpoint;
+use giop_commands::call::calls::CallLine;
+use giop_commands::call::following::{Forward, call_at, calls_of, forwards_of, tell_followed};
+use giop_commands::failure::Failure;
+use giop_commands::session::ending::ending_of;
+use giop_commands::session::told;
+use giop_commands::status::Status;
+use giop_session::{ClientEnd, SessionFault};
+use giop_types::Interface;
+use std::alloc::{AllocError, Global};
+use std::io;
+use std::io::{BufWriter, Write};
+
+// The sessions so far; of the last the fault of a call that was refused at this end, and what
+// failed in it, with its peer.
+#[derive(Drop)]
+struct Sessions<'a> {
+    ends: Vec<ClientEnd<'a>>,
+    refused: Option<SessionFault>,
+    failed: Option<(String, Failure)>,
+}
+
+impl Sessions<'_> {
+    // The fault of the last session's end.
+    fn fault(&self) -> Option<SessionFault> {
+        match self.ends.last() {
+            Some(end) => end.fault(),
+            None => None,
+        }
+    }
+
+    // Whether others may follow: neither a fault nor a failure ended the last.
+    fn may_go_on(&self) -> bool {
+        self.failed.is_none() && self.refused.is_none() && self.fault().is_none()
+    }
+}
+
+/// Makes calls, and again those that are forwarded, up to five times each. Then tells them all, by
+/// what they came to where they were made last.
+pub(super) fn call_and_follow(
+    rt: &HostRuntime,
+    words: &CallWords<'_>,
+    object: Object<'_>,
+    given: &Given,
+    endpoint: &Endpoint,
+) -> Result<Status, Status> {
+    let calls = calls_given(rt, words, object, given)?;
+    let mut sessions = Sessions {
+        ends: Vec::new(rt.alloc()),
+        refused: None,
+        failed: None,
+    };
+    session_at(rt, words, object.interface, endpoint, calls, &mut sessions)?;
+    for done in 0..=MOST_FORWARDS {
+        let forwards = forwards_in(rt, words, &sessions)?;
+        if done == MOST_FORWARDS {
+            print_unfollowed(rt, forwards.as_slice());
+        } else {
+            follow(rt, words, object, given, forwards, &mut sessions)?;
+        }
+    }
+    Ok(tell_calls(rt, words, object.interface, sessions))
+}
+
+// The calls that are to be made again; none where no session may follow.
+fn forwards_in(
+    rt: &HostRuntime,
+    words: &CallWords<'_>,
+    sessions: &Sessions<'_>,
+) -> Result<Vec<Forward>, Status> {
+    if !sessions.may_go_on() {
+        return Ok(Vec::new(rt.alloc()));
+    }
+    match forwards_of(rt.alloc(), sessions.ends.as_slice()) {
+        Ok(forwards) => Ok(forwards),
+        Err(failure) => Err(report::status_of(rt, words.target, Err(failure))),
+    }
+}
+
+// Makes calls again, those of one place in one session, up to one behind which none may follow.
+fn follow<'a>(
+    rt: &HostRuntime,
+    words: &CallWords<'_>,
+    object: Object<'a>,
+    given: &Given,
+    mut forwards: Vec<Forward>,
+    sessions: &mut Sessions<'a>,
+) -> Result<(), Status> {
+    for _ in 0..u64::MAX {
+        if forwards.is_empty() || !sessions.may_go_on() {
+            return Ok(());
+        }
+        let first = forwards.remove(0);
+        let ids = match ids_at(rt.alloc(), &first, &mut forwards) {
+            Ok(ids) => ids,
+            Err(_) => return Err(report::status_of(rt, words.target, Err(Failure::Memory))),
+        };
+        print_forwards(rt, ids.as_slice(), &first.to);
+        let calls = calls_of(calls_given(rt, words, object, given)?, ids.as_slice());
+        session_at(rt, words, object.interface, &first.to, calls, sessions)?;
+    }
+    Ok(())
+}
+
+// The ids of a call and of those that are forwarded to the same place, which are taken out.
+fn ids_at(
+    alloc: Global,
+    first: &Forward,
+    forwards: &mut Vec<Forward>,
+) -> Result<Vec<u32>, AllocError> {
+    let mut ids = Vec::new(alloc);
+    ids.push(first.id)?;
+    for forward in &*forwards {
+        if forward.to == first.to {
+            ids.push(forward.id)?;
+        }
+    }
+    forwards.retain(|forward| forward.to != first.to);
+    Ok(ids)
+}
+
+// Makes calls in a session with the object of an endpoint.
+fn session_at<'a>(
+    rt: &HostRuntime,
+    words: &CallWords<'_>,
+    interface: &'a Interface,
+    endpoint: &Endpoint,
+    calls: Vec<CallLine>,
+    sessions: &mut Sessions<'a>,
+) -> Result<(), Status> {
+    let peer = peer_of(rt, words.target, endpoint)?;
+    let mut end = ClientEnd::new(rt.alloc(), interface, words.limits);
+    match call_in_session(rt, words, interface, endpoint, calls, &mut end) {
+        Ok(refused) => {
+            print_open_calls(rt, words, peer.as_str(), &end, refused)?;
+            sessions.refused = refused;
+        }
+        Err(Failure::Memory) => {
+            return Err(report::status_of(rt, words.target, Err(Failure::Memory)));
+        }
+        Err(failure) => sessions.failed = Some((peer, failure)),
+    }
+    match sessions.ends.push(end) {
+        Ok(()) => Ok(()),
+        Err(_) => Err(report::status_of(rt, words.target, Err(Failure::Memory))),
+    }
+}
+
+fn call_in_session(
+    rt: &HostRuntime,
+    words: &CallWords<'_>,
+    interface: &Interface,
+    endpoint: &Endpoint,
+    calls: Vec<CallLine>,
+    end: &mut ClientEnd<'_>,
+) -> Result<Option<SessionFault>, Failure>
+    requires interface { end.old.interface.now ≡ interface.now }
+    requires limits { end.old.limits ≡ words.now.limits }
+{
+    let link = connect(rt, endpoint, words.timeout)?;
+    let (mut reader, mut writer) = (&link, &link);
+    let calling = calling_of(words, interface, endpoint);
+    call_at(rt.alloc(), end, calling, calls, &mut reader, &mut writer)
+}
+
+// Prints which calls are open where a session ended without a fault.
+fn print_open_calls(
+    rt: &HostRuntime,
+    words: &CallWords<'_>,
+    peer: &str,
+    end: &ClientEnd<'_>,
+    refused: Option<SessionFault>,
+) -> Result<(), Status> {
+    let ended = match ending_of(rt.alloc(), end, told(refused, end.fault()), Status::Done) {
+        Ok(ending) => Ok(ending),
+        Err(_) => Err(Failure::Memory),
+    };
+    match report::call_status(rt, peer, words.timeout, ended) {
+        Status::Done => Ok(()),
+        status => Err(status),
+    }
+}
+
+// Prints where calls are forwarded to.
+fn print_forwards(rt: &HostRuntime, ids: &[u32], to: &Endpoint) {
+    for id in ids {
+        print_forward(rt, *id, to, "");
+    }
+}
+
+// Prints which calls are forwarded once more, and not followed.
+fn print_unfollowed(rt: &HostRuntime, forwards: &[Forward]) {
+    for forward in forwards {
+        let behind = ", which isn't followed: it was forwarded 5 times before";
+        print_forward(rt, forward.id, &forward.to, behind);
+    }
+}
+
+// Prints where a call is forwarded to, and a text behind it.
+fn print_forward(rt: &HostRuntime, id: u32, to: &Endpoint, behind: &str) {
+    if let Some(text) = place_text(rt.alloc(), to) {
+        let _ = eprintln!(rt;
+            "giopctl: call {id} is forwarded to {}{behind}",
+            text.as_str()
+        );
+    }
+}
+
+// Tells what all calls came to, and what failed.
+fn tell_calls(
+    rt: &HostRuntime,
+    words: &CallWords<'_>,
+    interface: &Interface,
+    sessions: Sessions<'_>,
+) -> Status {
+    let status = match tell_sessions(rt, words, interface, &sessions) {
+        Ok(status) => status,
+        Err(failure) => return report::status_of(rt, words.target, Err(failure)),
+    };
+    let Sessions { ends, failed, .. } = sessions;
+    drop(ends);
+    match failed {
+        Some((peer, failure)) => report::call_status(
+            rt,
+            peer.as_str(),
+            words.timeout,
+            Err(failure),
+        ),
+        None => report::status_of(rt, words.target, Ok(status)),
+    }
+}
+
+// Tells what all calls came to.
+fn tell_sessions(
+    rt: &HostRuntime,
+    words: &CallWords<'_>,
+    interface: &Interface,
+    sessions: &Sessions<'_>,
+) -> Result<Status, Failure> {
+    let mut out = BufWriter::with_capacity(rt.alloc(), OUTPUT_BUFFER, io::writer(rt))?;
+    let fault = match sessions.failed {
+        Some(_) => None,
+        None => sessions.fault(),
+    };
+    let status = tell_followed(
+        rt.alloc(),
+        words.lines,
+        interface,
+        sessions.ends.as_slice(),
+        sessions.refused,
+        fault,
+        &mut out,
+    )?;
+    out.flush()?;
+    Ok(status)
+}

@@ -1,0 +1,58 @@
+//! `locate` over a connection and the standard output. It sends a LocateRequest (CORBA 3.3 Part 2,
+//! 9.4.5). What is sent and told is giop_commands' call/locating.rt.
+
+mod following;
+mod help;
+pub mod words;
+
+use crate::cli::object_words::ObjectWords;
+use crate::commands::locate::following::locate_and_follow;
+use crate::commands::object::{calling_at, object_interface};
+use crate::connection::connect;
+use crate::connection::target::{endpoint_of, peer_of, target_text};
+use crate::files::OUTPUT_BUFFER;
+use crate::report;
+use giop_commands::call::locating::locate_over;
+use giop_commands::failure::Failure;
+use giop_commands::status::Status;
+use giop_commands::{Ending, Endpoint};
+use giop_session::Limits;
+use std::io;
+use std::io::{BufWriter, Write};
+
+/// Connects to where the target says, and asks where the object is; where forwards are followed, up
+/// to five times more where it is said to be. A refused target is reported before anything is
+/// connected.
+pub(crate) fn locate(rt: &HostRuntime, words: ObjectWords) -> Status {
+    let status = if words.follow {
+        locate_and_follow(rt, words)
+    } else {
+        locate_once(rt, words)
+    };
+    match status {
+        Ok(status) => status,
+        Err(status) => status,
+    }
+}
+
+fn locate_once(rt: &HostRuntime, words: ObjectWords) -> Result<Status, Status> {
+    let text = target_text(rt, words.target)?;
+    let endpoint = endpoint_of(rt, words.lines, words.target, text.as_slice())?;
+    let peer = peer_of(rt, words.target, &endpoint)?;
+    let ended = ask(rt, &endpoint, words);
+    Ok(report::call_status(rt, peer.as_str(), words.timeout, ended))
+}
+
+// Asks over a connection, and writes what came of it.
+fn ask(rt: &HostRuntime, endpoint: &Endpoint, words: ObjectWords) -> Result<Ending, Failure> {
+    let interface = object_interface(rt.alloc())?;
+    let calling = calling_at(words, &interface, endpoint, Limits::default());
+    let link = connect(rt, endpoint, words.timeout)?;
+    let mut out = BufWriter::with_capacity(rt.alloc(), OUTPUT_BUFFER, io::writer(rt))?;
+    let (mut reader, mut writer) = (&link, &link);
+    let (reader, writer) = (&mut reader, &mut writer);
+    let (alloc, lines) = (rt.alloc(), words.lines);
+    let ended = locate_over(alloc, calling, lines, reader, writer, &mut out)?;
+    out.flush()?;
+    Ok(ended)
+}

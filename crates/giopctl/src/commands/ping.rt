@@ -1,0 +1,62 @@
+//! `ping` over a connection and the standard output. It calls `_non_existent`, the operation by
+//! which a client asks whether an object is there (CORBA 3.3 Part 2, 9.4.2.1), and tells how long
+//! that took.
+
+mod help;
+pub mod words;
+
+use crate::cli::object_words::ObjectWords;
+use crate::commands::object::{NON_EXISTENT, calling_at, object_interface};
+use crate::connection::connect;
+use crate::connection::target::{endpoint_of, peer_of, target_text};
+use crate::files::OUTPUT_BUFFER;
+use crate::report;
+use giop_commands::call::words::call_from_words;
+use giop_commands::failure::Failure;
+use giop_commands::status::Status;
+use giop_commands::{Ending, Endpoint, call_over};
+use giop_session::Limits;
+use std::io;
+use std::io::{BufWriter, Write};
+use std::time::Instant;
+
+/// Connects to where the target says, asks the object whether it is there, and tells how long that
+/// took. A refused target is reported before anything is connected.
+pub(crate) fn ping(rt: &HostRuntime, words: ObjectWords) -> Status {
+    match try_ping(rt, words) {
+        Ok(status) => status,
+        Err(status) => status,
+    }
+}
+
+fn try_ping(rt: &HostRuntime, words: ObjectWords) -> Result<Status, Status> {
+    let text = target_text(rt, words.target)?;
+    let endpoint = endpoint_of(rt, words.lines, words.target, text.as_slice())?;
+    let peer = peer_of(rt, words.target, &endpoint)?;
+    let began = Instant::now(rt);
+    let ended = ask(rt, &endpoint, words);
+    if let (Ok(began), Ok(_)) = (began, &ended) {
+        if let Ok(time) = began.elapsed(rt) {
+            let _ = eprintln!(rt; "giopctl: {}: took {} us", peer.as_str(), time.as_micros());
+        }
+    }
+    Ok(report::call_status(rt, peer.as_str(), words.timeout, ended))
+}
+
+// Asks over a connection, and writes what came of it.
+fn ask(rt: &HostRuntime, endpoint: &Endpoint, words: ObjectWords) -> Result<Ending, Failure> {
+    let interface = object_interface(rt.alloc())?;
+    let Ok(calls) = call_from_words(rt.alloc(), &interface, NON_EXISTENT, Vec::new(rt.alloc()))
+    else {
+        return Err(Failure::Memory);
+    };
+    let calling = calling_at(words, &interface, endpoint, Limits::default());
+    let link = connect(rt, endpoint, words.timeout)?;
+    let mut out = BufWriter::with_capacity(rt.alloc(), OUTPUT_BUFFER, io::writer(rt))?;
+    let (mut reader, mut writer) = (&link, &link);
+    let (reader, writer) = (&mut reader, &mut writer);
+    let (alloc, lines) = (rt.alloc(), words.lines);
+    let ended = call_over(alloc, calling, calls, lines, reader, writer, &mut out)?;
+    out.flush()?;
+    Ok(ended)
+}

@@ -1,0 +1,18 @@
+//! The words of `ping`. A change here is one in docs/giopctl.md and tests/program too.
+
+use crate::cli::Task;
+use crate::cli::object_words::{object_command, object_words};
+use crate::commands::ping::help::PING_HELP;
+use clap::{ArgMatches, Command};
+use std::alloc::{AllocError, Global};
+
+/// The command `ping`.
+pub(crate) fn ping_command<'a>(alloc: Global) -> Result<Command<'a>, AllocError> {
+    let about = "Asks an object whether it is there, and tells how long that took";
+    object_command(alloc, "ping", about, PING_HELP)
+}
+
+/// What `ping` is asked for, or what is wrong with a word.
+pub(crate) fn ping_task<'a>(matches: &ArgMatches<'a>) -> Result<Option<Task<'a>>, &'static str> {
+    Ok(Some(Task::Ping(object_words(matches)?)))
+}

@@ -1,0 +1,155 @@
+//! `serve` over files, connections and the standard output. What it reads, sends and prints is
+//! giop_commands' serve.rt, over any reader and writer.
+
+mod help;
+mod listening;
+mod object_operations;
+mod objects;
+mod places;
+pub mod words;
+
+use crate::commands::serve::listening::{HERE, listen};
+use crate::commands::serve::objects::{Asked, objects_of, read_answers};
+use crate::commands::serve::words::ServeWords;
+use crate::connection::door::Door;
+use crate::connection::link::Link;
+use crate::files::OUTPUT_BUFFER;
+use crate::files::interfaces::{interface_of_each, read_each};
+use crate::report;
+use giop_commands::failure::Failure;
+use giop_commands::serve::given::{KeyWord, ServedObject, Telling};
+use giop_commands::serve::in_turn::Passed;
+use giop_commands::serve::streaming::stream_over;
+use giop_commands::status::Status;
+use giop_commands::{Ending, Serving, serve_over};
+use std::io;
+use std::io::{BufWriter, Write};
+use std::net::TcpStream;
+use std::rc::Rc;
+
+/// Reads the files of interfaces and those of answers, listens at a port of 127.0.0.1, and serves
+/// so many connections one after the other. The status is the greatest of theirs. What is refused
+/// is reported before the port is bound: the interfaces, then the answers.
+pub(crate) fn serve(rt: &HostRuntime, words: &ServeWords<'_>) -> Status {
+    match try_serve(rt, words) {
+        Ok(status) => status,
+        Err(status) => status,
+    }
+}
+
+fn try_serve(rt: &HostRuntime, words: &ServeWords<'_>) -> Result<Status, Status> {
+    let offered = read_each(rt, words.interfaces.as_slice())?;
+    let given = read_answers(rt, words.answers.as_slice())?;
+    let key = key_of(rt, words.key)?;
+    let interface = interface_of_each(rt, words.lines, offered.as_slice())?;
+    let asked = Asked {
+        words,
+        offered: offered.as_slice(),
+        given: given.as_slice(),
+    };
+    let all = objects_of(rt, asked, key.as_slice(), interface)?;
+    let mut objects = Vec::new(rt.alloc());
+    for object in all.objects.as_slice() {
+        let one = ServedObject {
+            key: object.key.as_slice(),
+            answers: &object.answers,
+        };
+        if objects.push(one).is_err() {
+            return Err(report::status_of(rt, "--key", Err(Failure::Memory)));
+        }
+    }
+    let serving = Serving {
+        interface: &all.interface,
+        objects: objects.as_slice(),
+        form: words.form,
+        limits: words.limits,
+    };
+    let listener = listen(rt, words, all.type_id.as_slice(), key.as_slice())?;
+    match Door::new(rt, listener, words.connections) {
+        Ok(door) => Ok(serve_each(rt, &door, words, &serving)),
+        Err(error) => Err(report::status_of(rt, HERE, Err(Failure::connection(error)))),
+    }
+}
+
+// The octets of an object key.
+fn key_of(rt: &HostRuntime, key: KeyWord<'_>) -> Result<Vec<u8>, Status> {
+    let octets = match key {
+        KeyWord::Hex(digits) => hex::decode(rt.alloc(), digits).ok(),
+        KeyWord::Text(text) => Vec::from_slice(rt.alloc(), text.as_bytes()).ok(),
+    };
+    match octets {
+        Some(octets) => Ok(octets),
+        None => Err(report::status_of(rt, "--key", Err(Failure::Memory))),
+    }
+}
+
+// Serves so many connections, and continues whatever one of them ends with. Answers in turn go on
+// from one to the next.
+fn serve_each(
+    rt: &HostRuntime,
+    door: &Rc<Door>,
+    words: &ServeWords<'_>,
+    serving: &Serving<'_>,
+) -> Status {
+    let mut status = Status::Done;
+    let mut passed = Passed::new(rt.alloc());
+    for served in 0..words.connections {
+        let number = served + 1;
+        status = status.or_greater(serve_next(rt, door, number, words, serving, &mut passed));
+    }
+    status
+}
+
+// Waits for a connection, and serves it.
+fn serve_next(
+    rt: &HostRuntime,
+    door: &Rc<Door>,
+    number: u32,
+    words: &ServeWords<'_>,
+    serving: &Serving<'_>,
+    passed: &mut Passed,
+) -> Status {
+    let (stream, peer) = match door.admit(number) {
+        Ok(accepted) => accepted,
+        Err(error) => return report::status_of(rt, HERE, Err(Failure::connection(error))),
+    };
+    let _ = eprintln!(rt; "giopctl: connection {number} from {peer}");
+    let answered = serve_stream(rt, door, stream, number, words, serving, passed);
+    match format!(in rt.alloc(); "connection {number}") {
+        Ok(name) => report::serve_status(rt, name.as_str(), answered),
+        Err(_) => report::serve_status(rt, HERE, answered),
+    }
+}
+
+fn serve_stream(
+    rt: &HostRuntime,
+    door: &Rc<Door>,
+    stream: TcpStream,
+    number: u32,
+    words: &ServeWords<'_>,
+    serving: &Serving<'_>,
+    passed: &mut Passed,
+) -> Result<Ending, Failure> {
+    let link = match Link::through(rt.alloc(), stream, door.clone()?) {
+        Ok(link) => link,
+        Err(error) => return Err(Failure::connection(error)),
+    };
+    let (mut reader, mut writer) = (&link, &link);
+    let mut out = BufWriter::with_capacity(rt.alloc(), OUTPUT_BUFFER, io::writer(rt))?;
+    let (reader, writer) = (&mut reader, &mut writer);
+    let (alloc, lines) = (rt.alloc(), words.lines);
+    let ending = match words.telling {
+        Telling::AtTheEnd => {
+            serve_over(
+                alloc, number, *serving, passed, lines, reader, writer, &mut out,
+            )?
+        }
+        Telling::WhenOver => {
+            stream_over(
+                alloc, number, *serving, passed, lines, reader, writer, &mut out,
+            )?
+        }
+    };
+    out.flush()?;
+    Ok(ending)
+}

@@ -1,0 +1,50 @@
+//! The target of a command: the object that is called, and where it is reached.
+
+use crate::files::read_or_report;
+use crate::report;
+use crate::report::refusals::refuse;
+use giop_commands::convert::unended;
+use giop_commands::failure::Failure;
+use giop_commands::status::Status;
+use giop_commands::{Endpoint, LineForm, Targeted, target_of};
+use giop_lines::EscapedText;
+
+/// The text of a target: itself, or behind `@` that of a file, of which a newline at the end is
+/// dropped.
+pub(crate) fn target_text(rt: &HostRuntime, target: &str) -> Result<Vec<u8>, Status> {
+    let text = match target.strip_prefix('@') {
+        Some(file) => Vec::from_slice(rt.alloc(), unended(read_or_report(rt, file)?.as_slice())),
+        None => Vec::from_slice(rt.alloc(), target.as_bytes()),
+    };
+    match text {
+        Ok(text) => Ok(text),
+        Err(_) => Err(report::status_of(rt, target, Err(Failure::Memory))),
+    }
+}
+
+/// The object of a target's text. Where the text is refused, its line is written in a form.
+pub(crate) fn endpoint_of(
+    rt: &HostRuntime,
+    lines: LineForm,
+    target: &str,
+    text: &[u8],
+) -> Result<Endpoint, Status> {
+    match target_of(rt.alloc(), text) {
+        Ok(Targeted::At(endpoint)) => Ok(endpoint),
+        Ok(Targeted::Refused(line)) => Err(refuse(rt, lines, line)),
+        Err(failure) => Err(report::status_of(rt, target, Err(failure))),
+    }
+}
+
+/// The name of a peer, as standard error has it: `HOST:PORT`.
+pub(crate) fn peer_of(
+    rt: &HostRuntime,
+    target: &str,
+    endpoint: &Endpoint,
+) -> Result<String, Status> {
+    let host = EscapedText(endpoint.host.as_slice());
+    match format!(in rt.alloc(); "{host}:{}", endpoint.port) {
+        Ok(peer) => Ok(peer),
+        Err(_) => Err(report::status_of(rt, target, Err(Failure::Memory))),
+    }
+}
