@@ -1,6 +1,7 @@
 """Measures giopctl against a plain Rust program that prints the same."""
 import os
 import pathlib
+import statistics
 import subprocess
 
 TOP = pathlib.Path(__file__).resolve().parents[1]
@@ -59,9 +60,10 @@ def compare(kind, ours, twin):
     """Prints how both do, and returns whether they print the same."""
     same = same_output(ours, twin)
     rounds = [[seconds_of(words) for words in (ours, twin)] for _ in range(ROUNDS)]
-    best = [min(times) for times in zip(*rounds)]
+    series = list(zip(*rounds))
+    best, middle = [min(times) for times in series], [statistics.median(times) for times in series]
     peaks = [peak_of(words) / 1e6 for words in (ours, twin)]
     print(f'{kind:9} {"same" if same else "OTHER"} output; giopctl {best[0]:.3f} s,',
-          f'plain Rust {best[1]:.3f} s, ratio {best[0] / best[1]:.2f}; peak memory',
+          f'plain Rust {best[1]:.3f} s, ratio {best[0] / best[1]:.2f} (medians {middle[0] / middle[1]:.2f}); peak memory',
           f'{peaks[0]:.1f} MB, plain Rust {peaks[1]:.1f} MB', flush=True)
     return same
