@@ -48,11 +48,15 @@ pub fn a_count_without_octets_is_short()
 
 /// An octet whose write was out of memory is written behind what was there, where it is written again.
 pub fn an_octet_is_written_again()
-    ensures out_of_memory { Writes {X = ℕ} two_octets (Err 0) two_octets (number_out w8 7 two_octets) }
-    ensures written { Writes {E = ℕ} two_octets (Ok 0) behind_two (number_out w8 7 two_octets) }
-    ensures again { (new : Output) → Writes {E = ℕ} two_octets (Ok 0) new (number_out w8 7 two_octets)
+    ensures out_of_memory { Writes {X = ℕ} {E = ℕ} two_octets (Err 0) two_octets
+        (number_out w8 7 two_octets) }
+    ensures written { Writes {X = ℕ} {E = ℕ} two_octets (Ok 0) behind_two
+        (number_out w8 7 two_octets) }
+    ensures again { (new : Output)
+        → Writes {X = ℕ} {E = ℕ} two_octets (Ok 0) new (number_out w8 7 two_octets)
         → new ≡ behind_two }
-    ensures behind { (new : Output) → Writes {E = ℕ} two_octets (Ok 0) new (number_out w8 7 two_octets)
+    ensures behind { (new : Output)
+        → Writes {X = ℕ} {E = ℕ} two_octets (Ok 0) new (number_out w8 7 two_octets)
         → Grows two_octets new }
 {
     what_is_not_written_may_be_written_again();
