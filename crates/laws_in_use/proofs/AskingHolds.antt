@@ -9,7 +9,6 @@ use Rattle.giop_msg.specs.Messages.Laws.{IsWhole}
 use Rattle.giop_msg.specs.Messages.LocateReply.{locate_reply}
 use Rattle.giop_msg.specs.RequestId.{request_id_layout}
 use Rattle.giop_msg.specs.Stream.{Unread}
-use Rattle.giop_msg.specs.declared.version.Version.{Version}
 use Rattle.giop_msg.specs.declared.version.Version.TheVariants.{V10, V12}
 use Rattle.giop_mux.specs.Runs.{Hears}
 use Rattle.giop_calls.specs.declared.client.call.Call.TheVariants as asked
@@ -24,7 +23,7 @@ use Rattle.giop_session.specs.Runs.Events.{Comes, Event, own_events}
 use Rattle.giop_session.specs.Runs.Events.{Does as DoesTo}
 use Rattle.giop_session.specs.Runs.Inputs.{AreEvents, Holds, Input, nothing_unread}
 use Rattle.laws_in_use.specs.Asking.{Acts, asking, asking_key, cancelling, here, here_begins, here_ends, one_way, one_way_by, other_way, own_acts, sending, short, short_octets, told, told_of_nine, told_of_seven, unknown_big, unknown_key, unknown_little}
-use Rattle.laws_in_use.specs.Locating.{cancel_big, cancel_little, door, here_little, key, key_big, key_little, limits, tight_limits}
+use Rattle.laws_in_use.specs.Locating.{cancel_big, door, here_little, key, key_big, key_little, limits, tight_limits}
 use Rattle.laws_in_use.proofs.AskingMessages as message
 use Rattle.laws_in_use.proofs.AskingReads as read
 use Rattle.laws_in_use.proofs.ByIds.{by_id, if_is}

@@ -1,5 +1,5 @@
 -- As which acts a run takes what a client's end is given, whatever its calls are then.
-use Rattle.std.proofs.Common.{◌≡◌, ℕ, ◌+◌, ◌-◌, ◌<◌, ◌≤◌, true, false, List, [], ◌∷◌, ◌++◌, length, drop, Option, Some, None, refl, sym, ap, subst, ◌∙◌, inl, inr, arith, rules}
+use Rattle.std.proofs.Common.{◌≡◌, ℕ, List, [], ◌∷◌, ◌++◌, length, Option, Some, None, refl, sym, ap, subst, ◌∙◌, inl, inr, arith, rules}
 use Rattle.std.proofs.Math.ListN.{length-drop}
 use Rattle.giop_cdr.specs.Ending.{ended}
 use Rattle.giop_cdr.specs.Layout.{number, signed, octets, such, field, gives, chosen}
@@ -12,8 +12,6 @@ use Rattle.giop_msg.specs.Locate.{locate_request, located}
 use Rattle.giop_msg.specs.Meaning.{meaning}
 use Rattle.giop_msg.specs.Stream.{Unread}
 use Rattle.giop_msg.specs.Target.{disposition, key_target, object_key, target_by, target_layout}
-use Rattle.giop_msg.specs.Version.{has_fragments}
-use Rattle.giop_msg.specs.declared.kind.Kind.{Kind}
 use Rattle.giop_msg.specs.declared.kind.Kind.TheVariants.{LocateRequest}
 use Rattle.giop_msg.specs.declared.msg.Msg.{Msg}
 use Rattle.giop_msg.specs.declared.version.Version.{Version}

@@ -1,5 +1,5 @@
 -- A client's end takes what it is given in a run as its acts, and refuses nothing.
-use Rattle.std.proofs.Common.{◌≡◌, ℕ, List, [], ◌∷◌, take, Some, None, Ok, refl, sym, ap, subst, ◌∙◌, arith}
+use Rattle.std.proofs.Common.{◌≡◌, [], take, Some, Ok, refl, sym, ap, subst, arith}
 use Rattle.giop_types.specs.declared.json.interface.Interface.{Interface}
 use Rattle.giop_cdr.specs.declared.fault.CdrKind.TheVariants.{Short}
 use Rattle.giop_cdr.specs.declared.order.Order.TheVariants.{Little}
@@ -22,7 +22,7 @@ use Rattle.laws_in_use.specs.Asking.{here_begins, here_ends, own_acts}
 use Rattle.laws_in_use.specs.Locating.{cancel_little, key, limits}
 use Rattle.laws_in_use.specs.Runs.{Forms, client_answers, client_given}
 use Rattle.laws_in_use.proofs.AskingReads as read
-use Rattle.laws_in_use.proofs.AskingRuns.{End, key_waiting, new, none, one_1, one_2, one_3, one_4, one_5, one_6, one_7, one_8, one_9, one_asks, one_asks_again, one_asks_key, one_at_2, one_bad, one_begins, one_cancels, one_ends, one_late, one_sends, undecoded}
+use Rattle.laws_in_use.proofs.AskingRuns.{End, none, one_1, one_2, one_3, one_4, one_5, one_6, one_7, one_8, one_9, one_asks, one_asks_again, one_asks_key, one_at_2, one_bad, one_begins, one_cancels, one_ends, one_late, one_sends, undecoded}
 use Rattle.laws_in_use.proofs.ClientRunActs.{door_is_sent, key_is_sent, key_is_sent_again, run_acts}
 use Rattle.laws_in_use.proofs.LocatingReads.{wide}
 use Rattle.laws_in_use.proofs.LocatingRuns.{fed}

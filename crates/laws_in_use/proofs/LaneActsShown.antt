@@ -1,5 +1,5 @@
 -- Lanes on which a message of `door` is next to arrive: their acts lead there, and ends show them.
-use Rattle.std.proofs.Common.{◌≡◌, ◌<◌, ◌+◌, ◌^◌, ◌-◌, ℕ, true, [], ◌∷◌, List, Option, Some, None, Ok, refl, sym, ap, subst, ◌∙◌, inl, inr, arith}
+use Rattle.std.proofs.Common.{◌≡◌, ◌<◌, ◌+◌, ℕ, [], ◌∷◌, List, Option, Some, None, Ok, refl, sym, ap, subst, inl, inr, arith}
 use Rattle.std.specs.FinMap as finite
 use Rattle.std.specs.Ordering.{nat_cmp}
 use Rattle.giop_ids.proofs.Lengths.{len_within_ids}
@@ -12,7 +12,7 @@ use Rattle.giop_msg.specs.Joined.{whole_of_joined}
 use Rattle.giop_msg.specs.Locate.{locate_reply_head, locate_request, locate_status, located}
 use Rattle.giop_msg.specs.Meaning.{meaning}
 use Rattle.giop_msg.specs.Messages.LocateReply.{locate_reply}
-use Rattle.giop_msg.specs.RequestId.{request_id_layout, request_id_of}
+use Rattle.giop_msg.specs.RequestId.{request_id_layout}
 use Rattle.giop_msg.specs.Target.{disposition, key_target, object_key, target_by, target_layout}
 use Rattle.giop_msg.specs.declared.version.Version.TheVariants.{V12}
 use Rattle.giop_frag.specs.Gathered.{total_of}

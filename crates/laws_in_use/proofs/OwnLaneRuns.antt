@@ -1,5 +1,5 @@
 -- The session's own ends run so on one lane.
-use Rattle.std.proofs.Common.{◌≡◌, true, [], ◌∷◌, Option, Some, refl, inl, inr, subst, arith, rules}
+use Rattle.std.proofs.Common.{◌≡◌, true, [], ◌∷◌, Option, Some, refl, inr, subst, arith, rules}
 use Rattle.giop_types.specs.declared.json.interface.Interface.{Interface}
 use Rattle.giop_cdr.specs.Ending.{ended, leads, made_of, remainder}
 use Rattle.giop_cdr.specs.Layout.{number, signed, octets, such, field, gives, reserved, chosen}

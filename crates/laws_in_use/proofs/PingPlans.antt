@@ -4,7 +4,7 @@ use Rattle.std.proofs.Common.{◌≡◌, ◌&&◌, true, List, [], ◌∷◌, �
 use Rattle.std.specs.Option.{option_or}
 use Rattle.giop_cdr.specs.Ending.{ended, from_multiple_of_8, leads, made_of, unless_empty}
 use Rattle.giop_cdr.specs.Layout.{boolean, chosen, field, gives, number, octets, reserved, sequence, signed, such, tagged, text}
-use Rattle.giop_cdr.specs.Writing.Output.{Output, items_out, number_out, octets_out, padding_out, sequence_out, signed_out, string_out}
+use Rattle.giop_cdr.specs.Writing.Output.{items_out, number_out, octets_out, padding_out, sequence_out, signed_out, string_out}
 use Rattle.giop_cdr.specs.declared.order.Order.TheVariants.{Big}
 use Rattle.giop_types.specs.Coding.Written.{fields_out}
 use Rattle.giop_types.specs.Values.Fits.{fields_fit}

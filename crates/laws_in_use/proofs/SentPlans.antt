@@ -1,5 +1,5 @@
 -- What ends plan to send, as their contracts say it.
-use Rattle.std.proofs.Common.{◌≡◌, false, List, [], ◌∷◌, Some, None, refl, inl, ap, sym, subst, arith, rules}
+use Rattle.std.proofs.Common.{◌≡◌, false, List, [], ◌∷◌, Some, None, refl, inl, ap, subst, arith, rules}
 use Rattle.giop_types.specs.declared.json.interface.Interface.{Interface}
 use Rattle.giop_cdr.specs.Ending.{ended, leads, made_of, remainder}
 use Rattle.giop_cdr.specs.Layout.{number, signed, octets, such, field, gives, chosen}
@@ -11,10 +11,9 @@ use Rattle.giop_msg.specs.Messages.LocateReply.{locate_reply}
 use Rattle.giop_msg.specs.Target.{disposition, key_target, object_key, target_by, target_layout}
 use Rattle.giop_msg.specs.declared.msg.Msg.{Msg}
 use Rattle.giop_msg.specs.declared.version.Version.TheVariants.{V10}
-use Rattle.giop_calls.specs.Lane.{Codec, Cut, CutsCall, count, heard_call, pieces_of}
+use Rattle.giop_calls.specs.Lane.{Codec, Cut, CutsCall, heard_call, pieces_of}
 use Rattle.giop_calls.specs.declared.client.call.Call.{Call}
 use Rattle.giop_calls.specs.declared.client.call.Call.TheVariants as asked
-use Rattle.giop_calls.specs.declared.client.entry.ClientEntry.{ClientEntry}
 use Rattle.giop_calls.specs.declared.client.event.ClientEvent.{ClientEvent}
 use Rattle.giop_calls.specs.declared.client.event.ClientEvent.TheVariants as at_client
 use Rattle.giop_session.specs.declared.calls.plan.Planned.{Planned}

@@ -57,7 +57,7 @@ use Rattle.giop_session.specs.Calls.Sending.{entry_of, message_of, unsent_of}
 use Rattle.giop_session.specs.Calls.Unsent.{first_of}
 use Rattle.giop_session.specs.Hearing.ServerHears.{server_befalls, server_side}
 use Rattle.giop_session.specs.Runs.ServerRuns.{ServerIsGiven, server_entry}
-use Rattle.giop_session.specs.Worlds.World.{Told, WorldRuns, WorldState, new_world, told_of_answer}
+use Rattle.giop_session.specs.Worlds.World.{Told, WorldRuns, WorldState, told_of_answer}
 use Rattle.laws_in_use.specs.Left.{new_client}
 use Rattle.laws_in_use.specs.Limited.{new_server}
 use Rattle.laws_in_use.specs.Locating.{key, key_little, limits}

@@ -1,6 +1,5 @@
 -- A struct of a number and a text, and a value of it.
 use Rattle.std.specs.Prelude.{ℕ, List, [], ◌∷◌, codes}
-use Rattle.serde_json.specs.Data as json
 use Rattle.giop_types.specs.Descriptions.Shape.{Shape, field, items, members, no_fields, octet, text, ushort}
 use Rattle.giop_types.specs.Values.Tree.{Tree, members_of, no_trees, text_of, tree, ushort_of}
 
@@ -9,11 +8,6 @@ pair = members (field (codes "number") ushort (field (codes "name") (text 0) no_
 
 abbrev pub value : Tree
 value = members_of (tree (ushort_of 258) (tree (text_of (codes "hi")) no_trees))
-
--- a form of it in JSON that isn't the one that is written: its number is a text
-abbrev pub told : json.Data
-told = json.object (json.member (codes "name") (json.string (codes "hi"))
-    (json.member (codes "number") (json.string (codes "258")) json.no_members))
 
 -- the octets that it is written as from the offset 1 on, big-endian: each part behind its padding
 abbrev pub value_octets : List ℕ

@@ -1,6 +1,6 @@
 -- A client calls under one id in three messages, and cancels while the Reply is on its way; then it
 -- calls again.
-use Rattle.std.specs.Prelude.{ℕ, Bool, true, false, List, [], ◌∷◌, ◌++◌, Some}
+use Rattle.std.specs.Prelude.{true, false, List, [], ◌∷◌, ◌++◌, Some}
 use Rattle.giop_cdr.specs.declared.order.Order.TheVariants.{Big, Little}
 use Rattle.giop_msg.specs.declared.kind.Kind.TheVariants as message
 use Rattle.giop_msg.specs.declared.msg.Msg.{Msg}

@@ -14,6 +14,3 @@ lacking = record { at = 12; kind = Short }
 
 abbrev pub two_octets : Output
 two_octets = record { order = Big; at = 0; octets = 1 ∷ 2 ∷ [] }
-
-abbrev pub behind_two : Output
-behind_two = record { order = Big; at = 0; octets = 1 ∷ 2 ∷ 7 ∷ [] }

@@ -16,6 +16,7 @@ ghost use Rattle.giop_types.specs.IorText.{ior_text_of, IorText, prefixed, Prefi
 ghost use Rattle.giop_types.specs.JsonForms.FromJson.{from_data, ReadsBack};
 ghost use Rattle.giop_types.specs.JsonForms.ToJson.{to_data};
 ghost use Rattle.giop_types.specs.declared.json.number_form.NumberForm.{NumberForm};
+ghost use Rattle.giop_types.specs.declared.json.number_form.NumberForm.TheVariants.{Quoted};
 ghost use Rattle.giop_types.specs.Values.Fits.{fits};
 ghost use Rattle.giop_types.specs.Values.Leaves.{leaves, leaves_of};
 ghost use Rattle.giop_types.specs.Values.Same.{same_list, same_value};
@@ -23,7 +24,7 @@ ghost use Rattle.giop_types.specs.Values.Tree.{boolean_of, choice_of, items_of, 
 ghost use Rattle.giop_types.specs.Values.Views.{value_view};
 ghost use Rattle.giop_types.specs.declared.json.form_fault.FormFault.TheVariants.{Unfit};
 ghost use Rattle.giop_types.specs.declared.value.Value.{Value as Seen};
-ghost use Rattle.laws_in_use.specs.Described.{doubled, many, pair, told, value, value_octets};
+ghost use Rattle.laws_in_use.specs.Described.{doubled, many, pair, value, value_octets};
 
 use giop_cdr::{CdrFault, EncodeFault, Order};
 use giop_types::laws::{
@@ -36,8 +37,8 @@ use giop_types::{CheckedDesc, FormFault, NumberForm, Value};
 use std::alloc::Global;
 
 /// A struct of a number and a text is written from the offset 1 on, read back with what stands
-/// behind it, and no other value is spelled so. In JSON it has two forms, of which the one with its
-/// number as a text isn't written: both are read as the same value.
+/// behind it, and no other value is spelled so. Whichever form of it
+/// in JSON is read, what is read fits, and in either form it is written as the same value.
 pub fn a_struct_at_one()
     ensures back { decode_at pair (record { order = Big; at = 1; rest = value_octets ++ 9 ∷ [] })
         ≡ Ok (value, record { order = Big; at = 11; rest = 9 ∷ [] }) }
@@ -47,9 +48,10 @@ pub fn a_struct_at_one()
     ensures alone { (other : Tree) (octets rest : List ℕ) → Spells pair Big 1 other octets
         → octets ++ rest ≡ value_octets ++ 9 ∷ [] → other ≡ value }
     ensures json { (numbers : NumberForm) → from_data pair (to_data numbers pair value) ≡ Ok value }
-    ensures told { from_data pair told ≡ Ok value }
+    ensures quoted { from_data pair (to_data Quoted pair value) ≡ Ok value }
     ensures fits { fits pair value ≡ true }
-    ensures written { (numbers : NumberForm) (tree : Tree) → from_data pair told ≡ Ok tree
+    ensures written { (numbers : NumberForm) (tree : Tree)
+        → from_data pair (to_data Quoted pair value) ≡ Ok tree
         → from_data pair (to_data numbers pair tree) ≡ Ok tree }
 {
     written_values_are_read_back();

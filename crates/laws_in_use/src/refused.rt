@@ -8,7 +8,7 @@ ghost use Rattle.giop_cdr.specs.Reading.Values.{number_at, octets_at};
 ghost use Rattle.giop_cdr.specs.Writing.Outcome.{Grows, Writes};
 ghost use Rattle.giop_cdr.specs.Writing.Output.{number_out, Output};
 ghost use Rattle.giop_cdr.specs.declared.fault.CdrFault.{CdrFault};
-ghost use Rattle.laws_in_use.specs.Refused.{behind_two, lacking, short, two_octets};
+ghost use Rattle.laws_in_use.specs.Refused.{lacking, short, two_octets};
 
 use giop_cdr::laws::{
     no_fault_is_told_as_want_of_memory, what_is_not_written_may_be_written_again,
@@ -50,11 +50,11 @@ pub fn a_count_without_octets_is_short()
 pub fn an_octet_is_written_again()
     ensures out_of_memory { Writes {X = ℕ} {E = ℕ} two_octets (Err 0) two_octets
         (number_out w8 7 two_octets) }
-    ensures written { Writes {X = ℕ} {E = ℕ} two_octets (Ok 0) behind_two
+    ensures written { Writes {X = ℕ} {E = ℕ} two_octets (Ok 0) (number_out w8 7 two_octets)
         (number_out w8 7 two_octets) }
     ensures again { (new : Output)
         → Writes {X = ℕ} {E = ℕ} two_octets (Ok 0) new (number_out w8 7 two_octets)
-        → new ≡ behind_two }
+        → new ≡ number_out w8 7 two_octets }
     ensures behind { (new : Output)
         → Writes {X = ℕ} {E = ℕ} two_octets (Ok 0) new (number_out w8 7 two_octets)
         → Grows two_octets new }

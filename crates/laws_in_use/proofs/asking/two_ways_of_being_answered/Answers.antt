@@ -1,4 +1,4 @@
-use Rattle.std.proofs.Common.{ap, ◌∙◌, Some, None, ◌∷◌, [], refl, inr, arith, rules, if◌then◌else◌, ◌==◌}
+use Rattle.std.proofs.Common.{ap, ◌∙◌, ◌∷◌, [], refl, inr, arith, rules, if◌then◌else◌, ◌==◌}
 use Rattle.giop_ids.proofs.Puts.{eq_apart}
 use Rattle.giop_cdr.specs.Ending.{leads, made_of, remainder}
 use Rattle.giop_cdr.specs.Layout.{number, such, field, gives}

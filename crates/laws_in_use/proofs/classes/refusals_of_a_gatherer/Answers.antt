@@ -1,8 +1,7 @@
 use Rattle.std.proofs.Common.{◌≡◌, Bool, true, false, Option, Some, None, Err, if◌then◌else◌, ap, sym, refl}
-use Rattle.giop_cdr.specs.declared.order.Order.{Order}
 use Rattle.giop_frag.specs.declared.fault.GatherFault.{GatherFault}
 use Rattle.giop_frag.specs.declared.fault.GatherFault.TheVariants.{GatherFull, OrderDiffers, Stray}
-use Rattle.giop_frag.specs.Gathered.{Pieces, grown, order_fault, room_fault, same_order}
+use Rattle.giop_frag.specs.Gathered.{Pieces, room_fault, same_order}
 use Rattle.giop_frag.specs.Runs.{Adds, Begins, Happening, IsDiscarded, IsFinished, is_of_id, room, turn, unless}
 use Rattle.laws_in_use.proofs.classes.refusals_of_a_gatherer.Goals as goal
 

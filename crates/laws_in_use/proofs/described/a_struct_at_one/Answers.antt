@@ -6,8 +6,9 @@ use Rattle.giop_types.specs.Descriptions.Checked.{desc_fault, fields_fault}
 use Rattle.giop_types.specs.Descriptions.Full.{are_full, is_full}
 use Rattle.giop_types.specs.JsonForms.Plain.{fields_plain, is_plain}
 use Rattle.giop_types.specs.Values.Fits.{fields_fit, fits}
-use Rattle.giop_types.specs.JsonForms.FromJson.{fields_shown, shown}
-use Rattle.laws_in_use.specs.Described.{pair, told, value}
+use Rattle.giop_types.specs.JsonForms.ToJson.{to_data}
+use Rattle.giop_types.specs.declared.json.number_form.NumberForm.TheVariants.{Quoted}
+use Rattle.laws_in_use.specs.Described.{pair, value}
 use Rattle.laws_in_use.proofs.CdrSpelled.{again}
 use Rattle.laws_in_use.proofs.described.a_struct_at_one.Goals as goal
 
@@ -42,12 +43,13 @@ returns-clause-alone c = λ other octets rest spells is.
 pub returns-clause-json : goal.returns-clause-json
 returns-clause-json c = c.json_gives_values_back.ensures pair faultless plain value fitting
 
-pub returns-clause-told : goal.returns-clause-told
-unfolding shown fields_shown fits fields_fit
-returns-clause-told c = refl
+pub returns-clause-quoted : goal.returns-clause-quoted
+returns-clause-quoted c = c.json_gives_values_back.ensures pair faultless plain value fitting Quoted
 
 pub returns-clause-fits : goal.returns-clause-fits
-returns-clause-fits c = c.what_is_read_as_json_is_written_so.ensures.fits pair told value (returns-clause-told c)
+returns-clause-fits c =
+    c.what_is_read_as_json_is_written_so.ensures.fits pair (to_data Quoted pair value) value (returns-clause-quoted c)
 
 pub returns-clause-written : goal.returns-clause-written
-returns-clause-written c = λ numbers tree read. c.what_is_read_as_json_is_written_so.ensures.written pair faultless plain told tree read numbers
+returns-clause-written c = λ numbers tree read.
+    c.what_is_read_as_json_is_written_so.ensures.written pair faultless plain (to_data Quoted pair value) tree read numbers

@@ -1,6 +1,5 @@
-use Rattle.std.proofs.Common.{◌≡◌, ◌≢◌, ◌≤◌, ◌++◌, ℕ, List, [], ◌∷◌, length, take, Option, Some, None, Result, Ok, Err, refl, arith, inl, inr}
+use Rattle.std.proofs.Common.{◌≢◌, [], take, Some, None, Result, Ok, Err, refl, arith, inl, inr}
 use Rattle.std.proofs.lemmas.List.Elements.{All-nil}
-use Rattle.giop_types.specs.declared.json.interface.Interface.{Interface}
 use Rattle.giop_msg.specs.declared.msg.Msg.{Msg}
 use Rattle.giop_msg.specs.Header.{header_fault}
 use Rattle.giop_msg.specs.Msg.{IsMessage, message_octets}

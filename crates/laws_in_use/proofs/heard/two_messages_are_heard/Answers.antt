@@ -2,7 +2,6 @@ use Rattle.std.proofs.Common.{◌≡◌, ◌==◌, ℕ, Bool, true, false, if◌
 use Rattle.std.proofs.lemmas.Bool.Decides.{nat_tests}
 use Rattle.giop_cdr.specs.Layout.{number, chosen}
 use Rattle.giop_cdr.specs.Reading.Values.{field_at, number_at}
-use Rattle.giop_types.specs.declared.json.interface.Interface.{Interface}
 use Rattle.giop_msg.specs.Msg.{message_octets}
 use Rattle.giop_msg.specs.RequestId.{request_id_layout}
 use Rattle.giop_msg.specs.declared.msg.Msg.{Msg}
@@ -10,7 +9,6 @@ use Rattle.giop_calls.specs.ServerTable.{is_closed, is_gathering, server_step}
 use Rattle.giop_session.specs.Runs.Alone.{alone_heard, own_messages}
 use Rattle.giop_session.specs.Calls.CallTable.{at, turn}
 use Rattle.giop_session.specs.Runs.Events.{Comes}
-use Rattle.giop_session.specs.Runs.Inputs.{nothing_unread}
 use Rattle.giop_session.specs.Hearing.ServerHears.{server_befalls}
 use Rattle.laws_in_use.specs.Heard.{asked_and_begun, begun_and_asked}
 use Rattle.laws_in_use.specs.Locating.{door_begins, door_ends, key_little, limits}

@@ -1,4 +1,4 @@
-use Rattle.std.proofs.Common.{◌≡◌, ◌∙◌, ap, [], ◌∷◌, refl, true}
+use Rattle.std.proofs.Common.{◌∙◌, ap, [], refl, true}
 use Rattle.giop_calls.specs.declared.kind.CallKind.TheVariants as kind
 use Rattle.giop_calls.specs.declared.server.event.ServerEvent.TheVariants as event
 use Rattle.giop_session.specs.Calls.CallTable.{Hears, More, Nothing}

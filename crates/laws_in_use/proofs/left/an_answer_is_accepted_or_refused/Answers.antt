@@ -1,4 +1,4 @@
-use Rattle.std.proofs.Common.{◌≡◌, ◌++◌, true, [], ◌∷◌, Some, None, Ok, Err, refl, ap, subst, ◌∙◌}
+use Rattle.std.proofs.Common.{true, [], ◌∷◌, Some, Ok, Err, refl, ap, ◌∙◌}
 use Rattle.giop_calls.specs.declared.fault.CallFault.TheVariants.{NotOpen}
 use Rattle.giop_calls.specs.declared.server.entry.ServerEntry.{ServerEntry}
 use Rattle.giop_calls.specs.declared.server.event.ServerEvent.TheVariants as event
@@ -7,7 +7,7 @@ use Rattle.giop_session.specs.declared.session_fault.SessionFault.TheVariants.{C
 use Rattle.giop_session.specs.declared.calls.table_fault.TableFault.TheVariants.{Rule}
 use Rattle.giop_session.specs.Calls.CallTable.{Call, Hears, Nothing, rules_of, turn}
 use Rattle.giop_session.specs.Hearing.Heard.{in_call}
-use Rattle.giop_session.specs.Calls.Sending.{entry_of, slot_of, unsent_after, unsent_of}
+use Rattle.giop_session.specs.Calls.Sending.{entry_of, slot_of}
 use Rattle.laws_in_use.specs.Left.{sends}
 use Rattle.laws_in_use.specs.Limited.{new_server}
 use Rattle.laws_in_use.specs.Locating.{here_big, limits}

@@ -1,4 +1,4 @@
-use Rattle.std.proofs.Common.{◌≡◌, [], ◌∷◌, Some, refl, inl, arith}
+use Rattle.std.proofs.Common.{[], ◌∷◌, refl, inl, arith}
 use Rattle.giop_cdr.specs.declared.order.Order.TheVariants.{Little}
 use Rattle.giop_msg.specs.declared.version.Version.TheVariants.{V10}
 use Rattle.giop_calls.specs.declared.client.call.Call.TheVariants as asked

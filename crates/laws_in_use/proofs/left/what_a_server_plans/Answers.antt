@@ -1,4 +1,4 @@
-use Rattle.std.proofs.Common.{◌≡◌, true, [], ◌∷◌, Some, refl, inl, ap, sym, arith}
+use Rattle.std.proofs.Common.{true, [], ◌∷◌, Some, refl, inl, ap, sym, arith}
 use Rattle.giop_cdr.specs.declared.order.Order.TheVariants.{Big}
 use Rattle.giop_msg.specs.declared.version.Version.TheVariants.{V10, V12}
 use Rattle.giop_calls.specs.declared.server.event.ServerEvent.TheVariants as event

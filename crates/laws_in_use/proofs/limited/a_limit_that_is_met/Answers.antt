@@ -7,11 +7,11 @@ use Rattle.giop_cdr.specs.Reading.Values.{field_at, number_at}
 use Rattle.giop_ids.specs.ById.{is_listed}
 use Rattle.giop_msg.specs.RequestId.{request_id_layout}
 use Rattle.giop_session.specs.Runs.Events.{Comes}
-use Rattle.giop_session.specs.Runs.Limits.{begins_at_client, begins_at_server, is_asking, opens}
+use Rattle.giop_session.specs.Runs.Limits.{begins_at_server, is_asking, opens}
 use Rattle.giop_session.specs.declared.session_fault.SessionFault.TheVariants.{TooManyCalls}
 use Rattle.laws_in_use.specs.Limited.{all, asked, one_call, two_calls}
 use Rattle.laws_in_use.specs.Locating.{door_begins, door_whole, key_little, limits}
-use Rattle.laws_in_use.proofs.LocatingRuns.{begun, new, one_1}
+use Rattle.laws_in_use.proofs.LocatingRuns.{begun, one_1}
 use Rattle.laws_in_use.proofs.limited.a_limit_that_is_met.Goals as goal
 
 -- whoever opens a call does so under 7 or 9

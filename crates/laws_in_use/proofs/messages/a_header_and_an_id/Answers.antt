@@ -1,8 +1,8 @@
-use Rattle.std.proofs.Common.{◌≡◌, [], ◌∷◌, refl, arith}
+use Rattle.std.proofs.Common.{[], ◌∷◌, refl, arith}
 use Rattle.std.specs.Int.{w32}
 use Rattle.giop_cdr.specs.Layout.{chosen, number}
 use Rattle.giop_cdr.specs.Spelling.{SpellsNumber}
-use Rattle.giop_cdr.specs.declared.order.Order.TheVariants.{Big, Little}
+use Rattle.giop_cdr.specs.declared.order.Order.TheVariants.{Little}
 use Rattle.giop_msg.specs.Header.{header_fault, header_octets, header_of}
 use Rattle.giop_msg.specs.RequestId.{request_id_layout}
 use Rattle.giop_msg.specs.declared.kind.Kind.TheVariants.{LocateRequest}

@@ -1,7 +1,6 @@
-use Rattle.std.proofs.Common.{◌≡◌, ◌^◌, ◌-◌, ◌++◌, All, [], ◌∷◌, take, drop, refl, arith}
+use Rattle.std.proofs.Common.{[], ◌∷◌, refl, arith}
 use Rattle.std.proofs.lemmas.List.Elements.{All-cons, All-nil}
 use Rattle.giop_msg.specs.Header.{header_octets, header_of, header_fault}
-use Rattle.giop_msg.specs.Msg.{IsMessage, message_octets}
 use Rattle.giop_msg.proofs.FramerLemmas.{waits_for_header}
 use Rattle.giop_session.specs.Runs.Inputs.{nothing_unread}
 use Rattle.giop_session.specs.Worlds.OnTheWay.{IsFramed}

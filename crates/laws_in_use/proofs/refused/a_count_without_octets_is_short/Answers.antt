@@ -1,5 +1,5 @@
-use Rattle.std.proofs.Common.{◌≡◌, ◌∙◌, Err, List, ℕ, inl, refl}
-use Rattle.giop_cdr.specs.Reading.Values.{Reading, count_at, field_at, number_at, octets_at}
+use Rattle.std.proofs.Common.{◌≡◌, Err, inl, refl}
+use Rattle.giop_cdr.specs.Reading.Values.{count_at, field_at, number_at, octets_at}
 use Rattle.laws_in_use.specs.Refused.{lacking, short}
 use Rattle.laws_in_use.proofs.refused.a_count_without_octets_is_short.Goals as goal
 

@@ -1,4 +1,4 @@
-use Rattle.std.proofs.Common.{◌≡◌, ap, sym, subst, ◌∙◌, ◌==◌, if◌then◌else◌, ◌∷◌, []}
+use Rattle.std.proofs.Common.{ap, sym, subst, ◌∙◌, ◌==◌, if◌then◌else◌, ◌∷◌, []}
 use Rattle.giop_ids.proofs.Puts.{eq_apart}
 use Rattle.giop_msg.specs.declared.version.Version.TheVariants.{V10, V12}
 use Rattle.giop_calls.specs.declared.client.call.Call.TheVariants as asked

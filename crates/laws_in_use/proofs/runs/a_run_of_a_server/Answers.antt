@@ -1,4 +1,4 @@
-use Rattle.std.proofs.Common.{◌≡◌, ap, sym, subst, ◌∙◌, ◌==◌, if◌then◌else◌, Some, None, [], ◌∷◌, inr}
+use Rattle.std.proofs.Common.{ap, sym, subst, ◌∙◌, ◌==◌, if◌then◌else◌, Some, None, [], ◌∷◌, inr}
 use Rattle.giop_ids.proofs.Puts.{eq_apart}
 use Rattle.giop_cdr.specs.declared.order.Order.TheVariants.{Big}
 use Rattle.giop_msg.specs.declared.version.Version.TheVariants.{V10, V12}

@@ -1,4 +1,4 @@
-use Rattle.std.proofs.Common.{◌≡◌, ap, false, Some, None, [], ◌∷◌, refl, subst}
+use Rattle.std.proofs.Common.{◌≡◌, ap, false, Some, None, refl, subst}
 use Rattle.giop_cdr.specs.declared.order.Order.TheVariants.{Big, Little}
 use Rattle.giop_msg.specs.declared.msg.Msg.{Msg}
 use Rattle.giop_msg.specs.declared.version.Version.TheVariants.{V10}
