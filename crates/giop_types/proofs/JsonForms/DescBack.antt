@@ -65,7 +65,8 @@ member_back inner name s written fine back = rw (named_back name fine, back) ref
 
 case_back : (inner : json.Data → Option Shape) (disc : Shape) (ls : List ℤ) (name : List ℕ) (s : Shape) (written : json.Data)
     → AreApart disc → list_all (fits_label disc) ls ≡ true → are_octets name ≡ true → inner written ≡ Some s
-    → case_in inner disc (json.array (json.item (json.array (json_items (map (label_data Plain disc) ls))) (json.item (text_data name) (json.item written json.no_items))))
+    → case_in inner disc (json.array (json.item (json.array (json_items (map (label_data Plain disc) ls)))
+    (json.item (text_data name) (json.item written json.no_items))))
     ≡ Some (record { labels = ls; name = name; shape = s })
 case_back inner disc ls name s written apart fit fine back = rw (labels_back disc apart ls fit, named_back name fine, back) refl
 
@@ -103,7 +104,8 @@ is_one_of : (depth : ℕ) (disc : Shape) (bs : Branches) (other : Fields) → no
 is_one_of depth disc bs other h =
     let s = choice disc bs other in
     let own = (no_fault (fault_if (nat_lt 32 depth) TooDeep) (own_fault s) h).1 in
-    let more = (no_fault (fault_if (is_empty s) Empty) (option_or (fault_if (has_bad_discriminant s) BadDiscriminant) (fault_if (has_doubles s) Doubled)) own).1 in
+    let more = (no_fault (fault_if (is_empty s) Empty)
+    (option_or (fault_if (has_bad_discriminant s) BadDiscriminant) (fault_if (has_doubles s) Doubled)) own).1 in
     let bad = (no_fault (fault_if (has_bad_discriminant s) BadDiscriminant) (fault_if (has_doubles s) Doubled) more).0 in
     let both = true_of (is_discriminant disc && list_all (is_label_of disc) (all_labels bs)) (unfaulted (has_bad_discriminant s) BadDiscriminant bad) in
     (and_parts (is_discriminant disc) (list_all (is_label_of disc) (all_labels bs)) both).0
