@@ -1,7 +1,7 @@
 use Rattle.std.proofs.Common.{refl, inr, ◌∙◌, arith}
 use Rattle.std.proofs.lemmas.Result.{err_from_is_err_and}
 use Rattle.giop_msg.proofs.FramerLemmas.{begins_with_header, BeginsWithHeader, waits_for_header, waits_for_payload, message_at_front}
-use Rattle.giop_msg.proofs.framer.first_message.Goals as goal
+use Rattle.giop_msg.proofs.framer.buffer.first_message.Goals as goal
 
 pub returns-in_default-clause-waits : goal.returns-in_default-clause-waits
 returns-in_default-clause-waits c = waits_for_header c.args.limit c.args.octets.now c.in_default.ensures.cases
@@ -26,4 +26,4 @@ returns-clause-found c =
     let begins : BeginsWithHeader c.args.limit c.args.octets.now c.in_ok-header.header =
     begins_with_header _ _ _ _ c.in-Some.ensures.cases.same c.in_ok-header.ensures.ok.0 c.in_ok-header.ensures.ok.1 in
     let part = c.in-Some-get.ensures.lookup.0 in
-    message_at_front _ _ _ c.in_ok-copied.field-0 (λ i. (c.type_inv.octets i).fits) begins c.ranges.limit.fits part.1 (c.in_ok-copied.ensures ∙ part.2)
+    message_at_front _ _ _ c.from.result (λ i. (c.type_inv.octets i).fits) begins c.ranges.limit.fits part.1 (c.from.ensures ∙ c.in_ok-copied.ensures ∙ part.2)

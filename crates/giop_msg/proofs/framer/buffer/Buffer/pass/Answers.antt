@@ -1,7 +1,7 @@
 use Rattle.std.proofs.Common.{ap, length, arith}
 use Rattle.giop_msg.specs.Stream.{Unread}
 use Rattle.giop_msg.proofs.FramerLemmas.{message_fits}
-use Rattle.giop_msg.proofs.framer.Framer.pass.Goals as goal
+use Rattle.giop_msg.proofs.framer.buffer.Buffer.pass.Goals as goal
 
 pub advance-requires : goal.advance-requires
 advance-requires c =
