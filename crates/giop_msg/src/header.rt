@@ -85,6 +85,7 @@ impl Header {
 
     // The message size that twelve octets say, in the byte order that they say.
     #[tactic(auto, unfolding(crate::specs::Header::header_of))]
+    #[inline(always)]
     pub(crate) fn size_in(octets: &[u8; 12]) -> u32
         ensures { result ≡ (header_of octets.now).size }
     {

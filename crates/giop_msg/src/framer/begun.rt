@@ -22,8 +22,29 @@ pub struct Begun {
 }
 
 impl Begun {
-    /// The large message that the octets begin, where its end isn't among them.
+    /// The large message that the octets begin, where its end isn't among them. Most messages are
+    /// small, and their headers are judged once, as they are taken.
+    #[inline(always)]
     pub fn begin(spare: &mut Spare, octets: &[u8], limit: u32) -> Result<Option<Begun>, AllocError>
+        ensures octets { IfOk result (λ o. IfSome o (λ b. octets.now ≡ begun_octets b)) }
+        ensures before { IfOk result (λ o. IfSome o (λ b.
+            IsBefore b (record { limit = limit; octets = [] }))) }
+    {
+        match octets.first_chunk::<12>() {
+            Some(head) if Header::size_in(head) > MOST_SMALL => {
+                Begun::begin_judged(spare, octets, limit)
+            }
+            _ => Ok(None),
+        }
+    }
+
+    // The message that the octets begin, where its header is sound and its end isn't among them.
+    #[inline(never)]
+    fn begin_judged(
+        spare: &mut Spare,
+        octets: &[u8],
+        limit: u32,
+    ) -> Result<Option<Begun>, AllocError>
         ensures octets { IfOk result (λ o. IfSome o (λ b. octets.now ≡ begun_octets b)) }
         ensures before { IfOk result (λ o. IfSome o (λ b.
             IsBefore b (record { limit = limit; octets = [] }))) }
@@ -31,10 +52,6 @@ impl Begun {
         let Some((head, payload)) = octets.split_first_chunk::<12>() else {
             return Ok(None);
         };
-        // Most messages are small, and their headers are judged once, as they are taken.
-        if Header::size_in(head) <= MOST_SMALL {
-            return Ok(None);
-        }
         match Header::judge(head, limit) {
             Ok(header) if payload.len() < header.size as usize => Ok(Some(Begun {
                 header,
@@ -45,6 +62,7 @@ impl Begun {
     }
 
     /// Whether all of the payload is there.
+    #[inline(always)]
     pub fn is_whole(&self) -> bool
         ensures { IsTrue result ↔ (self.now.header.size ≤ length (payload_so_far self.now)) }
     {

@@ -46,6 +46,7 @@ impl Buffer {
     }
 
     /// Appends octets.
+    #[inline(always)]
     pub fn append(&mut self, octets: &[u8]) -> Result<(), WireFault>
         ensures ok { OnOk result (self.new
             ≡ record self.old { octets = self.old.octets ++ octets.now }) }
@@ -58,6 +59,7 @@ impl Buffer {
 
     /// Appends octets. Where they are the first, and begin a large message whose end isn't there,
     /// they are returned as such.
+    #[inline(always)]
     pub fn feed(&mut self, octets: &[u8]) -> Result<Option<Begun>, WireFault>
         ensures ok { IfOk result (λ begun. with_begun begun self.new
             ≡ record self.old { octets = self.old.octets ++ octets.now }) }
@@ -76,6 +78,7 @@ impl Buffer {
     }
 
     /// Takes a large message out, whose end isn't there.
+    #[inline(always)]
     pub fn take_begun(&mut self) -> Result<Option<Begun>, WireFault>
         ensures ok { IfOk result (λ begun. with_begun begun self.new ≡ self.old) }
         ensures stands { IfOk result (λ begun. CanStand begun self.new) }
@@ -90,6 +93,7 @@ impl Buffer {
     }
 
     /// The number of octets.
+    #[inline(always)]
     pub fn len(&self) -> usize
         ensures value { result ≡ length self.now.octets }
         ensures bound { result < 2 ^ 63 }
@@ -98,6 +102,7 @@ impl Buffer {
     }
 
     /// Takes the first message off, as `Framer::next` does.
+    #[inline(always)]
     pub fn next(&mut self) -> Result<Option<Msg>, WireFault>
         ensures found { IfOk result (λ o. IfSome o (λ m. TakesMessage self.old m self.new)) }
         ensures waits { IfOk result (λ o. IfNone o (Waits self.old × (self.new ≡ self.old))) }
@@ -132,6 +137,7 @@ impl Buffer {
     }
 
     /// Keeps the memory of a message that is no longer needed for a later one.
+    #[inline(always)]
     pub fn reuse(&mut self, message: Msg)
         ensures { self.new ≡ self.old }
     {

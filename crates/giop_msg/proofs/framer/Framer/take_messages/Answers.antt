@@ -1,6 +1,5 @@
-use Rattle.std.proofs.Common.{◌≡◌, refl, sym, subst, ◌∙◌, inr, rules, length, ◌<◌, ◌≤◌}
+use Rattle.std.proofs.Common.{◌≡◌, refl, inr, rules, length, ◌<◌, ◌≤◌}
 use Rattle.std.proofs.lemmas.Result.{err_from_is_err_and}
-use Rattle.giop_msg.specs.declared.framer.begun.Begun.{Begun}
 use Rattle.giop_msg.specs.Framing.{payload_so_far}
 use Rattle.giop_msg.specs.Stream.{AppendsTaken}
 use Rattle.giop_msg.proofs.FramerLemmas.{begun_is_taken, begun_waits, stands, taken_more, taken_none, taken_then}

@@ -1,6 +1,6 @@
 use Rattle.std.proofs.Common.{refl, ◌∙◌, arith}
 use Rattle.giop_msg.proofs.FramerLemmas.{HasFront, has_front}
-use Rattle.giop_msg.proofs.framer.begun.Begun.begin.Goals as goal
+use Rattle.giop_msg.proofs.framer.begun.Begun.begin_judged.Goals as goal
 
 front : (c : goal.In_ok-copied-in-Ok) → HasFront c.args.limit c.args.octets.now c.in-Ok.header c.in_ok-copied-in-Ok.field-0.items
 front c =
