@@ -6,4 +6,5 @@ pub mod Answers
 pub mod Stretches
 pub mod CountSteps
 pub mod ItemLoops
+pub mod LongLemmas
 pub mod ViewLemmas

@@ -2,3 +2,4 @@
 pub mod WrittenNumbers
 pub mod RoundTripLemmas
 pub mod WriterLemmas
+pub mod LongsWritten

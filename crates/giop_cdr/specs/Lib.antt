@@ -1,6 +1,7 @@
 pub mod Reading
 pub mod Spelling
 pub mod Writing
+pub mod Longs
 pub mod RoundTrip
 pub mod Encapsulation
 pub mod Layout

@@ -2,6 +2,7 @@
 //! goes back. What each write appends is defined in `specs/Writing/Output.antt`.
 pub mod appending;
 pub mod checkpoint;
+pub mod longs;
 pub mod mark;
 pub mod values;
 pub mod writer;

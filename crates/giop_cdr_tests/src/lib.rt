@@ -1,5 +1,5 @@
-//! What neither a clause of giop_cdr nor a row says: runs without memory. All else are rows
-//! (tests/cases).
+//! What no row says of giop_cdr: longs read and written at once, and runs without memory. All else
+//! are rows (tests/cases).
 #![tactic(auto)]
 
 #[cfg(test)]

@@ -1,2 +1,3 @@
-//! What of giop_cdr only a proved test can say: refused allocations.
+//! What of giop_cdr only a proved test can say: longs at once, and refused allocations.
+mod longs;
 mod memory;

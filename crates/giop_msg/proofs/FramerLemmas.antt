@@ -1,16 +1,20 @@
 -- One step of the framer: what a slice of octets begins with, and what is taken away.
-use Rattle.std.proofs.Common.{◌≡◌, ℕ, ◌+◌, ◌<◌, ◌≤◌, ◌^◌, List, [], ◌∷◌, ◌++◌, length, take, drop, get_or, None, refl, sym, ap, subst, ◌∙◌, append_assoc, append-nil, length-append, inl, inr, arith}
-use Rattle.std.specs.List.{flat_map, slice_range}
-use Rattle.std.proofs.lemmas.List.{take-append-drop, length-take, length-drop, drop-drop, get_or-take, get_or_past, flat_map_more}
+use Rattle.std.proofs.Common.{Option, Some, ◌≡◌, ℕ, ◌+◌, ◌<◌, ◌≤◌, ◌^◌, List, [], ◌∷◌, ◌++◌, length, take, drop, get_or, None, refl, sym, ap, subst, ◌∙◌, append_assoc, append-nil, length-append, inl, inr, arith}
+use Rattle.std.specs.List.{All, flat_map, slice_range}
+use Rattle.std.proofs.lemmas.List.{take_at, take-append-drop, length-take, length-drop, drop-drop, get_or-take, get_or_past, flat_map_more}
 use Rattle.std.proofs.lemmas.List.Elements.{All-append}
+use Rattle.std.proofs.lemmas.Grind.{flat_map-append}
 use Rattle.std.proofs.lemmas.Bool.{cases_lt}
+use Rattle.giop_msg.specs.declared.framer.begun.Begun.{Begun}
 use Rattle.giop_msg.specs.declared.header.Header.{Header}
+use Rattle.giop_msg.specs.declared.fault.WireFault.{WireFault}
 use Rattle.giop_msg.specs.declared.msg.Msg.{Msg}
+use Rattle.giop_msg.specs.Framing.{begun_octets, CanStand, IsBefore, message_of, payload_so_far, with_begun}
 use Rattle.giop_msg.specs.Header.{header_octets, header_of, header_fault}
 use Rattle.giop_msg.specs.Msg.{head_of, message_octets, IsMessage}
-use Rattle.giop_msg.specs.Stream.{Unread, Waits, AppendsTaken, TakesMessage}
+use Rattle.giop_msg.specs.Stream.{Unread, BeginsWithFault, Waits, AppendsTaken, TakesMessage}
 use Rattle.giop_msg.proofs.FaultLemmas.{header_fault-of_fields, octet_fault-sound, sizes_of_sound}
-use Rattle.giop_msg.proofs.HeaderLemmas.{sound_octets}
+use Rattle.giop_msg.proofs.HeaderLemmas.{header_of-header_octets, length-header_octets, sound_octets}
 use Rattle.giop_msg.proofs.StreamLemmas.{length-message_octets, header_of-message_octets, each_one}
 
 below_in_front : (octets : List ℕ) → ((i : ℕ) → get_or octets i 0 < 256) → (i : ℕ) → get_or (take 12 octets) i 0 < 256
@@ -45,10 +49,6 @@ waits_for_payload limit octets h begins short = record {
       absurd (omega (arith, sizes, ap length eq, length-append (message_octets m) more, length-message_octets m));
   no_fault = λ e stands. let found = stands.1 in let sound = begins.sound in let no : ⊥ = cc in absurd no;
 }
-
--- the message of a header and the octets after it
-abbrev pub message_of : Header → List ℕ → Msg
-message_of h payload = record { version = h.version; order = h.order; more = h.more; kind = h.kind; payload = payload }
 
 head_of-message_of : (h : Header) (payload : List ℕ) → length payload ≡ h.size → head_of (message_of h payload) ≡ h
 head_of-message_of h payload e = rw e refl
@@ -112,3 +112,95 @@ taken_more old middle new before after m so_far next = record {
 -- a message that is taken leaves fewer octets
 pub takes_fewer : (old new : Unread) (m : Msg) → TakesMessage old m new → length new.octets < length old.octets
 takes_fewer old new m takes = omega (arith, ap length takes.octets, length-append (message_octets m) new.octets, length-message_octets m)
+
+-- what a header's octets and the others are, where nothing is wrong with it
+pub record HasFront (limit : ℕ) (octets : List ℕ) (h : Header) (payload : List ℕ) : Type 0 where
+  pub octets_are : octets ≡ header_octets h ++ payload
+  pub sound : header_fault limit (header_octets h) ≡ None
+
+pub has_front : (limit : ℕ) (octets head payload : List ℕ) (h : Header) → ((i : ℕ) → get_or octets i 0 < 256) → 12 ≤ length octets →
+    head ≡ take 12 octets → payload ≡ drop 12 octets → h ≡ header_of head → header_fault limit head ≡ None → HasFront limit octets h payload
+has_front limit octets head payload h below there front back is sound =
+    let twelve : length (take 12 octets) ≡ 12 = simp length-take (omega arith) in
+    let sound_front : header_fault limit (take 12 octets) ≡ None = ap (header_fault limit) (sym front) ∙ sound in
+    let heads : header_octets h ≡ take 12 octets =
+    ap header_octets (is ∙ ap header_of front) ∙ sound_octets limit (take 12 octets) twelve (below_in_front octets below) sound_front in
+    record {
+      octets_are = sym (take-append-drop 12 octets) ∙ ap (λ xs. xs ++ drop 12 octets) (sym heads) ∙ ap (λ xs. header_octets h ++ xs) (sym back);
+      sound = ap (header_fault limit) heads ∙ sound_front;
+    }
+
+-- a message that came in part begins with its header
+begins_with_begun : (b : Begun) (behind : Unread) → IsBefore b behind → BeginsWithHeader behind.limit (begun_octets b ++ behind.octets) b.header
+begins_with_begun b behind before =
+    let front : take 12 (begun_octets b ++ behind.octets) ≡ header_octets b.header =
+    ap (take 12) (append_assoc (header_octets b.header) (payload_so_far b) behind.octets)
+    ∙ take_at (header_octets b.header) (payload_so_far b ++ behind.octets) 12 (length-header_octets b.header) in
+    record {
+      is = sym (ap header_of front ∙ header_of-header_octets b.header before.sized);
+      sound = ap (header_fault behind.limit) front ∙ before.sound;
+    }
+
+-- a message that came in part stands before the octets behind it, and both are what is unread
+pub record Stands (b : Begun) (behind unread : Unread) : Type 0 where
+  pub before : IsBefore b behind
+  pub same : with_begun (Some b) behind ≡ unread
+
+pub stands : (begun : Option Begun) (b : Begun) (behind unread : Unread) → begun ≡ Some b → CanStand begun behind → with_begun begun behind ≡ unread →
+    Stands b behind unread
+stands begun b behind unread is can same = record {
+  before = subst (λ o. CanStand o behind) is can;
+  same = ap (λ o. with_begun o behind) (sym is) ∙ same;
+}
+
+-- no fault stands at its front
+pub begun_is_sound : (b : Begun) (behind unread : Unread) (e : WireFault) → Stands b behind unread → BeginsWithFault unread.limit unread.octets e → ⊥
+begun_is_sound b behind unread e both fault =
+    let front : BeginsWithFault behind.limit (begun_octets b ++ behind.octets) e =
+    subst (λ (u : Unread). BeginsWithFault u.limit u.octets e) (sym both.same) fault in
+    let found = front.1 in let sound = (begins_with_begun b behind both.before).sound in let no : ⊥ = cc in no
+
+-- while its payload isn't whole, it is neither a message nor a fault
+pub begun_waits : (b : Begun) (behind unread : Unread) → Stands b behind unread → length (payload_so_far b) < b.header.size → Waits unread
+begun_waits b behind unread both part =
+    let long = length-append (begun_octets b) behind.octets in
+    let none : length behind.octets ≡ 0 = ap length (both.before.last part) in
+    let own = length-append (header_octets b.header) (payload_so_far b) in
+    let head = length-header_octets b.header in
+    subst Waits both.same (waits_for_payload _ _ _ (begins_with_begun b behind both.before) (omega arith))
+
+-- where it is whole, it is a message, and what is behind it is left
+whole_is_taken : (b : Begun) (behind : Unread) → IsBefore b behind → b.header.size ≤ length (payload_so_far b) →
+    TakesMessage (with_begun (Some b) behind) (message_of b.header (payload_so_far b)) behind
+whole_is_taken b behind before whole =
+    let long : length (payload_so_far b) ≡ b.header.size = omega (arith, before.within) in
+    let head = head_of-message_of b.header (payload_so_far b) long in
+    record {
+      is_message = record {
+        sized = omega (arith, before.sized);
+        sound = ap (λ (h : Header). header_fault behind.limit (header_octets h)) head ∙ before.sound;
+      };
+      octets = ap (λ (h : Header). (header_octets h ++ payload_so_far b) ++ behind.octets) (sym head);
+      limit = refl;
+    }
+
+pub begun_is_taken : (b : Begun) (behind unread : Unread) → Stands b behind unread → b.header.size ≤ length (payload_so_far b) →
+    TakesMessage unread (message_of b.header (payload_so_far b)) behind
+begun_is_taken b behind unread both whole =
+    subst (λ u. TakesMessage u (message_of b.header (payload_so_far b)) behind) both.same (whole_is_taken b behind both.before whole)
+
+-- messages are taken, and then more of them
+pub taken_then : (old middle new : Unread) (before between after : List Msg) → AppendsTaken old before middle between →
+    AppendsTaken middle between new after → AppendsTaken old before new after
+taken_then old middle new before between after a b = record {
+  taken = a.taken ++ b.taken;
+  appended = b.appended ∙ ap (λ ms. ms ++ b.taken) a.appended ∙ append_assoc before a.taken b.taken;
+  takes = record {
+    each = All-append (IsMessage old.limit) a.taken b.taken a.takes.each (subst (λ n. All (IsMessage n) b.taken) a.takes.limit b.takes.each);
+    octets =
+        a.takes.octets ∙ ap (λ s. flat_map message_octets a.taken ++ s) b.takes.octets
+        ∙ sym (append_assoc (flat_map message_octets a.taken) (flat_map message_octets b.taken) new.octets)
+        ∙ ap (λ s. s ++ new.octets) (sym (flat_map-append message_octets a.taken b.taken));
+    limit = b.takes.limit ∙ a.takes.limit;
+  };
+}

@@ -11,7 +11,8 @@ use Rattle.giop_msg.specs.Header.{header_of, header_fault}
 use Rattle.giop_msg.specs.Laws.{EverySplit}
 use Rattle.giop_msg.specs.Msg.{message_octets, IsMessage}
 use Rattle.giop_msg.specs.Stream.{BeginsWithMessage, Msgs}
-use Rattle.giop_msg.proofs.FramerLemmas.{BeginsWithHeader, message_of, message_at_front, waits_for_header, waits_for_payload}
+use Rattle.giop_msg.specs.Framing.{message_of}
+use Rattle.giop_msg.proofs.FramerLemmas.{BeginsWithHeader, message_at_front, waits_for_header, waits_for_payload}
 use Rattle.giop_msg.proofs.HeaderLemmas.{bounded}
 use Rattle.giop_msg.proofs.StreamLemmas.{length-message_octets, message_or_fault}
 

@@ -8,6 +8,7 @@ pub mod Target
 pub mod RequestId
 pub mod Msg
 pub mod Stream
+pub mod Framing
 pub mod Laws
 pub mod RequestHead
 pub mod ReplyHead

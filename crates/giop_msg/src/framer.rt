@@ -1,31 +1,28 @@
 //! The framer, which splits a stream into messages (9.4.1). How the stream comes in pieces changes
 //! nothing of what it returns: specs/Stream.antt and the laws of laws/stream.rt say so.
-ghost use Rattle.std.specs.Prelude.{◌≡◌, ◌+◌, ◌++◌, ◌⊎◌, [], drop, length, IfOk, IfErr, IfSome, IfNone, OnOk, OnErr};
+ghost use Rattle.std.specs.Prelude.{◌≡◌, ◌+◌, ◌++◌, [], length, IfOk, IfErr, IfSome, IfNone, OnOk, OnErr};
 ghost use Rattle.giop_msg.specs.declared.fault.WireFault.{WireFault};
 ghost use Rattle.giop_msg.specs.declared.fault.WireKind.TheVariants.{NoMemory};
 ghost use Rattle.giop_msg.specs.Fault.{fault};
-ghost use Rattle.giop_msg.specs.Msg.{IsMessage, message_octets};
 ghost use Rattle.giop_msg.specs.Stream.{BeginsWithFault, IsRefusal, Waits};
 
-use crate::{Header, Msg, WireFault};
-use bytes::BytesMut;
-use giop_cdr::OctetList;
-use std::alloc::{AllocError, Global};
+use crate::{Msg, WireFault};
+use begun::Begun;
+use buffer::Buffer;
+use std::alloc::Global;
 use std::marker::Model;
-use std::mem;
 
-// The most memory, in octets, that is kept for a later message.
-const MOST_SPARE: usize = 65_536;
+mod begun;
+mod buffer;
+mod spare;
 
 /// Splits a stream of octets, which comes in pieces of any size, into messages. Contracts see the
 /// unread octets and the greatest message size.
 #[derive(Debug, Drop)]
 pub struct Framer {
-    limit: u32,
-    unread: BytesMut,
-    // The memory of a message that the caller no longer needs, and none of its octets.
-    spare: Vec<u8>,
-    alloc: Global,
+    // A large message at the front, if it comes in parts, and the octets behind it.
+    begun: Option<Begun>,
+    buffer: Buffer,
 }
 
 impl Model for Framer {
@@ -33,7 +30,11 @@ impl Model for Framer {
 
     ghost Value = { Unread };
 
-    ghost view = { λ f. record { limit = f.limit; octets = f.unread.items } };
+    ghost use Rattle.giop_msg.specs.Framing.{CanStand, with_begun};
+
+    ghost view = { λ f. with_begun f.begun f.buffer };
+
+    ghost invariant = { λ f. CanStand f.begun f.buffer };
 }
 
 impl Framer {
@@ -45,14 +46,12 @@ impl Framer {
         ensures { result ≡ record { limit = message_limit; octets = [] } }
     {
         Framer {
-            limit: message_limit,
-            unread: BytesMut::new(alloc),
-            spare: Vec::new(alloc),
-            alloc,
+            begun: None,
+            buffer: Buffer::new(alloc, message_limit),
         }
     }
 
-    /// Appends octets of the stream to those that are unread. It judges none of them.
+    /// Appends octets of the stream to those that are unread. It tells no fault of them.
     ///
     /// The only fault is `NoMemory`, at 0; it changes nothing.
     pub fn feed(&mut self, octets: &[u8]) -> Result<(), WireFault>
@@ -61,7 +60,13 @@ impl Framer {
         ensures err { IfErr result (λ e. e ≡ fault 0 NoMemory) }
         ensures kept { OnErr result (self.new ≡ self.old) }
     {
-        self.unread.extend_from_slice(octets)?;
+        if self.begun.is_none() {
+            self.begun = self.buffer.take_begun()?;
+        }
+        match &mut self.begun {
+            Some(begun) => begun.feed(octets, &mut self.buffer)?,
+            None => self.begun = self.buffer.feed(octets)?,
+        }
         Ok(())
     }
 
@@ -69,7 +74,10 @@ impl Framer {
     pub fn rest(&self) -> usize
         ensures { result ≡ length self.now.octets }
     {
-        self.unread.len()
+        match &self.begun {
+            Some(begun) => begun.len() + self.buffer.len(),
+            None => self.buffer.len(),
+        }
     }
 
     /// Takes the first message off the unread octets and returns it. It returns `None` where
@@ -89,12 +97,13 @@ impl Framer {
         ensures err { IfErr result (IsRefusal self.old) }
         ensures kept { OnErr result (self.new ≡ self.old) }
     {
-        let octets = self.unread.as_slice();
-        let found = first_message(self.alloc, &mut self.spare, octets, self.limit)?;
-        if let Some(message) = &found {
-            self.pass(message);
+        let Some(begun) = &self.begun else {
+            return self.buffer.next();
+        };
+        if !begun.is_whole() {
+            return Ok(None);
         }
-        Ok(found)
+        Ok(Some(self.begun.take().unwrap().into_message()))
     }
 
     /// Takes all messages off the front of the unread octets, and appends them to `messages`.
@@ -107,16 +116,16 @@ impl Framer {
         ensures ok { OnOk result (Waits self.new) }
         ensures err { IfErr result (IsRefusal self.new) }
     {
-        loop {
-            let octets = self.unread.as_slice();
-            let found = first_message(self.alloc, &mut self.spare, octets, self.limit)?;
-            let Some(message) = found else {
-                return Ok(());
-            };
-            messages.reserve(1)?;
-            self.pass(&message);
-            messages.push(message).unwrap();
+        let Some(begun) = &self.begun else {
+            return self.buffer.take_messages(messages);
+        };
+        if !begun.is_whole() {
+            return Ok(());
         }
+        messages.reserve(1)?;
+        let message = self.begun.take().unwrap().into_message();
+        messages.push(message).unwrap();
+        self.buffer.take_messages(messages)
     }
 
     /// Takes a message that is no longer needed, and keeps its memory for a later one, unless it is
@@ -124,68 +133,6 @@ impl Framer {
     pub fn reuse(&mut self, message: Msg)
         ensures { self.new ≡ self.old }
     {
-        let mut octets = message.payload.into_vec();
-        octets.clear();
-        if octets.capacity() <= MOST_SPARE {
-            self.spare = octets;
-        }
+        self.buffer.reuse(message);
     }
-
-    // Takes the message that is at the front off the unread octets.
-    fn pass(&mut self, message: &Msg)
-        requires { IsMessage self.old.limit message.now
-            × (self.old.octets ≡ message_octets message.now
-            ++ drop (12 + length message.now.payload) self.old.octets) }
-        ensures { TakesMessage self.old message.now self.new }
-    {
-        self.unread.advance(12 + message.payload.len());
-        // So that the octets to come have all of its memory.
-        if self.unread.is_empty() {
-            self.unread.clear();
-        }
-    }
-}
-
-// The message at the front of the octets, its payload copied.
-fn first_message(
-    alloc: Global,
-    spare: &mut Vec<u8>,
-    octets: &[u8],
-    limit: u32,
-) -> Result<Option<Msg>, WireFault>
-    ensures found { IfOk result (λ o. IfSome o (λ m. IsMessage limit m
-        × (octets.now ≡ message_octets m ++ drop (12 + length m.payload) octets.now))) }
-    ensures waits { IfOk result (λ o. IfNone o
-        (Waits (record { limit = limit; octets = octets.now }))) }
-    ensures exact { (e : WireFault) → BeginsWithFault limit octets.now e → result ≡ Err e }
-    ensures err { IfErr result (IsRefusal (record { limit = limit; octets = octets.now })) }
-{
-    let Some(head) = octets.first_chunk::<12>() else {
-        return Ok(None);
-    };
-    let header = Header::judge(head, limit)?;
-    let end = 12 + header.size as usize;
-    let Some(payload) = octets.get(12..end) else {
-        return Ok(None);
-    };
-    Ok(Some(Msg {
-        version: header.version,
-        order: header.order,
-        more: header.more,
-        kind: header.kind,
-        payload: copied(alloc, spare, payload)?,
-    }))
-}
-
-// A copy of the octets, in the spare memory where that has room for them.
-fn copied(alloc: Global, spare: &mut Vec<u8>, octets: &[u8]) -> Result<OctetList, AllocError>
-    ensures { IfOk result (λ list. list ≡ octets.now) }
-{
-    if spare.capacity() < octets.len() {
-        return OctetList::from_slice(alloc, octets);
-    }
-    let mut list = mem::replace(spare, Vec::new(alloc));
-    list.clear();
-    list.extend_from_slice(octets)?;
-    Ok(OctetList::from(list))
 }

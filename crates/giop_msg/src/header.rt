@@ -83,24 +83,36 @@ impl Header {
         }
     }
 
+    // The message size that twelve octets say, in the byte order that they say.
+    #[tactic(auto, unfolding(crate::specs::Header::header_of))]
+    #[inline(always)]
+    pub(crate) fn size_in(octets: &[u8; 12]) -> u32
+        ensures { result ≡ (header_of octets.now).size }
+    {
+        let size = [octets[8], octets[9], octets[10], octets[11]];
+        if octets[6] % 2 == 0 {
+            u32::from_be_bytes(size)
+        } else {
+            u32::from_le_bytes(size)
+        }
+    }
+
     // The fields of twelve octets, in which the message type is below 8.
     #[tactic(auto, unfolding(crate::specs::Header::header_of))]
     fn from_octets(octets: &[u8; 12]) -> Header
         requires { slice_index octets.now 7 < 8 }
         ensures { result ≡ header_of octets.now }
     {
-        let size = [octets[8], octets[9], octets[10], octets[11]];
-        let (order, size) = if octets[6] % 2 == 0 {
-            (Order::Big, u32::from_be_bytes(size))
-        } else {
-            (Order::Little, u32::from_le_bytes(size))
+        let order = match octets[6] % 2 {
+            0 => Order::Big,
+            _ => Order::Little,
         };
         Header {
             version: Version::from_minor(octets[5]),
             order,
             more: octets[6] >= 2,
             kind: Kind::from_number(octets[7]),
-            size,
+            size: Header::size_in(octets),
         }
     }
 

@@ -12,3 +12,4 @@ pub mod EncodeLemmas
 pub mod SpelledFits
 pub mod AgainLemmas
 pub mod WrittenOctets
+pub mod AtOnceLemmas

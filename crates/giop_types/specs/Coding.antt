@@ -6,3 +6,4 @@ pub mod Refusals
 pub mod Outcome
 pub mod Written
 pub mod Encoding
+pub mod AtOnce

@@ -1,9 +1,11 @@
 //! Laws of the definitions that contracts cite. Each function's contract is one of them, and no
 //! program calls these.
+mod at_once;
 mod ior_texts;
 mod json;
 mod values;
 
+pub use at_once::longs_at_once_are_items;
 pub use ior_texts::{ior_texts_are_read, written_ior_texts_are_read_back};
 pub use json::{
     json_gives_descriptions_back, json_gives_interfaces_back, json_gives_values_back,

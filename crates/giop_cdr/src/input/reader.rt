@@ -1,8 +1,9 @@
 //! The reader `CdrIn`: where it stands, alignment (CORBA 3.3 Part 2, 9.3.1.1), and encapsulations
 //! (9.3.3). The reads of values are in the other files of this folder.
-ghost use Rattle.std.specs.Prelude.{◌≡◌, ◌+◌, ◌<◌, ◌≤◌, ◌^◌, length, take, Ok, Err, IfOk, IfErr};
+ghost use Rattle.std.specs.Prelude.{◌≡◌, ◌+◌, ◌*◌, ◌/◌, ◌<◌, ◌≤◌, ◌^◌, length, take, Ok, Err, IfOk, IfErr, OnOk, OnErr};
 ghost use Rattle.giop_cdr.specs.Reading.Cursor.{pad, place, skip};
-ghost use Rattle.giop_cdr.specs.Reading.Values.{field_at, is_text};
+ghost use Rattle.giop_cdr.specs.declared.fault.CdrKind.TheVariants.{Short};
+ghost use Rattle.giop_cdr.specs.Reading.Values.{fault, field_at, is_text};
 ghost use Rattle.giop_cdr.specs.Encapsulation.Opened.{opened_of, encapsulation_at};
 ghost use Rattle.giop_cdr.specs.Reading.Outcome.{Reads, Exactly};
 
@@ -165,6 +166,23 @@ impl<'a, S: Octets> CdrIn<'a, S> {
         }
         self.at += pad;
         self.index = self.end;
+    }
+
+    // Refuses the first of `count` longs that isn't there, where none needs padding.
+    pub(crate) fn expect_longs(&self, count: usize) -> Result<(), CdrFault>
+        ensures there { OnOk result (4 * count ≤ length self.now.rest) }
+        ensures missing { OnErr result (length self.now.rest < 4 * count) }
+        ensures err { IfErr result (λ e.
+            e ≡ fault (self.now.at + length self.now.rest / 4 * 4) Short) }
+    {
+        let left = self.end - self.index;
+        if left / 4 < count {
+            return Err(CdrFault {
+                at: self.at + left / 4 * 4,
+                kind: CdrKind::Short,
+            });
+        }
+        Ok(())
     }
 
     // Passes over octets that are there.

@@ -44,9 +44,9 @@ fn push_array<const N: usize>(octets: &mut Vec<u8>, field: [u8; N]) -> Result<()
     Ok(())
 }
 
-// Appends N octets where there is room for them.
+/// Appends N octets where there is room for them.
 #[inline(always)]
-fn push_each<const N: usize>(octets: &mut Vec<u8>, field: [u8; N])
+pub fn push_each<const N: usize>(octets: &mut Vec<u8>, field: [u8; N])
     requires { vec_len octets.old + N ≤ vec_capacity octets.old }
     ensures items { octets.new.items ≡ octets.old.items ++ field.entry }
     ensures capacity { vec_capacity octets.new ≡ vec_capacity octets.old }

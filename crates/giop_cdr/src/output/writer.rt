@@ -1,6 +1,7 @@
 //! The writer `CdrOut`: alignment (CORBA 3.3 Part 2, 9.3.1.1), encapsulations (9.3.3), and going
 //! back to a place. The writes of values are in `values.rt`.
 ghost use Rattle.std.specs.Prelude.{◌≡◌, ◌+◌, ◌-◌, ◌<◌, ◌≤◌, ◌^◌, length, [], ◌++◌, OnOk, OnErr, IfOk, IsTrue, ◌↔◌};
+ghost use Rattle.giop_cdr.specs.Longs.{longs_octets};
 ghost use Rattle.giop_cdr.specs.Writing.Output.{append, aligned, padding_out, here, back_at};
 ghost use Rattle.giop_cdr.specs.Encapsulation.Opened.{opened, place_opened, closed};
 ghost use Rattle.giop_cdr.specs.Writing.Outcome.{Writes, Appends, Grows};
@@ -8,6 +9,7 @@ ghost use Rattle.giop_cdr.specs.Writing.Outcome.{Writes, Appends, Grows};
 use crate::order::Order;
 use crate::output::appending::{fill, push_counted, push_field, push_zeros};
 use crate::output::checkpoint::Checkpoint;
+use crate::output::longs::push_counted_longs;
 use crate::output::mark::Mark;
 use std::alloc::{AllocError, Global};
 use std::fmt;
@@ -230,6 +232,18 @@ impl CdrOut {
     {
         let at = self.position();
         push_counted(&mut self.octets, at, count, content, tail)
+    }
+
+    // Appends a count, aligned to 4, and the longs that it counts.
+    #[inline(always)]
+    pub(crate) fn append_longs(&mut self, count: [u8; 4], longs: &[i32]) -> Result<(), AllocError>
+        requires { length longs.now < 2 ^ 32 }
+        ensures { Writes self.old result self.new
+            (append (append self.old (aligned 4 self.old count))
+            (longs_octets self.old.order longs.now)) }
+    {
+        let at = self.position();
+        push_counted_longs(&mut self.octets, at, count, self.order, longs)
     }
 }
 

@@ -1,5 +1,5 @@
 -- The parts of a whole message hold, so it does: its numbers are in the ranges of their types.
-use Rattle.std.proofs.Common.{◌≡◌, ℕ, Bool, true, false, List, Option, Some, refl, sym, ap, ◌∙◌}
+use Rattle.std.proofs.Common.{◌≡◌, ℕ, Bool, true, false, List, Option, Some, refl, sym}
 use Rattle.giop_cdr.specs.Ending.{Ending, ended, from_multiple_of_8, leads, made_of}
 use Rattle.giop_types.specs.declared.json.interface.Interface.{Interface}
 use Rattle.giop_types.specs.declared.json.interface.Operation.{Operation}

@@ -1,6 +1,6 @@
 //! Reading a value from JSON by its description. The form is specs/JsonForms/FromJson.antt, and
 //! to_json.rt writes what is read here, so change them together.
-ghost use Rattle.std.specs.Prelude.{◌≡◌, true, map, option_and_then, IfOk, IfErr};
+ghost use Rattle.std.specs.Prelude.{◌≡◌, true, map, option_and_then, option_map, IfOk, IfErr};
 ghost use Rattle.giop_types.specs.declared.json.form_fault.FormFault.TheVariants.{NoMemory};
 ghost use Rattle.giop_types.specs.Descriptions.CheckedShape.{checked_shape};
 ghost use Rattle.giop_types.specs.JsonForms.FromJson.{Shows, ShowsCase, Reads, shown, members_shown, fields_shown, branches_shown, fallback_shown, items_shown, is_object_of, union_parts, from_data};
@@ -25,7 +25,7 @@ use crate::json::reference::{is_reference, reference_of};
 use crate::json::texts::text_of;
 use crate::value::Value;
 use serde_json::Value as Json;
-use std::alloc::Global;
+use std::alloc::{AllocError, Global};
 
 /// The value of this description that a JSON value is. Refused as BadShape where the JSON value, or
 /// a part of it, is of another form than the description's; else as Unfit where a range, a bound, a
@@ -136,11 +136,28 @@ fn show_member(alloc: Global, member: &NamedDesc, json: &Json) -> Result<Value, 
         (option_and_then (shown (desc_view member.now.desc))
         (get (text_of member.now.name) (view json.now))) }
 {
-    let name = text_of(alloc, member.name.as_slice())?;
-    match json.get(name.as_str()) {
+    match member_under(alloc, member.name.as_slice(), json)? {
         Some(json) => show(alloc, &member.desc, json),
         None => Err(FormFault::BadShape),
     }
+}
+
+// What an object has under a name. A name of octets below 128 is its own text, and needs no memory.
+fn member_under<'a>(
+    alloc: Global,
+    name: &[u8],
+    json: &'a Json,
+) -> Result<Option<&'a Json>, AllocError>
+    ensures { IfOk result (λ found. option_map (λ v. view v.now) found
+        ≡ get (text_of name.now) (view json.now)) }
+{
+    if name.is_ascii() {
+        if let Ok(name) = str::from_utf8(name) {
+            return Ok(json.get(name));
+        }
+    }
+    let name = text_of(alloc, name)?;
+    Ok(json.get(name.as_str()))
 }
 
 // The values of a sequence or an array, which is a list.

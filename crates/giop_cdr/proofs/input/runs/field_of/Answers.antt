@@ -1,4 +1,4 @@
-use Rattle.std.proofs.Common.{◌≡◌, ◌+◌, ◌-◌, take, drop, length, ◌∙◌, arith}
+use Rattle.std.proofs.Common.{◌-◌, drop, length, ◌∙◌, arith}
 use Rattle.std.proofs.lemmas.List.{take-take}
 use Rattle.giop_cdr.proofs.Reading.RunLemmas.{field_of_run}
 use Rattle.giop_cdr.proofs.input.runs.field_of.Goals as goal

@@ -1,5 +1,4 @@
-use Rattle.std.proofs.Common.{◌≡◌, ◌∙◌, ◌⊎◌, inl, inr, List, ℕ, Result, Ok, Err, IsOk, ap, sym, subst}
-use Rattle.giop_cdr.specs.Reading.Cursor.{Cursor}
+use Rattle.std.proofs.Common.{◌≡◌, ◌∙◌, ◌⊎◌, inl, inr, List, ℕ, Err, IsOk, sym, subst}
 use Rattle.giop_cdr.specs.Reading.Values.{Reading}
 use Rattle.giop_cdr.specs.declared.fault.CdrFault.{CdrFault}
 use Rattle.giop_cdr.specs.declared.fault.CdrKind.TheVariants.{NoMemory}
