@@ -48,7 +48,9 @@ use Rattle.giop_session.specs.Acts.Acting.{IsAccepted}
 use Rattle.giop_session.specs.Runs.Alone.{alone_heard, own_messages}
 use Rattle.giop_session.specs.Calls.CallTable.{Act, Call, Hears, Held, Nothing, Reply, at, rules_of, turn}
 use Rattle.giop_session.specs.Acts.ClientCalls.{IsLocate, cancel_fault, locate_fault, locate_octets, open_version}
-use Rattle.giop_session.specs.Runs.ClientRuns.{ClientIsGiven, client_entry}
+use Rattle.giop_session.specs.Runs.ClientRuns.{client_entry, client_run}
+use Rattle.giop_session.specs.Runs.ServerRuns.{server_entry, server_run}
+use Rattle.giop_session.specs.Runs.SideRuns.{SideIsGiven}
 use Rattle.giop_session.specs.Runs.Driven.{EndState, Says, new_end}
 use Rattle.giop_session.specs.Hearing.Feeding.{Fed, Through}
 use Rattle.giop_session.specs.Hearing.Heard.{in_call, kept, hears}
@@ -56,7 +58,6 @@ use Rattle.giop_session.specs.Acts.Putting.{Befell, Puts, octets_of}
 use Rattle.giop_session.specs.Calls.Sending.{entry_of, message_of, unsent_of}
 use Rattle.giop_session.specs.Calls.Unsent.{first_of}
 use Rattle.giop_session.specs.Hearing.ServerHears.{server_befalls, server_side}
-use Rattle.giop_session.specs.Runs.ServerRuns.{ServerIsGiven, server_entry}
 use Rattle.giop_session.specs.Worlds.World.{Told, WorldRuns, WorldState, told_of_answer}
 use Rattle.laws_in_use.specs.Left.{new_client}
 use Rattle.laws_in_use.specs.Limited.{new_server}
@@ -108,7 +109,7 @@ refused_as P (answer.Taken entry) why fine is_so says = absurd says
 
 -- a cancel of no call is refused
 cancel_refused : (interface : Interface) (answered : Answered ClientEntry) (t : EndState (Held ClientRule ClientEntry))
-    → ClientIsGiven interface limits (new_end (record {}) limits) (client_input.Cancel 9 Big) answered t
+    → SideIsGiven (client_run interface) limits (new_end (record {}) limits) (client_input.Cancel 9 Big) answered t
     → answered ≡ answer.Refused (InCall 9 NotOpen)
 cancel_refused interface answered t (fine, given) =
     refused_as _ answered (InCall 9 NotOpen) fine
@@ -208,13 +209,14 @@ module _ (interface : Interface)
 
   arrived : (mid : WorldState) (last : EndState (Held ServerRule ServerEntry)) (answered : Answered ServerEntry)
       → Ok tt ≡ told_of_answer answered → mid.server ≡ new_end (record {}) limits → mid.client.outgoing ≡ message_octets key_little
-      → ServerIsGiven interface limits mid.server (server_input.Feed (take 100 mid.client.outgoing)) answered last
+      → SideIsGiven (server_run interface) limits mid.server (server_input.Feed (take 100 mid.client.outgoing)) answered last
       → server_entry last.calls 9 ≡ Some (LocateAsked key)
   unfolding header_octets
   arrived mid last answered done new out given =
-      let at_new = subst (λ (s : EndState (Held ServerRule ServerEntry)). ServerIsGiven interface limits s (server_input.Feed (take 100 mid.client.outgoing))
-      answered last) new given in
-      let fed = subst (λ octets. ServerIsGiven interface limits (new_end (record {}) limits) (server_input.Feed (take 100 octets)) answered last) out at_new in
+      let at_new = subst (λ (s : EndState (Held ServerRule ServerEntry)). SideIsGiven (server_run interface) limits s
+      (server_input.Feed (take 100 mid.client.outgoing)) answered last) new given in
+      let fed = subst (λ octets. SideIsGiven (server_run interface) limits (new_end (record {}) limits) (server_input.Feed (take 100 octets))
+      answered last) out at_new in
       let is = given_done _ answered done fed.1 in
       stands last.calls (heard_alone _ (new_server limits) last.calls last.unread is.0)
 

@@ -6,9 +6,9 @@ ghost use Rattle.giop_session.specs.Worlds.Agreement.{Agreed, FailsByLimits};
 ghost use Rattle.giop_session.specs.Worlds.World.{AreJoined, ArriveAtClient, ArriveAtServer, AtClient, AtServer, IsStep};
 ghost use Rattle.giop_session.specs.Worlds.World.{ends_of, GoesBy, told_of_answer, WorldRuns};
 
-use super::agreement::two_ends_agree;
 use super::inputs::{Answered, ClientInput, ServerInput, WorldEvent};
 use super::running::{Driven, feed_to, take_all};
+use super::two_ends::two_ends_agree;
 use crate::end::{ClientEnd, End, ServerEnd};
 use crate::limits::Limits;
 use crate::session_fault::SessionFault;
