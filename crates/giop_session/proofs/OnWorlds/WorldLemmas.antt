@@ -33,7 +33,7 @@ use Rattle.giop_session.specs.Hearing.Heard.{SideOf}
 use Rattle.giop_session.specs.Acts.Putting.{Puts, put_out}
 use Rattle.giop_session.specs.Acts.Sent.{close_connection}
 use Rattle.giop_session.specs.Hearing.ServerHears.{server_side}
-use Rattle.giop_session.specs.Worlds.World.{AreJoined, ArriveAtClient, ArriveAtServer, AtClient, AtServer, Happens, Told, WorldRuns, WorldState}
+use Rattle.giop_session.specs.Worlds.World.{AreJoined, ArriveAtClient, ArriveAtServer, AtClient, AtServer, Happens, Returned, WorldRuns, WorldState}
 use Rattle.giop_session.specs.Worlds.World.{fed_to_client, fed_to_server, new_world}
 use Rattle.giop_session.proofs.OnActs.SidesPutOut.{client_puts_out, server_puts_out}
 
@@ -113,7 +113,7 @@ module _ (interface : Interface) (client_limits server_limits : Limits) where
     server : (d : List ℕ) → SideRunsFrom (server_run interface) server_limits (behind d w.server) server_inputs server_answers
         (behind (d ++ fed_to_client client_inputs) v.server)
 
-  at_client_on : (w mid v : WorldState) (given : ClientInput) (told : Told)
+  at_client_on : (w mid v : WorldState) (given : ClientInput) (told : Returned)
       → ((inputs : List ClientInput) → fed_to_client (given ∷ inputs) ≡ fed_to_client inputs)
       → AtClient interface client_limits server_limits w given told mid → RunsOn mid v → RunsOn w v
   at_client_on w mid v given told none (answered, is, tells, same) rest = record {
@@ -128,7 +128,7 @@ module _ (interface : Interface) (client_limits server_limits : Limits) where
         (behind (d ++ fed_to_client rest.client_inputs) v.server)) same (rest.server d));
   }
 
-  at_server_on : (w mid v : WorldState) (given : ServerInput) (told : Told)
+  at_server_on : (w mid v : WorldState) (given : ServerInput) (told : Returned)
       → ((inputs : List ServerInput) → fed_to_server (given ∷ inputs) ≡ fed_to_server inputs)
       → AtServer interface client_limits server_limits w given told mid → RunsOn mid v → RunsOn w v
   at_server_on w mid v given told none (answered, is, tells, same) rest = record {
@@ -150,7 +150,7 @@ module _ (interface : Interface) (client_limits server_limits : Limits) where
       ap (behind (d ++ take n s.outgoing)) is
       ∙ ap (λ l. record s { outgoing = l }) (append_assoc d (take n s.outgoing) (drop n s.outgoing) ∙ ap (λ l. d ++ l) (take-append-drop n s.outgoing))
 
-  to_server_on : (w mid v : WorldState) (n : ℕ) (told : Told)
+  to_server_on : (w mid v : WorldState) (n : ℕ) (told : Returned)
       → ArriveAtServer interface client_limits server_limits w n told mid → RunsOn mid v → RunsOn w v
   to_server_on w mid v n told (answered, is, tells, left) rest = record {
     client_inputs = rest.client_inputs;
@@ -169,7 +169,7 @@ module _ (interface : Interface) (client_limits server_limits : Limits) where
     );
   }
 
-  to_client_on : (w mid v : WorldState) (n : ℕ) (told : Told)
+  to_client_on : (w mid v : WorldState) (n : ℕ) (told : Returned)
       → ArriveAtClient interface client_limits server_limits w n told mid → RunsOn mid v → RunsOn w v
   to_client_on w mid v n told (answered, is, tells, left) rest = record {
     client_inputs = client.Feed (take n w.server.outgoing) ∷ rest.client_inputs;
@@ -188,7 +188,7 @@ module _ (interface : Interface) (client_limits server_limits : Limits) where
         (left_before d n w.server mid.server left) (rest.server (d ++ take n w.server.outgoing)));
   }
 
-  happens_on : (w mid v : WorldState) (happened : WorldEvent) (told : Told)
+  happens_on : (w mid v : WorldState) (happened : WorldEvent) (told : Returned)
       → Happens interface client_limits server_limits w happened told mid → RunsOn mid v → RunsOn w v
   happens_on w mid v (event.Call request form) told is rest = at_client_on w mid v (client.Call request form) told (λ inputs. refl) is rest
   happens_on w mid v (event.Locate request form) told is rest = at_client_on w mid v (client.Locate request form) told (λ inputs. refl) is rest
@@ -201,7 +201,7 @@ module _ (interface : Interface) (client_limits server_limits : Limits) where
   happens_on w mid v (event.ToServer n) told is rest = to_server_on w mid v n told is rest
   happens_on w mid v (event.ToClient n) told is rest = to_client_on w mid v n told is rest
 
-  runs_on : (w v : WorldState) (schedule : List WorldEvent) (told : List Told)
+  runs_on : (w v : WorldState) (schedule : List WorldEvent) (told : List Returned)
       → InTurn (Happens interface client_limits server_limits) w schedule told v → RunsOn w v
   runs_on w v [] [] run = record {
     client_inputs = [];
@@ -217,7 +217,7 @@ module _ (interface : Interface) (client_limits server_limits : Limits) where
       happens_on w mid v happened one first (runs_on mid v schedule told rest)
 
   -- so is each end of a world that began
-  pub ends_are_joined : (w : WorldState) (schedule : List WorldEvent) (told : List Told)
+  pub ends_are_joined : (w : WorldState) (schedule : List WorldEvent) (told : List Returned)
       → WorldRuns interface client_limits server_limits schedule told w → AreJoined interface client_limits server_limits w
   ends_are_joined w schedule told run =
       let on = runs_on (new_world client_limits server_limits) w schedule told run in

@@ -83,6 +83,13 @@ module _ {R E V A F I T M : Type 0} (run : RunOf R E V A F I T M) where
         (history_of id events)
     pub by_latest : entry ≡ run.standing (history_of id events)
 
+  -- so each entry does, of what is held
+  abbrev pub EntriesStand : Limits → List I → List (Answered E) → Unread → Held R E
+      → (ℕ → List (Item M V)) → Type 0
+  EntriesStand limits inputs answers left k calls =
+      (held : SideHolds run limits inputs answers left k calls) (id : ℕ)
+      → Stands id (calls id) held.holds.0 (entry_at k id)
+
   -- what a run keeps apart, call by call, whatever it was given
   pub record KeepsCallsApart (limits : Limits) (inputs : List I) (answers : List (Answered E))
       (t : EndState (Held R E)) : Type 0 where

@@ -1,10 +1,8 @@
 //! What is stored for an id, by steps and without them (docs/HEADLINE.md). Each function's contract
 //! is a law, and no program calls these.
-ghost use Rattle.std.specs.Prelude.{ℕ};
-ghost use Rattle.giop_session.specs.Runs.ClientRuns.{client_entry, client_run};
-ghost use Rattle.giop_session.specs.Runs.Fits.{Stands};
-ghost use Rattle.giop_session.specs.Runs.ServerRuns.{server_entry, server_run};
-ghost use Rattle.giop_session.specs.Runs.SideRuns.{SideHolds};
+ghost use Rattle.giop_session.specs.Runs.ClientRuns.{client_run};
+ghost use Rattle.giop_session.specs.Runs.Fits.{EntriesStand};
+ghost use Rattle.giop_session.specs.Runs.ServerRuns.{server_run};
 
 use giop_calls::laws::{client_entry_stands, server_entry_stands};
 
@@ -14,8 +12,7 @@ use giop_calls::laws::{client_entry_stands, server_entry_stands};
 /// of its latest call, without steps.
 pub fn entries_stand_at_server()
     ensures { (interface limits inputs answers left k calls : _)
-        (held : SideHolds (server_run interface) limits inputs answers left k calls) (id : ℕ)
-        → Stands (server_run interface) id (calls id) held.holds.0 (server_entry k id) }
+        → EntriesStand (server_run interface) limits inputs answers left k calls }
 {
     server_entry_stands();
 }
@@ -23,8 +20,7 @@ pub fn entries_stand_at_server()
 /// So does a client's end, of what its server said and what it did itself.
 pub fn entries_stand_at_client()
     ensures { (interface limits inputs answers left k calls : _)
-        (held : SideHolds (client_run interface) limits inputs answers left k calls) (id : ℕ)
-        → Stands (client_run interface) id (calls id) held.holds.0 (client_entry k id) }
+        → EntriesStand (client_run interface) limits inputs answers left k calls }
 {
     client_entry_stands();
 }
