@@ -5,5 +5,6 @@ pub mod OnItems
 pub mod OnLanes
 pub mod OnActs
 pub mod OnLimits
+pub mod OnSides
 mod PumpingLemmas
 pub mod OnWorlds

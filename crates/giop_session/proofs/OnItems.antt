@@ -4,8 +4,6 @@ pub mod CutItemLemmas
 pub mod WrittenItemLemmas
 pub mod ServerItemLemmas
 pub mod ClientItemLemmas
-pub mod ServerHeadline
-pub mod ClientHeadline
 pub mod AnswerLemmas
 pub mod HeldLemmas
 pub mod SeriesLemmas

@@ -10,5 +10,3 @@ pub mod AheadLemmas
 pub mod AloneLemmas
 pub mod PlannedLemmas
 pub mod SeenLemmas
-pub mod ServerAloneLemmas
-pub mod ClientAloneLemmas

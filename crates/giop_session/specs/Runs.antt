@@ -2,7 +2,6 @@
 pub mod Alone
 pub mod ClientRuns
 pub mod Driven
-pub mod EndRuns
 pub mod Events
 pub mod Fits
 pub mod Inputs
@@ -11,3 +10,4 @@ pub mod Limits
 pub mod Met
 pub mod RunLimits
 pub mod ServerRuns
+pub mod SideRuns

@@ -1,6 +1,6 @@
-//! Laws of the calls of an end, whatever its rule: what a run of acts leaves of each call. The
-//! modules below it have the headline (docs/HEADLINE.md): two runs of an end that hold the same
-//! calls end in the same entries, and `run_server`, `run_client` and `run_world` make runs.
+//! Laws of one call at an end, whatever its rule: what a run of acts leaves of it. The modules
+//! below it have those of one end (`one_end`) and of two (`two_ends`); `run_server`, `run_client`
+//! and `run_world` make runs of which they speak.
 //!
 //! A function with an empty body is a law: its contract is what counts, and no program calls it.
 ghost use Rattle.std.specs.Prelude.{◌≡◌};
@@ -10,46 +10,29 @@ ghost use Rattle.giop_session.specs.Hearing.Feeding.{FedInTurn, Through};
 ghost use Rattle.giop_session.specs.Hearing.Heard.{hears_in};
 ghost use Rattle.giop_session.specs.Calls.CallTable.{at, rules_by, turn_by};
 
-mod acting;
-mod agreement;
-mod coding;
-mod feeding;
-mod headline;
-mod held;
 mod inputs;
-mod lane_acts;
-mod lane_events;
-mod left;
-mod limits;
+mod one_end;
 mod running;
-mod sent;
-mod standing;
+mod two_ends;
 mod world;
 
 use crate::{Hearing, Side};
-pub use acting::what_an_own_act_leaves;
-pub use agreement::two_ends_agree;
-pub use coding::{
-    clients_read_as_coding, own_ends_of_one_lane_agree, own_lanes_come_to_replies,
-    pieces_are_gathered_as_they_come, servers_read_as_coding, what_is_sent_is_a_lanes,
-    what_is_sent_is_read,
-};
-pub use feeding::any_reads_leave_the_same;
-pub use headline::{
-    each_call_of_a_run, same_calls_same_entries_at_client, same_calls_same_entries_at_server,
-    what_is_cut_is_carried,
-};
-pub use held::{what_is_taken_is_held_at_client, what_is_taken_is_held_at_server};
 pub use inputs::{Answered, CheckedForm, ClientInput, ServerInput, WorldEvent};
-pub use lane_acts::{clients_do_the_lanes_act, servers_do_the_lanes_act};
-pub use lane_events::{clients_hear_the_lanes_event, servers_hear_the_lanes_event};
-pub use left::{what_is_left_is_unsent_at_client, what_is_left_is_unsent_at_server};
-pub use limits::{limits_in_any_order_at_client, limits_in_any_order_at_server};
-pub use running::{run_client, run_server};
-pub use sent::{
-    what_is_on_its_way, what_is_sent_is_an_item, what_is_sent_is_framed, what_is_sent_names_its_id,
+pub use one_end::{
+    any_reads_leave_the_same, each_call_of_a_run, entries_stand_at_client, entries_stand_at_server,
+    limits_in_any_order_at_client, limits_in_any_order_at_server,
+    same_calls_same_entries_at_client, same_calls_same_entries_at_server, what_an_own_act_leaves,
+    what_is_cut_is_carried, what_is_left_is_unsent_at_client, what_is_left_is_unsent_at_server,
+    what_is_taken_is_held_at_client, what_is_taken_is_held_at_server,
 };
-pub use standing::{entries_stand_at_client, entries_stand_at_server};
+pub use running::{run_client, run_server};
+pub use two_ends::{
+    clients_do_the_lanes_act, clients_hear_the_lanes_event, clients_read_as_coding,
+    own_ends_of_one_lane_agree, own_lanes_come_to_replies, pieces_are_gathered_as_they_come,
+    servers_do_the_lanes_act, servers_hear_the_lanes_event, servers_read_as_coding, two_ends_agree,
+    what_is_on_its_way, what_is_sent_is_a_lanes, what_is_sent_is_an_item, what_is_sent_is_framed,
+    what_is_sent_is_read, what_is_sent_names_its_id,
+};
 pub use world::{World, run_world};
 
 /// A run of acts continues after refusals. Whatever happens to other ids in it, a call has the

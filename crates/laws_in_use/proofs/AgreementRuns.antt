@@ -15,7 +15,8 @@ use Rattle.giop_session.specs.declared.session_fault.SessionFault.TheVariants.{C
 use Rattle.giop_session.specs.declared.calls.slot.Slot.{Slot}
 use Rattle.giop_session.specs.Calls.CallTable.{rules_of}
 use Rattle.giop_session.specs.Acts.ClientCalls.{IsCancel, cancel_fault, open_version}
-use Rattle.giop_session.specs.Runs.ClientRuns.{ClientIsGiven, client_entry}
+use Rattle.giop_session.specs.Runs.ClientRuns.{client_entry, client_run}
+use Rattle.giop_session.specs.Runs.SideRuns.{SideIsGiven}
 use Rattle.giop_session.specs.Runs.Driven.{new_end}
 use Rattle.giop_session.specs.Hearing.Heard.{in_call}
 use Rattle.giop_session.specs.Acts.Putting.{Puts}
@@ -42,7 +43,7 @@ not_memory : ◌≡◌ {A = Answered ClientEntry} (answer.Refused (InCall 9 NotO
 not_memory is = absurd cc
 
 given : (interface : Interface)
-    → ClientIsGiven interface limits (new_end (record {}) limits) (client_input.Cancel 9 Big) (answer.Refused (InCall 9 NotOpen))
+    → SideIsGiven (client_run interface) limits (new_end (record {}) limits) (client_input.Cancel 9 Big) (answer.Refused (InCall 9 NotOpen))
     (new_end (record {}) limits)
 given interface = (not_memory, (refused, refl))
 

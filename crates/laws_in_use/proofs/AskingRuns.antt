@@ -23,7 +23,8 @@ use Rattle.giop_ids.specs.Runs.{Does}
 use Rattle.giop_session.specs.Calls.Begun.{no_calls}
 use Rattle.giop_session.specs.Calls.CallTable.{Act, Answers, Call, First, Hears, Held, More, Nothing, at, put_call, rules_of}
 use Rattle.giop_session.specs.Hearing.ClientHears.{client_befalls, client_breaks, client_side}
-use Rattle.giop_session.specs.Runs.EndRuns.{ClientTakes}
+use Rattle.giop_session.specs.Runs.ClientRuns.{client_run}
+use Rattle.giop_session.specs.Runs.SideRuns.{SideTakes}
 use Rattle.giop_session.specs.Hearing.Heard.{kept, hears as hears_at}
 use Rattle.giop_session.specs.Runs.Inputs.{nothing_unread}
 use Rattle.giop_session.specs.declared.limits.Limits.{Limits}
@@ -240,7 +241,7 @@ module _ (interface : Interface) where
       (kept (event.Whole kind.Locate V10 (heard.Undecoded (record { at = 16; kind = Short })))) Nothing key_waiting undecoded refl named.short
       one_s_8 (omega arith) (omega arith) one_at_8 (whole_old (decoded interface).short) refl
 
-  pub one_taken : ClientTakes interface limits one_way (nothing_unread limits.message) one_9
+  pub one_taken : SideTakes (client_run interface) limits one_way (nothing_unread limits.message) one_9
   one_taken = (
     one_1,
     (_, one_asks),
@@ -347,7 +348,7 @@ module _ (interface : Interface) where
   other_at_7 : at other_7 7 ≡ waiting
   other_at_7 = at-put other_6 9 undecoded 7 ∙ at-put other_5 7 waiting 7
 
-  pub other_taken : ClientTakes interface tight_limits other_way (nothing_unread tight_limits.message) other_8
+  pub other_taken : SideTakes (client_run interface) tight_limits other_way (nothing_unread tight_limits.message) other_8
   other_taken =
       let asks_key = done client_step is_closed is_gathering (new tight_limits) tight_limits ids 0 9
       (record { event = event.Call (asked.Locate key) 1; plan = Put (key_big ∷ []) }) Nothing none key_waiting

@@ -34,10 +34,11 @@ use Rattle.giop_session.specs.Hearing.ClientHears.{client_befalls, client_breaks
 use Rattle.giop_session.specs.Hearing.Heard.{kept, hears as hears_at}
 use Rattle.giop_session.specs.Items.Carries.{Carries, Did}
 use Rattle.giop_session.specs.Items.ClientCarries.{ClientItem, client_telling, unknown}
-use Rattle.giop_session.specs.Runs.ClientRuns.{ClientRuns, ClientTakesAs, client_entry}
+use Rattle.giop_session.specs.Runs.ClientRuns.{at_client, client_entry, client_run}
+use Rattle.giop_session.specs.Runs.Fits.{only}
+use Rattle.giop_session.specs.Runs.SideRuns.{SideRuns, SideTakesAs}
 use Rattle.giop_session.specs.Runs.Driven.{EndState, end_state}
 use Rattle.giop_session.specs.Runs.Events.{Event, own_events, Comes as Came, Does as DoesTo}
-use Rattle.giop_session.specs.Runs.Fits.{at_client, only}
 use Rattle.giop_session.specs.Runs.Inputs.{Input, Reads, Does as DoesIt}
 use Rattle.giop_session.specs.Runs.Met.{Comes, Does, Met, given_as}
 use Rattle.laws_in_use.specs.Asking.{asking_key, cancelling, own_acts, short, unknown_little}
@@ -217,7 +218,7 @@ module _ (interface : Interface) (forms : Forms) where
   abbrev nine_state : State
   nine_state = end_state (wide []) nine_end out_3 None
 
-  nine_runs : ClientRuns interface limits (map (given_as at_client) nine_met) nine_answers nine_state
+  nine_runs : SideRuns (client_run interface) limits (map (given_as at_client) nine_met) nine_answers nine_state
   nine_runs = (
     end_state (wide []) nine_1 out_1 None,
     (
@@ -280,7 +281,7 @@ module _ (interface : Interface) (forms : Forms) where
       DoesIt 9 (asking_key key_little) ∷ DoesIt 9 (cancelling cancel_little) ∷ Reads (message_octets unknown_little) ∷ DoesIt 9 (asking_key key_big)
       ∷ Reads (message_octets short) ∷ DoesIt 9 TakesOut ∷ []
 
-  nine_taken : ClientTakesAs interface limits (map (given_as at_client) nine_met) nine_answers nine_acts (wide []) nine_end
+  nine_taken : SideTakesAs (client_run interface) limits (map (given_as at_client) nine_met) nine_answers nine_acts (wide []) nine_end
   nine_taken = (
     _,
     _,

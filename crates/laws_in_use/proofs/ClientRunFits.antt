@@ -15,7 +15,8 @@ use Rattle.giop_session.specs.Items.Carries.{Carries}
 use Rattle.giop_session.specs.Items.ClientCarries.{ClientItem, client_telling, unknown}
 use Rattle.giop_session.specs.Runs.Driven.{new_end}
 use Rattle.giop_session.specs.Runs.Events.{Event}
-use Rattle.giop_session.specs.Runs.Fits.{ClientFits, ClientSays, at_client}
+use Rattle.giop_session.specs.Runs.ClientRuns.{at_client, client_run}
+use Rattle.giop_session.specs.Runs.Fits.{Fits, SaysAlone}
 use Rattle.giop_session.specs.Runs.Inputs.{nothing_unread}
 use Rattle.giop_session.specs.Runs.Met.{AreMet, Comes, Does, Met, own_met}
 use Rattle.laws_in_use.specs.Asking.{here_begins, here_ends, short, told_of_seven, unknown_little}
@@ -142,7 +143,7 @@ module _ (interface : Interface) (forms : Forms) where
     shown : (id : ℕ) → ClientIsShown interface id (own_met at_client id all) (client_told id)
     shown id = subst (λ own. ClientIsShown interface id own (client_told id)) (sym (all_own id)) (shown_by id (id == 7) (id == 9) refl refl)
 
-    pub run_fits : (fits : ClientFits interface limits (client_given forms)) × ((id : ℕ) → ClientSays (fits.alone id) (client_told id))
+    pub run_fits : (fits : Fits (client_run interface) limits (client_given forms)) × ((id : ℕ) → SaysAlone (fits.alone id) (client_told id))
     run_fits = (
       record {
         met = all;
@@ -178,7 +179,7 @@ module _ (interface : Interface) (forms : Forms) where
 
     -- so what is given so fits
     pub given_fits : (inputs : List ClientInput) → inputs ≡ client_given forms
-        → (fits : ClientFits interface limits inputs) × ((id : ℕ) → ClientSays (fits.alone id) (client_told id))
+        → (fits : Fits (client_run interface) limits inputs) × ((id : ℕ) → SaysAlone (fits.alone id) (client_told id))
     given_fits inputs given =
-        subst (λ (all : List ClientInput). (fits : ClientFits interface limits all) × ((id : ℕ) → ClientSays (fits.alone id) (client_told id)))
+        subst (λ (all : List ClientInput). (fits : Fits (client_run interface) limits all) × ((id : ℕ) → SaysAlone (fits.alone id) (client_told id)))
         (sym given) run_fits

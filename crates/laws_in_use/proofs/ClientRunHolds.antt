@@ -20,9 +20,10 @@ use Rattle.giop_session.specs.Calls.CallTable.{Held, turn}
 use Rattle.giop_session.specs.Hearing.ClientHears.{client_befalls}
 use Rattle.giop_session.specs.Items.Carries.{Did}
 use Rattle.giop_session.specs.Items.ClientCarries.{client_telling, unknown}
-use Rattle.giop_session.specs.Runs.ClientRuns.{ClientHolds, ClientTakesAs}
+use Rattle.giop_session.specs.Runs.ClientRuns.{client_run}
+use Rattle.giop_session.specs.Runs.Fits.{history_of}
+use Rattle.giop_session.specs.Runs.SideRuns.{SideHolds, SideTakesAs}
 use Rattle.giop_session.specs.Runs.Events.{Event, history, no_call, own_events}
-use Rattle.giop_session.specs.Runs.Fits.{client_history}
 use Rattle.giop_session.specs.Runs.Events.{Does as DoesTo}
 use Rattle.giop_session.specs.Runs.Inputs.{Does, Holds, Input, nothing_unread}
 use Rattle.laws_in_use.specs.Asking.{Acts, own_acts, told_of_seven}
@@ -51,7 +52,7 @@ module _ (interface : Interface) (old : IsWhole (locate_reply V10)) (table : IsW
   )
 
   -- and the table is told this of 7
-  pub asking_told : client_history interface 7 (run_holds own_acts own_told).0 ≡ history_of_asking
+  pub asking_told : history_of (client_run interface) 7 (run_holds own_acts own_told).0 ≡ history_of_asking
   unfolding run_holds
   asking_told =
       ap (history (turn client_step is_closed is_gathering) (client_befalls interface) no_call) (one_own own_acts takes 7)
@@ -61,8 +62,8 @@ module _ (interface : Interface) (old : IsWhole (locate_reply V10)) (table : IsW
   -- so do the acts as which any end takes that
   pub holds_of_run : (forms : Forms) (inputs : List ClientInput) (answers : List (Answered ClientEntry)) (left : Unread)
       (k : Held ClientRule ClientEntry) → inputs ≡ client_given forms
-      → ((acts : List (Input ClientEvent)) × ClientTakesAs interface limits inputs answers acts left k)
-      → ClientHolds interface limits inputs answers left k client_told
+      → ((acts : List (Input ClientEvent)) × SideTakesAs (client_run interface) limits inputs answers acts left k)
+      → SideHolds (client_run interface) limits inputs answers left k client_told
   holds_of_run forms inputs answers left k given taken =
       let acted = are_acted interface limits (nothing_unread limits.message) left (no_calls (record {}) limits) k inputs answers taken.0 taken.1 in
       let of = of_run forms taken.0 (subst (λ (inputs : List ClientInput). AreActed inputs taken.0) given acted) in

@@ -14,7 +14,8 @@ use Rattle.giop_calls.specs.ClientTable.{client_step, is_closed, is_gathering}
 use Rattle.giop_session.specs.declared.laws.inputs.Answered.TheVariants as answer
 use Rattle.giop_session.specs.Calls.CallTable.{Call, Gives, IsTaken, at, put_call, rules_of, turn}
 use Rattle.giop_session.specs.Acts.ClientCalls.{IsCancel, open_version}
-use Rattle.giop_session.specs.Runs.ClientRuns.{ClientTakesAs, client_entry}
+use Rattle.giop_session.specs.Runs.ClientRuns.{client_entry, client_run}
+use Rattle.giop_session.specs.Runs.SideRuns.{SideTakesAs}
 use Rattle.giop_session.specs.Runs.Inputs.{nothing_unread}
 use Rattle.giop_session.specs.Calls.Sending.{entry_of}
 use Rattle.giop_session.specs.Acts.Sent.{cancel_request, sends_one}
@@ -59,7 +60,7 @@ module _ (interface : Interface) where
       (omega arith, ap (sends_one event.Cancel) (sym cancel_is))
 
   pub run_taken : (forms : Forms)
-      → ClientTakesAs interface limits (client_given forms) client_answers (run_acts own_acts) (nothing_unread limits.message) left_end
+      → SideTakesAs (client_run interface) limits (client_given forms) client_answers (run_acts own_acts) (nothing_unread limits.message) left_end
   run_taken forms = (
     _,
     _,

@@ -29,10 +29,11 @@ use Rattle.giop_session.specs.Hearing.ClientHears.{client_befalls, client_breaks
 use Rattle.giop_session.specs.Hearing.Heard.{kept, hears as hears_at}
 use Rattle.giop_session.specs.Items.Carries.{Carries}
 use Rattle.giop_session.specs.Items.ClientCarries.{ClientItem, client_telling, unknown}
-use Rattle.giop_session.specs.Runs.ClientRuns.{ClientRuns, ClientTakesAs, client_entry}
+use Rattle.giop_session.specs.Runs.ClientRuns.{at_client, client_entry, client_run}
+use Rattle.giop_session.specs.Runs.Fits.{only}
+use Rattle.giop_session.specs.Runs.SideRuns.{SideRuns, SideTakesAs}
 use Rattle.giop_session.specs.Runs.Driven.{EndState, end_state}
 use Rattle.giop_session.specs.Runs.Events.{Event, own_events, Comes as Came, Does as DoesTo}
-use Rattle.giop_session.specs.Runs.Fits.{at_client, only}
 use Rattle.giop_session.specs.Runs.Inputs.{Input, Reads, Does as DoesIt}
 use Rattle.giop_session.specs.Runs.Met.{Comes, Does, Met, given_as}
 use Rattle.laws_in_use.specs.Asking.{asking, here, here_begins, here_ends, own_acts, sending, told_of_seven}
@@ -137,7 +138,7 @@ module _ (interface : Interface) (forms : Forms) where
   abbrev seven_state : State
   seven_state = end_state (wide []) seven_end seven_out None
 
-  seven_runs : ClientRuns interface limits (map (given_as at_client) seven_met) seven_answers seven_state
+  seven_runs : SideRuns (client_run interface) limits (map (given_as at_client) seven_met) seven_answers seven_state
   seven_runs = (
     end_state (wide []) (one_1 interface) (message_octets door_begins) None,
     (
@@ -169,7 +170,7 @@ module _ (interface : Interface) (forms : Forms) where
   abbrev seven_acts : List (Input ClientEvent)
   seven_acts = DoesIt 7 asking ∷ DoesIt 7 sending ∷ Reads (message_octets here_begins) ∷ Reads (message_octets here_ends) ∷ []
 
-  seven_taken : ClientTakesAs interface limits (map (given_as at_client) seven_met) seven_answers seven_acts (wide []) seven_end
+  seven_taken : SideTakesAs (client_run interface) limits (map (given_as at_client) seven_met) seven_answers seven_acts (wide []) seven_end
   seven_taken = (
     _,
     _,

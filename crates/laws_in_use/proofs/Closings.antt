@@ -16,17 +16,18 @@ use Rattle.giop_session.specs.declared.laws.inputs.ServerInput.TheVariants as se
 use Rattle.giop_session.specs.declared.limits.Limits.{Limits}
 use Rattle.giop_session.specs.declared.session_fault.SessionFault.TheVariants.{Closed}
 use Rattle.giop_session.specs.Calls.CallTable.{Held}
-use Rattle.giop_session.specs.Runs.ClientRuns.{ClientRuns}
+use Rattle.giop_session.specs.Runs.ClientRuns.{client_run}
+use Rattle.giop_session.specs.Runs.ServerRuns.{server_run}
+use Rattle.giop_session.specs.Runs.SideRuns.{SideRuns}
 use Rattle.giop_session.specs.Runs.Driven.{EndState}
 use Rattle.giop_session.specs.Acts.Sent.{close_connection}
-use Rattle.giop_session.specs.Runs.ServerRuns.{ServerRuns}
 
 -- an end has answered so, and is closed
 abbrev pub IsClosed : {H E : Type 0} → List (Answered E) → EndState H → Type 0
 IsClosed answers t = (answers ≡ answer.Done ∷ []) × (t.fault ≡ Some Closed) × (t.outgoing ≡ message_octets (close_connection Big))
 
 server_closes : (interface : Interface) (limits : Limits) (answers : List (Answered ServerEntry)) (t : EndState (Held ServerRule ServerEntry))
-    → ServerRuns interface limits (server.Close ∷ []) answers t → IsClosed answers t
+    → SideRuns (server_run interface) limits (server.Close ∷ []) answers t → IsClosed answers t
 server_closes interface limits [] t run = absurd run
 server_closes interface limits (answer.Done ∷ []) t (mid, (fine, is), same) = (refl, cc, cc)
 server_closes interface limits (answer.Taken entry ∷ []) t (mid, (fine, is), same) = absurd is
@@ -34,7 +35,7 @@ server_closes interface limits (answer.Refused why ∷ []) t (mid, (fine, is), s
 server_closes interface limits (one ∷ other ∷ answers) t run = absurd run.2
 
 client_closes : (interface : Interface) (limits : Limits) (answers : List (Answered ClientEntry)) (t : EndState (Held ClientRule ClientEntry))
-    → ClientRuns interface limits (client.Close ∷ []) answers t → IsClosed answers t
+    → SideRuns (client_run interface) limits (client.Close ∷ []) answers t → IsClosed answers t
 client_closes interface limits [] t run = absurd run
 client_closes interface limits (answer.Done ∷ []) t (mid, (fine, is), same) = (refl, cc, cc)
 client_closes interface limits (answer.Taken entry ∷ []) t (mid, (fine, is), same) = absurd is
@@ -43,11 +44,11 @@ client_closes interface limits (one ∷ other ∷ answers) t run = absurd run.2
 
 -- so where what it was given is that
 pub server_closes_by : (interface : Interface) (limits : Limits) (inputs : List ServerInput) (answers : List (Answered ServerEntry))
-    (t : EndState (Held ServerRule ServerEntry)) → ServerRuns interface limits inputs answers t → inputs ≡ server.Close ∷ [] → IsClosed answers t
+    (t : EndState (Held ServerRule ServerEntry)) → SideRuns (server_run interface) limits inputs answers t → inputs ≡ server.Close ∷ [] → IsClosed answers t
 server_closes_by interface limits inputs answers t run is =
-    server_closes interface limits answers t (subst (λ (inputs : List ServerInput). ServerRuns interface limits inputs answers t) is run)
+    server_closes interface limits answers t (subst (λ (inputs : List ServerInput). SideRuns (server_run interface) limits inputs answers t) is run)
 
 pub client_closes_by : (interface : Interface) (limits : Limits) (inputs : List ClientInput) (answers : List (Answered ClientEntry))
-    (t : EndState (Held ClientRule ClientEntry)) → ClientRuns interface limits inputs answers t → inputs ≡ client.Close ∷ [] → IsClosed answers t
+    (t : EndState (Held ClientRule ClientEntry)) → SideRuns (client_run interface) limits inputs answers t → inputs ≡ client.Close ∷ [] → IsClosed answers t
 client_closes_by interface limits inputs answers t run is =
-    client_closes interface limits answers t (subst (λ (inputs : List ClientInput). ClientRuns interface limits inputs answers t) is run)
+    client_closes interface limits answers t (subst (λ (inputs : List ClientInput). SideRuns (client_run interface) limits inputs answers t) is run)

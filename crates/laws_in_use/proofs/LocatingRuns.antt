@@ -19,7 +19,8 @@ use Rattle.giop_calls.specs.ServerTable.{arrived, is_closed, is_gathering, serve
 use Rattle.giop_session.specs.Calls.Begun.{no_calls}
 use Rattle.giop_ids.specs.Runs.{Does}
 use Rattle.giop_session.specs.Calls.CallTable.{Act, Answers, Call, First, Hears, Held, More, Nothing, Reply, at, put_call, rules_of}
-use Rattle.giop_session.specs.Runs.EndRuns.{ServerTakes}
+use Rattle.giop_session.specs.Runs.ServerRuns.{server_run}
+use Rattle.giop_session.specs.Runs.SideRuns.{SideTakes}
 use Rattle.giop_session.specs.Hearing.Feeding.{Fed, Through}
 use Rattle.giop_session.specs.Hearing.Heard.{kept, silent, hears as hears_at}
 use Rattle.giop_session.specs.Runs.Inputs.{nothing_unread}
@@ -194,7 +195,7 @@ module _ (interface : Interface) where
   answered = done server_step is_closed is_gathering one_4 limits ids 0 7 (record { event = event.AnswerLocate true; plan = Put (here_big ∷ []) })
       Nothing door_asked door_answered (record { answer = tt; message = Some here_big }) s_4 (omega arith) (omega arith) at_4 refl
 
-  pub one_taken : ServerTakes interface limits one_way (nothing_unread limits.message) one_end
+  pub one_taken : SideTakes (server_run interface) limits one_way (nothing_unread limits.message) one_end
   one_taken = (
     wide (take 5 (message_octets door_begins)),
     new limits,
@@ -252,7 +253,7 @@ module _ (interface : Interface) where
   on_4 : at other_4 7 ≡ door_asked
   on_4 = at-put other_3 7 door_asked 7
 
-  pub other_taken : ServerTakes interface tight_limits other_way (nothing_unread tight_limits.message) other_end
+  pub other_taken : SideTakes (server_run interface) tight_limits other_way (nothing_unread tight_limits.message) other_end
   other_taken =
       let asked = hears server_step is_closed is_gathering server_breaks (server_befalls interface) (new tight_limits) tight_limits ids 0 key_big 9
       (kept (event.Whole (heard.Locate key))) Nothing none key_asked

@@ -21,10 +21,11 @@ use Rattle.giop_session.specs.Items.Carries.{Carries, CarriesItem, Got}
 use Rattle.giop_session.specs.Items.ServerCarries.{ServerItem, server_telling}
 use Rattle.giop_session.specs.Runs.Driven.{EndState, end_state}
 use Rattle.giop_session.specs.Runs.Events.{Event, own_events, Comes as Came}
-use Rattle.giop_session.specs.Runs.Fits.{at_server, only}
+use Rattle.giop_session.specs.Runs.Fits.{only}
+use Rattle.giop_session.specs.Runs.ServerRuns.{at_server, server_run}
+use Rattle.giop_session.specs.Runs.SideRuns.{SideRuns, SideTakesAs}
 use Rattle.giop_session.specs.Runs.Inputs.{Input, Reads}
 use Rattle.giop_session.specs.Runs.Met.{Comes, Met, given_as}
-use Rattle.giop_session.specs.Runs.ServerRuns.{ServerRuns, ServerTakesAs}
 use Rattle.laws_in_use.specs.Locating.{answering, bad, cancel_big, door, door_begins, door_ends, here_big, key, key_little, limits, said_of_nine}
 use Rattle.laws_in_use.proofs.ByIds.{if_is}
 use Rattle.laws_in_use.proofs.LocatingHolds.{one_nine}
@@ -89,7 +90,7 @@ module _ (interface : Interface) where
   abbrev nine_state : State
   nine_state = end_state (wide []) nine_end [] None
 
-  nine_runs : ServerRuns interface limits (map (given_as at_server) nine_met) nine_answers nine_state
+  nine_runs : SideRuns (server_run interface) limits (map (given_as at_server) nine_met) nine_answers nine_state
   nine_runs = (
     end_state (wide []) nine_1 [] None,
     (λ same. cc, (fed (one_read key_little messages.key_little) (nine_1, asked, refl), refl)),
@@ -103,7 +104,7 @@ module _ (interface : Interface) where
   abbrev nine_acts : List (Input ServerEvent)
   nine_acts = Reads (message_octets key_little) ∷ Reads (message_octets cancel_big) ∷ Reads (message_octets bad) ∷ []
 
-  nine_taken : ServerTakesAs interface limits (map (given_as at_server) nine_met) nine_answers nine_acts (wide []) nine_end
+  nine_taken : SideTakesAs (server_run interface) limits (map (given_as at_server) nine_met) nine_answers nine_acts (wide []) nine_end
   nine_taken = (
     _,
     _,

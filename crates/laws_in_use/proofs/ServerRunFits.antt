@@ -15,7 +15,8 @@ use Rattle.giop_session.specs.Items.Carries.{Carries, CarriesItem, Got}
 use Rattle.giop_session.specs.Items.ServerCarries.{ServerItem, server_telling}
 use Rattle.giop_session.specs.Runs.Driven.{new_end}
 use Rattle.giop_session.specs.Runs.Events.{Event, Comes as Came}
-use Rattle.giop_session.specs.Runs.Fits.{ServerFits, ServerSays, at_server}
+use Rattle.giop_session.specs.Runs.Fits.{Fits, SaysAlone}
+use Rattle.giop_session.specs.Runs.ServerRuns.{at_server, server_run}
 use Rattle.giop_session.specs.Runs.Inputs.{nothing_unread}
 use Rattle.giop_session.specs.Runs.Met.{AreMet, Comes, Does, Met, own_met}
 use Rattle.laws_in_use.specs.Locating.{bad, cancel_big, door, door_begins, door_ends, key_little, limits, said_of_nine}
@@ -175,7 +176,7 @@ module _ (interface : Interface) where
     shown : (id : ℕ) → ServerIsShown interface id (own_met at_server id all) (server_said id)
     shown id = subst (λ own. ServerIsShown interface id own (server_said id)) (sym (all_own id)) (shown_by id (id == 7) (id == 9) refl refl)
 
-    pub run_fits : (fits : ServerFits interface limits server_given) × ((id : ℕ) → ServerSays (fits.alone id) (server_said id))
+    pub run_fits : (fits : Fits (server_run interface) limits server_given) × ((id : ℕ) → SaysAlone (fits.alone id) (server_said id))
     run_fits = (
       record {
         met = all;
@@ -203,7 +204,7 @@ module _ (interface : Interface) where
         by_tests false true is_seven is_nine = shown_by id false true is_seven is_nine
         by_tests false false is_seven is_nine = shown_by id false false is_seven is_nine
 
-    pub otherwise_fits : (fits : ServerFits interface limits server_given_otherwise) × ((id : ℕ) → ServerSays (fits.alone id) (server_said id))
+    pub otherwise_fits : (fits : Fits (server_run interface) limits server_given_otherwise) × ((id : ℕ) → SaysAlone (fits.alone id) (server_said id))
     otherwise_fits = (
       record {
         met = all_otherwise;
@@ -226,10 +227,10 @@ module _ (interface : Interface) where
 
     -- so what is given in either order fits
     pub either_fits : (inputs : List ServerInput) → (inputs ≡ server_given) ⊎ (inputs ≡ server_given_otherwise)
-        → (fits : ServerFits interface limits inputs) × ((id : ℕ) → ServerSays (fits.alone id) (server_said id))
+        → (fits : Fits (server_run interface) limits inputs) × ((id : ℕ) → SaysAlone (fits.alone id) (server_said id))
     either_fits inputs (inl given) =
-        subst (λ (all : List ServerInput). (fits : ServerFits interface limits all) × ((id : ℕ) → ServerSays (fits.alone id) (server_said id)))
+        subst (λ (all : List ServerInput). (fits : Fits (server_run interface) limits all) × ((id : ℕ) → SaysAlone (fits.alone id) (server_said id)))
         (sym given) run_fits
     either_fits inputs (inr given) =
-        subst (λ (all : List ServerInput). (fits : ServerFits interface limits all) × ((id : ℕ) → ServerSays (fits.alone id) (server_said id)))
+        subst (λ (all : List ServerInput). (fits : Fits (server_run interface) limits all) × ((id : ℕ) → SaysAlone (fits.alone id) (server_said id)))
         (sym given) otherwise_fits

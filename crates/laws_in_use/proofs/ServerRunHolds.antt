@@ -20,11 +20,12 @@ use Rattle.giop_session.specs.Calls.CallTable.{Held, turn}
 use Rattle.giop_session.specs.Hearing.ServerHears.{server_befalls}
 use Rattle.giop_session.specs.Items.Carries.{CarriesItem, Did, Got, done_by}
 use Rattle.giop_session.specs.Runs.Events.{Comes, Event, Local, history, no_call, own_events}
-use Rattle.giop_session.specs.Runs.Fits.{server_history}
+use Rattle.giop_session.specs.Runs.Fits.{history_of}
+use Rattle.giop_session.specs.Runs.ServerRuns.{server_run}
+use Rattle.giop_session.specs.Runs.SideRuns.{SideHolds, SideTakesAs}
 use Rattle.giop_session.specs.Runs.Events.{Does as DoesTo}
 use Rattle.giop_session.specs.Runs.Inputs.{Does, Holds, Input, nothing_unread}
 use Rattle.giop_session.specs.Items.ServerCarries.{server_telling}
-use Rattle.giop_session.specs.Runs.ServerRuns.{ServerHolds, ServerTakesAs}
 use Rattle.laws_in_use.specs.Locating.{answering, door, door_begins, door_ends, here_big, limits, said_of_nine}
 use Rattle.laws_in_use.specs.Runs.{history_of_door, said_and_taken, server_given, server_said}
 use Rattle.laws_in_use.proofs.ByIds.{by_id, if_is}
@@ -51,7 +52,7 @@ module _ (interface : Interface) (old : IsTable (locate_request V10)) (table : I
   )
 
   -- and the table is told this of 7
-  pub door_told : server_history interface 7 (run_holds (answering here_big) refl).0 ≡ history_of_door
+  pub door_told : history_of (server_run interface) 7 (run_holds (answering here_big) refl).0 ≡ history_of_door
   unfolding run_holds
   door_told =
       ap (history (turn server_step is_closed is_gathering) (server_befalls interface) no_call) (one_own (answering here_big) takes 7)
@@ -60,8 +61,8 @@ module _ (interface : Interface) (old : IsTable (locate_request V10)) (table : I
   -- so do the acts as which any end takes that
   pub holds_of_run : (inputs : List ServerInput) (answers : List (Answered ServerEntry)) (left : Unread) (k : Held ServerRule ServerEntry)
       → inputs ≡ server_given
-      → ((acts : List (Input ServerEvent)) × ServerTakesAs interface limits inputs answers acts left k)
-      → ServerHolds interface limits inputs answers left k server_said
+      → ((acts : List (Input ServerEvent)) × SideTakesAs (server_run interface) limits inputs answers acts left k)
+      → SideHolds (server_run interface) limits inputs answers left k server_said
   holds_of_run inputs answers left k given taken =
       let acted = are_acted interface limits (nothing_unread limits.message) left (no_calls (record {}) limits) k inputs answers taken.0 taken.1 in
       let of = of_run taken.0 (subst (λ (inputs : List ServerInput). AreActed inputs taken.0) given acted) in

@@ -20,7 +20,8 @@ use Rattle.giop_session.specs.Runs.Inputs.{nothing_unread}
 use Rattle.giop_session.specs.Calls.Sending.{entry_of}
 use Rattle.giop_session.specs.Acts.Sent.{sends_one}
 use Rattle.giop_session.specs.Acts.ServerAnswers.{IsLocateAnswer, locate_of, located}
-use Rattle.giop_session.specs.Runs.ServerRuns.{ServerTakesAs, server_entry}
+use Rattle.giop_session.specs.Runs.ServerRuns.{server_entry, server_run}
+use Rattle.giop_session.specs.Runs.SideRuns.{SideTakesAs}
 use Rattle.laws_in_use.specs.Locating.{answering, door, door_begins, door_ends, here_big, limits}
 use Rattle.laws_in_use.specs.Runs.{server_answers, server_given}
 use Rattle.laws_in_use.proofs.LocatingReads.{first, last, second, third, wide}
@@ -60,7 +61,7 @@ module _ (interface : Interface) where
       subst (λ version. IsLocateAnswer 7 true Big version (sends_one (AnswerLocate true) here_big)) (sym (ap (locate_of true) waits))
       (omega arith, ap (sends_one (AnswerLocate true)) (sym here_is))
 
-  pub run_taken : ServerTakesAs interface limits server_given server_answers (run_acts (answering here_big)) (nothing_unread limits.message) left_end
+  pub run_taken : SideTakesAs (server_run interface) limits server_given server_answers (run_acts (answering here_big)) (nothing_unread limits.message) left_end
   run_taken = (
     _,
     _,

@@ -28,10 +28,11 @@ use Rattle.giop_session.specs.Items.Carries.{Carries, CarriesItem, Did, Got}
 use Rattle.giop_session.specs.Items.ServerCarries.{ServerItem, server_telling}
 use Rattle.giop_session.specs.Runs.Driven.{EndState, end_state}
 use Rattle.giop_session.specs.Runs.Events.{Event, own_events, Comes as Came, Does as DoesTo}
-use Rattle.giop_session.specs.Runs.Fits.{at_server, only}
+use Rattle.giop_session.specs.Runs.Fits.{only}
+use Rattle.giop_session.specs.Runs.ServerRuns.{at_server, server_entry, server_run}
+use Rattle.giop_session.specs.Runs.SideRuns.{SideRuns, SideTakesAs}
 use Rattle.giop_session.specs.Runs.Inputs.{Input, Reads, Does as DoesIt}
 use Rattle.giop_session.specs.Runs.Met.{Comes, Does, Met, given_as}
-use Rattle.giop_session.specs.Runs.ServerRuns.{ServerRuns, ServerTakesAs, server_entry}
 use Rattle.laws_in_use.specs.Locating.{answering, door, door_begins, door_ends, here_big, limits}
 use Rattle.laws_in_use.specs.Runs.{door_taken, said_and_taken}
 use Rattle.laws_in_use.proofs.ByIds.{if_is}
@@ -113,7 +114,7 @@ module _ (interface : Interface) where
   abbrev seven_state : State
   seven_state = end_state (wide []) seven_end (message_octets here_big) None
 
-  seven_runs : ServerRuns interface limits (map (given_as at_server) seven_met) seven_answers seven_state
+  seven_runs : SideRuns (server_run interface) limits (map (given_as at_server) seven_met) seven_answers seven_state
   seven_runs = (
     end_state (wide []) (one_1 interface) [] None,
     (λ same. cc, (fed (one_read door_begins messages.door_begins) (one_1 interface, begun interface, refl), refl)),
@@ -154,7 +155,7 @@ module _ (interface : Interface) where
   seven_acts =
       Reads (message_octets door_begins) ∷ Reads (message_octets door_ends) ∷ DoesIt 7 (answering here_big) ∷ DoesIt 7 TakesOut ∷ []
 
-  seven_taken : ServerTakesAs interface limits (map (given_as at_server) seven_met) seven_answers seven_acts (wide []) seven_end
+  seven_taken : SideTakesAs (server_run interface) limits (map (given_as at_server) seven_met) seven_answers seven_acts (wide []) seven_end
   seven_taken = (
     _,
     _,

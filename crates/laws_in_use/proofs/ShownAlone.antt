@@ -12,16 +12,17 @@ use Rattle.giop_session.specs.declared.laws.inputs.ServerInput.{ServerInput}
 use Rattle.giop_session.specs.Calls.CallTable.{Held}
 use Rattle.giop_session.specs.Items.ServerCarries.{ServerItem}
 use Rattle.giop_session.specs.Runs.Driven.{EndState, NoneRefused}
-use Rattle.giop_session.specs.Runs.Fits.{at_server, only, at_client}
+use Rattle.giop_session.specs.Runs.ClientRuns.{at_client, client_run}
+use Rattle.giop_session.specs.Runs.Fits.{only}
+use Rattle.giop_session.specs.Runs.ServerRuns.{at_server, server_run}
+use Rattle.giop_session.specs.Runs.SideRuns.{SideHolds, SideRuns}
 use Rattle.giop_session.specs.Runs.Met.{Met, given_as}
-use Rattle.giop_session.specs.Runs.ServerRuns.{ServerHolds, ServerRuns}
 use Rattle.laws_in_use.specs.Locating.{limits}
 use Rattle.laws_in_use.proofs.LocatingReads.{Brings, two, wide}
 use Rattle.giop_calls.specs.declared.client.entry.ClientEntry.{ClientEntry}
 use Rattle.giop_calls.specs.declared.client.rule.ClientRule.{ClientRule}
 use Rattle.giop_session.specs.declared.laws.inputs.ClientInput.{ClientInput}
 use Rattle.giop_session.specs.Items.ClientCarries.{ClientItem}
-use Rattle.giop_session.specs.Runs.ClientRuns.{ClientHolds, ClientRuns}
 
 -- a message that is fed alone
 pub one_read : (m : Msg) → IsMessage 64 m → Brings (wide (message_octets m)) (m ∷ []) (wide [])
@@ -50,12 +51,12 @@ two_read m n is also = record {
 abbrev pub ServerIsShown : Interface → ℕ → List (Met ServerInput) → List ServerItem → Type 0
 ServerIsShown interface id own said =
     (answers : List (Answered ServerEntry)) × (end : EndState (Held ServerRule ServerEntry))
-    × ServerRuns interface limits (map (given_as at_server) own) answers end × NoneRefused answers
-    × ServerHolds interface limits (map (given_as at_server) own) answers end.unread end.calls (only id said)
+    × SideRuns (server_run interface) limits (map (given_as at_server) own) answers end × NoneRefused answers
+    × SideHolds (server_run interface) limits (map (given_as at_server) own) answers end.unread end.calls (only id said)
 
 -- and a client's
 abbrev pub ClientIsShown : Interface → ℕ → List (Met ClientInput) → List ClientItem → Type 0
 ClientIsShown interface id own said =
     (answers : List (Answered ClientEntry)) × (end : EndState (Held ClientRule ClientEntry))
-    × ClientRuns interface limits (map (given_as at_client) own) answers end × NoneRefused answers
-    × ClientHolds interface limits (map (given_as at_client) own) answers end.unread end.calls (only id said)
+    × SideRuns (client_run interface) limits (map (given_as at_client) own) answers end × NoneRefused answers
+    × SideHolds (client_run interface) limits (map (given_as at_client) own) answers end.unread end.calls (only id said)

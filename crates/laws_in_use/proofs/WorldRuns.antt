@@ -48,7 +48,9 @@ use Rattle.giop_session.specs.Acts.Acting.{IsAccepted}
 use Rattle.giop_session.specs.Runs.Alone.{alone_heard, own_messages}
 use Rattle.giop_session.specs.Calls.CallTable.{Act, Call, Hears, Held, Nothing, Reply, at, rules_of, turn}
 use Rattle.giop_session.specs.Acts.ClientCalls.{IsLocate, cancel_fault, locate_fault, locate_octets, open_version}
-use Rattle.giop_session.specs.Runs.ClientRuns.{ClientIsGiven, client_entry}
+use Rattle.giop_session.specs.Runs.ClientRuns.{client_entry, client_run}
+use Rattle.giop_session.specs.Runs.ServerRuns.{server_entry, server_run}
+use Rattle.giop_session.specs.Runs.SideRuns.{SideIsGiven}
 use Rattle.giop_session.specs.Runs.Driven.{EndState, Says, new_end}
 use Rattle.giop_session.specs.Hearing.Feeding.{Fed, Through}
 use Rattle.giop_session.specs.Hearing.Heard.{in_call, kept, hears}
@@ -56,8 +58,7 @@ use Rattle.giop_session.specs.Acts.Putting.{Befell, Puts, octets_of}
 use Rattle.giop_session.specs.Calls.Sending.{entry_of, message_of, unsent_of}
 use Rattle.giop_session.specs.Calls.Unsent.{first_of}
 use Rattle.giop_session.specs.Hearing.ServerHears.{server_befalls, server_side}
-use Rattle.giop_session.specs.Runs.ServerRuns.{ServerIsGiven, server_entry}
-use Rattle.giop_session.specs.Worlds.World.{Told, WorldRuns, WorldState, told_of_answer}
+use Rattle.giop_session.specs.Worlds.World.{Returned, WorldRuns, WorldState, returned_for}
 use Rattle.laws_in_use.specs.Left.{new_client}
 use Rattle.laws_in_use.specs.Limited.{new_server}
 use Rattle.laws_in_use.specs.Locating.{key, key_little, limits}
@@ -88,18 +89,18 @@ module _ {R E V A F : Type 0} (rules : Rules (Held R E) (Call E) (Act V) (Reply 
   planned_so (Some why) is puts = absurd cc
 
 -- a result that is refused isn't done
-no_done : (why : SessionFault) → (◌≡◌ {A = Told} (Ok tt) (Err NoMemory)) ⊎ (◌≡◌ {A = Told} (Ok tt) (Err why)) → ⊥
+no_done : (why : SessionFault) → (◌≡◌ {A = Returned} (Ok tt) (Err NoMemory)) ⊎ (◌≡◌ {A = Returned} (Ok tt) (Err why)) → ⊥
 no_done why (inl is) = absurd cc
 no_done why (inr is) = absurd cc
 
 -- and tells the fault that was found, unless it is out of memory
-same_fault : (other why : SessionFault) → (other ≡ NoMemory → ⊥) → (◌≡◌ {A = Told} (Err other) (Err NoMemory)) ⊎ (◌≡◌ {A = Told} (Err other) (Err why))
+same_fault : (other why : SessionFault) → (other ≡ NoMemory → ⊥) → (◌≡◌ {A = Returned} (Err other) (Err NoMemory)) ⊎ (◌≡◌ {A = Returned} (Err other) (Err why))
     → other ≡ why
 same_fault other why fine (inl is) = absurd (fine cc)
 same_fault other why fine (inr is) = cc
 
-refused_as : (P : Told → Type 0) (answered : Answered ClientEntry) (why : SessionFault) → (answered ≡ answer.Refused NoMemory → ⊥)
-    → ((result : Told) → P result → (result ≡ Err NoMemory) ⊎ (result ≡ Err why)) → Says answered P → answered ≡ answer.Refused why
+refused_as : (P : Returned → Type 0) (answered : Answered ClientEntry) (why : SessionFault) → (answered ≡ answer.Refused NoMemory → ⊥)
+    → ((result : Returned) → P result → (result ≡ Err NoMemory) ⊎ (result ≡ Err why)) → Says answered P → answered ≡ answer.Refused why
 refused_as P answer.Done why fine is_so says = absurd (no_done why (is_so (Ok tt) says))
 refused_as P (answer.Refused other) why fine is_so says =
     ap (λ (fault : SessionFault). answer.Refused fault)
@@ -108,7 +109,7 @@ refused_as P (answer.Taken entry) why fine is_so says = absurd says
 
 -- a cancel of no call is refused
 cancel_refused : (interface : Interface) (answered : Answered ClientEntry) (t : EndState (Held ClientRule ClientEntry))
-    → ClientIsGiven interface limits (new_end (record {}) limits) (client_input.Cancel 9 Big) answered t
+    → SideIsGiven (client_run interface) limits (new_end (record {}) limits) (client_input.Cancel 9 Big) answered t
     → answered ≡ answer.Refused (InCall 9 NotOpen)
 cancel_refused interface answered t (fine, given) =
     refused_as _ answered (InCall 9 NotOpen) fine
@@ -117,11 +118,11 @@ cancel_refused interface answered t (fine, given) =
     (ap (λ entry. cancel_fault (open_version entry)) (no_client_entry 9)) is.0)
     given
 
-pub unasked_told : (interface : Interface) (told : List Told) (w : WorldState) → WorldRuns interface limits limits unasked told w
+pub unasked_told : (interface : Interface) (told : List Returned) (w : WorldState) → WorldRuns interface limits limits unasked told w
     → told ≡ Err (InCall 9 NotOpen) ∷ []
 unasked_told interface [] w run = absurd run
 unasked_told interface (one ∷ []) w (mid, (answered, given, is, same), end) =
-    ap (λ (t : Told). t ∷ []) (is ∙ ap told_of_answer (cancel_refused interface answered mid.client given))
+    ap (λ (t : Returned). t ∷ []) (is ∙ ap returned_for (cancel_refused interface answered mid.client given))
 unasked_told interface (one ∷ other ∷ told) w run = absurd run.2
 
 -- `k` is sent by one message
@@ -200,44 +201,45 @@ module _ (interface : Interface)
       ∙ ap (λ (read : HeardCall). left none (turn server.server_step server.is_closed server.is_gathering none
       (Hears (kept (at_server.Whole read)) Nothing))) (decoded interface).key_little)
 
-  given_done : {E : Type 0} (P : Result (Unit {0}) SessionFault → Type 0) (answered : Answered E) → Ok tt ≡ told_of_answer answered
+  given_done : {E : Type 0} (P : Result (Unit {0}) SessionFault → Type 0) (answered : Answered E) → Ok tt ≡ returned_for answered
       → Says answered P → P (Ok tt)
   given_done P answer.Done is says = says
   given_done P (answer.Taken entry) is says = absurd says
   given_done P (answer.Refused why) is says = absurd cc
 
   arrived : (mid : WorldState) (last : EndState (Held ServerRule ServerEntry)) (answered : Answered ServerEntry)
-      → Ok tt ≡ told_of_answer answered → mid.server ≡ new_end (record {}) limits → mid.client.outgoing ≡ message_octets key_little
-      → ServerIsGiven interface limits mid.server (server_input.Feed (take 100 mid.client.outgoing)) answered last
+      → Ok tt ≡ returned_for answered → mid.server ≡ new_end (record {}) limits → mid.client.outgoing ≡ message_octets key_little
+      → SideIsGiven (server_run interface) limits mid.server (server_input.Feed (take 100 mid.client.outgoing)) answered last
       → server_entry last.calls 9 ≡ Some (LocateAsked key)
   unfolding header_octets
   arrived mid last answered done new out given =
-      let at_new = subst (λ (s : EndState (Held ServerRule ServerEntry)). ServerIsGiven interface limits s (server_input.Feed (take 100 mid.client.outgoing))
-      answered last) new given in
-      let fed = subst (λ octets. ServerIsGiven interface limits (new_end (record {}) limits) (server_input.Feed (take 100 octets)) answered last) out at_new in
+      let at_new = subst (λ (s : EndState (Held ServerRule ServerEntry)). SideIsGiven (server_run interface) limits s
+      (server_input.Feed (take 100 mid.client.outgoing)) answered last) new given in
+      let fed = subst (λ octets. SideIsGiven (server_run interface) limits (new_end (record {}) limits) (server_input.Feed (take 100 octets))
+      answered last) out at_new in
       let is = given_done _ answered done fed.1 in
       stands last.calls (heard_alone _ (new_server limits) last.calls last.unread is.0)
 
-  asked_stands : (forms : Forms) (told : List Told) (w : WorldState) → WorldRuns interface limits limits (asked_for forms) told w
+  asked_stands : (forms : Forms) (told : List Returned) (w : WorldState) → WorldRuns interface limits limits (asked_for forms) told w
       → told ≡ Ok tt ∷ Ok tt ∷ [] → server_entry w.server.calls 9 ≡ Some (LocateAsked key)
   asked_stands forms [] w run is = absurd run
   asked_stands forms (one ∷ []) w run is = absurd run.2
   asked_stands forms (one ∷ other ∷ []) w (mid, (first, sends, first_is, same), (last, (second, comes, second_is, rest), end)) is =
-      let one_is : Ok tt ≡ told_of_answer first = cc in
-      let other_is : Ok tt ≡ told_of_answer second = cc in
+      let one_is : Ok tt ≡ returned_for first = cc in
+      let other_is : Ok tt ≡ returned_for second = cc in
       let puts = given_done _ first one_is sends.1 in
       ap (λ (w : WorldState). server_entry w.server.calls 9) end
       ∙ arrived mid last.server second other_is same (outgoing_by forms.little.form mid.client forms.little_is puts.0) comes
   asked_stands forms (one ∷ other ∷ third ∷ told) w run is = absurd run.2.2
 
-  pub asked_stands_by : (forms : Forms) (schedule : List WorldEvent) (told : List Told) (w : WorldState)
+  pub asked_stands_by : (forms : Forms) (schedule : List WorldEvent) (told : List Returned) (w : WorldState)
       → WorldRuns interface limits limits schedule told w → schedule ≡ asked_for forms → told ≡ Ok tt ∷ Ok tt ∷ []
       → server_entry w.server.calls 9 ≡ Some (LocateAsked key)
   asked_stands_by forms schedule told w run given is =
       asked_stands forms told w (subst (λ (schedule : List WorldEvent). WorldRuns interface limits limits schedule told w) given run) is
 
 -- so where the schedule is that
-pub unasked_told_by : (interface : Interface) (schedule : List WorldEvent) (told : List Told) (w : WorldState)
+pub unasked_told_by : (interface : Interface) (schedule : List WorldEvent) (told : List Returned) (w : WorldState)
     → WorldRuns interface limits limits schedule told w → schedule ≡ unasked → told ≡ Err (InCall 9 NotOpen) ∷ []
 unasked_told_by interface schedule told w run is =
     unasked_told interface told w (subst (λ (schedule : List WorldEvent). WorldRuns interface limits limits schedule told w) is run)

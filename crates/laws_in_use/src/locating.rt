@@ -7,7 +7,8 @@ ghost use Rattle.giop_msg.specs.declared.messages.request_fault.RequestFault.The
 ghost use Rattle.giop_msg.specs.declared.version.Version.TheVariants.{V10, V12};
 ghost use Rattle.giop_calls.specs.declared.kind.CallKind.TheVariants as kind;
 ghost use Rattle.giop_calls.specs.declared.server.entry.ServerEntry.TheVariants.{LocateAnswered, Undecoded};
-ghost use Rattle.giop_session.specs.Runs.EndRuns.{ServerInputsHold, ServerTakes, ServerTakesItems};
+ghost use Rattle.giop_session.specs.Runs.ServerRuns.{server_run};
+ghost use Rattle.giop_session.specs.Runs.SideRuns.{ActsHold, SideTakes, SideTakesItems};
 ghost use Rattle.giop_session.specs.Calls.Sending.{entry_of};
 ghost use Rattle.laws_in_use.specs.Locating.{door, limits, one_way, other_way, said, tight_limits, door_begins, door_ends};
 ghost use Rattle.giop_session.specs.Items.ServerCarries.{IsLocateRequestIn};
@@ -23,30 +24,30 @@ use giop_session::laws::{same_calls_same_entries_at_server, what_is_cut_is_carri
 /// whatever the interface.
 pub fn two_ways_of_locating()
     ensures one_taken { (interface : Interface) → (k : _)
-        × ServerTakesItems interface limits one_way said k }
+        × SideTakesItems (server_run interface) limits one_way said k }
     ensures other_taken { (interface : Interface) → (k : _)
-        × ServerTakesItems interface tight_limits other_way said k }
+        × SideTakesItems (server_run interface) tight_limits other_way said k }
     ensures written { IsLocateRequestIn V12 Big door 24 (door_begins ∷ door_ends ∷ []) }
     ensures one_holds { (interface : Interface)
-        → ServerInputsHold interface limits one_way said }
+        → ActsHold (server_run interface) limits one_way said }
     ensures other_holds { (interface : Interface)
-        → ServerInputsHold interface tight_limits other_way said }
+        → ActsHold (server_run interface) tight_limits other_way said }
     ensures seven { (interface : Interface) (left k : _)
-        → ServerTakes interface limits one_way left k
+        → SideTakes (server_run interface) limits one_way left k
         → entry_of (finite.get k.table 7) ≡ Some (LocateAnswered (Some door.target) true) }
     ensures nine { (interface : Interface) (left k : _)
-        → ServerTakes interface limits one_way left k
+        → SideTakes (server_run interface) limits one_way left k
         → entry_of (finite.get k.table 9) ≡ Some (Undecoded (record {
           version = V10;
           expects = Some kind.Locate;
           fault = Header (record { at = 16; kind = BadCount });
         })) }
     ensures others { (interface : Interface) (left k : _)
-        → ServerTakes interface limits one_way left k
+        → SideTakes (server_run interface) limits one_way left k
         → (id : ℕ) → id ≢ 7 → id ≢ 9 → entry_of (finite.get k.table id) ≡ None }
     ensures same { (interface : Interface) (left left' k k' : _)
-        → ServerTakes interface limits one_way left k
-        → ServerTakes interface tight_limits other_way left' k'
+        → SideTakes (server_run interface) limits one_way left k
+        → SideTakes (server_run interface) tight_limits other_way left' k'
         → (id : ℕ) → entry_of (finite.get k.table id) ≡ entry_of (finite.get k'.table id) }
 {
     locate_requests_are_spelled();

@@ -18,12 +18,13 @@ ghost use Rattle.giop_session.specs.declared.laws.inputs.Answered.TheVariants.{D
 ghost use Rattle.giop_session.specs.declared.laws.inputs.ClientInput.TheVariants as client;
 ghost use Rattle.giop_session.specs.declared.laws.inputs.ServerInput.TheVariants as server;
 ghost use Rattle.giop_session.specs.declared.session_fault.SessionFault.TheVariants.{Closed};
-ghost use Rattle.giop_session.specs.Runs.ClientRuns.{client_entry, client_named, ClientHolds, ClientTakesAs};
+ghost use Rattle.giop_session.specs.Runs.ClientRuns.{client_entry, client_named, client_run};
+ghost use Rattle.giop_session.specs.Runs.Fits.{Fits, history_of, IsAsAlone, SaysAlone};
+ghost use Rattle.giop_session.specs.Runs.ServerRuns.{server_entry, server_named, server_run};
+ghost use Rattle.giop_session.specs.Runs.SideRuns.{SideHolds, SideTakesAs};
 ghost use Rattle.giop_session.specs.Runs.Driven.{NoneRefused, own_answers};
 ghost use Rattle.giop_session.specs.Runs.RunLimits.{ClientIsGivenWithin, NoneForALimit, ServerIsGivenWithin};
 ghost use Rattle.giop_session.specs.Acts.Sent.{close_connection};
-ghost use Rattle.giop_session.specs.Runs.Fits.{client_history, ClientFits, ClientIsAsAlone, ClientSays, server_history, ServerFits, ServerIsAsAlone, ServerSays};
-ghost use Rattle.giop_session.specs.Runs.ServerRuns.{server_entry, server_named, ServerHolds, ServerTakesAs};
 ghost use Rattle.laws_in_use.specs.Asking.{here};
 ghost use Rattle.laws_in_use.specs.Locating as locating;
 ghost use Rattle.laws_in_use.specs.Runs.{client_answers, client_given, client_told, door_taken, Forms, history_of_asking, history_of_door, key_taken, server_answers, server_given, server_given_otherwise, server_said};
@@ -48,24 +49,25 @@ use std::alloc::{AllocError, Global};
 /// come to by the messages of 7, as they are read, and its acts; and what stands by them without
 /// steps.
 pub fn what_a_server_is_given()
-    ensures taken { (interface : Described) → (acts : _) × (left : _) × (k : _)
-        × ServerTakesAs interface locating.limits server_given server_answers acts left k }
-    ensures held { (interface : Described) → (left : _) × (k : _) × (calls : _)
-        × ServerHolds interface locating.limits server_given server_answers left k calls }
-    ensures holds { (interface : Described) → (left : _) × (k : _)
-        × ServerHolds interface locating.limits server_given server_answers left k server_said }
+    ensures taken { (interface : Described) → (acts : _) × (left : _) × (k : _) × SideTakesAs
+        (server_run interface) locating.limits server_given server_answers acts left k }
+    ensures held { (interface : Described) → (left : _) × (k : _) × (calls : _) × SideHolds
+        (server_run interface) locating.limits server_given server_answers left k calls }
+    ensures holds { (interface : Described) → (left : _) × (k : _) × SideHolds
+        (server_run interface) locating.limits server_given server_answers left k server_said }
     ensures none { NoneRefused server_answers }
     ensures within { ServerIsGivenWithin locating.limits server_given }
-    ensures fits { (interface : Described) → ServerFits interface locating.limits server_given }
+    ensures fits { (interface : Described)
+        → Fits (server_run interface) locating.limits server_given }
     ensures says { (interface : Described)
-        → (fits : ServerFits interface locating.limits server_given)
-        × ((id : ℕ) → ServerSays (fits.alone id) (server_said id)) }
+        → (fits : Fits (server_run interface) locating.limits server_given)
+        × ((id : ℕ) → SaysAlone (fits.alone id) (server_said id)) }
     ensures otherwise { (interface : Described)
-        → (fits : ServerFits interface locating.limits server_given_otherwise)
-        × ((id : ℕ) → ServerSays (fits.alone id) (server_said id)) }
-    ensures stands { (interface : Described) → (left : _) × (k : _) × (held :
-        ServerHolds interface locating.limits server_given server_answers left k server_said)
-        × (server_history interface 7 held.holds.0 ≡ history_of_door)
+        → (fits : Fits (server_run interface) locating.limits server_given_otherwise)
+        × ((id : ℕ) → SaysAlone (fits.alone id) (server_said id)) }
+    ensures stands { (interface : Described) → (left : _) × (k : _) × (held : SideHolds
+        (server_run interface) locating.limits server_given server_answers left k server_said)
+        × (history_of (server_run interface) 7 held.holds.0 ≡ history_of_door)
         × (server_entry k 7 ≡ None) × (alone server_turn None history_of_door ≡ None)
         × (server_latest.standing history_of_door ≡ None) }
 {
@@ -87,7 +89,7 @@ pub fn a_run_of_a_server<'a>(
 ) -> Result<(ServerEnd<'a>, Vec<Answered<ServerEntry>>), AllocError>
     ensures holds { inputs.items ≡ server_given → IfOk result (λ run.
         NoneRefused run.1.items → run.0.fault ≡ None
-        → ServerHolds interface.now locating.limits inputs.items run.1.items run.0.framer
+        → SideHolds (server_run interface.now) locating.limits inputs.items run.1.items run.0.framer
         run.0.calls server_said) }
     ensures seven { inputs.items ≡ server_given → IfOk result (λ run.
         NoneRefused run.1.items → run.0.fault ≡ None → server_entry run.0.calls 7 ≡ None) }
@@ -110,8 +112,8 @@ pub fn a_run_of_a_server<'a>(
         → IfOk result (λ run. (server_entry run.0.calls 7 ≡ None)
         × (own_answers server_named 7 inputs.items run.1.items ≡ Done ∷ door_taken ∷ [])) }
     ensures alone { inputs.items ≡ server_given_otherwise → IfOk result (λ run.
-        (fits : ServerFits interface.now locating.limits inputs.items)
-        × ServerIsAsAlone fits run.1.items run.0.calls 9) }
+        (fits : Fits (server_run interface.now) locating.limits inputs.items)
+        × IsAsAlone fits run.1.items run.0.calls 9) }
     ensures free { inputs.items ≡ server_given → IfOk result (λ run.
         NoneForALimit run.1.items) }
     ensures same { IfOk result (λ run. run.0.limits ≡ locating.limits) }
@@ -142,24 +144,27 @@ pub fn a_run_of_a_server<'a>(
 pub fn what_a_client_is_given()
     ensures forms { Forms }
     ensures taken { (interface : Described) (forms : Forms) → (acts : _) × (left : _) × (k : _)
-        × ClientTakesAs interface locating.limits (client_given forms) client_answers acts left k }
+        × SideTakesAs (client_run interface) locating.limits (client_given forms) client_answers
+        acts left k }
     ensures held { (interface : Described) (forms : Forms) → (left : _) × (k : _) × (calls : _)
-        × ClientHolds interface locating.limits (client_given forms) client_answers left k calls }
+        × SideHolds (client_run interface) locating.limits (client_given forms) client_answers
+        left k calls }
     ensures holds { (interface : Described) (forms : Forms) → (left : _) × (k : _)
-        × ClientHolds interface locating.limits (client_given forms) client_answers left k
+        × SideHolds (client_run interface) locating.limits (client_given forms) client_answers left
+        k
         client_told }
     ensures none { NoneRefused client_answers }
     ensures within { (forms : Forms)
         → ClientIsGivenWithin locating.limits (client_given forms) }
     ensures fits { (interface : Described) (forms : Forms)
-        → ClientFits interface locating.limits (client_given forms) }
+        → Fits (client_run interface) locating.limits (client_given forms) }
     ensures says { (interface : Described) (forms : Forms)
-        → (fits : ClientFits interface locating.limits (client_given forms))
-        × ((id : ℕ) → ClientSays (fits.alone id) (client_told id)) }
+        → (fits : Fits (client_run interface) locating.limits (client_given forms))
+        × ((id : ℕ) → SaysAlone (fits.alone id) (client_told id)) }
     ensures stands { (interface : Described) (forms : Forms) → (left : _) × (k : _) × (held :
-        ClientHolds interface locating.limits (client_given forms) client_answers left k
+        SideHolds (client_run interface) locating.limits (client_given forms) client_answers left k
         client_told)
-        × (client_history interface 7 held.holds.0 ≡ history_of_asking)
+        × (history_of (client_run interface) 7 held.holds.0 ≡ history_of_asking)
         × (client_entry k 7 ≡ Some (LocateDone locating.door here))
         × (alone client_turn None history_of_asking ≡ Some (LocateDone locating.door here))
         × (client_latest.standing history_of_asking ≡ Some (LocateDone locating.door here)) }
@@ -180,7 +185,7 @@ pub fn a_run_of_a_client<'a>(
 ) -> Result<(ClientEnd<'a>, Vec<Answered<ClientEntry>>), AllocError>
     ensures holds { (forms : Forms) → inputs.items ≡ client_given forms → IfOk result (λ run.
         NoneRefused run.1.items → run.0.fault ≡ None
-        → ClientHolds interface.now locating.limits inputs.items run.1.items run.0.framer
+        → SideHolds (client_run interface.now) locating.limits inputs.items run.1.items run.0.framer
         run.0.calls client_told) }
     ensures seven { (forms : Forms) → inputs.items ≡ client_given forms → IfOk result (λ run.
         NoneRefused run.1.items → run.0.fault ≡ None
@@ -199,8 +204,8 @@ pub fn a_run_of_a_client<'a>(
     ensures comes { (forms : Forms) → inputs.items ≡ client_given forms → IfOk result (λ run.
         client_entry run.0.calls 7 ≡ Some (LocateDone locating.door here)) }
     ensures alone { (forms : Forms) → inputs.items ≡ client_given forms → IfOk result (λ run.
-        (fits : ClientFits interface.now locating.limits inputs.items)
-        × ClientIsAsAlone fits run.1.items run.0.calls 9) }
+        (fits : Fits (client_run interface.now) locating.limits inputs.items)
+        × IsAsAlone fits run.1.items run.0.calls 9) }
     ensures free { (forms : Forms) → inputs.items ≡ client_given forms → IfOk result (λ run.
         NoneForALimit run.1.items) }
     ensures same { IfOk result (λ run. run.0.limits ≡ locating.limits) }

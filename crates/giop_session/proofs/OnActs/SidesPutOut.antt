@@ -32,7 +32,9 @@ use Rattle.giop_session.specs.Calls.CallTable.{Act, Call, Held}
 use Rattle.giop_session.specs.Acts.ClientCalls.{IsCancel, open_version}
 use Rattle.giop_session.specs.Hearing.ClientHears as client_hears
 use Rattle.giop_session.specs.Hearing.ClientHears.{client_befalls, client_side}
-use Rattle.giop_session.specs.Runs.ClientRuns.{ClientRuns, client_deed, client_entry}
+use Rattle.giop_session.specs.Runs.ClientRuns.{client_deed, client_entry, client_run}
+use Rattle.giop_session.specs.Runs.ServerRuns.{server_deed, server_entry, server_run}
+use Rattle.giop_session.specs.Runs.SideRuns.{SideRuns}
 use Rattle.giop_session.specs.Runs.Driven.{EndState, new_end}
 use Rattle.giop_session.specs.Acts.PutOut.{AreOf, ArePutOut, is_of_client, is_of_server}
 use Rattle.giop_session.specs.Calls.Sending.{unsent_of}
@@ -40,7 +42,6 @@ use Rattle.giop_session.specs.Acts.Sent.{IsSent}
 use Rattle.giop_session.specs.Acts.ServerAnswers.{IsAnswer, IsLocateAnswer, locate_of, question_of, reply_octets}
 use Rattle.giop_session.specs.Hearing.ServerHears as server_hears
 use Rattle.giop_session.specs.Hearing.ServerHears.{server_befalls, server_side}
-use Rattle.giop_session.specs.Runs.ServerRuns.{ServerRuns, server_deed, server_entry}
 use Rattle.giop_session.proofs.OnActs.PutOutLemmas.{ActIsOf, DeedIsOf, PlanIsOf, cut_are, run_is}
 
 -- what is sent in messages of a kind
@@ -97,7 +98,7 @@ client_deeds interface limits h (client.Take id) = tt
 client_deeds interface limits h client.Close = refl
 
 pub client_puts_out : (interface : Interface) (limits : Limits) (inputs : List ClientInput) (answers : List (Answered ClientEntry))
-    (s : EndState (Held ClientRule ClientEntry)) → ClientRuns interface limits inputs answers s → ArePutOut is_of_client s.outgoing
+    (s : EndState (Held ClientRule ClientEntry)) → SideRuns (client_run interface) limits inputs answers s → ArePutOut is_of_client s.outgoing
 client_puts_out interface limits inputs answers s run =
     (run_is is_of_client (client_side interface) (client_comes interface) (client_deed interface limits) (client_deeds interface limits)
     (new_end (record {}) limits) s inputs answers run
@@ -148,7 +149,7 @@ server_deeds interface limits h (server.Take id) = tt
 server_deeds interface limits h server.Close = refl
 
 pub server_puts_out : (interface : Interface) (limits : Limits) (inputs : List ServerInput) (answers : List (Answered ServerEntry))
-    (s : EndState (Held ServerRule ServerEntry)) → ServerRuns interface limits inputs answers s → ArePutOut is_of_server s.outgoing
+    (s : EndState (Held ServerRule ServerEntry)) → SideRuns (server_run interface) limits inputs answers s → ArePutOut is_of_server s.outgoing
 server_puts_out interface limits inputs answers s run =
     (run_is is_of_server (server_side interface) (server_comes interface) (server_deed interface limits) (server_deeds interface limits)
     (new_end (record {}) limits) s inputs answers run

@@ -1,6 +1,5 @@
--- Whatever a client's end takes is held by some items.
+-- Whatever a call at a client's end follows some items say, and what is taken there is an act of its own.
 use Rattle.std.proofs.Common.{◌≡◌, ◌⊎◌, ℕ, Bool, true, false, not, cond, if◌then◌else◌, List, [], ◌∷◌, ◌++◌, map, Option, Some, None, Result, Ok, Err, IsOk, refl, sym, ap, subst, ◌∙◌, append-nil, inl, inr}
-use Rattle.std.specs.Ordering.{nat_cmp}
 use Rattle.std.specs.FinMap as finite
 use Rattle.giop_cdr.specs.declared.order.Order.{Order}
 use Rattle.giop_cdr.specs.declared.fault.CdrFault.{CdrFault}
@@ -39,7 +38,6 @@ use Rattle.giop_calls.specs.declared.client.late.Late.TheVariants as late
 use Rattle.giop_calls.specs.declared.client.rule.ClientRule.{ClientRule}
 use Rattle.giop_calls.specs.ClientTable as table
 use Rattle.giop_calls.specs.ClientTable.{client_step, is_gathering, settles}
-use Rattle.giop_session.specs.declared.laws.inputs.Answered.{Answered}
 use Rattle.giop_session.specs.declared.laws.inputs.ClientInput.{ClientInput}
 use Rattle.giop_session.specs.declared.laws.inputs.ClientInput.TheVariants as input
 use Rattle.giop_session.specs.declared.limits.Limits.{Limits}
@@ -47,29 +45,24 @@ use Rattle.giop_session.specs.declared.session_fault.SessionFault.{SessionFault}
 use Rattle.giop_session.specs.declared.calls.plan.Plan.{Plan}
 use Rattle.giop_session.specs.declared.calls.plan.Plan.TheVariants.{Keep}
 use Rattle.giop_session.specs.declared.calls.slot.Slot.{Slot}
-use Rattle.giop_session.specs.Calls.Begun.{no_calls}
 use Rattle.giop_session.specs.Calls.CallTable.{Act, Call, Held, Hears, IsTaken, Nothing, at, gathers}
 use Rattle.giop_session.specs.Calls.Sending.{entry_of, settled_by, slot_of}
 use Rattle.giop_session.specs.Acts.ClientCalls.{IsCancel, open_version}
-use Rattle.giop_session.specs.Hearing.ClientHears.{befalls_by, breaks_by, client_befalls, client_breaks, comes, continued, continues, gathered_call, client_side}
+use Rattle.giop_session.specs.Hearing.ClientHears.{befalls_by, breaks_by, client_befalls, client_breaks, comes, continued, continues, gathered_call}
 use Rattle.giop_session.specs.Hearing.Heard.{kept}
 use Rattle.giop_session.specs.Items.Carries.{Bad, Begun, Did, Got, IsSeries, Rest}
-use Rattle.giop_session.specs.Items.ClientCarries.{ClientItem, Known, SpellsReply, answered, begun, client_telling, received, replies, unknown, unspelled}
-use Rattle.giop_session.specs.Runs.ClientRuns.{ClientHolds, ClientTakesAs, client_deed, client_named}
+use Rattle.giop_session.specs.Items.ClientCarries.{Known, SpellsReply, answered, begun, client_telling, received, replies, unknown, unspelled}
+use Rattle.giop_session.specs.Runs.ClientRuns.{client_deed}
 use Rattle.giop_session.specs.Runs.Driven.{IsAct}
-use Rattle.giop_session.specs.Runs.Events.{Comes, Event, Follows, own_events, what}
+use Rattle.giop_session.specs.Runs.Events.{Comes, Event, Follows, what}
 use Rattle.giop_session.specs.Runs.Events.{Does as DoesTo}
-use Rattle.giop_session.specs.Runs.Inputs.{Input, nothing_unread}
+use Rattle.giop_session.specs.Runs.Inputs.{Input}
 use Rattle.giop_session.proofs.OnHearing.ClientCancelLemmas.{Passes, accepted, client_turn, with}
 use Rattle.giop_session.proofs.OnHearing.ClientReplyLemmas.{Nobody, Waits, awaits, begins as begins_reply, first_unread, more_act, unread_first}
-use Rattle.giop_session.proofs.OnItems.AnswerLemmas.{taken_answers}
-use Rattle.giop_session.proofs.OnItems.ClientHeadline.{names_it}
 use Rattle.giop_session.proofs.OnItems.ClientItemLemmas.{client_item_leaves}
-use Rattle.giop_session.proofs.OnItems.HeldLemmas.{Each, Ends, Goes, GoesOn, IsOwnInput, IsTakenEvent, Said, acts_owned, all_said, ends_with, events_taken, one_said, own_each}
+use Rattle.giop_session.proofs.OnItems.HeldLemmas.{Each, Ends, Goes, GoesOn, IsOwnInput, IsTakenEvent, Said, all_said, ends_with, one_said}
 use Rattle.giop_session.proofs.OnItems.SeriesLemmas.{continued_version, fragment_version, joined_on, message_is, orders, series_on, twice}
 use Rattle.giop_session.proofs.OnLimits.QuietLemmas.{call_quiet, cancel_quiet, client_send_quiet}
-use Rattle.giop_session.proofs.OnRuns.EventLemmas.{each_follows}
-use Rattle.giop_session.proofs.OnRuns.FollowedLemmas.{met_heard}
 
 -- the acts that a client's end does itself
 abbrev pub is_own : ClientEvent → Bool
@@ -448,7 +441,7 @@ module _ (interface : Interface) (limit : ℕ) where
       (record { begins = begins; goes_on = goes_on; stops = stops }) unknown call k events stands refl met follows
 
 -- each input that is taken is an act of the client's own
-owns : (interface : Interface) (limits : Limits) (h : Held ClientRule ClientEntry) (given : ClientInput) (act : Input ClientEvent)
+pub owns : (interface : Interface) (limits : Limits) (h : Held ClientRule ClientEntry) (given : ClientInput) (act : Input ClientEvent)
     → IsAct (client_deed interface limits h given) act → IsOwnInput is_own act
 owns interface limits h (input.Feed octets) act is = subst (IsOwnInput is_own) (sym is) tt
 owns interface limits h (input.Call request form) act (planned, plans, is) =
@@ -464,27 +457,3 @@ owns interface limits h (input.Cancel id order) act (planned, plans, is) =
 owns interface limits h (input.Send id) act (planned, plans, is) = subst (IsOwnInput is_own) (sym is) (ap (λ p. is_own p.event) plans)
 owns interface limits h (input.Take id) act is = subst (IsOwnInput is_own) (sym is) tt
 owns interface limits h input.Close act is = absurd is
-
--- what a new end takes is held by some items
-pub client_held : (interface : Interface) (limits : Limits) (inputs : List ClientInput) (answers : List (Answered ClientEntry))
-    (acts : List (Input ClientEvent)) (left : Unread) (k : Held ClientRule ClientEntry)
-    → ClientTakesAs interface limits inputs answers acts left k
-    → (calls : ℕ → List ClientItem) × ClientHolds interface limits inputs answers left k calls
-client_held interface limits inputs answers acts left k taken =
-    let begun : Held ClientRule ClientEntry = no_calls (record {}) limits in
-    let run = taken_answers (client_side interface)
-    (client_deed interface limits) client_named (names_it interface limits) inputs answers acts (nothing_unread limits.message) left begun k taken in
-    let owned = acts_owned (client_side interface)
-    (client_deed interface limits) is_own (owns interface limits) inputs answers acts (nothing_unread limits.message) left begun k taken in
-    let met = events_taken limits.message client_breaks is_own acts (nothing_unread limits.message) left run.0 run.1 refl owned
-    (met_heard (client_side interface) begun k run.0 run.2) in
-    let said = λ (id : ℕ). client_said interface limits.message (at begun id) (at k id) (own_events id run.0)
-    (ap entry_of (finite.get-empty nat_cmp id)) (own_each (IsTakenEvent limits.message client_breaks is_own) id run.0 met)
-    (each_follows (client_side interface) begun k run.0 id run.2) in (
-      λ id. (said id).0,
-      record {
-        acts = acts;
-        taken = taken;
-        holds = (run.0, left, run.1, λ id. (said id).1);
-      },
-    )

@@ -1,6 +1,5 @@
--- Whatever a server's end takes is held by some items.
+-- Whatever a call at a server's end follows some items say, and what is taken there is an act of its own.
 use Rattle.std.proofs.Common.{◌≡◌, ◌⊎◌, ℕ, Bool, true, false, not, cond, is_some, List, [], ◌∷◌, ◌++◌, map, Option, Some, None, Result, Ok, Err, IsOk, refl, sym, ap, subst, ◌∙◌, append-nil, inl, inr}
-use Rattle.std.specs.Ordering.{nat_cmp}
 use Rattle.std.specs.FinMap as finite
 use Rattle.giop_cdr.specs.declared.order.Order.{Order}
 use Rattle.giop_cdr.specs.declared.fault.CdrFault.{CdrFault}
@@ -18,7 +17,6 @@ use Rattle.giop_msg.specs.Cut.{joined}
 use Rattle.giop_msg.specs.Joined.{whole_of_joined}
 use Rattle.giop_msg.specs.Locate.{AnyLocateRequest, locate_request}
 use Rattle.giop_msg.specs.Messages.RequestAnswer.{request_of_joined}
-use Rattle.giop_msg.specs.Stream.{Unread}
 use Rattle.giop_msg.proofs.JoinedLemmas.{whole_is, whole_only}
 use Rattle.giop_msg.proofs.LocateLemmas.{locate_request_is}
 use Rattle.giop_msg.proofs.WholeMessages.RequestLemmas.{request_found, request_only}
@@ -45,29 +43,24 @@ use Rattle.giop_session.specs.declared.session_fault.SessionFault.{SessionFault}
 use Rattle.giop_session.specs.declared.calls.plan.Plan.{Plan}
 use Rattle.giop_session.specs.declared.calls.plan.Plan.TheVariants.{Keep}
 use Rattle.giop_session.specs.declared.calls.slot.Slot.{Slot}
-use Rattle.giop_session.specs.Calls.Begun.{no_calls}
 use Rattle.giop_session.specs.Calls.CallTable.{Act, Call, First, Held, Hears, IsTaken, Nothing, at, gathers}
 use Rattle.giop_session.specs.Calls.Sending.{entry_of, settled_by, slot_of, unsent_of}
 use Rattle.giop_session.specs.Acts.ServerAnswers.{IsAnswer, IsLocateAnswer, locate_of, question_of}
 use Rattle.giop_session.specs.Hearing.Decoding.{heard_call}
 use Rattle.giop_session.specs.Hearing.Heard.{kept}
-use Rattle.giop_session.specs.Hearing.ServerHears.{befalls_by, breaks_by, comes, continued, continues, gathered_kind, server_befalls, server_breaks, server_side}
+use Rattle.giop_session.specs.Hearing.ServerHears.{befalls_by, breaks_by, comes, continued, continues, gathered_kind, server_befalls, server_breaks}
 use Rattle.giop_session.specs.Items.Carries.{Bad, Begun, Cancel, Did, Got, IsSeries, Rest}
-use Rattle.giop_session.specs.Items.ServerCarries.{ServerItem, SpellsCall, asks, server_telling}
+use Rattle.giop_session.specs.Items.ServerCarries.{SpellsCall, asks, server_telling}
 use Rattle.giop_session.specs.Runs.Driven.{IsAct}
-use Rattle.giop_session.specs.Runs.Events.{Comes, Event, Follows, own_events, what}
+use Rattle.giop_session.specs.Runs.Events.{Comes, Event, Follows, what}
 use Rattle.giop_session.specs.Runs.Events.{Does as DoesTo}
-use Rattle.giop_session.specs.Runs.Inputs.{Input, nothing_unread}
-use Rattle.giop_session.specs.Runs.ServerRuns.{ServerHolds, ServerTakesAs, server_deed, server_named}
-use Rattle.giop_session.proofs.OnItems.AnswerLemmas.{taken_answers}
-use Rattle.giop_session.proofs.OnItems.HeldLemmas.{Each, Ends, Goes, GoesOn, IsOwnInput, IsTakenEvent, Said, acts_owned, all_said, ends_with, events_taken, one_said, own_each}
+use Rattle.giop_session.specs.Runs.Inputs.{Input}
+use Rattle.giop_session.specs.Runs.ServerRuns.{server_deed}
+use Rattle.giop_session.proofs.OnItems.HeldLemmas.{Each, Ends, Goes, GoesOn, IsOwnInput, IsTakenEvent, Said, all_said, ends_with, one_said}
 use Rattle.giop_session.proofs.OnItems.ItemLemmas.{call_of, heard}
 use Rattle.giop_session.proofs.OnItems.SeriesLemmas.{continued_version, fragment_version, joined_on, message_is, orders, series_on, twice}
-use Rattle.giop_session.proofs.OnItems.ServerHeadline.{names_it}
 use Rattle.giop_session.proofs.OnItems.ServerItemLemmas.{begun, first_act, more_act, server_item_leaves, server_turn}
 use Rattle.giop_session.proofs.OnLimits.QuietLemmas.{answer_locate_quiet, answer_quiet, server_send_quiet}
-use Rattle.giop_session.proofs.OnRuns.EventLemmas.{each_follows}
-use Rattle.giop_session.proofs.OnRuns.FollowedLemmas.{met_heard}
 
 -- the acts that a server's end does itself
 abbrev pub is_own : ServerEvent → Bool
@@ -381,7 +374,7 @@ module _ (interface : Interface) (limit : ℕ) where
       (record { begins = begins; goes_on = goes_on; stops = stops }) None call k events stands refl met follows
 
 -- each input that is taken is an act of the server's own
-owns : (interface : Interface) (limits : Limits) (h : Held ServerRule ServerEntry) (given : ServerInput) (act : Input ServerEvent)
+pub owns : (interface : Interface) (limits : Limits) (h : Held ServerRule ServerEntry) (given : ServerInput) (act : Input ServerEvent)
     → IsAct (server_deed interface limits h given) act → IsOwnInput is_own act
 owns interface limits h (input.Feed octets) act is = subst (IsOwnInput is_own) (sym is) tt
 owns interface limits h (input.Answer reply form) act (planned, plans, is) =
@@ -399,27 +392,3 @@ owns interface limits h (input.AnswerLocate id here order) act (planned, plans, 
 owns interface limits h (input.Send id) act (planned, plans, is) = subst (IsOwnInput is_own) (sym is) (ap (λ p. is_own p.event) plans)
 owns interface limits h (input.Take id) act is = subst (IsOwnInput is_own) (sym is) tt
 owns interface limits h input.Close act is = absurd is
-
--- what a new end takes is held by some items
-pub server_held : (interface : Interface) (limits : Limits) (inputs : List ServerInput) (answers : List (Answered ServerEntry))
-    (acts : List (Input ServerEvent)) (left : Unread) (k : Held ServerRule ServerEntry)
-    → ServerTakesAs interface limits inputs answers acts left k
-    → (calls : ℕ → List ServerItem) × ServerHolds interface limits inputs answers left k calls
-server_held interface limits inputs answers acts left k taken =
-    let begun : Held ServerRule ServerEntry = no_calls (record {}) limits in
-    let run = taken_answers (server_side interface)
-    (server_deed interface limits) server_named (names_it interface limits) inputs answers acts (nothing_unread limits.message) left begun k taken in
-    let owned = acts_owned (server_side interface)
-    (server_deed interface limits) is_own (owns interface limits) inputs answers acts (nothing_unread limits.message) left begun k taken in
-    let met = events_taken limits.message server_breaks is_own acts (nothing_unread limits.message) left run.0 run.1 refl owned
-    (met_heard (server_side interface) begun k run.0 run.2) in
-    let said = λ (id : ℕ). server_said interface limits.message (at begun id) (at k id) (own_events id run.0)
-    (ap entry_of (finite.get-empty nat_cmp id)) (own_each (IsTakenEvent limits.message server_breaks is_own) id run.0 met)
-    (each_follows (server_side interface) begun k run.0 id run.2) in (
-      λ id. (said id).0,
-      record {
-        acts = acts;
-        taken = taken;
-        holds = (run.0, left, run.1, λ id. (said id).1);
-      },
-    )

@@ -17,7 +17,8 @@ use Rattle.giop_session.specs.declared.calls.plan.Planned.{Planned}
 use Rattle.giop_session.specs.Calls.CallTable.{Held}
 use Rattle.giop_session.specs.Acts.ClientCalls.{IsCancel, open_version}
 use Rattle.giop_session.specs.Hearing.ClientHears.{client_side}
-use Rattle.giop_session.specs.Runs.ClientRuns.{ClientRuns, client_deed, client_entry}
+use Rattle.giop_session.specs.Runs.ClientRuns.{client_deed, client_entry, client_run}
+use Rattle.giop_session.specs.Runs.SideRuns.{SideRuns}
 use Rattle.giop_session.specs.Runs.Driven.{EndState}
 use Rattle.giop_session.specs.Runs.Limits.{begins_at_client}
 use Rattle.giop_session.specs.Runs.RunLimits.{ClientIsGivenWithin, NoneForALimit, calls_under, fed_to_client}
@@ -49,7 +50,7 @@ nothing_asked [] is = is
 nothing_asked (m ∷ messages) is = nothing_asked messages is
 
 pub client_run_free : (interface : Interface) (limits : Limits) (inputs : List ClientInput) (answers : List (Answered ClientEntry))
-    (t : EndState (Held ClientRule ClientEntry)) → ClientIsGivenWithin limits inputs → ClientRuns interface limits inputs answers t
+    (t : EndState (Held ClientRule ClientEntry)) → ClientIsGivenWithin limits inputs → SideRuns (client_run interface) limits inputs answers t
     → NoneForALimit answers
 client_run_free interface limits inputs answers t given run =
     new_run_free (client_side interface) (λ kind. false) begins_at_client

@@ -21,7 +21,8 @@ use Rattle.giop_session.specs.Runs.Limits.{begins_at_server, is_asking}
 use Rattle.giop_session.specs.Runs.RunLimits.{NoneForALimit, ServerIsGivenWithin, fed_to_server}
 use Rattle.giop_session.specs.Acts.ServerAnswers.{IsAnswer, IsLocateAnswer, locate_of, question_of}
 use Rattle.giop_session.specs.Hearing.ServerHears.{server_side}
-use Rattle.giop_session.specs.Runs.ServerRuns.{ServerRuns, server_deed, server_entry}
+use Rattle.giop_session.specs.Runs.ServerRuns.{server_deed, server_entry, server_run}
+use Rattle.giop_session.specs.Runs.SideRuns.{SideRuns}
 use Rattle.giop_session.proofs.OnLimits.RunLimitLemmas.{Suits, new_run_free}
 use Rattle.giop_session.proofs.OnLimits.ServerLimitLemmas.{begins_only, broken, own, small}
 
@@ -55,7 +56,7 @@ nothing_asked [] is = is
 nothing_asked (i ∷ inputs) is = nothing_asked inputs is
 
 pub server_run_free : (interface : Interface) (limits : Limits) (inputs : List ServerInput) (answers : List (Answered ServerEntry))
-    (t : EndState (Held ServerRule ServerEntry)) → ServerIsGivenWithin limits inputs → ServerRuns interface limits inputs answers t
+    (t : EndState (Held ServerRule ServerEntry)) → ServerIsGivenWithin limits inputs → SideRuns (server_run interface) limits inputs answers t
     → NoneForALimit answers
 server_run_free interface limits inputs answers t given run =
     new_run_free (server_side interface) is_asking begins_at_server

@@ -34,7 +34,7 @@ IsDeedOf fed named (PutsOut id refusal Plans) = (fed ≡ None) × (named ≡ Som
 IsDeedOf fed named (TakesOut id) = (fed ≡ None) × (named ≡ Some id)
 IsDeedOf fed named Closes = (fed ≡ None) × (named ≡ None)
 
-deed_named : {V F : Type 0} (fed : Option (List ℕ)) (named : Option ℕ) (d : Deed V F) → IsDeedOf fed named d → id_of d ≡ named
+pub deed_named : {V F : Type 0} (fed : Option (List ℕ)) (named : Option ℕ) (d : Deed V F) → IsDeedOf fed named d → id_of d ≡ named
 deed_named fed named (Feeds octets) is = sym is.1
 deed_named fed named (PutsOut id refusal Plans) is = sym is.1
 deed_named fed named (TakesOut id) is = sym is.1

@@ -7,6 +7,7 @@ use Rattle.std.specs.Ordering.{nat_cmp}
 use Rattle.giop_types.specs.declared.json.interface.Interface.{Interface}
 use Rattle.giop_msg.specs.Stream.{Unread, Waits}
 use Rattle.giop_msg.specs.Msg.{message_octets}
+use Rattle.giop_msg.specs.declared.msg.Msg.{Msg}
 use Rattle.giop_msg.proofs.StreamLemmas.{length-message_octets}
 use Rattle.giop_calls.specs.ClientTable as client_table
 use Rattle.giop_calls.specs.Lane.{Agrees, Codec, IsRight, IsRightLocate, IsSound, Lane, new}
@@ -17,20 +18,22 @@ use Rattle.giop_session.specs.declared.laws.inputs.WorldEvent.{WorldEvent}
 use Rattle.giop_session.specs.declared.laws.inputs.WorldEvent.TheVariants as event
 use Rattle.giop_session.specs.declared.limits.Limits.{Limits}
 use Rattle.giop_session.specs.Worlds.Agreement.{Agreed, FailsByLimits}
+use Rattle.giop_session.specs.Calls.Begun.{no_calls}
 use Rattle.giop_session.specs.Calls.CallTable.{Call}
 use Rattle.giop_session.specs.Worlds.Coding.{coding}
 use Rattle.giop_session.specs.Runs.Driven.{InTurn}
+use Rattle.giop_session.specs.Runs.Inputs.{nothing_unread}
 use Rattle.giop_session.specs.Worlds.LaneAtEnds.{seen}
 use Rattle.giop_session.specs.Worlds.OnTheWay.{OnTheWay}
 use Rattle.giop_session.specs.Calls.Sending.{entry_of, unsent_of}
 use Rattle.giop_session.specs.Runs.Alone.{own_messages}
 use Rattle.giop_session.specs.Worlds.Tracks.{ClientShows, IsToClient, IsToServer, ServerShows}
-use Rattle.giop_session.specs.Worlds.World.{Happens, Told, WorldRuns, WorldState, new_world}
+use Rattle.giop_session.specs.Worlds.World.{Happens, Returned, WorldRuns, WorldState, new_world}
 use Rattle.giop_session.proofs.OnWorlds.Arriving.{at_client, at_server}
 use Rattle.giop_session.proofs.OnWorlds.ClientActing.{client_calls, client_cancels, client_locates, client_sends}
 use Rattle.giop_session.proofs.OnLanes.OnTheWayLemmas.{nothing_left}
 use Rattle.giop_session.proofs.OnWorlds.ServerActing.{server_answers, server_locates, server_sends}
-use Rattle.giop_session.proofs.OnWorlds.WorldTracks.{AreSound, Tracks}
+use Rattle.giop_session.proofs.OnWorlds.WorldTracks.{AreSound, IsAnswered, IsAsked, IsReached, Tracks}
 
 -- ---- a new world
 
@@ -66,6 +69,16 @@ new_server id call none = record {
   gathered = λ k is. absurd cc;
 }
 
+-- nothing is on its way to a new end
+nothing_reaches : {R E : Type 0} (Is : Msg → Type 0) (rule : R) (limits : Limits)
+    → IsReached {R = R} {E = E} limits Is [] [] (nothing_unread limits.message) (no_calls rule limits) None
+nothing_reaches Is rule limits = record {
+  are = tt;
+  way = λ sound. nothing_on_its_way limits.message;
+  within = record { message = refl; calls = refl; room = refl };
+  met = λ why failed. absurd cc;
+}
+
 module _ (interface : Interface) (are_sound : AreSound interface) (client_limits server_limits : Limits) where
   abbrev Tracked : WorldState → Type 0
   Tracked = Tracks interface client_limits server_limits
@@ -74,8 +87,6 @@ module _ (interface : Interface) (are_sound : AreSound interface) (client_limits
   begins = record {
     asked = [];
     answered = [];
-    are_asked = tt;
-    are_answered = tt;
     shows = λ id. record {
       acts = [];
       lane = new;
@@ -85,17 +96,13 @@ module _ (interface : Interface) (are_sound : AreSound interface) (client_limits
       to_server = refl;
       to_client = refl;
     };
-    to_server = λ sound. nothing_on_its_way server_limits.message;
-    to_client = λ sound. nothing_on_its_way client_limits.message;
-    client_within = record { message = refl; calls = refl; room = refl };
-    server_within = record { message = refl; calls = refl; room = refl };
-    client_met = λ why failed. absurd cc;
-    server_met = λ why failed. absurd cc;
+    server = nothing_reaches IsAsked (record {}) server_limits;
+    client = nothing_reaches IsAnswered (record {}) client_limits;
   }
 
   -- ---- each event
 
-  happens : (w v : WorldState) (happened : WorldEvent) (told : Told) → Tracked w
+  happens : (w v : WorldState) (happened : WorldEvent) (told : Returned) → Tracked w
       → Happens interface client_limits server_limits w happened told v → Tracked v
   happens w v (event.Call q form) told tracks is = client_calls interface client_limits server_limits w v q form told tracks is
   happens w v (event.Locate q form) told tracks is = client_locates interface client_limits server_limits w v q form told tracks is
@@ -109,7 +116,7 @@ module _ (interface : Interface) (are_sound : AreSound interface) (client_limits
   happens w v (event.ToServer n) told tracks is = at_server interface are_sound client_limits server_limits w v n told tracks is
   happens w v (event.ToClient n) told tracks is = at_client interface are_sound client_limits server_limits w v n told tracks is
 
-  goes_on : (w v : WorldState) (schedule : List WorldEvent) (told : List Told) → Tracked w
+  goes_on : (w v : WorldState) (schedule : List WorldEvent) (told : List Returned) → Tracked w
       → InTurn (Happens interface client_limits server_limits) w schedule told v → Tracked v
   goes_on w v [] [] tracks run = subst Tracked (sym run) tracks
   goes_on w v [] (one ∷ told) tracks run = absurd run
@@ -117,7 +124,7 @@ module _ (interface : Interface) (are_sound : AreSound interface) (client_limits
   goes_on w v (happened ∷ schedule) (one ∷ told) tracks (mid, is, rest) =
       goes_on mid v schedule told (happens w mid happened one tracks is) rest
 
-  tracked : (w : WorldState) (schedule : List WorldEvent) (told : List Told)
+  tracked : (w : WorldState) (schedule : List WorldEvent) (told : List Returned)
       → WorldRuns interface client_limits server_limits schedule told w → Tracked w
   tracked w schedule told run = goes_on (new_world client_limits server_limits) w schedule told begins run
 
@@ -132,16 +139,16 @@ module _ (interface : Interface) (are_sound : AreSound interface) (client_limits
   is_right_locate : (codec : Codec) (lane : Lane) → IsSound codec lane → IsRightLocate lane
   is_right_locate codec lane (agreed, right, located, read, heard) = located
 
-  pub ends_agree : (w : WorldState) (schedule : List WorldEvent) (told : List Told)
+  pub ends_agree : (w : WorldState) (schedule : List WorldEvent) (told : List Returned)
       → WorldRuns interface client_limits server_limits schedule told w
       → w.client.fault ≡ None → w.server.fault ≡ None → Agreed w
   ends_agree w schedule told run client_goes server_goes =
       let tracks = tracked w schedule told run in record {
         outcomes = λ none_out none_back id.
             let s = tracks.shows id in
-            let no_asked = nothing_left w.server.unread tracks.asked (subst (OnTheWay w.server.unread tracks.asked) none_out (tracks.to_server server_goes)) in
+            let no_asked = nothing_left w.server.unread tracks.asked (subst (OnTheWay w.server.unread tracks.asked) none_out (tracks.server.way server_goes)) in
             let no_answered = nothing_left w.client.unread tracks.answered
-            (subst (OnTheWay w.client.unread tracks.answered) none_back (tracks.to_client client_goes)) in
+            (subst (OnTheWay w.client.unread tracks.answered) none_back (tracks.client.way client_goes)) in
             ap (option_map client_table.outcome) s.client.entry
             ∙ agrees (coding interface) s.lane (are_sound s.acts s.lane s.runs)
             (s.to_server ∙ ap (λ l. map seen (own_messages id l)) no_asked) (s.to_client ∙ ap (λ l. map seen (own_messages id l)) no_answered)
@@ -156,7 +163,7 @@ module _ (interface : Interface) (are_sound : AreSound interface) (client_limits
             (here, s.server.entry ∙ stands, status, none);
       }
 
-  pub ends_fail_by_limits : (w : WorldState) (schedule : List WorldEvent) (told : List Told)
+  pub ends_fail_by_limits : (w : WorldState) (schedule : List WorldEvent) (told : List Returned)
       → WorldRuns interface client_limits server_limits schedule told w → FailsByLimits client_limits server_limits w
   ends_fail_by_limits w schedule told run =
-      let tracks = tracked w schedule told run in record { client = tracks.client_met; server = tracks.server_met }
+      let tracks = tracked w schedule told run in record { client = tracks.client.met; server = tracks.server.met }

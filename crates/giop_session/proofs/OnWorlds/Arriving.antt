@@ -1,5 +1,5 @@
 -- Octets that arrive at an end of a world are acts of the lanes that their messages are on, and then a limit is met, if one is.
-use Rattle.std.proofs.Common.{◌≡◌, ◌≢◌, ◌⊎◌, ℕ, List, [], ◌∷◌, ◌++◌, map, take, drop, Option, Some, None, Result, Ok, Err, sym, ap, subst, inl, inr, ◌∙◌}
+use Rattle.std.proofs.Common.{◌≡◌, ◌≢◌, ◌⊎◌, ℕ, List, [], ◌∷◌, ◌++◌, map, take, drop, Option, Some, None, Result, Ok, Err, refl, sym, ap, subst, inl, inr, ◌∙◌}
 use Rattle.std.proofs.lemmas.List.{take-append-drop}
 use Rattle.std.specs.Option.{option_map}
 use Rattle.giop_types.specs.declared.json.interface.Interface.{Interface}
@@ -10,6 +10,7 @@ use Rattle.giop_calls.specs.declared.client.entry.ClientEntry.{ClientEntry}
 use Rattle.giop_calls.specs.declared.client.rule.ClientRule.{ClientRule}
 use Rattle.giop_calls.specs.declared.server.entry.ServerEntry.{ServerEntry}
 use Rattle.giop_calls.specs.declared.server.rule.ServerRule.{ServerRule}
+use Rattle.giop_session.specs.declared.laws.inputs.Answered.{Answered}
 use Rattle.giop_session.specs.declared.limits.Limits.{Limits}
 use Rattle.giop_session.specs.declared.session_fault.SessionFault.{SessionFault}
 use Rattle.giop_session.specs.declared.session_fault.SessionFault.TheVariants.{NoMemory}
@@ -17,13 +18,14 @@ use Rattle.giop_session.specs.Runs.Alone.{own_messages}
 use Rattle.giop_session.specs.Calls.CallTable.{Held, at}
 use Rattle.giop_session.specs.Hearing.ClientHears.{client_side}
 use Rattle.giop_session.specs.Worlds.Coding.{coding}
-use Rattle.giop_session.specs.Hearing.Feeding.{Fed, standing, with_octets}
-use Rattle.giop_session.specs.Hearing.Heard.{hears}
+use Rattle.giop_session.specs.Hearing.Feeding.{standing}
+use Rattle.giop_session.specs.Hearing.Heard.{SideOf, hears}
+use Rattle.giop_session.specs.Runs.Driven.{EndState, Feeds, IsGiven}
 use Rattle.giop_session.specs.Worlds.LaneAtEnds.{seen}
 use Rattle.giop_session.specs.Worlds.OnTheWay.{IsFramed}
 use Rattle.giop_session.specs.Hearing.ServerHears.{server_side}
 use Rattle.giop_session.specs.Worlds.Tracks.{ClientShows, ServerShows, Shows}
-use Rattle.giop_session.specs.Worlds.World.{ArriveAtClient, ArriveAtServer, Told, WorldState}
+use Rattle.giop_session.specs.Worlds.World.{ArriveAtClient, ArriveAtServer, Returned, WorldState}
 use Rattle.giop_session.proofs.OnWorlds.Acted.{client_shows_as, server_shows_as}
 use Rattle.giop_session.proofs.OnLanes.ClientHearsNext.{client_hears_next}
 use Rattle.giop_session.proofs.OnWorlds.Feeds.{GoesBy, fed}
@@ -31,7 +33,7 @@ use Rattle.giop_session.proofs.OnLanes.NextHeard.{ClientHearsIt, IsFull, ServerH
 use Rattle.giop_session.proofs.OnWorlds.OwnMessages.{own_first, own_passed}
 use Rattle.giop_session.proofs.OnRuns.SeenLemmas.{IsFedSo, fed_or_failed}
 use Rattle.giop_session.proofs.OnLanes.ServerHearsNext.{server_hears_next}
-use Rattle.giop_session.proofs.OnWorlds.WorldTracks.{AreSound, IsAnswered, IsAsked, Tracks, at_each, runs_more}
+use Rattle.giop_session.proofs.OnWorlds.WorldTracks.{AreSound, IsAnswered, IsAsked, IsReached, Tracks, at_each, runs_more}
 
 same_lane : (one other : Lane) → Some one ≡ Some other → one ≡ other
 same_lane one other is = cc
@@ -84,6 +86,49 @@ came_to_client codec lane after (n ∷ others) m rest is stepped =
           unanswered = ap (λ one. one.unanswered) (sym same);
           to_server = ap (λ one. one.to_server) (sym same);
         }
+
+-- ---- octets arrive at an end, the first of those that are outgoing at the other
+
+module _ {R E V A F : Type 0} (side : SideOf R E V A F) (Is : Msg → Type 0) (Knows : Held R E → List Msg → Type 0)
+    (framed : (m : Msg) → Is m → IsFramed m)
+    (hears_one : (h k : Held R E) (m : Msg) (rest : List Msg) → Is m → Knows h (m ∷ rest) → hears side m h (Ok tt) k → GoesBy Knows h k rest)
+    (refuses_one : (h : Held R E) (m : Msg) (rest : List Msg) (fault : SessionFault) → Is m → Knows h (m ∷ rest) → fault ≢ NoMemory
+    → hears side m h (Err fault) h → IsFull m h fault) where
+  -- what is on its way to it then, behind which these octets are outgoing
+  record Reaches (limits : Limits) (behind : List ℕ) (t : EndState (Held R E)) : Type 0 where
+    rest : List Msg
+    knows : Knows t.calls rest
+    reached : IsReached limits Is rest behind t.unread t.calls t.fault
+
+  -- an end that failed stays, and any other is fed
+  arrive : (limits : Limits) (s t : EndState (Held R E)) (n : ℕ) (messages : List Msg) (outgoing : List ℕ) (answered : Answered E)
+      → IsGiven side (Feeds (take n outgoing)) s answered t → Knows s.calls messages
+      → IsReached limits Is messages outgoing s.unread s.calls s.fault → Reaches limits (drop n outgoing) t × (t.outgoing ≡ s.outgoing)
+  arrive limits s t n messages outgoing answered given knows reached = by_case (fed_or_failed side s t (take n outgoing) answered given)
+    where
+      by_case : ((why : SessionFault) × (s.fault ≡ Some why) × (t ≡ s)) ⊎ IsFedSo side s (take n outgoing) t
+          → Reaches limits (drop n outgoing) t × (t.outgoing ≡ s.outgoing)
+      by_case (inl (why, failed, stays)) =
+          let lost : Reaches limits (drop n outgoing) s = record {
+            rest = messages;
+            knows = knows;
+            reached = record {
+              are = reached.are;
+              way = λ sound. let wrong : None ≡ Some why = sym sound ∙ failed in absurd cc;
+              within = reached.within;
+              met = reached.met;
+            };
+          } in
+          subst (λ e. Reaches limits (drop n outgoing) e × (e.outgoing ≡ s.outgoing)) (sym stays) (lost, refl)
+      by_case (inr so) =
+          let a = fed (hears side) Is Knows framed hears_one refuses_one limits so.result t.unread t.calls (drop n outgoing) s.unread messages s.calls
+          (take n outgoing) outgoing reached.are knows reached.within (reached.way so.sound) (sym (take-append-drop n outgoing)) so.wanting so.fed in
+          let now : Reaches limits (drop n outgoing) (record s { unread = t.unread; calls = t.calls; fault = standing so.result }) = record {
+            rest = a.rest;
+            knows = a.knows;
+            reached = record { are = a.are; way = a.way; within = a.within; met = a.met };
+          } in
+          subst (λ e. Reaches limits (drop n outgoing) e × (e.outgoing ≡ s.outgoing)) (sym so.rest) (now, refl)
 
 asked_framed : (m : Msg) → IsAsked m → IsFramed m
 asked_framed m (id, is) = is.framed
@@ -195,112 +240,30 @@ module _ (interface : Interface) (are_sound : AreSound interface) where
     abbrev Tracked : WorldState → Type 0
     Tracked = Tracks interface client_limits server_limits
 
-    pub at_server : (w v : WorldState) (n : ℕ) (told : Told) → Tracked w → ArriveAtServer interface client_limits server_limits w n told v → Tracked v
-    at_server w v n told tracks (answered, is, tells, gone) = by_case (fed_or_failed (server_side interface) w.server v.server octets answered is)
-      where
-        octets : List ℕ
-        octets = take n w.client.outgoing
+    pub at_server : (w v : WorldState) (n : ℕ) (told : Returned) → Tracked w → ArriveAtServer interface client_limits server_limits w n told v → Tracked v
+    at_server w v n told tracks (answered, is, tells, gone) =
+        let a = arrive (server_side interface) IsAsked (ServerKnows w.client.calls tracks.answered) asked_framed
+        (server_hears w.client.calls tracks.answered) (server_refuses w.client.calls tracks.answered) server_limits w.server v.server n tracks.asked
+        w.client.outgoing answered is tracks.shows tracks.server in
+        let now : Tracked (record { client = record w.client { outgoing = drop n w.client.outgoing }; server = v.server }) = record {
+          asked = a.0.rest;
+          answered = tracks.answered;
+          shows = a.0.knows;
+          server = a.0.reached;
+          client = subst (λ out. IsReached client_limits IsAnswered tracks.answered out w.client.unread w.client.calls w.client.fault) (sym a.1) tracks.client;
+        } in
+        subst Tracked (λ i. record { client = sym gone i; server = v.server }) now
 
-        behind : List ℕ
-        behind = drop n w.client.outgoing
-
-        by_fed : w.server.fault ≡ None → (result : Result (Unit {0}) SessionFault) → (result ≢ Err NoMemory)
-            → Fed (ServerHearsIt interface) (with_octets w.server.unread octets) w.server.calls result v.server.unread v.server.calls
-            → v.server ≡ record w.server { unread = v.server.unread; calls = v.server.calls; fault = standing result } → Tracked v
-        by_fed sound result wanting is_fed rest =
-            let a = fed (ServerHearsIt interface) IsAsked (ServerKnows w.client.calls tracks.answered) asked_framed
-            (server_hears w.client.calls tracks.answered) (server_refuses w.client.calls tracks.answered) server_limits result v.server.unread
-            v.server.calls behind w.server.unread tracks.asked w.server.calls octets w.client.outgoing tracks.are_asked tracks.shows tracks.server_within
-            (tracks.to_server sound) (sym (take-append-drop n w.client.outgoing)) wanting is_fed in
-            let u : WorldState = record {
-              client = record w.client { outgoing = behind };
-              server = record w.server { unread = v.server.unread; calls = v.server.calls; fault = standing result };
-            } in
-            let now : Tracked u = record {
-              asked = a.rest;
-              answered = tracks.answered;
-              are_asked = a.are;
-              are_answered = tracks.are_answered;
-              shows = a.knows;
-              to_server = a.way;
-              to_client = tracks.to_client;
-              client_within = tracks.client_within;
-              server_within = a.within;
-              client_met = tracks.client_met;
-              server_met = a.met;
-            } in
-            subst Tracked (λ i. record { client = sym gone i; server = sym rest i }) now
-
-        by_case : ((why : SessionFault) × (w.server.fault ≡ Some why) × (v.server ≡ w.server)) ⊎ IsFedSo (server_side interface) w.server octets
-            v.server → Tracked v
-        by_case (inl (why, failed, stays)) =
-            let lost : Tracked (record w { client = record w.client { outgoing = behind } }) = record {
-              asked = tracks.asked;
-              answered = tracks.answered;
-              are_asked = tracks.are_asked;
-              are_answered = tracks.are_answered;
-              shows = tracks.shows;
-              to_server = λ sound. let wrong : None ≡ Some why = sym sound ∙ failed in absurd cc;
-              to_client = tracks.to_client;
-              client_within = tracks.client_within;
-              server_within = tracks.server_within;
-              client_met = tracks.client_met;
-              server_met = tracks.server_met;
-            } in
-            subst Tracked (λ i. record { client = sym gone i; server = sym stays i }) lost
-        by_case (inr so) = by_fed so.sound so.result so.wanting so.fed so.rest
-
-    pub at_client : (w v : WorldState) (n : ℕ) (told : Told) → Tracked w → ArriveAtClient interface client_limits server_limits w n told v → Tracked v
-    at_client w v n told tracks (answered, is, tells, gone) = by_case (fed_or_failed (client_side interface) w.client v.client octets answered is)
-      where
-        octets : List ℕ
-        octets = take n w.server.outgoing
-
-        behind : List ℕ
-        behind = drop n w.server.outgoing
-
-        by_fed : w.client.fault ≡ None → (result : Result (Unit {0}) SessionFault) → (result ≢ Err NoMemory)
-            → Fed (ClientHearsIt interface) (with_octets w.client.unread octets) w.client.calls result v.client.unread v.client.calls
-            → v.client ≡ record w.client { unread = v.client.unread; calls = v.client.calls; fault = standing result } → Tracked v
-        by_fed sound result wanting is_fed rest =
-            let a = fed (ClientHearsIt interface) IsAnswered (ClientKnows w.server.calls tracks.asked) answered_framed
-            (client_hears w.server.calls tracks.asked) (client_refuses w.server.calls tracks.asked) client_limits result v.client.unread
-            v.client.calls behind w.client.unread tracks.answered w.client.calls octets w.server.outgoing tracks.are_answered tracks.shows
-            tracks.client_within (tracks.to_client sound) (sym (take-append-drop n w.server.outgoing)) wanting is_fed in
-            let u : WorldState = record {
-              client = record w.client { unread = v.client.unread; calls = v.client.calls; fault = standing result };
-              server = record w.server { outgoing = behind };
-            } in
-            let now : Tracked u = record {
-              asked = tracks.asked;
-              answered = a.rest;
-              are_asked = tracks.are_asked;
-              are_answered = a.are;
-              shows = a.knows;
-              to_server = tracks.to_server;
-              to_client = a.way;
-              client_within = a.within;
-              server_within = tracks.server_within;
-              client_met = a.met;
-              server_met = tracks.server_met;
-            } in
-            subst Tracked (λ i. record { client = sym rest i; server = sym gone i }) now
-
-        by_case : ((why : SessionFault) × (w.client.fault ≡ Some why) × (v.client ≡ w.client)) ⊎ IsFedSo (client_side interface) w.client octets
-            v.client → Tracked v
-        by_case (inl (why, failed, stays)) =
-            let lost : Tracked (record w { server = record w.server { outgoing = behind } }) = record {
-              asked = tracks.asked;
-              answered = tracks.answered;
-              are_asked = tracks.are_asked;
-              are_answered = tracks.are_answered;
-              shows = tracks.shows;
-              to_server = tracks.to_server;
-              to_client = λ sound. let wrong : None ≡ Some why = sym sound ∙ failed in absurd cc;
-              client_within = tracks.client_within;
-              server_within = tracks.server_within;
-              client_met = tracks.client_met;
-              server_met = tracks.server_met;
-            } in
-            subst Tracked (λ i. record { client = sym stays i; server = sym gone i }) lost
-        by_case (inr so) = by_fed so.sound so.result so.wanting so.fed so.rest
+    pub at_client : (w v : WorldState) (n : ℕ) (told : Returned) → Tracked w → ArriveAtClient interface client_limits server_limits w n told v → Tracked v
+    at_client w v n told tracks (answered, is, tells, gone) =
+        let a = arrive (client_side interface) IsAnswered (ClientKnows w.server.calls tracks.asked) answered_framed
+        (client_hears w.server.calls tracks.asked) (client_refuses w.server.calls tracks.asked) client_limits w.client v.client n tracks.answered
+        w.server.outgoing answered is tracks.shows tracks.client in
+        let now : Tracked (record { client = v.client; server = record w.server { outgoing = drop n w.server.outgoing } }) = record {
+          asked = tracks.asked;
+          answered = a.0.rest;
+          shows = a.0.knows;
+          server = subst (λ out. IsReached server_limits IsAsked tracks.asked out w.server.unread w.server.calls w.server.fault) (sym a.1) tracks.server;
+          client = a.0.reached;
+        } in
+        subst Tracked (λ i. record { client = v.client; server = sym gone i }) now

@@ -1,15 +1,14 @@
 -- What a client's own program does in a world is an act of the lane of its id.
-use Rattle.std.proofs.Common.{◌≡◌, ℕ, ◌+◌, ◌-◌, ◌==◌, ◌^◌, ◌<◌, Bool, true, false, if◌then◌else◌, List, [], ◌∷◌, ◌++◌, map, Option, Some, None, Result, Ok, Err, IsOk, refl, sym, ap, subst, ◌∙◌, ◌⊎◌, inl, inr}
+use Rattle.std.proofs.Common.{◌≡◌, ℕ, ◌+◌, ◌-◌, ◌==◌, ◌^◌, ◌<◌, Bool, true, false, if◌then◌else◌, List, [], ◌∷◌, ◌++◌, map, Option, Some, None, Result, Ok, Err, IsOk, refl, sym, ap, subst, ◌∙◌}
 use Rattle.std.specs.FinMap as finite
-use Rattle.std.specs.List.{AllByRecursion, flat_map}
+use Rattle.std.specs.List.{AllByRecursion}
 use Rattle.giop_cdr.specs.declared.order.Order.{Order}
 use Rattle.giop_types.specs.declared.json.interface.Interface.{Interface}
 use Rattle.giop_msg.specs.Locate.{AnyLocateRequest}
-use Rattle.giop_msg.specs.Msg.{message_octets}
 use Rattle.giop_msg.specs.declared.messages.request.Request.{Request}
 use Rattle.giop_msg.specs.declared.msg.Msg.{Msg}
 use Rattle.giop_msg.specs.declared.version.Version.{Version}
-use Rattle.giop_calls.specs.ClientTable.{client_step, is_closed, is_free, is_gathering, sending, sent}
+use Rattle.giop_calls.specs.ClientTable.{client_step, is_free, is_gathering, sending, sent}
 use Rattle.giop_calls.specs.ClientTable as client_table
 use Rattle.giop_calls.specs.Lane.{Cut, Lane, Stops, count, fragments, is_last, later, next, pieces_of, tried}
 use Rattle.giop_calls.specs.Lane as lanes
@@ -24,31 +23,24 @@ use Rattle.giop_calls.specs.declared.client.late.Late.TheVariants as late
 use Rattle.giop_calls.specs.declared.client.rule.ClientRule.{ClientRule}
 use Rattle.giop_calls.specs.declared.fault.CallFault.{CallFault}
 use Rattle.giop_calls.specs.declared.fault.CallFault.TheVariants.{IdInUse}
-use Rattle.giop_session.specs.declared.laws.inputs.Answered.{Answered}
-use Rattle.giop_session.specs.declared.laws.inputs.Answered.TheVariants as answer
 use Rattle.giop_session.specs.declared.laws.inputs.CheckedForm.{CheckedForm}
 use Rattle.giop_session.specs.declared.laws.inputs.ClientInput.TheVariants as given
 use Rattle.giop_session.specs.declared.limits.Limits.{Limits}
 use Rattle.giop_session.specs.declared.calls.plan.Plan.TheVariants.{Next}
 use Rattle.giop_session.specs.declared.calls.plan.Planned.{Planned}
-use Rattle.giop_session.specs.declared.session_fault.SessionFault.{SessionFault}
 use Rattle.giop_session.specs.Acts.Acting.{IsAccepted}
-use Rattle.giop_session.specs.Calls.CallTable.{Held, at, rules_of}
+use Rattle.giop_session.specs.Calls.CallTable.{Held, at}
 use Rattle.giop_session.specs.Acts.ClientCalls.{IsCall, IsCancel, IsLocate, call_fault, cancel_fault, locate_fault, open_version}
-use Rattle.giop_session.specs.Hearing.ClientHears.{client_side}
 use Rattle.giop_session.specs.Runs.ClientRuns.{client_entry}
-use Rattle.giop_session.specs.Runs.Driven.{IsDoneBy, IsGiven, IsGivenBy, PutsOut}
-use Rattle.giop_session.specs.Hearing.Heard.{in_call}
 use Rattle.giop_session.specs.Worlds.LaneAtEnds.{seen}
 use Rattle.giop_session.specs.Worlds.OnTheWay.{id_of}
 use Rattle.giop_session.specs.Worlds.OwnLane.{PlansCall, sends_cut}
-use Rattle.giop_session.specs.Acts.Putting.{Puts}
 use Rattle.giop_session.specs.Calls.Sending.{entry_of, message_of, slot_of, unsent_after, unsent_of}
 use Rattle.giop_session.specs.Acts.Sent.{cancel_request, sends_one}
 use Rattle.giop_session.specs.Worlds.Tracks.{ClientShows, IsToServer}
 use Rattle.giop_session.specs.Calls.Unsent.{first_of}
-use Rattle.giop_session.specs.Worlds.World.{AtClient, Told, WorldState}
-use Rattle.giop_session.proofs.OnWorlds.Acted.{Acted, ClientActs, client_goes_on, comes_to, listed, octets_listed}
+use Rattle.giop_session.specs.Worlds.World.{AtClient, Returned, WorldState}
+use Rattle.giop_session.proofs.OnWorlds.Acted.{ClientActs, client_puts_on, listed}
 use Rattle.giop_session.proofs.OnLanes.CodingLemmas.{call_read, own_suits}
 use Rattle.giop_session.proofs.OnLanes.LaneAtEndsLemmas.{call_seen}
 use Rattle.giop_session.proofs.OnWorlds.SentMessages.{call_for, cancel_for}
@@ -257,87 +249,43 @@ module _ (interface : Interface) (client_limits server_limits : Limits) where
   abbrev Tracked : WorldState → Type 0
   Tracked = Tracks interface client_limits server_limits
 
-  -- an act of the client's own that the lane of its id takes leaves a world tracked
-  puts_on : (w v : WorldState) (id : ℕ) (refusal : Option CallFault) (Plans : Planned ClientEvent → Type 0) (answered : Answered ClientEntry)
-      (tracks : Tracked w)
-      → IsGiven (client_side interface)
-      (PutsOut id refusal Plans) w.client answered v.client
-      → v.server ≡ w.server
-      → ((acted : Acted client_step is_closed is_gathering in_call id refusal Plans w.client.calls w.client.outgoing v.client.calls v.client.outgoing)
-      → ClientActs interface id (tracks.shows id).lane v.client.calls
-      (listed (message_of acted.planned.plan (unsent_of (finite.get w.client.calls.table id)))))
-      → Tracked v
-  puts_on w v id refusal Plans answered tracks (memory, is_given) same acts = by_fault w.client.fault refl is_given
-    where
-      by_what : w.client.fault ≡ None → v.client ≡ record w.client { calls = v.client.calls; outgoing = v.client.outgoing }
-          → ((v.client.calls ≡ w.client.calls) × (v.client.outgoing ≡ w.client.outgoing))
-          ⊎ Acted client_step is_closed is_gathering in_call id refusal Plans w.client.calls w.client.outgoing v.client.calls v.client.outgoing
-          → Tracked v
-      by_what sound rest (inl (calls, outgoing)) =
-          let stays : v.client ≡ w.client = rest ∙ (λ i. record w.client { calls = calls i; outgoing = outgoing i }) in
-          subst Tracked (λ i. record { client = sym stays i; server = sym same i }) tracks
-      by_what sound rest (inr acted) =
-          let message = message_of acted.planned.plan (unsent_of (finite.get w.client.calls.table id)) in
-          let goes : record w.client { calls = v.client.calls; outgoing = w.client.outgoing ++ flat_map message_octets (listed message) } ≡ v.client =
-          ap (λ octets. record w.client { calls = v.client.calls; outgoing = octets })
-          (ap (λ l. w.client.outgoing ++ l) (sym (octets_listed message)) ∙ sym acted.is.puts) ∙ sym rest in
-          subst Tracked (λ i. record { client = goes i; server = sym same i })
-          (client_goes_on interface client_limits server_limits w id v.client.calls (listed message) sound tracks (acts acted) acted.beside)
-
-      by_result : (result : Result (Unit {0}) SessionFault) → w.client.fault ≡ None
-          → Puts (rules_of client_step is_closed is_gathering) in_call id refusal Plans w.client.calls w.client.outgoing result
-          v.client.calls v.client.outgoing
-          → v.client ≡ record w.client { calls = v.client.calls; outgoing = v.client.outgoing } → Tracked v
-      by_result result sound puts rest = by_what sound rest
-          (comes_to client_step is_closed is_gathering in_call id refusal Plans w.client.calls v.client.calls w.client.outgoing v.client.outgoing
-          result puts)
-
-      by_answer : (one : Answered ClientEntry) → w.client.fault ≡ None
-          → IsDoneBy (client_side interface)
-          (PutsOut id refusal Plans) w.client one v.client → Tracked v
-      by_answer answer.Done sound (puts, rest) = by_result (Ok tt) sound puts rest
-      by_answer (answer.Refused why) sound (puts, rest) = by_result (Err why) sound puts rest
-      by_answer (answer.Taken entry) sound done = absurd done
-
-      by_fault : (fault : Option SessionFault) → w.client.fault ≡ fault
-          → IsGivenBy (client_side interface)
-          fault (PutsOut id refusal Plans) w.client answered v.client → Tracked v
-      by_fault (Some why) failed (refused, stays) = subst Tracked (λ i. record { client = sym stays i; server = sym same i }) tracks
-      by_fault None sound done = by_answer answered sound done
-
-  pub client_calls : (w v : WorldState) (q : Request) (form : CheckedForm) (told : Told) → Tracked w
+  pub client_calls : (w v : WorldState) (q : Request) (form : CheckedForm) (told : Returned) → Tracked w
       → AtClient interface client_limits server_limits w (given.Call q form) told v → Tracked v
   client_calls w v q form told tracks (answered, is, tells, same) =
       let id = q.head.id in
       let entry = client_entry w.client.calls id in
-      puts_on w v id (call_fault interface client_limits entry q form.form) (IsCall interface q form.form) answered tracks is same
+      client_puts_on interface client_limits server_limits w v
+      id (call_fault interface client_limits entry q form.form) (IsCall interface q form.form) answered tracks is same
       (λ acted. calls interface id w.client.calls v.client.calls w.client.outgoing v.client.outgoing (tracks.shows id).lane (tracks.shows id).client
       (asked.Request q) acted.planned refl
       (record { limits = client_limits; form = form.form; is_form = form.sound; unrefused = acted.unrefused; plans = acted.plans })
       acted.is)
 
-  pub client_locates : (w v : WorldState) (q : AnyLocateRequest) (form : CheckedForm) (told : Told)
+  pub client_locates : (w v : WorldState) (q : AnyLocateRequest) (form : CheckedForm) (told : Returned)
       → Tracked w → AtClient interface client_limits server_limits w (given.Locate q form) told v → Tracked v
   client_locates w v q form told tracks (answered, is, tells, same) =
       let id = q.id in
       let entry = client_entry w.client.calls id in
-      puts_on w v id (locate_fault client_limits entry q form.form) (IsLocate q form.form) answered tracks is same
+      client_puts_on interface client_limits server_limits w v
+      id (locate_fault client_limits entry q form.form) (IsLocate q form.form) answered tracks is same
       (λ acted. calls interface id w.client.calls v.client.calls w.client.outgoing v.client.outgoing (tracks.shows id).lane (tracks.shows id).client
       (asked.Locate q) acted.planned refl
       (record { limits = client_limits; form = form.form; is_form = form.sound; unrefused = acted.unrefused; plans = acted.plans })
       acted.is)
 
-  pub client_cancels : (w v : WorldState) (id : ℕ) (order : Order) (told : Told) → Tracked w
+  pub client_cancels : (w v : WorldState) (id : ℕ) (order : Order) (told : Returned) → Tracked w
       → AtClient interface client_limits server_limits w (given.Cancel id order) told v → Tracked v
   client_cancels w v id order told tracks (answered, is, tells, same) =
       let version = open_version (client_entry w.client.calls id) in
-      puts_on w v id (cancel_fault version) (IsCancel id order version) answered tracks is same
+      client_puts_on interface client_limits server_limits w v
+      id (cancel_fault version) (IsCancel id order version) answered tracks is same
       (λ acted. cancels interface id w.client.calls v.client.calls w.client.outgoing v.client.outgoing (tracks.shows id).lane (tracks.shows id).client
       order version acted.planned acted.plans acted.is)
 
-  pub client_sends : (w v : WorldState) (id : ℕ) (told : Told) → Tracked w
+  pub client_sends : (w v : WorldState) (id : ℕ) (told : Returned) → Tracked w
       → AtClient interface client_limits server_limits w (given.Send id) told v → Tracked v
   client_sends w v id told tracks (answered, is, tells, same) =
-      puts_on w v id None (λ planned. planned ≡ record { event = at_client.Send; plan = Next }) answered tracks is same
+      client_puts_on interface client_limits server_limits w v
+      id None (λ planned. planned ≡ record { event = at_client.Send; plan = Next }) answered tracks is same
       (λ acted. sends interface id w.client.calls v.client.calls w.client.outgoing v.client.outgoing (tracks.shows id).lane (tracks.shows id).client
       acted.planned acted.plans acted.is)

@@ -1,18 +1,17 @@
 -- What a server's own program does in a world is an act of the lane of its id.
-use Rattle.std.proofs.Common.{◌≡◌, ℕ, ◌-◌, ◌==◌, ◌^◌, ◌<◌, Bool, true, false, if◌then◌else◌, List, [], ◌∷◌, ◌++◌, map, Option, Some, None, Result, Ok, Err, IsOk, refl, sym, ap, subst, ◌∙◌, ◌⊎◌, inl, inr}
+use Rattle.std.proofs.Common.{◌≡◌, ℕ, ◌-◌, ◌==◌, ◌^◌, ◌<◌, Bool, true, false, if◌then◌else◌, List, [], ◌∷◌, ◌++◌, map, Option, Some, None, IsOk, refl, sym, ap, subst, ◌∙◌}
 use Rattle.std.specs.FinMap as finite
-use Rattle.std.specs.List.{AllByRecursion, flat_map}
+use Rattle.std.specs.List.{AllByRecursion}
 use Rattle.giop_cdr.specs.declared.order.Order.{Order}
 use Rattle.giop_types.specs.declared.json.interface.Interface.{Interface}
 use Rattle.giop_msg.specs.Locate.{AnyLocateRequest}
-use Rattle.giop_msg.specs.Msg.{message_octets}
 use Rattle.giop_msg.specs.declared.messages.reply.Reply.{Reply}
 use Rattle.giop_msg.specs.declared.messages.request.Request.{Request}
 use Rattle.giop_msg.specs.declared.msg.Msg.{Msg}
 use Rattle.giop_calls.specs.Lane.{Cut, Lane, count, fragments, is_last, later, next, pieces_of}
 use Rattle.giop_calls.specs.Lane as lanes
 use Rattle.giop_calls.specs.Messages.{is_same_version}
-use Rattle.giop_calls.specs.ServerTable.{becomes_if, is_closed, is_gathering, server_step}
+use Rattle.giop_calls.specs.ServerTable.{becomes_if, is_gathering, server_step}
 use Rattle.giop_calls.specs.ServerTable as server_table
 use Rattle.giop_calls.specs.declared.fault.CallFault.{CallFault}
 use Rattle.giop_calls.specs.declared.fault.CallFault.TheVariants.{NothingToSend, Unfit}
@@ -26,29 +25,24 @@ use Rattle.giop_calls.specs.declared.server.rule.ServerRule.{ServerRule}
 use Rattle.giop_calls.specs.declared.server.undecoded.UndecodedCall.{UndecodedCall}
 use Rattle.giop_session.specs.declared.acts.form.Form.{Form}
 use Rattle.giop_session.specs.declared.laws.inputs.Answered.{Answered}
-use Rattle.giop_session.specs.declared.laws.inputs.Answered.TheVariants as answer
 use Rattle.giop_session.specs.declared.laws.inputs.CheckedForm.{CheckedForm}
 use Rattle.giop_session.specs.declared.laws.inputs.ServerInput.TheVariants as given
 use Rattle.giop_session.specs.declared.limits.Limits.{Limits}
 use Rattle.giop_session.specs.declared.calls.plan.Plan.TheVariants.{Next}
 use Rattle.giop_session.specs.declared.calls.plan.Planned.{Planned}
-use Rattle.giop_session.specs.declared.session_fault.SessionFault.{SessionFault}
 use Rattle.giop_session.specs.Acts.Acting.{IsAccepted}
-use Rattle.giop_session.specs.Calls.CallTable.{Held, at, rules_of}
+use Rattle.giop_session.specs.Calls.CallTable.{Held, at}
 use Rattle.giop_session.specs.Worlds.Coding.{coding}
-use Rattle.giop_session.specs.Runs.Driven.{IsDoneBy, IsGiven, IsGivenBy, PutsOut}
-use Rattle.giop_session.specs.Hearing.Heard.{in_call, kept}
+use Rattle.giop_session.specs.Hearing.Heard.{kept}
 use Rattle.giop_session.specs.Worlds.LaneAtEnds.{seen}
 use Rattle.giop_session.specs.Worlds.OwnLane.{PlansLocated, PlansReply, sends_cut}
-use Rattle.giop_session.specs.Acts.Putting.{Puts}
 use Rattle.giop_session.specs.Calls.Sending.{entry_of, message_of, slot_of, unsent_after, unsent_of}
 use Rattle.giop_session.specs.Acts.Sent.{sends_one}
 use Rattle.giop_session.specs.Acts.ServerAnswers.{IsAnswer, IsLocateAnswer, answer_fault, locate_of, located, question_of}
-use Rattle.giop_session.specs.Hearing.ServerHears.{server_side}
 use Rattle.giop_session.specs.Runs.ServerRuns.{server_entry}
 use Rattle.giop_session.specs.Worlds.Tracks.{IsToClient, ServerShows}
-use Rattle.giop_session.specs.Worlds.World.{AtServer, Told, WorldState}
-use Rattle.giop_session.proofs.OnWorlds.Acted.{Acted, ServerActs, comes_to, listed, octets_listed, server_goes_on}
+use Rattle.giop_session.specs.Worlds.World.{AtServer, Returned, WorldState}
+use Rattle.giop_session.proofs.OnWorlds.Acted.{ServerActs, listed, server_puts_on}
 use Rattle.giop_session.proofs.OnWorlds.ClientActing.{first_is, first_seen, others_are, others_seen, tried_so}
 use Rattle.giop_session.proofs.OnLanes.CodingLemmas.{own_suits, reply_read}
 use Rattle.giop_session.proofs.OnLanes.LaneAtEndsLemmas.{located_seen, reply_seen}
@@ -304,66 +298,19 @@ module _ (interface : Interface) (client_limits server_limits : Limits) (are_sou
   abbrev Tracked : WorldState → Type 0
   Tracked = Tracks interface client_limits server_limits
 
-  -- an act of the server's own that the lane of its id takes leaves a world tracked
-  puts_on : (w v : WorldState) (id : ℕ) (refusal : Option CallFault) (Plans : Planned ServerEvent → Type 0) (answered : Answered ServerEntry)
-      (tracks : Tracked w)
-      → IsGiven (server_side interface)
-      (PutsOut id refusal Plans) w.server answered v.server
-      → v.client ≡ w.client
-      → ((acted : Acted server_step is_closed is_gathering in_call id refusal Plans w.server.calls w.server.outgoing v.server.calls v.server.outgoing)
-      → ServerActs interface id (tracks.shows id).lane v.server.calls
-      (listed (message_of acted.planned.plan (unsent_of (finite.get w.server.calls.table id)))))
-      → Tracked v
-  puts_on w v id refusal Plans answered tracks (memory, is_given) same acts = by_fault w.server.fault refl is_given
-    where
-      by_what : w.server.fault ≡ None → v.server ≡ record w.server { calls = v.server.calls; outgoing = v.server.outgoing }
-          → ((v.server.calls ≡ w.server.calls) × (v.server.outgoing ≡ w.server.outgoing))
-          ⊎ Acted server_step is_closed is_gathering in_call id refusal Plans w.server.calls w.server.outgoing v.server.calls v.server.outgoing
-          → Tracked v
-      by_what sound rest (inl (calls, outgoing)) =
-          let stays : v.server ≡ w.server = rest ∙ (λ i. record w.server { calls = calls i; outgoing = outgoing i }) in
-          subst Tracked (λ i. record { client = sym same i; server = sym stays i }) tracks
-      by_what sound rest (inr acted) =
-          let message = message_of acted.planned.plan (unsent_of (finite.get w.server.calls.table id)) in
-          let goes : record w.server { calls = v.server.calls; outgoing = w.server.outgoing ++ flat_map message_octets (listed message) } ≡ v.server =
-          ap (λ octets. record w.server { calls = v.server.calls; outgoing = octets })
-          (ap (λ l. w.server.outgoing ++ l) (sym (octets_listed message)) ∙ sym acted.is.puts) ∙ sym rest in
-          subst Tracked (λ i. record { client = sym same i; server = goes i })
-          (server_goes_on interface client_limits server_limits w id v.server.calls (listed message) sound tracks (acts acted) acted.beside)
-
-      by_result : (result : Result (Unit {0}) SessionFault) → w.server.fault ≡ None
-          → Puts (rules_of server_step is_closed is_gathering) in_call id refusal Plans w.server.calls w.server.outgoing result
-          v.server.calls v.server.outgoing
-          → v.server ≡ record w.server { calls = v.server.calls; outgoing = v.server.outgoing } → Tracked v
-      by_result result sound puts rest = by_what sound rest
-          (comes_to server_step is_closed is_gathering in_call id refusal Plans w.server.calls v.server.calls w.server.outgoing v.server.outgoing
-          result puts)
-
-      by_answer : (one : Answered ServerEntry) → w.server.fault ≡ None
-          → IsDoneBy (server_side interface)
-          (PutsOut id refusal Plans) w.server one v.server → Tracked v
-      by_answer answer.Done sound (puts, rest) = by_result (Ok tt) sound puts rest
-      by_answer (answer.Refused why) sound (puts, rest) = by_result (Err why) sound puts rest
-      by_answer (answer.Taken entry) sound done = absurd done
-
-      by_fault : (fault : Option SessionFault) → w.server.fault ≡ fault
-          → IsGivenBy (server_side interface)
-          fault (PutsOut id refusal Plans) w.server answered v.server → Tracked v
-      by_fault (Some why) failed (refused, stays) = subst Tracked (λ i. record { client = sym same i; server = sym stays i }) tracks
-      by_fault None sound done = by_answer answered sound done
-
   -- no call that a world has at its server couldn't be decoded
   pub all_decoded : (w : WorldState) (tracks : Tracked w) (id : ℕ) → IsDecoded (server_entry w.server.calls id)
   all_decoded w tracks id call is =
       let s = tracks.shows id in
       (read_of (coding interface) s.lane (are_sound s.acts s.lane s.runs)).1 call (sym s.server.entry ∙ is)
 
-  pub server_answers : (w v : WorldState) (r : Reply) (form : CheckedForm) (told : Told) → Tracked w
+  pub server_answers : (w v : WorldState) (r : Reply) (form : CheckedForm) (told : Returned) → Tracked w
       → AtServer interface client_limits server_limits w (given.Answer r form) told v → Tracked v
   server_answers w v r form told tracks (answered, is, tells, same) =
       let id = r.id in
       let entry = server_entry w.server.calls id in
-      puts_on w v id (answer_fault interface server_limits (question_of entry) r form.form) (IsAnswer interface (question_of entry) r form.form)
+      server_puts_on interface client_limits server_limits w v
+      id (answer_fault interface server_limits (question_of entry) r form.form) (IsAnswer interface (question_of entry) r form.form)
       answered tracks is same (λ acted.
       let found = answers_it interface server_limits entry r form.form acted.planned (all_decoded w tracks id) acted.unrefused acted.plans
       acted.is.outcome in
@@ -377,18 +324,20 @@ module _ (interface : Interface) (client_limits server_limits : Limits) (are_sou
         plans = found.plans;
       }) acted.is)
 
-  pub server_locates : (w v : WorldState) (id : ℕ) (here : Bool) (order : Order) (told : Told) → Tracked w
+  pub server_locates : (w v : WorldState) (id : ℕ) (here : Bool) (order : Order) (told : Returned) → Tracked w
       → AtServer interface client_limits server_limits w (given.AnswerLocate id here order) told v → Tracked v
   server_locates w v id here order told tracks (answered, is, tells, same) =
       let entry = server_entry w.server.calls id in
-      puts_on w v id None (IsLocateAnswer id here order (locate_of here entry)) answered tracks is same (λ acted.
+      server_puts_on interface client_limits server_limits w v
+      id None (IsLocateAnswer id here order (locate_of here entry)) answered tracks is same (λ acted.
       let found = locates_it id here order entry acted.planned (all_decoded w tracks id) acted.plans acted.is.outcome in
       locates interface id w.server.calls v.server.calls w.server.outgoing v.server.outgoing (tracks.shows id).lane (tracks.shows id).server
       found.q here order acted.planned (sym (tracks.shows id).server.entry ∙ found.stands) found.plans acted.is)
 
-  pub server_sends : (w v : WorldState) (id : ℕ) (told : Told) → Tracked w
+  pub server_sends : (w v : WorldState) (id : ℕ) (told : Returned) → Tracked w
       → AtServer interface client_limits server_limits w (given.Send id) told v → Tracked v
   server_sends w v id told tracks (answered, is, tells, same) =
-      puts_on w v id None (λ planned. planned ≡ record { event = at_server.Send; plan = Next }) answered tracks is same
+      server_puts_on interface client_limits server_limits w v
+      id None (λ planned. planned ≡ record { event = at_server.Send; plan = Next }) answered tracks is same
       (λ acted. sends interface id w.server.calls v.server.calls w.server.outgoing v.server.outgoing (tracks.shows id).lane (tracks.shows id).server
       acted.planned acted.plans acted.is)

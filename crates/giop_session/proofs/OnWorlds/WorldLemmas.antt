@@ -25,14 +25,15 @@ use Rattle.giop_session.specs.declared.session_fault.SessionFault.TheVariants.{C
 use Rattle.giop_session.specs.declared.calls.table_fault.TableFault.{TableFault}
 use Rattle.giop_session.specs.Calls.CallTable.{Act, Call, Held, Reply}
 use Rattle.giop_session.specs.Hearing.ClientHears.{client_side}
-use Rattle.giop_session.specs.Runs.ClientRuns.{ClientIsGiven, ClientRunsFrom, client_deed}
+use Rattle.giop_session.specs.Runs.ClientRuns.{client_deed, client_run}
+use Rattle.giop_session.specs.Runs.ServerRuns.{server_deed, server_run}
+use Rattle.giop_session.specs.Runs.SideRuns.{SideIsGiven, SideRunsFrom}
 use Rattle.giop_session.specs.Runs.Driven.{Closes, Deed, EndState, Feeds, InTurn, IsDoneBy, IsGiven, IsGivenBy, PutsOut, TakesOut}
 use Rattle.giop_session.specs.Hearing.Heard.{SideOf}
 use Rattle.giop_session.specs.Acts.Putting.{Puts, put_out}
 use Rattle.giop_session.specs.Acts.Sent.{close_connection}
 use Rattle.giop_session.specs.Hearing.ServerHears.{server_side}
-use Rattle.giop_session.specs.Runs.ServerRuns.{ServerIsGiven, ServerRunsFrom, server_deed}
-use Rattle.giop_session.specs.Worlds.World.{AreJoined, ArriveAtClient, ArriveAtServer, AtClient, AtServer, Happens, Told, WorldRuns, WorldState}
+use Rattle.giop_session.specs.Worlds.World.{AreJoined, ArriveAtClient, ArriveAtServer, AtClient, AtServer, Happens, Returned, WorldRuns, WorldState}
 use Rattle.giop_session.specs.Worlds.World.{fed_to_client, fed_to_server, new_world}
 use Rattle.giop_session.proofs.OnActs.SidesPutOut.{client_puts_out, server_puts_out}
 
@@ -89,14 +90,14 @@ module _ {R E V A F : Type 0} (side : SideOf R E V A F) where
   given_behind deed d s t answered (memory, given) = (memory, by_fault s.fault deed d s t answered given)
 
 client_behind : (interface : Interface) (limits : Limits) (d : List ℕ) (s t : EndState (Held ClientRule ClientEntry)) (given : ClientInput)
-    (answered : Answered ClientEntry) → ClientIsGiven interface limits s given answered t
-    → ClientIsGiven interface limits (behind d s) given answered (behind d t)
+    (answered : Answered ClientEntry) → SideIsGiven (client_run interface) limits s given answered t
+    → SideIsGiven (client_run interface) limits (behind d s) given answered (behind d t)
 client_behind interface limits d s t given answered is =
     given_behind (client_side interface) (client_deed interface limits s.calls given) d s t answered is
 
 server_behind : (interface : Interface) (limits : Limits) (d : List ℕ) (s t : EndState (Held ServerRule ServerEntry)) (given : ServerInput)
-    (answered : Answered ServerEntry) → ServerIsGiven interface limits s given answered t
-    → ServerIsGiven interface limits (behind d s) given answered (behind d t)
+    (answered : Answered ServerEntry) → SideIsGiven (server_run interface) limits s given answered t
+    → SideIsGiven (server_run interface) limits (behind d s) given answered (behind d t)
 server_behind interface limits d s t given answered is =
     given_behind (server_side interface) (server_deed interface limits s.calls given) d s t answered is
 
@@ -107,12 +108,12 @@ module _ (interface : Interface) (client_limits server_limits : Limits) where
     client_answers : List (Answered ClientEntry)
     server_inputs : List ServerInput
     server_answers : List (Answered ServerEntry)
-    client : (d : List ℕ) → ClientRunsFrom interface client_limits (behind d w.client) client_inputs client_answers
+    client : (d : List ℕ) → SideRunsFrom (client_run interface) client_limits (behind d w.client) client_inputs client_answers
         (behind (d ++ fed_to_server server_inputs) v.client)
-    server : (d : List ℕ) → ServerRunsFrom interface server_limits (behind d w.server) server_inputs server_answers
+    server : (d : List ℕ) → SideRunsFrom (server_run interface) server_limits (behind d w.server) server_inputs server_answers
         (behind (d ++ fed_to_client client_inputs) v.server)
 
-  at_client_on : (w mid v : WorldState) (given : ClientInput) (told : Told)
+  at_client_on : (w mid v : WorldState) (given : ClientInput) (told : Returned)
       → ((inputs : List ClientInput) → fed_to_client (given ∷ inputs) ≡ fed_to_client inputs)
       → AtClient interface client_limits server_limits w given told mid → RunsOn mid v → RunsOn w v
   at_client_on w mid v given told none (answered, is, tells, same) rest = record {
@@ -121,13 +122,13 @@ module _ (interface : Interface) (client_limits server_limits : Limits) where
     server_inputs = rest.server_inputs;
     server_answers = rest.server_answers;
     client = λ d. (behind d mid.client, client_behind interface client_limits d w.client mid.client given answered is, rest.client d);
-    server = λ d. subst (λ fed. ServerRunsFrom interface server_limits (behind d w.server) rest.server_inputs rest.server_answers
+    server = λ d. subst (λ fed. SideRunsFrom (server_run interface) server_limits (behind d w.server) rest.server_inputs rest.server_answers
         (behind (d ++ fed) v.server)) (sym (none rest.client_inputs))
-        (subst (λ from. ServerRunsFrom interface server_limits (behind d from) rest.server_inputs rest.server_answers
+        (subst (λ from. SideRunsFrom (server_run interface) server_limits (behind d from) rest.server_inputs rest.server_answers
         (behind (d ++ fed_to_client rest.client_inputs) v.server)) same (rest.server d));
   }
 
-  at_server_on : (w mid v : WorldState) (given : ServerInput) (told : Told)
+  at_server_on : (w mid v : WorldState) (given : ServerInput) (told : Returned)
       → ((inputs : List ServerInput) → fed_to_server (given ∷ inputs) ≡ fed_to_server inputs)
       → AtServer interface client_limits server_limits w given told mid → RunsOn mid v → RunsOn w v
   at_server_on w mid v given told none (answered, is, tells, same) rest = record {
@@ -135,9 +136,9 @@ module _ (interface : Interface) (client_limits server_limits : Limits) where
     client_answers = rest.client_answers;
     server_inputs = given ∷ rest.server_inputs;
     server_answers = answered ∷ rest.server_answers;
-    client = λ d. subst (λ fed. ClientRunsFrom interface client_limits (behind d w.client) rest.client_inputs rest.client_answers
+    client = λ d. subst (λ fed. SideRunsFrom (client_run interface) client_limits (behind d w.client) rest.client_inputs rest.client_answers
         (behind (d ++ fed) v.client)) (sym (none rest.server_inputs))
-        (subst (λ from. ClientRunsFrom interface client_limits (behind d from) rest.client_inputs rest.client_answers
+        (subst (λ from. SideRunsFrom (client_run interface) client_limits (behind d from) rest.client_inputs rest.client_answers
         (behind (d ++ fed_to_server rest.server_inputs) v.client)) same (rest.client d));
     server = λ d. (behind d mid.server, server_behind interface server_limits d w.server mid.server given answered is, rest.server d);
   }
@@ -149,16 +150,16 @@ module _ (interface : Interface) (client_limits server_limits : Limits) where
       ap (behind (d ++ take n s.outgoing)) is
       ∙ ap (λ l. record s { outgoing = l }) (append_assoc d (take n s.outgoing) (drop n s.outgoing) ∙ ap (λ l. d ++ l) (take-append-drop n s.outgoing))
 
-  to_server_on : (w mid v : WorldState) (n : ℕ) (told : Told)
+  to_server_on : (w mid v : WorldState) (n : ℕ) (told : Returned)
       → ArriveAtServer interface client_limits server_limits w n told mid → RunsOn mid v → RunsOn w v
   to_server_on w mid v n told (answered, is, tells, left) rest = record {
     client_inputs = rest.client_inputs;
     client_answers = rest.client_answers;
     server_inputs = server.Feed (take n w.client.outgoing) ∷ rest.server_inputs;
     server_answers = answered ∷ rest.server_answers;
-    client = λ d. subst (λ fed. ClientRunsFrom interface client_limits (behind d w.client) rest.client_inputs rest.client_answers
+    client = λ d. subst (λ fed. SideRunsFrom (client_run interface) client_limits (behind d w.client) rest.client_inputs rest.client_answers
         (behind fed v.client)) (append_assoc d (take n w.client.outgoing) (fed_to_server rest.server_inputs))
-        (subst (λ from. ClientRunsFrom interface client_limits from rest.client_inputs rest.client_answers
+        (subst (λ from. SideRunsFrom (client_run interface) client_limits from rest.client_inputs rest.client_answers
         (behind ((d ++ take n w.client.outgoing) ++ fed_to_server rest.server_inputs) v.client))
         (left_before d n w.client mid.client left) (rest.client (d ++ take n w.client.outgoing)));
     server = λ d. (
@@ -168,7 +169,7 @@ module _ (interface : Interface) (client_limits server_limits : Limits) where
     );
   }
 
-  to_client_on : (w mid v : WorldState) (n : ℕ) (told : Told)
+  to_client_on : (w mid v : WorldState) (n : ℕ) (told : Returned)
       → ArriveAtClient interface client_limits server_limits w n told mid → RunsOn mid v → RunsOn w v
   to_client_on w mid v n told (answered, is, tells, left) rest = record {
     client_inputs = client.Feed (take n w.server.outgoing) ∷ rest.client_inputs;
@@ -180,14 +181,14 @@ module _ (interface : Interface) (client_limits server_limits : Limits) where
       client_behind interface client_limits d w.client mid.client (client.Feed (take n w.server.outgoing)) answered is,
       rest.client d,
     );
-    server = λ d. subst (λ fed. ServerRunsFrom interface server_limits (behind d w.server) rest.server_inputs rest.server_answers
+    server = λ d. subst (λ fed. SideRunsFrom (server_run interface) server_limits (behind d w.server) rest.server_inputs rest.server_answers
         (behind fed v.server)) (append_assoc d (take n w.server.outgoing) (fed_to_client rest.client_inputs))
-        (subst (λ from. ServerRunsFrom interface server_limits from rest.server_inputs rest.server_answers
+        (subst (λ from. SideRunsFrom (server_run interface) server_limits from rest.server_inputs rest.server_answers
         (behind ((d ++ take n w.server.outgoing) ++ fed_to_client rest.client_inputs) v.server))
         (left_before d n w.server mid.server left) (rest.server (d ++ take n w.server.outgoing)));
   }
 
-  happens_on : (w mid v : WorldState) (happened : WorldEvent) (told : Told)
+  happens_on : (w mid v : WorldState) (happened : WorldEvent) (told : Returned)
       → Happens interface client_limits server_limits w happened told mid → RunsOn mid v → RunsOn w v
   happens_on w mid v (event.Call request form) told is rest = at_client_on w mid v (client.Call request form) told (λ inputs. refl) is rest
   happens_on w mid v (event.Locate request form) told is rest = at_client_on w mid v (client.Locate request form) told (λ inputs. refl) is rest
@@ -200,7 +201,7 @@ module _ (interface : Interface) (client_limits server_limits : Limits) where
   happens_on w mid v (event.ToServer n) told is rest = to_server_on w mid v n told is rest
   happens_on w mid v (event.ToClient n) told is rest = to_client_on w mid v n told is rest
 
-  runs_on : (w v : WorldState) (schedule : List WorldEvent) (told : List Told)
+  runs_on : (w v : WorldState) (schedule : List WorldEvent) (told : List Returned)
       → InTurn (Happens interface client_limits server_limits) w schedule told v → RunsOn w v
   runs_on w v [] [] run = record {
     client_inputs = [];
@@ -216,7 +217,7 @@ module _ (interface : Interface) (client_limits server_limits : Limits) where
       happens_on w mid v happened one first (runs_on mid v schedule told rest)
 
   -- so is each end of a world that began
-  pub ends_are_joined : (w : WorldState) (schedule : List WorldEvent) (told : List Told)
+  pub ends_are_joined : (w : WorldState) (schedule : List WorldEvent) (told : List Returned)
       → WorldRuns interface client_limits server_limits schedule told w → AreJoined interface client_limits server_limits w
   ends_are_joined w schedule told run =
       let on = runs_on (new_world client_limits server_limits) w schedule told run in

@@ -40,19 +40,22 @@ pub record IsWithin {R E : Type 0} (limits : Limits) (unread : Unread) (h : Held
   pub calls : h.calls ≡ limits.calls
   pub room : h.room ≡ limits.gathered
 
--- both ends show the lanes of all ids, with the messages that are on their way; and a limit is met of an end that failed
+-- messages of calls are on their way to an end, from these octets that are outgoing at the other, where it continues; and a limit of it is met,
+-- where it failed
+pub record IsReached {R E : Type 0} (limits : Limits) (Is : Msg → Type 0) (messages : List Msg) (outgoing : List ℕ) (unread : Unread) (h : Held R E)
+    (fault : Option SessionFault) : Type 0 where
+  pub are : AllByRecursion Is messages
+  pub way : fault ≡ None → OnTheWay unread messages outgoing
+  pub within : IsWithin limits unread h
+  pub met : (why : SessionFault) → fault ≡ Some why → IsMet limits unread h why
+
+-- both ends show the lanes of all ids, with the messages that are on their way
 pub record Tracks (interface : Interface) (client_limits server_limits : Limits) (w : WorldState) : Type 0 where
   pub asked : List Msg
   pub answered : List Msg
-  pub are_asked : AllByRecursion IsAsked asked
-  pub are_answered : AllByRecursion IsAnswered answered
   pub shows : (id : ℕ) → Shows interface id (at w.client.calls id) (at w.server.calls id) asked answered
-  pub to_server : w.server.fault ≡ None → OnTheWay w.server.unread asked w.client.outgoing
-  pub to_client : w.client.fault ≡ None → OnTheWay w.client.unread answered w.server.outgoing
-  pub client_within : IsWithin client_limits w.client.unread w.client.calls
-  pub server_within : IsWithin server_limits w.server.unread w.server.calls
-  pub client_met : (why : SessionFault) → w.client.fault ≡ Some why → IsMet client_limits w.client.unread w.client.calls why
-  pub server_met : (why : SessionFault) → w.server.fault ≡ Some why → IsMet server_limits w.server.unread w.server.calls why
+  pub server : IsReached server_limits IsAsked asked w.client.outgoing w.server.unread w.server.calls w.server.fault
+  pub client : IsReached client_limits IsAnswered answered w.server.outgoing w.client.unread w.client.calls w.client.fault
 
 -- ---- one id, and the others
 
@@ -105,7 +108,7 @@ pub all_named : (breaks : Msg → Option SessionFault) (id : ℕ) (sent : List M
 all_named breaks id [] are = tt
 all_named breaks id (m ∷ sent) (is, are) = (is.names, all_named breaks id sent are)
 
-pub more_on_the_way : (breaks : Msg → Option SessionFault) (id : ℕ) (unread : Unread) (messages sent : List Msg) (out : List ℕ)
+more_on_the_way : (breaks : Msg → Option SessionFault) (id : ℕ) (unread : Unread) (messages sent : List Msg) (out : List ℕ)
     → OnTheWay unread messages out → AllByRecursion (IsFor breaks id) sent
     → OnTheWay unread (messages ++ sent) (out ++ flat_map message_octets sent)
 more_on_the_way breaks id unread messages sent out way are = record {
@@ -117,11 +120,38 @@ more_on_the_way breaks id unread messages sent out way are = record {
 }
 
 -- each of some, and of more
-pub each_more : (P : Msg → Type 0) (messages sent : List Msg) → AllByRecursion P messages → AllByRecursion P sent → AllByRecursion P (messages ++ sent)
+each_more : (P : Msg → Type 0) (messages sent : List Msg) → AllByRecursion P messages → AllByRecursion P sent → AllByRecursion P (messages ++ sent)
 each_more P [] sent are those = those
 each_more P (m ∷ messages) sent (is, are) those = (is, each_more P messages sent are those)
 
-pub each_of_some : (breaks : Msg → Option SessionFault) (id : ℕ) (sent : List Msg) → AllByRecursion (IsFor breaks id) sent
+each_of_some : (breaks : Msg → Option SessionFault) (id : ℕ) (sent : List Msg) → AllByRecursion (IsFor breaks id) sent
     → AllByRecursion (λ m. (id : ℕ) × IsFor breaks id m) sent
 each_of_some breaks id [] are = tt
 each_of_some breaks id (m ∷ sent) (is, are) = ((id, is), each_of_some breaks id sent are)
+
+-- an end is reached by what the other puts out more
+pub reached_more : {R E : Type 0} (limits : Limits) (breaks : Msg → Option SessionFault) (id : ℕ) (messages sent : List Msg) (out : List ℕ)
+    (unread : Unread) (h : Held R E) (fault : Option SessionFault) → IsReached limits (λ m. (id : ℕ) × IsFor breaks id m) messages out unread h fault
+    → AllByRecursion (IsFor breaks id) sent
+    → IsReached limits (λ m. (id : ℕ) × IsFor breaks id m) (messages ++ sent) (out ++ flat_map message_octets sent) unread h fault
+reached_more limits breaks id messages sent out unread h fault reached each = record {
+  are = each_more (λ m. (id : ℕ) × IsFor breaks id m) messages sent reached.are (each_of_some breaks id sent each);
+  way = λ goes. more_on_the_way breaks id unread messages sent out (reached.way goes) each;
+  within = reached.within;
+  met = reached.met;
+}
+
+-- and it still is behind an act of its own, where it continues
+pub reached_beside : {R E : Type 0} (limits : Limits) (Is : Msg → Type 0) (id : ℕ) (messages : List Msg) (outgoing : List ℕ) (unread : Unread)
+    (h k : Held R E) (fault : Option SessionFault) → fault ≡ None → IsBeside id h k → IsReached limits Is messages outgoing unread h fault
+    → IsReached limits Is messages outgoing unread k fault
+reached_beside limits Is id messages outgoing unread h k fault sound beside reached = record {
+  are = reached.are;
+  way = reached.way;
+  within = record {
+    message = reached.within.message;
+    calls = beside.calls ∙ reached.within.calls;
+    room = beside.room ∙ reached.within.room;
+  };
+  met = λ why failed. let none : Some why ≡ None = sym failed ∙ sound in absurd cc;
+}

@@ -59,10 +59,10 @@ answered entry latest = latest
 abbrev pub SpellsReply : Interface → Option Asked → CallKind → Version → Order → List ℕ → HeardReply
     → Type 0
 SpellsReply interface (Some (asked.Request request)) kind.Request version order octets
-    (heard.Reply told) = (reply interface (Some request) version).spells order 12 told octets
+    (heard.Reply answer) = (reply interface (Some request) version).spells order 12 answer octets
 SpellsReply interface (Some (asked.Locate request)) kind.Locate version order octets
-    (heard.Locate told) = (locate_reply version).spells order 12 told octets
-SpellsReply interface call kind version order octets told = ⊥
+    (heard.Locate answer) = (locate_reply version).spells order 12 answer octets
+SpellsReply interface call kind version order octets answer = ⊥
 
 -- what octets come to that spell no answer to a call: the first fault in them
 abbrev pub unspelled : Interface → Option Asked → Version → Order → List ℕ → HeardReply
@@ -72,9 +72,9 @@ unspelled interface (Some call) version order octets =
 
 -- a whole reply settles the call that waits for it; behind a cancel it is seen, and not read
 abbrev pub received : Option ClientEntry → HeardReply → Option ClientEntry
-received (Some (Waiting call)) told = (settles (Waiting call) call told).entry
-received (Some (Cancelled late.None)) told = Some (Cancelled late.Seen)
-received entry told = entry
+received (Some (Waiting call)) answer = (settles (Waiting call) call answer).entry
+received (Some (Cancelled late.None)) answer = Some (Cancelled late.Seen)
+received entry answer = entry
 
 -- a reply whose last piece didn't come: its call is gathering, or was cancelled
 abbrev pub begun : Option ClientEntry → Option ClientEntry
@@ -85,7 +85,7 @@ begun entry = entry
 -- what stands behind an item that isn't refused; Fragments behind a cancel, and what the client
 -- does, by the table of steps
 abbrev pub entry_behind : Interface → Known → ClientItem → Option ClientEntry
-entry_behind interface known (Got told) = received known.entry told
+entry_behind interface known (Got answer) = received known.entry answer
 entry_behind interface known (Bad kind version order octets) =
     received known.entry
     (unspelled interface (answered known.entry known.latest) version order octets)
@@ -131,10 +131,10 @@ AwaitsLocateReply known request =
 -- these messages are a Reply to a Request, written in a version and a byte order and cut into pieces
 -- of a size
 abbrev pub IsReplyIn : Interface → Request → Version → Order → Reply → ℕ → List Msg → Type 0
-IsReplyIn interface asked version order told piece sent =
-    IsWrittenAs (reply interface (Some asked) version) order told message.Reply piece version sent
+IsReplyIn interface asked version order answer piece sent =
+    IsWrittenAs (reply interface (Some asked) version) order answer message.Reply piece version sent
 
 -- and these a LocateReply
 abbrev pub IsLocateReplyIn : Version → Order → LocateReply → ℕ → List Msg → Type 0
-IsLocateReplyIn version order told piece sent =
-    IsWrittenAs (locate_reply version) order told message.LocateReply piece version sent
+IsLocateReplyIn version order answer piece sent =
+    IsWrittenAs (locate_reply version) order answer message.LocateReply piece version sent

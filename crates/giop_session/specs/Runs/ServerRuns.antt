@@ -1,26 +1,26 @@
--- What a server's end is given in a run, and what it answers to each input.
+-- What a server's end is given in a run, and what an input is to it.
 use Rattle.std.specs.Prelude.{◌≡◌, ℕ, List, Option, None, Some}
 use Rattle.std.specs.FinMap as finite
 use Rattle.giop_types.specs.declared.json.interface.Interface.{Interface}
-use Rattle.giop_msg.specs.Stream.{Unread}
 use Rattle.giop_calls.specs.declared.fault.CallFault.{CallFault}
 use Rattle.giop_calls.specs.declared.server.entry.ServerEntry.{ServerEntry}
 use Rattle.giop_calls.specs.declared.server.event.ServerEvent.{ServerEvent}
 use Rattle.giop_calls.specs.declared.server.event.ServerEvent.TheVariants as event
+use Rattle.giop_calls.specs.declared.server.heard.HeardCall.{HeardCall}
 use Rattle.giop_calls.specs.declared.server.rule.ServerRule.{ServerRule}
-use Rattle.giop_session.specs.declared.laws.inputs.Answered.{Answered}
+use Rattle.giop_calls.specs.ServerStanding.{standing}
 use Rattle.giop_session.specs.declared.laws.inputs.ServerInput.{ServerInput}
 use Rattle.giop_session.specs.declared.laws.inputs.ServerInput.TheVariants as input
 use Rattle.giop_session.specs.declared.limits.Limits.{Limits}
 use Rattle.giop_session.specs.declared.calls.plan.Plan.TheVariants.{Next}
 use Rattle.giop_session.specs.Calls.CallTable.{Held}
-use Rattle.giop_session.specs.Runs.Driven.{Closes, Deed, EndRuns, EndState, Feeds, IsGiven, PutsOut, TakesAs, TakesOut, item_answers, new_end, own_answers}
-use Rattle.giop_session.specs.Items.Carries.{behind_all}
-use Rattle.giop_session.specs.Runs.Inputs.{Holds, Input, nothing_unread}
-use Rattle.giop_session.specs.Calls.Begun.{no_calls}
+use Rattle.giop_session.specs.Runs.Driven.{Closes, Deed, Feeds, PutsOut, TakesOut}
+use Rattle.giop_session.specs.Runs.Met.{Sorting}
+use Rattle.giop_session.specs.Runs.RunLimits.{ServerIsGivenWithin}
+use Rattle.giop_session.specs.Runs.SideRuns.{RunOf}
 use Rattle.giop_session.specs.Calls.Sending.{entry_of}
 use Rattle.giop_session.specs.Acts.ServerAnswers.{IsAnswer, IsLocateAnswer, answer_fault, locate_of, question_of}
-use Rattle.giop_session.specs.Items.ServerCarries.{ServerItem, server_telling}
+use Rattle.giop_session.specs.Items.ServerCarries.{server_telling}
 use Rattle.giop_session.specs.Hearing.ServerHears.{server_side}
 
 -- what is stored for an id
@@ -50,54 +50,25 @@ server_deed interface limits h (input.Send id) = PutsOut id None
 server_deed interface limits h (input.Take id) = TakesOut id
 server_deed interface limits h input.Close = Closes
 
--- it is given one
-abbrev pub ServerIsGiven : Interface → Limits → EndState (Held ServerRule ServerEntry) → ServerInput
-    → Answered ServerEntry → EndState (Held ServerRule ServerEntry) → Type 0
-ServerIsGiven interface limits s given answered t =
-    IsGiven (server_side interface) (server_deed interface limits s.calls given)
-    s answered t
+-- its inputs told apart
+abbrev pub read_by_server : ServerInput → Option (List ℕ)
+read_by_server (input.Feed octets) = Some octets
+read_by_server given = None
 
--- it is given these in turn
-abbrev pub ServerRunsFrom : Interface → Limits → EndState (Held ServerRule ServerEntry)
-    → List ServerInput → List (Answered ServerEntry) → EndState (Held ServerRule ServerEntry)
-    → Type 0
-ServerRunsFrom interface limits s inputs answers t =
-    EndRuns (server_side interface) (server_deed interface limits) s inputs answers t
+abbrev pub at_server : Sorting ServerInput
+at_server = record { fed = read_by_server; named = server_named; feeds = input.Feed }
 
--- a new one is
-abbrev pub ServerRuns : Interface → Limits → List ServerInput → List (Answered ServerEntry)
-    → EndState (Held ServerRule ServerEntry) → Type 0
-ServerRuns interface limits inputs answers t =
-    ServerRunsFrom interface limits (new_end (record {}) limits) inputs answers t
-
--- a new one takes these as such acts, and refuses none
-abbrev pub ServerTakesAs : Interface → Limits → List ServerInput → List (Answered ServerEntry)
-    → List (Input ServerEvent) → Unread → Held ServerRule ServerEntry → Type 0
-ServerTakesAs interface limits inputs answers acts left k =
-    TakesAs (server_side interface) (server_deed interface limits)
-    (nothing_unread limits.message) (no_calls (record {}) limits) inputs answers acts left k
-
--- it takes them, and they hold these items for each id
-pub record ServerHolds (interface : Interface) (limits : Limits) (inputs : List ServerInput)
-    (answers : List (Answered ServerEntry)) (left : Unread) (k : Held ServerRule ServerEntry)
-    (calls : ℕ → List ServerItem) : Type 0 where
-  pub acts : List (Input ServerEvent)
-  pub taken : ServerTakesAs interface limits inputs answers acts left k
-  pub holds : Holds (server_telling interface) None limits.message acts calls
-
--- whatever items they hold, the entry of each id is what is said of it
-abbrev pub ServerHasEntries : Interface → Limits → List ServerInput → List (Answered ServerEntry)
-    → Unread
-    → Held ServerRule ServerEntry → Type 0
-ServerHasEntries interface limits inputs answers left k = (items : ℕ → List ServerItem)
-    → ServerHolds interface limits inputs answers left k items → (id : ℕ)
-    → server_entry k id ≡ behind_all (server_telling interface) None (items id)
-
--- and so are its answers
-abbrev pub ServerHasAnswers : Interface → Limits → List ServerInput → List (Answered ServerEntry)
-    → Unread
-    → Held ServerRule ServerEntry → Type 0
-ServerHasAnswers interface limits inputs answers left k = (items : ℕ → List ServerItem)
-    → ServerHolds interface limits inputs answers left k items → (id : ℕ)
-    → own_answers server_named id inputs answers
-    ≡ item_answers (server_telling interface) (λ entry. entry) None (items id)
+-- a run of a server's end
+abbrev pub server_run : Interface → RunOf ServerRule ServerEntry ServerEvent (Unit {0}) CallFault
+    ServerInput (Option ServerEntry) HeardCall
+server_run interface = record {
+  side = server_side interface;
+  rule = record {};
+  deed = server_deed interface;
+  sorting = at_server;
+  Within = ServerIsGivenWithin;
+  telling = server_telling interface;
+  unknown = None;
+  entry_in = λ entry. entry;
+  standing = standing;
+}

@@ -19,11 +19,12 @@ use Rattle.giop_session.specs.declared.laws.world.World.{World}
 use Rattle.giop_session.specs.declared.limits.Limits.{Limits}
 use Rattle.giop_session.specs.declared.session_fault.SessionFault.{SessionFault}
 use Rattle.giop_session.specs.Calls.CallTable.{Held}
-use Rattle.giop_session.specs.Runs.ClientRuns.{ClientIsGiven, ClientRuns}
+use Rattle.giop_session.specs.Runs.ClientRuns.{client_run}
+use Rattle.giop_session.specs.Runs.ServerRuns.{server_run}
+use Rattle.giop_session.specs.Runs.SideRuns.{SideIsGiven, SideRuns}
 use Rattle.giop_session.specs.Ends.View.{state_of}
 use Rattle.giop_session.specs.Runs.Driven.{EndState, InTurn, new_end}
 use Rattle.giop_session.specs.Acts.PutOut.{ArePutOut, is_of_client, is_of_server}
-use Rattle.giop_session.specs.Runs.ServerRuns.{ServerIsGiven, ServerRuns}
 
 -- both ends, as they stand
 pub record WorldState : Type 0 where
@@ -61,13 +62,13 @@ new_world client_limits server_limits = record {
 }
 
 -- what is returned for an event: that an end did what it was given, or why it refused it
-abbrev pub Told : Type 0
-Told = Result (Unit {0}) SessionFault
+abbrev pub Returned : Type 0
+Returned = Result (Unit {0}) SessionFault
 
-abbrev pub told_of_answer : {E : Type 0} → Answered E → Told
-told_of_answer answer.Done = Ok tt
-told_of_answer (answer.Taken entry) = Ok tt
-told_of_answer (answer.Refused why) = Err why
+abbrev pub returned_for : {E : Type 0} → Answered E → Returned
+returned_for answer.Done = Ok tt
+returned_for (answer.Taken entry) = Ok tt
+returned_for (answer.Refused why) = Err why
 
 -- the octets that a client's end is fed by what it is given
 abbrev pub fed_to_client : List ClientInput → List ℕ
@@ -83,35 +84,35 @@ fed_to_server (_ ∷ inputs) = fed_to_server inputs
 
 module _ (interface : Interface) (client_limits server_limits : Limits) where
   -- the client's end is given something, and the server's stays as it is
-  abbrev pub AtClient : WorldState → ClientInput → Told → WorldState → Type 0
-  AtClient w given told v = (answered : Answered ClientEntry)
-      × ClientIsGiven interface client_limits w.client given answered v.client
-      × (told ≡ told_of_answer answered) × (v.server ≡ w.server)
+  abbrev pub AtClient : WorldState → ClientInput → Returned → WorldState → Type 0
+  AtClient w given returned v = (answered : Answered ClientEntry)
+      × SideIsGiven (client_run interface) client_limits w.client given answered v.client
+      × (returned ≡ returned_for answered) × (v.server ≡ w.server)
 
   -- the server's end is given something, and the client's stays as it is
-  abbrev pub AtServer : WorldState → ServerInput → Told → WorldState → Type 0
-  AtServer w given told v = (answered : Answered ServerEntry)
-      × ServerIsGiven interface server_limits w.server given answered v.server
-      × (told ≡ told_of_answer answered) × (v.client ≡ w.client)
+  abbrev pub AtServer : WorldState → ServerInput → Returned → WorldState → Type 0
+  AtServer w given returned v = (answered : Answered ServerEntry)
+      × SideIsGiven (server_run interface) server_limits w.server given answered v.server
+      × (returned ≡ returned_for answered) × (v.client ≡ w.client)
 
   -- up to so many octets, the first on their way to the server's end, arrive there
-  abbrev pub ArriveAtServer : WorldState → ℕ → Told → WorldState → Type 0
-  ArriveAtServer w n told v = (answered : Answered ServerEntry)
-      × ServerIsGiven interface server_limits w.server (server.Feed (take n w.client.outgoing))
-      answered v.server
-      × (told ≡ told_of_answer answered)
+  abbrev pub ArriveAtServer : WorldState → ℕ → Returned → WorldState → Type 0
+  ArriveAtServer w n returned v = (answered : Answered ServerEntry)
+      × SideIsGiven (server_run interface) server_limits w.server
+      (server.Feed (take n w.client.outgoing)) answered v.server
+      × (returned ≡ returned_for answered)
       × (v.client ≡ record w.client { outgoing = drop n w.client.outgoing })
 
   -- up to so many octets, the first on their way to the client's end, arrive there
-  abbrev pub ArriveAtClient : WorldState → ℕ → Told → WorldState → Type 0
-  ArriveAtClient w n told v = (answered : Answered ClientEntry)
-      × ClientIsGiven interface client_limits w.client (client.Feed (take n w.server.outgoing))
-      answered v.client
-      × (told ≡ told_of_answer answered)
+  abbrev pub ArriveAtClient : WorldState → ℕ → Returned → WorldState → Type 0
+  ArriveAtClient w n returned v = (answered : Answered ClientEntry)
+      × SideIsGiven (client_run interface) client_limits w.client
+      (client.Feed (take n w.server.outgoing)) answered v.client
+      × (returned ≡ returned_for answered)
       × (v.server ≡ record w.server { outgoing = drop n w.server.outgoing })
 
   -- what an event does
-  abbrev pub Happens : WorldState → WorldEvent → Told → WorldState → Type 0
+  abbrev pub Happens : WorldState → WorldEvent → Returned → WorldState → Type 0
   Happens w (event.Call request form) = AtClient w (client.Call request form)
   Happens w (event.Locate request form) = AtClient w (client.Locate request form)
   Happens w (event.Cancel id order) = AtClient w (client.Cancel id order)
@@ -123,9 +124,9 @@ module _ (interface : Interface) (client_limits server_limits : Limits) where
   Happens w (event.ToClient n) = ArriveAtClient w n
 
   -- a world begins, and these happen in it, one after another
-  abbrev pub WorldRuns : List WorldEvent → List (Told) → WorldState → Type 0
-  WorldRuns schedule told w =
-      InTurn Happens (new_world client_limits server_limits) schedule told w
+  abbrev pub WorldRuns : List WorldEvent → List Returned → WorldState → Type 0
+  WorldRuns schedule returned w =
+      InTurn Happens (new_world client_limits server_limits) schedule returned w
 
   -- each end of a world is what a run by itself makes of some inputs, and what the one put out is
   -- what the other was fed, and behind it what is still on its way: whole messages of its side
@@ -134,11 +135,9 @@ module _ (interface : Interface) (client_limits server_limits : Limits) where
     pub client_answers : List (Answered ClientEntry)
     pub server_inputs : List ServerInput
     pub server_answers : List (Answered ServerEntry)
-    pub client : ClientRuns interface client_limits client_inputs client_answers (record w.client {
-      outgoing = fed_to_server server_inputs ++ w.client.outgoing;
-    })
-    pub server : ServerRuns interface server_limits server_inputs server_answers (record w.server {
-      outgoing = fed_to_client client_inputs ++ w.server.outgoing;
-    })
+    pub client : SideRuns (client_run interface) client_limits client_inputs client_answers
+        (record w.client { outgoing = fed_to_server server_inputs ++ w.client.outgoing })
+    pub server : SideRuns (server_run interface) server_limits server_inputs server_answers
+        (record w.server { outgoing = fed_to_client client_inputs ++ w.server.outgoing })
     pub asked : ArePutOut is_of_client (fed_to_server server_inputs ++ w.client.outgoing)
     pub answered : ArePutOut is_of_server (fed_to_client client_inputs ++ w.server.outgoing)

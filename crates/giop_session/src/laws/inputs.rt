@@ -1,7 +1,8 @@
 //! The inputs that `run_server` and `run_client` give an end, what it answers to each, and the
-//! events of a world of two ends (`run_world`). What an input does is `ServerIsGiven` in
-//! specs/Runs/ServerRuns.antt, `ClientIsGiven` in specs/Runs/ClientRuns.antt and `Happens` in
-//! specs/Worlds/World.antt.
+//! events of a world of two ends (`run_world`). What an input does is `SideIsGiven` in
+//! specs/Runs/SideRuns.antt, by what it is to an end of its side, `server_deed` in
+//! specs/Runs/ServerRuns.antt and `client_deed` in specs/Runs/ClientRuns.antt; and what an event
+//! does is `Happens` in specs/Worlds/World.antt.
 ghost use Rattle.std.specs.Prelude.{◌≡◌, ◌↔◌, IfSome, IsSome};
 ghost use Rattle.giop_session.specs.Acts.Form.{IsForm};
 

@@ -1,17 +1,18 @@
 //! An end is made and given a list of inputs: `run_server` and `run_client`, whose contracts are
-//! the headline (docs/HEADLINE.md) of functions that run. What an input does to an end is
-//! specs/Runs/ServerRuns.antt and specs/Runs/ClientRuns.antt.
-ghost use Rattle.std.specs.Prelude.{◌≡◌, ◌≢◌, ◌≤◌, ◌^◌, ◌↔◌, ℕ, None, Err, IfOk, IsErr};
+//! the headline (docs/HEADLINE.md) of functions that run. Both say the same, each of a run of its
+//! side, `server_run` or `client_run`: what is told of a run is specs/Runs/SideRuns.antt, and what
+//! it keeps apart specs/Runs/Fits.antt.
+ghost use Rattle.std.specs.Prelude.{◌≡◌, ◌≢◌, ◌≤◌, ◌^◌, ◌↔◌, Err, IfOk, IsErr};
 ghost use Rattle.giop_session.specs.declared.laws.inputs.Answered.TheVariants.{Refused};
 ghost use Rattle.giop_session.specs.declared.session_fault.SessionFault.TheVariants.{NoMemory};
-ghost use Rattle.giop_session.specs.Runs.ClientRuns.{ClientHasAnswers, ClientHasEntries, ClientRuns, ClientTakesAs};
-ghost use Rattle.giop_session.specs.Runs.Driven.{answer_of, Closes, Feeds, InTurn, IsGiven, NoneRefused, TakesOut};
-ghost use Rattle.giop_session.specs.Runs.Fits.{ClientFits, ClientIsAsAlone, ServerFits, ServerIsAsAlone, ServerEndsAsSaid, ClientEndsAsSaid};
 ghost use Rattle.giop_session.specs.Acts.PutOut.{ArePutOut, is_of_client, is_of_server};
-ghost use Rattle.giop_session.specs.Runs.RunLimits.{ClientIsGivenWithin, NoneForALimit, ServerIsGivenWithin};
-ghost use Rattle.giop_session.specs.Runs.ServerRuns.{ServerHasAnswers, ServerHasEntries, ServerRuns, ServerTakesAs};
-ghost use Rattle.giop_session.specs.Hearing.Heard.{side_of};
 ghost use Rattle.giop_session.specs.Ends.View.{IsDriven, state_of};
+ghost use Rattle.giop_session.specs.Hearing.Heard.{side_of};
+ghost use Rattle.giop_session.specs.Runs.ClientRuns.{client_run};
+ghost use Rattle.giop_session.specs.Runs.Driven.{answer_of, Closes, Feeds, InTurn, IsGiven, TakesOut};
+ghost use Rattle.giop_session.specs.Runs.Fits.{KeepsCallsApart};
+ghost use Rattle.giop_session.specs.Runs.ServerRuns.{server_run};
+ghost use Rattle.giop_session.specs.Runs.SideRuns.{SideRuns};
 
 use super::inputs::{Answered, ClientInput, ServerInput};
 use crate::end::{ClientEnd, End, ServerEnd};
@@ -50,25 +51,12 @@ pub fn run_server<'a>(
     inputs: Vec<ServerInput>,
 ) -> Result<(ServerEnd<'a>, Vec<Answered<ServerEntry>>), AllocError>
     requires { limits.gathered ≤ 2 ^ 62 }
-    ensures value { IfOk result (λ run. ServerRuns interface.now limits inputs.items run.1.items
-        (state_of run.0)) }
+    ensures value { IfOk result (λ run. SideRuns (server_run interface.now) limits inputs.items
+        run.1.items (state_of run.0)) }
     ensures same { IfOk result (λ run. (run.0.interface.now ≡ interface.now)
         × (run.0.limits ≡ limits)) }
-    ensures taken { IfOk result (λ run. NoneRefused run.1.items → run.0.fault ≡ None
-        → (acts : _) × ServerTakesAs interface.now limits inputs.items run.1.items acts
-        run.0.framer run.0.calls) }
-    ensures table { IfOk result (λ run. ServerHasEntries interface.now limits inputs.items
-        run.1.items run.0.framer run.0.calls) }
-    ensures answers { IfOk result (λ run. ServerHasAnswers interface.now limits inputs.items
-        run.1.items run.0.framer run.0.calls) }
-    ensures within { IfOk result (λ run. ServerIsGivenWithin limits inputs.items
-        → NoneForALimit run.1.items) }
-    ensures fits { IfOk result (λ run. ServerFits interface.now limits inputs.items
-        → NoneRefused run.1.items × (run.0.fault ≡ None)) }
-    ensures alone { IfOk result (λ run. (fits : ServerFits interface.now limits inputs.items)
-        → (id : ℕ) → ServerIsAsAlone fits run.1.items run.0.calls id) }
-    ensures said { IfOk result (λ run. (fits : ServerFits interface.now limits inputs.items)
-        → ServerEndsAsSaid fits run.1.items run.0.calls) }
+    ensures apart { IfOk result (λ run. KeepsCallsApart (server_run interface.now) limits
+        inputs.items run.1.items (state_of run.0)) }
     ensures put_out { IfOk result (λ run. ArePutOut is_of_server run.0.outgoing) }
 {
     let mut server: ServerEnd<'a> = End::<ServerRule>::new(alloc, interface, limits);
@@ -77,21 +65,9 @@ pub fn run_server<'a>(
 }
 
 /// Makes a client's end and gives it these inputs, one after another: the answers are one for each,
-/// in their order. A run continues after a refusal, also after one that fails the end, which then
-/// refuses all that is left.
-///
-/// Let what is given fit the end: the octets are whole messages of kinds that a server sends, each
-/// names an id, none closes the connection or is an error, no limit is met, and a new end that is
-/// given the messages and acts of one id alone refuses none, whichever id it is. Then this end
-/// refuses nothing, and what it holds of each id and answered for it is what the id alone came to.
-///
-/// Where the end refuses nothing, and isn't closed, each id's entry and answers are those of what
-/// was said of that one call. It makes no difference in which messages, Fragments, byte orders and
-/// reads this came, and what lay between.
-///
-/// Let the calls and locates among the inputs have at most as many distinct ids as the limit
-/// `calls`, and all pieces of fragmented messages at most as many octets as the limit `gathered`.
-/// Then no input is refused as TooManyCalls or GatherFull, in whatever order all of it comes.
+/// in their order. All that `run_server` says of a run is said of this one, too, of messages of
+/// kinds that a server sends. Ids count towards the limit `calls` where the inputs call or locate
+/// under them.
 ///
 /// What is outgoing at the end of a run is whole messages, each of a kind that a client sends.
 ///
@@ -104,25 +80,12 @@ pub fn run_client<'a>(
     inputs: Vec<ClientInput>,
 ) -> Result<(ClientEnd<'a>, Vec<Answered<ClientEntry>>), AllocError>
     requires { limits.gathered ≤ 2 ^ 62 }
-    ensures value { IfOk result (λ run. ClientRuns interface.now limits inputs.items run.1.items
-        (state_of run.0)) }
+    ensures value { IfOk result (λ run. SideRuns (client_run interface.now) limits inputs.items
+        run.1.items (state_of run.0)) }
     ensures same { IfOk result (λ run. (run.0.interface.now ≡ interface.now)
         × (run.0.limits ≡ limits)) }
-    ensures taken { IfOk result (λ run. NoneRefused run.1.items → run.0.fault ≡ None
-        → (acts : _) × ClientTakesAs interface.now limits inputs.items run.1.items acts
-        run.0.framer run.0.calls) }
-    ensures table { IfOk result (λ run. ClientHasEntries interface.now limits inputs.items
-        run.1.items run.0.framer run.0.calls) }
-    ensures answers { IfOk result (λ run. ClientHasAnswers interface.now limits inputs.items
-        run.1.items run.0.framer run.0.calls) }
-    ensures within { IfOk result (λ run. ClientIsGivenWithin limits inputs.items
-        → NoneForALimit run.1.items) }
-    ensures fits { IfOk result (λ run. ClientFits interface.now limits inputs.items
-        → NoneRefused run.1.items × (run.0.fault ≡ None)) }
-    ensures alone { IfOk result (λ run. (fits : ClientFits interface.now limits inputs.items)
-        → (id : ℕ) → ClientIsAsAlone fits run.1.items run.0.calls id) }
-    ensures said { IfOk result (λ run. (fits : ClientFits interface.now limits inputs.items)
-        → ClientEndsAsSaid fits run.1.items run.0.calls) }
+    ensures apart { IfOk result (λ run. KeepsCallsApart (client_run interface.now) limits
+        inputs.items run.1.items (state_of run.0)) }
     ensures put_out { IfOk result (λ run. ArePutOut is_of_client run.0.outgoing) }
 {
     let mut client: ClientEnd<'a> = End::<ClientRule>::new(alloc, interface, limits);
@@ -147,15 +110,16 @@ pub(super) trait Driven {
 
 impl<'a> Driven for End<'a, ServerRule> {
     ghost use Rattle.std.specs.Prelude.{◌≡◌};
-    ghost use Rattle.giop_session.specs.Runs.Driven.{end_state};
-    ghost use Rattle.giop_session.specs.Runs.ServerRuns.{ServerIsGiven};
+    ghost use Rattle.giop_session.specs.Runs.ServerRuns.{server_run};
+    ghost use Rattle.giop_session.specs.Runs.SideRuns.{SideIsGiven};
 
     type Input = ServerInput;
 
     type Answer = Answered<ServerEntry>;
 
-    ghost is_given = { λ end input answered after. ServerIsGiven end.interface.now end.limits
-        (state_of end) input answered (state_of after) × IsDriven end after };
+    ghost is_given = { λ end input answered after.
+        SideIsGiven (server_run end.interface.now) end.limits (state_of end) input answered
+        (state_of after) × IsDriven end after };
 
     fn take_input(&mut self, input: ServerInput) -> Result<Answered<ServerEntry>, AllocError> {
         match input {
@@ -173,15 +137,16 @@ impl<'a> Driven for End<'a, ServerRule> {
 
 impl<'a> Driven for End<'a, ClientRule> {
     ghost use Rattle.std.specs.Prelude.{◌≡◌};
-    ghost use Rattle.giop_session.specs.Runs.ClientRuns.{ClientIsGiven};
-    ghost use Rattle.giop_session.specs.Runs.Driven.{end_state};
+    ghost use Rattle.giop_session.specs.Runs.ClientRuns.{client_run};
+    ghost use Rattle.giop_session.specs.Runs.SideRuns.{SideIsGiven};
 
     type Input = ClientInput;
 
     type Answer = Answered<ClientEntry>;
 
-    ghost is_given = { λ end input answered after. ClientIsGiven end.interface.now end.limits
-        (state_of end) input answered (state_of after) × IsDriven end after };
+    ghost is_given = { λ end input answered after.
+        SideIsGiven (client_run end.interface.now) end.limits (state_of end) input answered
+        (state_of after) × IsDriven end after };
 
     fn take_input(&mut self, input: ClientInput) -> Result<Answered<ClientEntry>, AllocError> {
         match input {

@@ -4,11 +4,11 @@
 ghost use Rattle.std.specs.Prelude.{◌≡◌, ◌≤◌, ◌^◌, IfOk, length, None, take, drop};
 ghost use Rattle.giop_session.specs.Worlds.Agreement.{Agreed, FailsByLimits};
 ghost use Rattle.giop_session.specs.Worlds.World.{AreJoined, ArriveAtClient, ArriveAtServer, AtClient, AtServer, IsStep};
-ghost use Rattle.giop_session.specs.Worlds.World.{ends_of, GoesBy, told_of_answer, WorldRuns};
+ghost use Rattle.giop_session.specs.Worlds.World.{ends_of, GoesBy, returned_for, WorldRuns};
 
-use super::agreement::two_ends_agree;
 use super::inputs::{Answered, ClientInput, ServerInput, WorldEvent};
 use super::running::{Driven, feed_to, take_all};
+use super::two_ends::two_ends_agree;
 use crate::end::{ClientEnd, End, ServerEnd};
 use crate::limits::Limits;
 use crate::session_fault::SessionFault;
@@ -161,7 +161,7 @@ fn front(octets: &[u8], n: usize) -> &[u8]
 
 // Whether an end did what it was given, or why it refused.
 fn told_of<E: Drop>(answered: Answered<E>) -> Result<(), SessionFault>
-    ensures { result ≡ told_of_answer answered }
+    ensures { result ≡ returned_for answered }
 {
     match answered {
         Answered::Done | Answered::Taken(_) => Ok(()),

@@ -22,25 +22,25 @@ use Rattle.laws_in_use.proofs.runs.a_run_of_a_client.Goals as goal
 pub returns-clause-holds : goal.returns-clause-holds
 returns-clause-holds c = λ forms given none sound.
     holds_of_run c.args.interface.now (c.locate_replies_are_spelled.ensures V10) (c.locate_replies_are_spelled.ensures V12)
-    forms c.args.inputs.items _ _ _ given (c.in_ok-run_client.ensures.taken none sound)
+    forms c.args.inputs.items _ _ _ given (c.in_ok-run_client.ensures.apart.taken none sound)
 
 pub returns-clause-seven : goal.returns-clause-seven
 returns-clause-seven c = λ forms given none sound.
-    c.in_ok-run_client.ensures.table client_told (returns-clause-holds c forms given none sound) 7
+    c.in_ok-run_client.ensures.apart.table client_told (returns-clause-holds c forms given none sound) 7
 
 pub returns-clause-nine : goal.returns-clause-nine
 returns-clause-nine c = λ forms given none sound.
-    c.in_ok-run_client.ensures.table client_told (returns-clause-holds c forms given none sound) 9
+    c.in_ok-run_client.ensures.apart.table client_told (returns-clause-holds c forms given none sound) 9
 
 pub returns-clause-told : goal.returns-clause-told
 returns-clause-told c = λ forms given none sound.
-    c.in_ok-run_client.ensures.answers client_told (returns-clause-holds c forms given none sound) 9
+    c.in_ok-run_client.ensures.apart.returned client_told (returns-clause-holds c forms given none sound) 9
     ∙ ap (λ told. answer.Done ∷ answer.Done ∷ answer.Done
     ∷ answer.Taken (settles (Waiting (asked.Locate key)) (asked.Locate key) told).entry ∷ []) (decoded c.args.interface.now).short
 
 pub returns-clause-others : goal.returns-clause-others
 returns-clause-others c = λ forms given none sound id seven nine.
-    c.in_ok-run_client.ensures.table client_told (returns-clause-holds c forms given none sound) id
+    c.in_ok-run_client.ensures.apart.table client_told (returns-clause-holds c forms given none sound) id
     ∙ ap (λ items. (behind_all (client_telling c.args.interface.now) unknown items).entry)
     (ap (λ b. if b then told_of_seven else if id == 9 then told_and_taken else []) (eq_apart id 7 seven)
     ∙ ap (λ b. if b then told_and_taken else []) (eq_apart id 9 nine))
@@ -49,23 +49,23 @@ pub returns-clause-accepted : goal.returns-clause-accepted
 returns-clause-accepted c = λ forms given.
     let fits = given_fits c.args.interface.now forms (c.locate_replies_are_spelled.ensures V10) (c.locate_replies_are_spelled.ensures V12)
     c.args.inputs.items given in
-    c.in_ok-run_client.ensures.fits fits.0
+    c.in_ok-run_client.ensures.apart.fits fits.0
 
 pub returns-clause-comes : goal.returns-clause-comes
 returns-clause-comes c = λ forms given.
     let fits = given_fits c.args.interface.now forms (c.locate_replies_are_spelled.ensures V10) (c.locate_replies_are_spelled.ensures V12)
     c.args.inputs.items given in
-    (c.in_ok-run_client.ensures.said fits.0 client_told fits.1 7).entry
+    (c.in_ok-run_client.ensures.apart.said fits.0 client_told fits.1 7).entry
 
 pub returns-clause-alone : goal.returns-clause-alone
 returns-clause-alone c = λ forms given.
     let fits = given_fits c.args.interface.now forms (c.locate_replies_are_spelled.ensures V10) (c.locate_replies_are_spelled.ensures V12)
     c.args.inputs.items given in
-    (fits.0, c.in_ok-run_client.ensures.alone fits.0 9)
+    (fits.0, c.in_ok-run_client.ensures.apart.alone fits.0 9)
 
 pub returns-clause-free : goal.returns-clause-free
 returns-clause-free c = λ forms given.
-    c.in_ok-run_client.ensures.within (subst (λ inputs. ClientIsGivenWithin limits inputs) (sym given) (run_within forms))
+    c.in_ok-run_client.ensures.apart.free (subst (λ inputs. ClientIsGivenWithin limits inputs) (sym given) (run_within forms))
 
 pub returns-clause-same : goal.returns-clause-same
 returns-clause-same c = c.in_ok-run_client.ensures.same.1

@@ -1,22 +1,19 @@
 use Rattle.std.proofs.Common.{◌≡◌}
-use Rattle.giop_session.specs.Calls.Begun.{no_calls}
 use Rattle.giop_session.specs.Ends.View.{state_of}
-use Rattle.giop_session.specs.Runs.Driven.{end_state, new_end}
-use Rattle.giop_session.specs.Runs.Inputs.{nothing_unread}
 use Rattle.giop_session.specs.Hearing.ClientHears.{client_side}
-use Rattle.giop_session.specs.Runs.ClientRuns.{ClientRuns, client_deed}
-use Rattle.giop_session.proofs.OnRuns.ClientAloneLemmas.{client_fits, client_said}
-use Rattle.giop_session.proofs.OnRuns.DrivenLemmas.{run_taken, taken_takes}
-use Rattle.giop_session.proofs.OnRuns.SeenLemmas.{run_seen}
+use Rattle.giop_session.specs.Runs.Driven.{end_state}
+use Rattle.giop_session.specs.Runs.ClientRuns.{client_deed, client_run}
+use Rattle.giop_session.specs.Runs.SideRuns.{SideRuns}
 use Rattle.giop_session.proofs.OnActs.SidesPutOut.{client_puts_out}
-use Rattle.giop_session.proofs.OnItems.ClientHeadline.{client_answers, client_entries}
-use Rattle.giop_session.proofs.OnLimits.ClientRunLimitLemmas.{client_run_free}
+use Rattle.giop_session.proofs.OnSides.KeptApart.{kept_apart}
+use Rattle.giop_session.proofs.OnRuns.SeenLemmas.{run_seen}
+use Rattle.giop_session.proofs.OnSides.ClientRunIs.{client_run_is}
 use Rattle.giop_session.proofs.laws.running.run_client.Goals as goal
 
 -- the run, as one of the end's view
 seen : (c : goal.In_ok-answers)
     → ((c.take_all.new.driven.interface.now ≡ c.args.interface.now) × (c.take_all.new.driven.limits ≡ c.args.limits))
-    × ClientRuns c.args.interface.now c.args.limits c.args.inputs.items c.in_ok-answers.answers.items (state_of c.take_all.new.driven)
+    × SideRuns (client_run c.args.interface.now) c.args.limits c.args.inputs.items c.in_ok-answers.answers.items (state_of c.take_all.new.driven)
 seen c =
     let new = c.new-client.ensures in
     run_seen client_side client_deed c.args.interface.now c.args.limits (record {}) c.new-client.result c.take_all.new.driven
@@ -29,52 +26,12 @@ returns-clause-value c = (seen c).1
 pub returns-clause-same : goal.returns-clause-same
 returns-clause-same c = (seen c).0
 
-pub returns-clause-taken : goal.returns-clause-taken
-returns-clause-taken c = λ none sound.
-    run_taken (client_side c.args.interface.now)
-    (client_deed c.args.interface.now c.args.limits) (new_end (record {}) c.args.limits)
-    (state_of c.take_all.new.driven)
-    c.args.inputs.items c.in_ok-answers.answers.items (seen c).1 none sound
-
-pub returns-clause-table : goal.returns-clause-table
-returns-clause-table c = λ items holds id.
-    client_entries c.args.interface.now c.args.limits holds.acts c.take_all.new.driven.framer c.take_all.new.driven.calls items
-    (taken_takes (client_side c.args.interface.now)
-    (client_deed c.args.interface.now c.args.limits) (nothing_unread c.args.limits.message) c.take_all.new.driven.framer
-    (no_calls (record {}) c.args.limits) c.take_all.new.driven.calls c.args.inputs.items c.in_ok-answers.answers.items holds.acts holds.taken)
-    holds.holds id
-
-pub returns-clause-answers : goal.returns-clause-answers
-returns-clause-answers c = λ items holds id.
-    client_answers c.args.interface.now c.args.limits c.args.inputs.items c.in_ok-answers.answers.items c.take_all.new.driven.framer
-    c.take_all.new.driven.calls items holds id
-
-pub returns-clause-within : goal.returns-clause-within
-returns-clause-within c = λ given.
-    client_run_free c.args.interface.now c.args.limits c.args.inputs.items c.in_ok-answers.answers.items
-    (state_of c.take_all.new.driven)
-    given (seen c).1
-
--- what fits the end is refused nothing
-pub returns-clause-fits : goal.returns-clause-fits
-returns-clause-fits c = λ fits.
-    let found = client_fits c.args.interface.now c.args.limits c.args.inputs.items c.in_ok-answers.answers.items
-    (state_of c.take_all.new.driven) fits (seen c).1 in
-    (found.0, found.1)
-
-pub returns-clause-alone : goal.returns-clause-alone
-returns-clause-alone c = λ fits id.
-    (client_fits c.args.interface.now c.args.limits c.args.inputs.items c.in_ok-answers.answers.items
-    (state_of c.take_all.new.driven) fits (seen c).1).2 id
-
-pub returns-clause-said : goal.returns-clause-said
-returns-clause-said c = λ fits calls says id.
-    client_said c.args.interface.now c.args.limits c.args.inputs.items c.in_ok-answers.answers.items
-    (state_of c.take_all.new.driven)
-    fits calls says (seen c).1 id
+pub returns-clause-apart : goal.returns-clause-apart
+returns-clause-apart c =
+    kept_apart (client_run c.args.interface.now) (client_run_is c.args.interface.now) c.args.limits
+    c.args.inputs.items c.in_ok-answers.answers.items (state_of c.take_all.new.driven) (seen c).1
 
 pub returns-clause-put_out : goal.returns-clause-put_out
 returns-clause-put_out c =
     client_puts_out c.args.interface.now c.args.limits c.args.inputs.items c.in_ok-answers.answers.items
-    (state_of c.take_all.new.driven)
-    (seen c).1
+    (state_of c.take_all.new.driven) (seen c).1

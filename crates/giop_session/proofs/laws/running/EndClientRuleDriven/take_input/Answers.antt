@@ -3,7 +3,8 @@ use Rattle.giop_session.specs.Acts.ClientCalls.{IsCall, call_fault}
 use Rattle.giop_session.specs.Calls.CallTable.{entry_at}
 use Rattle.giop_session.specs.Ends.View.{IsDriven, state_of}
 use Rattle.giop_session.specs.Hearing.ClientHears.{client_side}
-use Rattle.giop_session.specs.Runs.ClientRuns.{ClientIsGiven}
+use Rattle.giop_session.specs.Runs.ClientRuns.{client_run}
+use Rattle.giop_session.specs.Runs.SideRuns.{SideIsGiven}
 use Rattle.giop_session.proofs.OnRuns.SeenLemmas.{acted_given}
 use Rattle.giop_session.proofs.laws.running.EndClientRuleDriven.take_input.Goals as goal
 
@@ -14,8 +15,8 @@ returns-in-Call c =
     let request = c.in-Call.request in
     let form = c.in-Call.form.form in
     let told = c.call.ensures in
-    subst (λ given. IfOk c.answered.result (λ answered. ClientIsGiven before.interface.now before.limits (state_of before) given answered (state_of after)
-    × IsDriven before after)) (sym c.in-Call.is)
+    subst (λ given. IfOk c.answered.result (λ answered.
+    SideIsGiven (client_run before.interface.now) before.limits (state_of before) given answered (state_of after) × IsDriven before after)) (sym c.in-Call.is)
     (acted_given (client_side before.interface.now) before after request.head.id
     (call_fault before.interface.now before.limits (entry_at before.calls request.head.id) request form)
     (IsCall before.interface.now request form)

@@ -3,7 +3,8 @@ use Rattle.giop_session.specs.Acts.ServerAnswers.{IsAnswer, answer_fault, questi
 use Rattle.giop_session.specs.Calls.CallTable.{entry_at}
 use Rattle.giop_session.specs.Ends.View.{IsDriven, state_of}
 use Rattle.giop_session.specs.Hearing.ServerHears.{server_side}
-use Rattle.giop_session.specs.Runs.ServerRuns.{ServerIsGiven}
+use Rattle.giop_session.specs.Runs.ServerRuns.{server_run}
+use Rattle.giop_session.specs.Runs.SideRuns.{SideIsGiven}
 use Rattle.giop_session.proofs.OnRuns.SeenLemmas.{acted_given}
 use Rattle.giop_session.proofs.laws.running.EndServerRuleDriven.take_input.Goals as goal
 
@@ -14,8 +15,8 @@ returns-in-Answer c =
     let reply = c.in-Answer.reply in
     let form = c.in-Answer.form.form in
     let told = c.answer.ensures in
-    subst (λ given. IfOk c.answered.result (λ answered. ServerIsGiven before.interface.now before.limits (state_of before) given answered (state_of after)
-    × IsDriven before after)) (sym c.in-Answer.is)
+    subst (λ given. IfOk c.answered.result (λ answered.
+    SideIsGiven (server_run before.interface.now) before.limits (state_of before) given answered (state_of after) × IsDriven before after)) (sym c.in-Answer.is)
     (acted_given (server_side before.interface.now) before after reply.id
     (answer_fault before.interface.now before.limits (question_of (entry_at before.calls reply.id)) reply form)
     (IsAnswer before.interface.now (question_of (entry_at before.calls reply.id)) reply form)
