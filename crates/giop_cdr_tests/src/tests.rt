@@ -1,2 +1,3 @@
-//! What of giop_cdr only a proved test can say: refused allocations.
+//! What of giop_cdr only a proved test can say: refused allocations, and what is shown by `{:?}`.
 mod memory;
+mod shown;
