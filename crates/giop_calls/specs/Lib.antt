@@ -10,5 +10,6 @@ pub mod ServerStanding
 pub mod Items
 pub mod ServerItems
 pub mod ClientItems
+pub mod Pieces
 pub mod ClientStanding
 pub mod Lane

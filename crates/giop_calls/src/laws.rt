@@ -16,6 +16,12 @@ ghost use Rattle.giop_calls.specs.declared.server.entry.ServerEntry.{ServerEntry
 ghost use Rattle.giop_calls.specs.declared.server.event.ServerEvent.{ServerEvent};
 ghost use Rattle.giop_calls.specs.declared.client.event.ClientEvent.{ClientEvent};
 
+mod answers;
+mod items;
+
+pub use answers::{answers_fit_their_calls, faults_are_numbered};
+pub use items::{acts_are_own_or_heard, messages_come_whole_or_in_pieces};
+
 /// After any events and takes of one id at a server, of which none is refused, what is stored for
 /// the id is said without steps, by those of its latest call.
 pub fn server_entry_stands()

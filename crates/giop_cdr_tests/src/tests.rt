@@ -1,3 +1,5 @@
-//! What of giop_cdr only a proved test can say: longs at once, and refused allocations.
+//! What of giop_cdr only a proved test can say: longs at once, refused allocations, and what is shown
+//! by `{:?}`.
 mod longs;
 mod memory;
+mod shown;

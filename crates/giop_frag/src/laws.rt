@@ -11,6 +11,13 @@ ghost use Rattle.giop_frag.specs.declared.fault.GatherFault.TheVariants.{GatherF
 ghost use Rattle.giop_frag.specs.Gathered.{Lists, Pieces, total_of, blocks_of, blocks_after, IsBlocksAfter};
 ghost use Rattle.giop_frag.specs.Runs.{Happening, Reply, turn, is_of_id, gather_rules, octets_with, all_octets, IsJoined};
 
+mod refusals;
+
+pub use refusals::{
+    blocks_are_the_fewest, faults_are_numbered, limits_let_through_what_fits,
+    own_faults_are_of_ids, strays_have_nothing_gathered,
+};
+
 /// After any run of calls, the octets of an id that had none are those of its own accepted calls.
 /// They are the octets of the latest call that began it and of all that added to it since, joined
 /// in their order.

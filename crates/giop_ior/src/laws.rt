@@ -5,7 +5,7 @@ mod ior_texts;
 mod references;
 
 pub use addresses::{
-    corbalocs_are_read, corbalocs_are_refused, faults_are_the_first,
+    corbalocs_are_read, corbalocs_are_refused, faults_are_the_first, kinds_are_numbered,
     written_corbalocs_are_read_back,
 };
 pub use ior_texts::{reference_texts_are_read, written_reference_texts_are_read_back};

@@ -9,7 +9,10 @@ ghost use Rattle.giop_ids.specs.Runs.{own, alone, told_alone, Runs, addressed, M
 ghost use Rattle.giop_mux.specs.Runs.{turn, call_rules, is_of_call, Refuses};
 ghost use Rattle.giop_mux.specs.declared.refusal.Refusal.TheVariants.{TooManyCalls};
 
+mod refusals;
+
 use crate::CallRule;
+pub use refusals::{limits_let_in_what_fits, refusals_are_numbered};
 
 /// In any run of steps and takes, which continues after refusals, the entry of an id and the
 /// results of its own steps and takes are those of its own alone. This holds unless one of them met

@@ -1,2 +1,3 @@
 pub mod ShallowLemmas
 pub mod FirstLemmas
+pub mod FoundLemmas

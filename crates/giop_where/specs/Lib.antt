@@ -1,4 +1,5 @@
 pub mod Parts
 pub mod Alone
 pub mod First
+pub mod Steps
 pub mod Shallow

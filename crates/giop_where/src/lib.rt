@@ -5,6 +5,7 @@
 mod alone;
 mod first;
 mod judge;
+pub mod laws;
 mod no_place;
 mod part;
 mod parts;

@@ -1,10 +1,12 @@
 //! Laws of corbaloc texts (CORBA 3.3 Part 2, 7.6.10.1): what is read, which fault is the first,
 //! what is written. Each function's contract is one of them; the bodies are empty, and no program
 //! calls them.
-ghost use Rattle.std.specs.Prelude.{◌≡◌, List, ℕ, true, Ok, Err};
+ghost use Rattle.std.specs.Prelude.{◌≡◌, ◌≤◌, List, ℕ, true, Ok, Err};
 ghost use Rattle.giop_ior.specs.declared.addresses.corbaloc.Corbaloc.{Corbaloc};
 ghost use Rattle.giop_ior.specs.Corbaloc.{CorbalocText};
 ghost use Rattle.giop_ior.specs.declared.addresses.corbaloc_fault.CorbalocFault.{CorbalocFault};
+ghost use Rattle.giop_ior.specs.declared.addresses.corbaloc_fault.CorbalocKind.{CorbalocKind};
+ghost use Rattle.giop_ior.specs.CorbalocFault.{corbaloc_kind_number};
 ghost use Rattle.giop_ior.specs.CorbalocReading.{corbaloc_of};
 ghost use Rattle.giop_ior.specs.FirstFault.{IsFirstFault};
 ghost use Rattle.giop_ior.specs.Refused.{RefusedCorbaloc};
@@ -44,4 +46,14 @@ pub fn written_corbalocs_are_read_back()
         → CorbalocText c (corbaloc_text c) }
     ensures again { (c : Corbaloc) → IsInRange c → is_writable c ≡ true
         → corbaloc_of (corbaloc_text c) ≡ Ok c }
+{}
+
+/// The numbers of the kinds of fault are 1 to 8, each the number of one kind.
+pub fn kinds_are_numbered()
+    ensures within { (kind : CorbalocKind) → (1 ≤ corbaloc_kind_number kind)
+        × (corbaloc_kind_number kind ≤ 8) }
+    ensures once { (one other : CorbalocKind)
+        → corbaloc_kind_number one ≡ corbaloc_kind_number other → one ≡ other }
+    ensures each { (number : ℕ) → 1 ≤ number → number ≤ 8
+        → (kind : CorbalocKind) × (corbaloc_kind_number kind ≡ number) }
 {}
