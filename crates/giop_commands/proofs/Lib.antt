@@ -20,6 +20,7 @@ pub mod ServingLemmas
 pub mod SessionsLemmas
 pub mod LocatingLemmas
 pub mod StreamingLemmas
+pub mod ToldLemmas
 pub mod AheadLemmas
 pub mod CallStreamingLemmas
 pub mod CallFeedingLemmas
