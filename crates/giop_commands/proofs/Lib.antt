@@ -1,4 +1,7 @@
 pub mod DumpLemmas
+pub mod IncomingLemmas
+pub mod TraceLemmas
+pub mod TracedLemmas
 pub mod JoiningLemmas
 pub mod PiecesLemmas
 pub mod ConvertLemmas
@@ -17,6 +20,7 @@ pub mod ServingLemmas
 pub mod SessionsLemmas
 pub mod LocatingLemmas
 pub mod StreamingLemmas
+pub mod ToldLemmas
 pub mod AheadLemmas
 pub mod CallStreamingLemmas
 pub mod CallFeedingLemmas

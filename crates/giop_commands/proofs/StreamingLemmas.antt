@@ -1,7 +1,5 @@
 -- Calls that are told when they are over.
-use Rattle.std.proofs.Common.{◌≡◌, ℕ, ◌+◌, ◌<◌, ◌≤◌, Bool, true, List, length, drop, get_or, Option, Some, None, Result, Ok, Err, IfOk, OnOk, refl, sym, ap, subst, ◌∙◌}
-use Rattle.std.proofs.Math.ListN.{drop_of_length-le}
-use Rattle.std.proofs.lemmas.List.{drop_more}
+use Rattle.std.proofs.Common.{◌≡◌, ℕ, ◌<◌, Bool, true, List, Option, Some, None, Result, Ok, Err, IfOk, OnOk, refl, sym, ap, subst, ◌∙◌}
 use Rattle.std.specs.Io.KnownBytes.{Appends}
 use Rattle.giop_ids.specs.ById.{ById}
 use Rattle.giop_msg.specs.Stream.{Unread}
@@ -26,29 +24,16 @@ use Rattle.giop_commands.specs.Endings.{Ends, ServesStreamEnd}
 use Rattle.giop_commands.specs.Serving.{ServeEnds, Served, ServerCalls, Session, TurnAnswers, new_server, session}
 use Rattle.giop_commands.specs.Sessions.{Wire, connection_in, serve_status, told}
 use Rattle.giop_commands.specs.StreamLines.{server_told_in}
-use Rattle.giop_commands.specs.Streaming.{Shown, Streams, TurnTells, left_text, opened, over_text, shown, still_open, without_ended, without_over}
+use Rattle.giop_commands.specs.Streaming.{Shown, Streams, TurnTells, left_text, opened, over_text, shown, still_open, without_ended}
 use Rattle.giop_commands.specs.Turns.{GoesOn, most_turns}
 use Rattle.giop_commands.proofs.StepLemmas.{Counted}
-
--- ---- a table
-
--- the calls of one more id are taken out, if they are over
-pub over_passed : {E : Type 0} (closed : E → Bool) (ids : List ℕ) (i d : ℕ) (table next all : ById (Slot E)) → i < length ids
-    → next ≡ without_ended closed (get_or ids i d) table → without_over closed (drop i ids) table ≡ all → without_over closed (drop (i + 1) ids) next ≡ all
-over_passed closed ids i d table next all within is before =
-    ap (without_over closed (drop (i + 1) ids)) is ∙ sym (ap (λ l. without_over closed l table) (drop_more ids i d within)) ∙ before
-
--- those of all ids are
-pub none_passed : {E : Type 0} (closed : E → Bool) (ids : List ℕ) (i : ℕ) (table all : ById (Slot E)) → length ids ≤ i
-    → without_over closed (drop i ids) table ≡ all → table ≡ all
-none_passed closed ids i table all passed before = sym (ap (λ l. without_over closed l table) (drop_of_length-le ids passed)) ∙ before
 
 -- ---- an end, of which nothing but the table changes
 module _ {R E V A F : Type 0} where
   table_on : (old new : End R E V A F) (table : ById (Slot E)) → new ≡ record old { calls = record old.calls { table = table } } → new.calls.table ≡ table
   table_on old new table same = ap (λ (e : End R E V A F). e.calls.table) same
 
-  same_rule : (old new : End R E V A F) → new ≡ record old { calls = record old.calls { table = new.calls.table } } → new.calls.rule ≡ old.calls.rule
+  pub same_rule : (old new : End R E V A F) → new ≡ record old { calls = record old.calls { table = new.calls.table } } → new.calls.rule ≡ old.calls.rule
   same_rule old new same = ap (λ (e : End R E V A F). e.calls.rule) same
 
   pub table_stepped : (old mid new : End R E V A F) (closed : R → E → Bool) (id : ℕ)

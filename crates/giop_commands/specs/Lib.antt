@@ -12,6 +12,12 @@ pub mod Shown
 pub mod Table
 pub mod Check
 pub mod Trace
+pub mod TracedCalls
+pub mod TracedLines
+pub mod TracedJson
+pub mod TracedText
+pub mod Incoming
+pub mod TracedRuns
 pub mod Steps
 pub mod Acts
 pub mod Turns

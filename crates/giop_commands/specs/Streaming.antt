@@ -1,6 +1,6 @@
 -- What `serve --stream` and `call --stream` do with the calls that are over: after each turn they are
 -- told, in ascending order of their ids, and taken out.
-use Rattle.std.specs.Prelude.{◌≡◌, ℕ, ◌<◌, Bool, false, List, [], ◌∷◌, ◌++◌, length, Option, Some, None, if◌then◌else◌}
+use Rattle.std.specs.Prelude.{◌≡◌, ℕ, ◌<◌, Bool, false, List, [], ◌∷◌, ◌++◌, length, take, Option, Some, None, if◌then◌else◌}
 use Rattle.std.specs.FinMap as finite
 use Rattle.std.specs.List.{flat_map}
 use Rattle.std.specs.Io.KnownBytes.{Appends}
@@ -52,6 +52,17 @@ module _ {E : Type 0} (closed : E → Bool) where
   abbrev pub without_over : List ℕ → ById (Slot E) → ById (Slot E)
   without_over [] table = table
   without_over (id ∷ ids) table = without_over ids (without_ended id table)
+
+  -- of the calls of these ids that are over, those of the first ids are out, and all others stay
+  abbrev pub OutInPart : List ℕ → ById (Slot E) → ById (Slot E) → Type 0
+  OutInPart ids old new = (n : ℕ) × (new ≡ without_over (take n ids) old)
+
+  -- and they are those that have their lines
+  abbrev pub ToldInPart :
+      (ℕ → E → List ℕ) → List ℕ → ById (Slot E) → ById (Slot E) → Option (List ℕ) → Option (List ℕ) → Type 0
+  ToldInPart line ids old new was now =
+      (n : ℕ) × (new ≡ without_over (take n ids) old)
+      × Appends was now (flat_map (over_at line old) (take n ids))
 
 -- ---- a connection that is served so
 

@@ -10,7 +10,6 @@ ghost use Rattle.giop_session.specs.Pumping.{between};
 ghost use Rattle.giop_calls.specs.ClientTable.{is_closed};
 ghost use Rattle.giop_commands.specs.Acts.{outbox};
 ghost use Rattle.giop_commands.specs.Calling.{CallsAll, CallsOne, Converses, Talks, are_over, asked_of, client_hears, is_over, request_of};
-ghost use Rattle.giop_commands.specs.Check.{default_limits};
 ghost use Rattle.giop_commands.specs.Endings.{CallsEnd, Ends};
 ghost use Rattle.giop_commands.specs.Sessions.{Calls, all_well, call_status, is_well, session_text, told, wire};
 ghost use Rattle.giop_commands.specs.Steps.{Upto};
@@ -39,13 +38,13 @@ use crate::status::Status;
 use giop_calls::ClientEntry;
 use giop_cdr::OctetList;
 use giop_msg::{Request, RequestHead, ServiceContexts, Target, Version};
-use giop_session::{ClientEnd, Form, Limits, SessionFault};
+use giop_session::{ClientEnd, Form, SessionFault};
 use giop_types::{Interface, NumberForm};
 use std::alloc::{AllocError, Global};
 use std::io::{Read, Write};
 
-/// Calls operations of the object of a key, in a version and a form, by a new client's end with the
-/// default limits. The first pieces of all calls are put out, then one piece of each in turn. What
+/// Calls operations of the object of a key, in a version and a form, by a new client's end with these
+/// limits. The first pieces of all calls are put out, then one piece of each in turn. What
 /// is put out is written, and replies are read until all calls are over or the input ends. Nothing
 /// is read where no call has a reply. Then the table is written to `out`, a line for each call, and
 /// the fault that ended the session, where one did.
@@ -60,50 +59,25 @@ use std::io::{Read, Write};
 #[tactic(auto, using(crate::proofs::SessionsLemmas::calls_told))]
 pub fn call_session<R: Read, W: Write, O: Write>(
     alloc: Global,
-    interface: &Interface,
+    calling: Calling<'_>,
     calls: Vec<CallLine>,
-    key: &[u8],
-    version: Version,
-    form: Form,
     reader: &mut R,
     writer: &mut W,
     out: &mut O,
 ) -> Status
-    requires { IsForm form }
-    ensures { Calls (record {
-      interface = interface.now;
-      calls = calls.items;
-      key = key.now;
-      version = version;
-      form = form;
-      limits = default_limits;
-    })
+    ensures { Calls (asked_of calling.entry calls.items)
         (wire (R.remaining reader.old) (W.contents writer.old))
         (wire (R.remaining reader.new) (W.contents writer.new))
         (O.contents out.old) (O.contents out.new) result }
 {
-    let calling = Calling {
-        interface,
-        key,
-        version,
-        form,
-        limits: Limits::default(),
-    };
-    match call_over(
-        alloc,
-        calling,
-        calls,
-        LineForm::Text(NumberForm::Plain),
-        reader,
-        writer,
-        out,
-    ) {
+    let lines = LineForm::Text(NumberForm::Plain);
+    match call_over(alloc, calling, calls, lines, reader, writer, out) {
         Ok(ending) => ending.status,
         Err(failure) => failure.status(),
     }
 }
 
-/// Does what `call_session` does, with the limits of `calling`, told in a form, and tells besides
+/// Does what `call_session` does, told in a form, and tells besides
 /// which calls are open where the input ended. Where something fails, what failed is returned in place of that;
 /// where that is the connection, the table is written before.
 pub fn call_over<R: Read, W: Write, O: Write>(

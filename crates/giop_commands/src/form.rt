@@ -2,6 +2,7 @@
 //! in each is specs/Forms.antt: change both.
 ghost use Rattle.std.specs.Prelude.{◌≡◌, IfOk, IfSome, OnOk};
 ghost use Rattle.std.specs.Io.KnownBytes.{Appends};
+ghost use Rattle.std.specs.String.{string_bytes};
 ghost use Rattle.giop_commands.specs.Dump.{ended};
 ghost use Rattle.giop_commands.specs.Forms.{closed_in, ended_in, line_in, part_in, refused_in, told_in};
 
@@ -9,6 +10,7 @@ use crate::failure::Failure;
 use crate::status::Status;
 use giop_lines::{RefusalJson, RefusalLine};
 use giop_types::NumberForm;
+use std::alloc::{AllocError, Global};
 use std::fmt::Display;
 use std::io::Write;
 
@@ -67,6 +69,22 @@ pub fn write_line<T: Display + Drop, J: Display + Drop, W: Write>(
         LineForm::Json(_) => writeln!(writer, "{json}")?,
     }
     Ok(())
+}
+
+/// A line, of text or of JSON, without its newline.
+pub fn line_text<T: Display + Drop, J: Display + Drop>(
+    alloc: Global,
+    form: LineForm,
+    text: T,
+    json: J,
+) -> Result<String, AllocError>
+    ensures { IfOk result (λ line. IfSome (told_in (line_in form) (T.output text) (J.output json))
+        (λ told. string_bytes line ≡ told)) }
+{
+    match form {
+        LineForm::Text(_) => text.to_string(alloc),
+        LineForm::Json(_) => json.to_string(alloc),
+    }
 }
 
 /// Writes what ends an object within a JSON line; nothing in text.

@@ -1,15 +1,12 @@
 //! `serve`: a server's end between a reader and a writer. Its meaning is specs/Serving.antt, and
 //! specs/Sessions.antt for what is printed: change both.
-ghost use Rattle.std.specs.Prelude.{◌≡◌, ◌++◌, map, IfOk, OnOk};
+ghost use Rattle.std.specs.Prelude.{◌≡◌, ◌++◌, IfOk, OnOk};
 ghost use Rattle.std.specs.Io.KnownBytes.{Appends};
-ghost use Rattle.giop_session.specs.Acts.Form.{IsForm};
 ghost use Rattle.giop_session.specs.Pumping.{between};
 ghost use Rattle.giop_calls.specs.ServerTable.{is_closed};
 ghost use Rattle.giop_commands.specs.Acts.{outbox};
-ghost use Rattle.giop_commands.specs.Check.{default_limits};
 ghost use Rattle.giop_commands.specs.Dump.{ended};
 ghost use Rattle.giop_commands.specs.Endings.{Ends, ServesEnd};
-ghost use Rattle.giop_commands.specs.Objects.{object_of};
 ghost use Rattle.giop_commands.specs.Serving.{AnswersAll, AnswersOne, Converses, desk, served_of, session};
 ghost use Rattle.giop_commands.specs.Sessions.{Serves, connection_in, serve_status, session_text, wire};
 ghost use Rattle.giop_commands.specs.Steps.{Upto};
@@ -31,19 +28,19 @@ pub mod table;
 use crate::failure::Failure;
 use crate::form::{LineForm, write_line};
 use crate::serve::answering::{Due, due_to, reply_to};
-use crate::serve::given::{ServedObject, Serving};
+use crate::serve::given::Serving;
 use crate::serve::in_turn::Passed;
 use crate::session::ending::{Ending, ending_of};
 use crate::session::sending::send_all;
 use crate::session::{TURNS, goes_on, told, told_of, write_session};
 use crate::status::Status;
 use giop_lines::{ConnectionJson, ConnectionLine};
-use giop_session::{Form, Limits, ServerEnd, SessionFault};
+use giop_session::{ServerEnd, SessionFault};
 use giop_types::{Interface, NumberForm};
 use std::alloc::Global;
 use std::io::{Read, Write};
 
-/// Serves a connection of this number by a new server's end with the default limits. After each
+/// Serves a connection of this number by a new server's end with these limits. After each
 /// read, what waits for an answer is answered in a form, in ascending order of the ids. A Request
 /// whose target is the key of an object is answered by what is given for its operation, else by the
 /// exception that says what is wrong with it. A LocateRequest is answered by whether its target is
@@ -65,32 +62,18 @@ use std::io::{Read, Write};
 pub fn serve_session<R: Read, W: Write, O: Write>(
     alloc: Global,
     number: u32,
-    interface: &Interface,
-    objects: &[ServedObject<'_>],
+    serving: Serving<'_>,
     passed: &mut Passed,
-    form: Form,
     reader: &mut R,
     writer: &mut W,
     out: &mut O,
 ) -> Status
-    requires { IsForm form }
-    ensures { Serves number (record {
-      interface = interface.now;
-      objects = map object_of objects.now;
-      form = form;
-      limits = default_limits;
-    })
+    ensures { Serves number (served_of serving.entry)
         (wire (R.remaining reader.old) (W.contents writer.old))
         (wire (R.remaining reader.new) (W.contents writer.new))
         passed.old.names.items passed.new.names.items
         (O.contents out.old) (O.contents out.new) result }
 {
-    let serving = Serving {
-        interface,
-        objects,
-        form,
-        limits: Limits::default(),
-    };
     let lines = LineForm::Text(NumberForm::Plain);
     match serve_over(alloc, number, serving, passed, lines, reader, writer, out) {
         Ok(ending) => ending.status,
@@ -98,7 +81,7 @@ pub fn serve_session<R: Read, W: Write, O: Write>(
     }
 }
 
-/// Does what `serve_session` does, with the limits of `serving`, told in a form, and tells besides
+/// Does what `serve_session` does, told in a form, and tells besides
 /// which calls are open where the input ended, and how many octets were read that are no whole message. Where
 /// something fails, what failed is returned in place of that; where that is the connection, its line
 /// and the table are written before.

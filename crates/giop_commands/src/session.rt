@@ -24,6 +24,7 @@ pub mod sending;
 pub mod streaming;
 pub mod table;
 pub mod target;
+pub mod untold;
 
 use crate::failure::Failure;
 use crate::form::{LineForm, write_line};

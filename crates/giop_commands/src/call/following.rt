@@ -219,9 +219,13 @@ fn write_one<O: Write>(
         (latest_at lines interface.now ends.now id)) }
 {
     match latest(ends, id) {
-        Some(entry) => ClientRule::write_entry(alloc, lines, interface, id, entry, out),
-        None => Ok(()),
+        Some(entry) => {
+            let line = ClientRule::entry_text(alloc, lines, interface, id, entry)?;
+            writeln!(out, "{line}")?;
+        }
+        None => {}
     }
+    Ok(())
 }
 
 // Whether the calls of all ids went well where they were made last.

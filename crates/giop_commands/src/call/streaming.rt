@@ -48,15 +48,14 @@ impl Streamed for ClientRule {
         entry.is_closed()
     }
 
-    fn write_told<W: Write>(
+    fn told_text(
         alloc: Global,
         lines: LineForm,
         interface: &Interface,
         id: u32,
         entry: &ClientEntry,
-        writer: &mut W,
-    ) -> Result<(), Failure> {
-        ClientRule::write_entry(alloc, lines, interface, id, entry, writer)
+    ) -> Result<String, AllocError> {
+        ClientRule::entry_text(alloc, lines, interface, id, entry)
     }
 }
 
@@ -65,7 +64,7 @@ impl Streamed for ClientRule {
 /// read, each call that is over has its line, in ascending order of the ids, and is taken out. So
 /// any number of calls takes the memory of those that are open. At the end there are the lines of
 /// the calls that are open, and those of the calls that weren't made, `ID Unsent`; and then the
-/// fault, where one ended the session. `out` is flushed before each call is taken out.
+/// fault, where one ended the session. `out` is flushed before each read.
 ///
 /// It is `Done` where no call was refused, and each got its result, or was sent and has none;
 /// `LimitPassed` where a limit kept one from it; else `Refused`. Where something fails, what failed

@@ -8,8 +8,7 @@ ghost use Rattle.giop_msg.specs.Messages.Request.{operation_asked};
 ghost use Rattle.giop_types.specs.JsonForms.ValuesText.{values_text};
 ghost use Rattle.giop_commands.specs.Bodies.{brought_by, brought_text};
 
-use crate::failure::Failure;
-use crate::form::{LineForm, write_line};
+use crate::form::{LineForm, line_text};
 use crate::session::bodies::forward_text;
 use crate::session::table::Tabled;
 use giop_calls::{ClientEntry, ClientRule};
@@ -18,28 +17,26 @@ use giop_lines::{ClientEntryJson, ClientEntryLine};
 use giop_msg::{ReplyBody, Request};
 use giop_types::{Interface, NumberForm, Offer, Value, values_to_text};
 use std::alloc::{AllocError, Global};
-use std::io::Write;
 
 impl Tabled for ClientRule {
     ghost use Rattle.giop_commands.specs.Table.{client_entry_in};
 
     ghost line = { client_entry_in };
 
-    fn write_entry<W: Write>(
+    fn entry_text(
         alloc: Global,
         lines: LineForm,
         interface: &Interface,
         id: u32,
         entry: &ClientEntry,
-        writer: &mut W,
-    ) -> Result<(), Failure> {
+    ) -> Result<String, AllocError> {
         let brought = brought_text(alloc, lines.numbers(), interface, entry)?;
         let brought = brought.as_str();
         let (text, json) = (
             ClientEntryLine { id, entry, brought },
             ClientEntryJson { id, entry, brought },
         );
-        write_line(lines, text, json, writer)
+        line_text(alloc, lines, text, json)
     }
 }
 

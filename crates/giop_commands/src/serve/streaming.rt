@@ -16,7 +16,7 @@ ghost use Rattle.giop_commands.specs.Table.{table_text};
 
 use crate::call::table::brought_by;
 use crate::failure::Failure;
-use crate::form::{LineForm, write_line};
+use crate::form::{LineForm, line_text, write_line};
 use crate::serve::given::Serving;
 use crate::serve::in_turn::Passed;
 use crate::serve::shown::{AnsweredObject, AnsweredShownLine, question_shown};
@@ -43,35 +43,33 @@ impl Streamed for ServerRule {
         entry.is_closed()
     }
 
-    fn write_told<W: Write>(
+    fn told_text(
         alloc: Global,
         lines: LineForm,
         interface: &Interface,
         id: u32,
         entry: &ServerEntry,
-        writer: &mut W,
-    ) -> Result<(), Failure> {
+    ) -> Result<String, AllocError> {
         match entry {
             ServerEntry::Answered { asked, reply, .. } => {
-                write_answered(alloc, lines, interface, id, asked, &reply.body, writer)
+                answered_text(alloc, lines, interface, id, asked, &reply.body)
             }
-            _ => ServerRule::write_entry(alloc, lines, interface, id, entry, writer),
+            _ => ServerRule::entry_text(alloc, lines, interface, id, entry),
         }
     }
 }
 
-// Writes the line of a call that was answered.
-fn write_answered<W: Write>(
+// The line of a call that was answered, without its newline.
+fn answered_text(
     alloc: Global,
     lines: LineForm,
     interface: &Interface,
     id: u32,
     asked: &Question,
     body: &ReplyBody,
-    writer: &mut W,
-) -> Result<(), Failure>
-    ensures { OnOk result (Appends (W.contents writer.old) (W.contents writer.new)
-        (ended (answered_in lines interface.now id asked.now body.now))) }
+) -> Result<String, AllocError>
+    ensures { IfOk result (λ text. string_bytes text
+        ≡ answered_in lines interface.now id asked.now body.now) }
 {
     let ins = question_ins(alloc, lines.numbers(), interface, asked)?;
     let brought = question_brought(alloc, lines.numbers(), interface, asked, body)?;
@@ -93,7 +91,7 @@ fn write_answered<W: Write>(
     };
     let text = AnsweredShownLine(line, shown.as_str());
     let json = AnsweredObject(object, shown.as_str());
-    write_line(lines, text, json, writer)
+    line_text(alloc, lines, text, json)
 }
 
 // The ins of what was asked, as a JSON list; empty where it couldn't be decoded.

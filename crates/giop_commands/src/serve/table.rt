@@ -4,8 +4,7 @@ ghost use Rattle.std.specs.Prelude.{◌≡◌, IfOk};
 ghost use Rattle.std.specs.String.{string_bytes};
 ghost use Rattle.giop_commands.specs.Bodies.{ins_text, request_ins};
 
-use crate::failure::Failure;
-use crate::form::{LineForm, write_line};
+use crate::form::{LineForm, line_text};
 use crate::serve::shown::{EntryObject, EntryShownLine, entry_shown};
 use crate::session::table::Tabled;
 use giop_calls::{ServerEntry, ServerRule};
@@ -13,21 +12,19 @@ use giop_lines::ServerEntryLine;
 use giop_msg::Request;
 use giop_types::{Interface, NumberForm, values_to_text};
 use std::alloc::{AllocError, Global};
-use std::io::Write;
 
 impl Tabled for ServerRule {
     ghost use Rattle.giop_commands.specs.Table.{server_entry_in};
 
     ghost line = { server_entry_in };
 
-    fn write_entry<W: Write>(
+    fn entry_text(
         alloc: Global,
         lines: LineForm,
         interface: &Interface,
         id: u32,
         entry: &ServerEntry,
-        writer: &mut W,
-    ) -> Result<(), Failure> {
+    ) -> Result<String, AllocError> {
         let ins = ins_text(alloc, lines.numbers(), interface, entry)?;
         let ins = ins.as_str();
         let shown = entry_shown(alloc, lines, interface, entry)?;
@@ -40,7 +37,7 @@ impl Tabled for ServerRule {
             ins,
             shown,
         };
-        write_line(lines, text, json, writer)
+        line_text(alloc, lines, text, json)
     }
 }
 

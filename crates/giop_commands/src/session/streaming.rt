@@ -1,28 +1,29 @@
 //! The calls of an end that are over: each is told and taken out. Its meaning is
 //! specs/Streaming.antt: change both.
-ghost use Rattle.std.specs.Prelude.{◌≡◌, None, OnOk};
+ghost use Rattle.std.specs.Prelude.{◌≡◌, None, IsErrOf, OnErr, OnOk};
 ghost use Rattle.std.specs.FinMap as finite;
-ghost use Rattle.std.specs.List.{flat_map};
-ghost use Rattle.std.specs.Io.KnownBytes.{Appends};
-ghost use Rattle.giop_commands.specs.Streaming.{ended_at, over_at, over_text, without_ended, without_over};
+ghost use Rattle.std.specs.List.{IsDistinct, flat_map};
+ghost use Rattle.std.specs.Ordering.{eq_by_cmp, nat_cmp};
+ghost use Rattle.std.specs.Io.KnownBytes.{Appends, Keeps};
+ghost use Rattle.giop_commands.specs.Streaming.{OutInPart, ToldInPart, ended_at, over_at, over_text, without_ended, without_over};
 ghost use Rattle.giop_commands.specs.Table.{table_text, text_at};
 
 use crate::failure::Failure;
 use crate::form::LineForm;
 use crate::session::table::Tabled;
+use crate::session::untold::Untold;
 use giop_mux::CallRule;
 use giop_session::{End, Hearing};
 use giop_types::Interface;
-use std::alloc::Global;
+use std::alloc::{AllocError, Global};
 use std::io::Write;
 
 /// A side of a connection whose calls are told when they are over.
 pub trait Streamed: Tabled {
-    ghost use Rattle.std.specs.Prelude.{◌≡◌, ℕ, List, OnOk};
-    ghost use Rattle.std.specs.Io.KnownBytes.{Appends};
+    ghost use Rattle.std.specs.Prelude.{◌≡◌, ℕ, List, IfOk};
+    ghost use Rattle.std.specs.String.{string_bytes};
     ghost use Rattle.giop_types.specs.declared.json.interface.Interface.{Interface};
     ghost use Rattle.giop_commands.specs.declared.form.LineForm.{LineForm};
-    ghost use Rattle.giop_commands.specs.Dump.{ended};
 
     ghost told: { LineForm → Interface → ℕ → Self.Entry → List ℕ };
 
@@ -30,28 +31,30 @@ pub trait Streamed: Tabled {
     fn is_over(entry: &Self::Entry) -> bool
         ensures { (rule : _) → result ≡ ⟦<Self as CallRule>⟧.closed rule entry.now };
 
-    /// Writes the line of what is stored for an id in a form, with its values by an interface.
-    fn write_told<W: Write>(
+    /// The line of what is stored for an id in a form, with its values by an interface, without its
+    /// newline.
+    fn told_text(
         alloc: Global,
         lines: LineForm,
         interface: &Interface,
         id: u32,
         entry: &Self::Entry,
-        writer: &mut W,
-    ) -> Result<(), Failure>
-        ensures { OnOk result (Appends (W.contents writer.old) (W.contents writer.new)
-            (ended (told lines interface.now id entry.now))) };
+    ) -> Result<String, AllocError>
+        ensures { IfOk result (λ text. string_bytes text ≡ told lines interface.now id entry.now) };
 }
 
-/// Writes the line of each call that is over in a form, in ascending order of the ids, flushes the writer, and
-/// takes these calls out. Where that fails, no call is taken out.
+/// Writes the line of each call that is over in a form, in ascending order of the ids, and takes it
+/// out as soon as it is written; then it flushes the writer.
+///
+/// Where that fails, the calls up to some id are out, and all others stay: where it is out of memory,
+/// these are exactly those whose lines were written, and nothing else was.
 pub fn tell_over<R: Streamed, W: Write>(
     alloc: Global,
     lines: LineForm,
     interface: &Interface,
     end: &mut End<'_, R>,
     writer: &mut W,
-) -> Result<(), Failure>
+) -> Result<(), Untold>
     requires { end.old.fault ≡ None }
     ensures text { OnOk result (Appends (W.contents writer.old) (W.contents writer.new)
         (over_text (R.closed end.old.calls.rule) (R.told lines interface.now) end.old.calls.table)) }
@@ -61,53 +64,82 @@ pub fn tell_over<R: Streamed, W: Write>(
             end.old.calls.table;
       };
     }) }
+    ensures memory { IsErrOf result Untold.Memory → ToldInPart (R.closed end.old.calls.rule)
+        (R.told lines interface.now) (finite.keys end.old.calls.table) end.old.calls.table
+        end.new.calls.table (W.contents writer.old) (W.contents writer.new) }
+    ensures err { OnErr result (OutInPart (R.closed end.old.calls.rule)
+        (finite.keys end.old.calls.table) end.old.calls.table end.new.calls.table) }
+    ensures others { end.new ≡ record end.old {
+      calls = record end.old.calls { table = end.new.calls.table };
+    } }
 {
     let ids = end.ids(alloc)?;
-    write_over(alloc, lines, interface, end, ids.as_slice(), writer)?;
+    tell_each_over(alloc, lines, interface, end, ids.as_slice(), writer)?;
     writer.flush()?;
-    take_over(end, ids.as_slice());
     Ok(())
 }
 
-// Writes the line of each of these ids whose call is over.
-fn write_over<R: Streamed, W: Write>(
+// Tells those of these ids whose calls are over, one after the other, and takes them out.
+fn tell_each_over<R: Streamed, W: Write>(
     alloc: Global,
     lines: LineForm,
     interface: &Interface,
-    end: &End<'_, R>,
+    end: &mut End<'_, R>,
     ids: &[u32],
     writer: &mut W,
-) -> Result<(), Failure>
-    ensures { OnOk result (Appends (W.contents writer.old) (W.contents writer.new)
-        (flat_map (over_at (R.closed end.now.calls.rule) (R.told lines interface.now)
-        end.now.calls.table) ids.now)) }
+) -> Result<(), Untold>
+    requires fault { end.old.fault ≡ None }
+    requires apart { IsDistinct (eq_by_cmp nat_cmp) ids.now }
+    ensures text { OnOk result (Appends (W.contents writer.old) (W.contents writer.new)
+        (flat_map (over_at (R.closed end.old.calls.rule) (R.told lines interface.now)
+        end.old.calls.table) ids.now)) }
+    ensures left { OnOk result (end.new.calls.table
+        ≡ without_over (R.closed end.old.calls.rule) ids.now end.old.calls.table) }
+    ensures memory { IsErrOf result Untold.Memory → ToldInPart (R.closed end.old.calls.rule)
+        (R.told lines interface.now) ids.now end.old.calls.table
+        end.new.calls.table (W.contents writer.old) (W.contents writer.new) }
+    ensures err { OnErr result (OutInPart (R.closed end.old.calls.rule)
+        ids.now end.old.calls.table end.new.calls.table) }
+    ensures others { end.new ≡ record end.old {
+      calls = record end.old.calls { table = end.new.calls.table };
+    } }
 {
     for id in ids {
-        write_if_over(alloc, lines, interface, end, *id, writer)?;
+        tell_if_over(alloc, lines, interface, end, *id, writer)?;
     }
     Ok(())
 }
 
-// Writes the line of an id, where its call is over.
-fn write_if_over<R: Streamed, W: Write>(
+// Writes the line of an id, where its call is over, and takes the call out. Where that fails, the
+// call stays.
+fn tell_if_over<R: Streamed, W: Write>(
     alloc: Global,
     lines: LineForm,
     interface: &Interface,
-    end: &End<'_, R>,
+    end: &mut End<'_, R>,
     id: u32,
     writer: &mut W,
-) -> Result<(), Failure>
-    ensures { OnOk result (Appends (W.contents writer.old) (W.contents writer.new)
-        (over_at (R.closed end.now.calls.rule) (R.told lines interface.now) end.now.calls.table id)) }
+) -> Result<(), Untold>
+    requires { end.old.fault ≡ None }
+    ensures text { OnOk result (Appends (W.contents writer.old) (W.contents writer.new)
+        (over_at (R.closed end.old.calls.rule) (R.told lines interface.now) end.old.calls.table id)) }
+    ensures left { OnOk result (end.new ≡ record end.old {
+      calls = record end.old.calls {
+        table = without_ended (R.closed end.old.calls.rule) id end.old.calls.table;
+      };
+    }) }
+    ensures memory { IsErrOf result Untold.Memory
+        → Keeps (W.contents writer.old) (W.contents writer.new) }
+    ensures kept { OnErr result (end.new ≡ end.old) }
 {
     if is_over_at(end, id) {
-        write_at(alloc, lines, interface, end, id, writer)
-    } else {
-        Ok(())
+        write_at(alloc, lines, interface, end, id, writer)?;
+        let _ = end.take(id);
     }
+    Ok(())
 }
 
-// Writes the line of what is stored for an id, if anything is.
+// Writes the line of what is stored for an id, if anything is. Out of memory, nothing is written.
 fn write_at<R: Streamed, W: Write>(
     alloc: Global,
     lines: LineForm,
@@ -115,14 +147,17 @@ fn write_at<R: Streamed, W: Write>(
     end: &End<'_, R>,
     id: u32,
     writer: &mut W,
-) -> Result<(), Failure>
-    ensures { OnOk result (Appends (W.contents writer.old) (W.contents writer.new)
+) -> Result<(), Untold>
+    ensures text { OnOk result (Appends (W.contents writer.old) (W.contents writer.new)
         (text_at (R.told lines interface.now) end.now.calls.table id)) }
+    ensures memory { IsErrOf result Untold.Memory
+        → Keeps (W.contents writer.old) (W.contents writer.new) }
 {
-    match end.entry(id) {
-        Some(entry) => R::write_told(alloc, lines, interface, id, entry, writer),
-        None => Ok(()),
+    if let Some(entry) = end.entry(id) {
+        let line = R::told_text(alloc, lines, interface, id, entry)?;
+        writeln!(writer, "{line}")?;
     }
+    Ok(())
 }
 
 /// Whether something is stored for an id, and the call is over.
@@ -132,34 +167,6 @@ pub fn is_over_at<R: Streamed>(end: &End<'_, R>, id: u32) -> bool
     match end.entry(id) {
         Some(entry) => R::is_over(entry),
         None => false,
-    }
-}
-
-// Takes out those of these ids whose calls are over.
-fn take_over<R: Streamed>(end: &mut End<'_, R>, ids: &[u32])
-    requires { end.old.fault ≡ None }
-    ensures { end.new ≡ record end.old {
-      calls = record end.old.calls {
-        table = without_over (R.closed end.old.calls.rule) ids.now end.old.calls.table;
-      };
-    } }
-{
-    for id in ids {
-        take_if_over(end, *id);
-    }
-}
-
-// Takes out what is stored for an id, where its call is over.
-fn take_if_over<R: Streamed>(end: &mut End<'_, R>, id: u32)
-    requires { end.old.fault ≡ None }
-    ensures { end.new ≡ record end.old {
-      calls = record end.old.calls {
-        table = without_ended (R.closed end.old.calls.rule) id end.old.calls.table;
-      };
-    } }
-{
-    if is_over_at(end, id) {
-        let _ = end.take(id);
     }
 }
 

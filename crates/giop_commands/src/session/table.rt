@@ -9,30 +9,28 @@ use crate::form::LineForm;
 use giop_mux::CallRule;
 use giop_session::{End, Hearing};
 use giop_types::Interface;
-use std::alloc::Global;
+use std::alloc::{AllocError, Global};
 use std::io::Write;
 
 /// A side of a connection whose entries have lines in a table.
 pub trait Tabled: Hearing {
-    ghost use Rattle.std.specs.Prelude.{ℕ, List, OnOk};
-    ghost use Rattle.std.specs.Io.KnownBytes.{Appends};
+    ghost use Rattle.std.specs.Prelude.{◌≡◌, ℕ, List, IfOk};
+    ghost use Rattle.std.specs.String.{string_bytes};
     ghost use Rattle.giop_types.specs.declared.json.interface.Interface.{Interface};
     ghost use Rattle.giop_commands.specs.declared.form.LineForm.{LineForm};
-    ghost use Rattle.giop_commands.specs.Dump.{ended};
 
     ghost line: { LineForm → Interface → ℕ → Self.Entry → List ℕ };
 
-    /// Writes the line of what is stored for an id in a form, with its values by an interface.
-    fn write_entry<W: Write>(
+    /// The line of what is stored for an id in a form, with its values by an interface, without its
+    /// newline.
+    fn entry_text(
         alloc: Global,
         lines: LineForm,
         interface: &Interface,
         id: u32,
         entry: &Self::Entry,
-        writer: &mut W,
-    ) -> Result<(), Failure>
-        ensures { OnOk result (Appends (W.contents writer.old) (W.contents writer.new)
-            (ended (line lines interface.now id entry.now))) };
+    ) -> Result<String, AllocError>
+        ensures { IfOk result (λ text. string_bytes text ≡ line lines interface.now id entry.now) };
 }
 
 /// Writes the table of an end: a line for each id for which something is stored, ascending.
@@ -49,7 +47,8 @@ pub fn write_table<R: Tabled, W: Write>(
     let ids = end.ids(alloc)?;
     for id in &ids {
         if let Some(entry) = end.entry(*id) {
-            R::write_entry(alloc, lines, interface, *id, entry, writer)?;
+            let line = R::entry_text(alloc, lines, interface, *id, entry)?;
+            writeln!(writer, "{line}")?;
         }
     }
     Ok(())

@@ -1,11 +1,16 @@
-//! What a call came to, in its line.
+//! What a call came to, in its line. Its text is `answer_text` in specs/TracedLines.antt: change
+//! both.
+ghost use Rattle.std.specs.Prelude.{Some, OnOk, option_copied};
+ghost use Rattle.std.specs.Io.KnownBytes.{Appends};
+ghost use Rattle.giop_commands.specs.TracedLines.{answer_text, body_text, done_text, exception_text, named_text, undecoded_reply_text};
 
 use crate::call::table::brought_by;
 use crate::failure::Failure;
 use crate::trace::answered::Answered;
-use giop_cdr::CdrFault;
-use giop_lines::{CdrFaultText, CompletionText, EscapedText, HexText, MinorText};
-use giop_msg::{Msg, ReplyBody, Request};
+use crate::trace::message_part::write_message;
+use giop_cdr::{CdrFault, OctetList};
+use giop_lines::{CdrFaultText, CompletionText, EscapedText, HexText, MinorText, ReplyText};
+use giop_msg::{Completion, Msg, ReplyBody, Request};
 use giop_types::{Interface, NumberForm};
 use std::alloc::Global;
 use std::io::Write;
@@ -19,9 +24,13 @@ pub fn write_answer<W: Write>(
     message: &Msg,
     answered: &Answered,
     writer: &mut W,
-) -> Result<(), Failure> {
+) -> Result<(), Failure>
+    ensures { OnOk result (Appends (W.contents writer.old) (W.contents writer.new)
+        (answer_text numbers interface.now (option_copied request.entry) message.now
+        answered.now)) }
+{
     match answered {
-        Answered::Pieces => write_octets("Unfinished", message, writer),
+        Answered::Pieces => write_message("Unfinished", message, writer),
         Answered::Reply(reply) => write_body(
             alloc,
             numbers,
@@ -37,14 +46,8 @@ pub fn write_answer<W: Write>(
         Answered::Undecoded { fault, exception } => {
             write_undecoded(*fault, exception, message, writer)
         }
-        Answered::Other => write_octets("Server", message, writer),
+        Answered::Other => write_message("Server", message, writer),
     }
-}
-
-fn write_octets<W: Write>(name: &str, message: &Msg, writer: &mut W) -> Result<(), Failure> {
-    let octets = HexText(message.payload.as_slice());
-    write!(writer, " {name} {} {octets}", message.kind)?;
-    Ok(())
 }
 
 // What a Reply says: its status, and by that what it brought.
@@ -55,46 +58,79 @@ fn write_body<W: Write>(
     request: Option<&Request>,
     body: &ReplyBody,
     writer: &mut W,
-) -> Result<(), Failure> {
-    if let ReplyBody::SystemException {
-        id,
-        minor,
-        completion,
-    } = body
-    {
-        let id = EscapedText(id.as_slice());
-        let completion = CompletionText(*completion);
-        write!(writer, " Done 2 {id} {} {completion}", MinorText(*minor))?;
-        return Ok(());
+) -> Result<(), Failure>
+    ensures { OnOk result (Appends (W.contents writer.old) (W.contents writer.new)
+        (body_text numbers interface.now (option_copied request.entry) body.now)) }
+{
+    match (body, request) {
+        (
+            ReplyBody::SystemException {
+                id,
+                minor,
+                completion,
+            },
+            _,
+        ) => { write_exception(id, *minor, *completion, writer) }
+        (_, Some(request)) => write_done(alloc, numbers, interface, request, body, writer),
+        (_, None) => Ok(()),
     }
-    let Some(request) = request else {
-        return Ok(());
-    };
+}
+
+// A system exception, its minor code in hexadecimal too.
+fn write_exception<W: Write>(
+    id: &OctetList,
+    minor: u32,
+    completion: Completion,
+    writer: &mut W,
+) -> Result<(), Failure>
+    ensures { OnOk result (Appends (W.contents writer.old) (W.contents writer.new)
+        (exception_text id.now minor completion)) }
+{
+    let (id, completion) = (EscapedText(id.as_slice()), CompletionText(completion));
+    write!(writer, " Done 2 {id} {} {completion}", MinorText(minor))?;
+    Ok(())
+}
+
+// What a Reply brought to a Request that was decoded.
+fn write_done<W: Write>(
+    alloc: Global,
+    numbers: NumberForm,
+    interface: &Interface,
+    request: &Request,
+    body: &ReplyBody,
+    writer: &mut W,
+) -> Result<(), Failure>
+    ensures { OnOk result (Appends (W.contents writer.old) (W.contents writer.new)
+        (done_text numbers interface.now body.now (Some request.now))) }
+{
     let brought = brought_by(alloc, numbers, interface, request, body)?;
-    let brought = brought.as_str();
-    match body {
-        ReplyBody::NoException(_) => write!(writer, " Done 0 {brought}")?,
-        ReplyBody::UserException { id, .. } => {
-            write!(writer, " Done 1 {} {brought}", EscapedText(id.as_slice()))?
-        }
-        ReplyBody::SystemException { .. } => {}
-        ReplyBody::Forward(_) => write!(writer, " Done 3 {brought}")?,
-        ReplyBody::ForwardPerm(_) => write!(writer, " Done 4 {brought}")?,
-        ReplyBody::NeedsAddressing(disposition) => write!(writer, " Done 5 {}", *disposition)?,
-    }
+    write!(writer, " Done {}", ReplyText(body, brought.as_str()))?;
     Ok(())
 }
 
 fn write_undecoded<W: Write>(
     fault: CdrFault,
-    exception: &Option<Vec<u8>>,
+    exception: &Option<OctetList>,
     message: &Msg,
     writer: &mut W,
-) -> Result<(), Failure> {
+) -> Result<(), Failure>
+    ensures { OnOk result (Appends (W.contents writer.old) (W.contents writer.new)
+        (undecoded_reply_text fault exception.now message.now)) }
+{
     write!(writer, " Undecoded reply {}", CdrFaultText(fault))?;
-    if let Some(exception) = exception {
-        write!(writer, " exception {}", EscapedText(exception.as_slice()))?;
-    }
+    write_named(exception, writer)?;
     write!(writer, " {}", HexText(message.payload.as_slice()))?;
+    Ok(())
+}
+
+// The user exception that a Reply names.
+fn write_named<W: Write>(exception: &Option<OctetList>, writer: &mut W) -> Result<(), Failure>
+    ensures { OnOk result (Appends (W.contents writer.old) (W.contents writer.new)
+        (named_text exception.now)) }
+{
+    match exception {
+        Some(exception) => write!(writer, " exception {}", EscapedText(exception.as_slice()))?,
+        None => {}
+    }
     Ok(())
 }

@@ -1,8 +1,13 @@
-//! What the answer of a call is.
-ghost use Rattle.std.specs.Prelude.{◌^◌, ◌≤◌, length};
+//! What the answer of a call is. Its meaning is specs/TracedCalls.antt: change both.
+ghost use Rattle.std.specs.Prelude.{◌≡◌, ◌^◌, ◌≤◌, length, IfOk, option_copied};
+ghost use Rattle.giop_cdr.specs.Layout.{text};
+ghost use Rattle.giop_msg.specs.Joined.{head_of_joined, joined_from, right_behind};
+ghost use Rattle.giop_msg.specs.Locate.{locate_reply_head};
+ghost use Rattle.giop_msg.specs.Messages.Reply.{reply};
+ghost use Rattle.giop_commands.specs.TracedCalls.{answered_by, answered_located, answered_reply, body_at, exception_of, read_text};
 
 use crate::failure::Failure;
-use giop_cdr::{CdrFault, CdrIn, CdrKind, SliceOctets};
+use giop_cdr::{CdrFault, CdrIn, CdrKind, OctetList, SliceOctets};
 use giop_msg::{Kind, LocateReplyHead, Msg, Reply, ReplyHead, Request};
 use giop_types::Interface;
 use std::alloc::Global;
@@ -24,7 +29,7 @@ pub enum Answered {
         /// Why, and where.
         fault: CdrFault,
         /// The repository id of its user exception, where it has one that can be read.
-        exception: Option<Vec<u8>>,
+        exception: Option<OctetList>,
     },
     /// A message that answers nothing.
     Other,
@@ -38,7 +43,10 @@ pub fn answered_by(
     interface: &Interface,
     request: Option<&Request>,
     message: &Msg,
-) -> Result<Answered, Failure> {
+) -> Result<Answered, Failure>
+    ensures { IfOk result (λ answered. answered
+        ≡ answered_by interface.now (option_copied request.entry) message.now) }
+{
     if message.payload.len() > MOST {
         return Err(Failure::Memory);
     }
@@ -58,6 +66,9 @@ fn reply_in(
     message: &Msg,
 ) -> Result<Answered, Failure>
     requires { length message.now.payload ≤ 2 ^ 62 }
+    ensures { IfOk result (λ answered. answered ≡ answered_reply message.now
+        ((reply interface.now (option_copied request.entry) message.now.version).read
+        (joined_from message.now.order message.now.payload))) }
 {
     let joined = SliceOctets::new(message.payload.as_slice());
     let (version, order) = (message.version, message.order);
@@ -73,6 +84,9 @@ fn reply_in(
 
 fn located_in(message: &Msg) -> Result<Answered, Failure>
     requires { length message.now.payload ≤ 2 ^ 62 }
+    ensures { IfOk result (λ answered. answered ≡ answered_located
+        (head_of_joined (locate_reply_head message.now.version) right_behind message.now.order
+        message.now.payload)) }
 {
     let joined = SliceOctets::new(message.payload.as_slice());
     match LocateReplyHead::view(&joined, message.version, message.order) {
@@ -84,25 +98,36 @@ fn located_in(message: &Msg) -> Result<Answered, Failure>
     }
 }
 
-// The repository id of the user exception that a Reply begins its body with, if it can be read.
-fn exception_in(alloc: Global, message: &Msg) -> Result<Option<Vec<u8>>, Failure>
+// The repository id of a Reply's user exception, if it can be read.
+fn exception_in(alloc: Global, message: &Msg) -> Result<Option<OctetList>, Failure>
     requires { length message.now.payload ≤ 2 ^ 62 }
+    ensures { IfOk result (λ exception. exception ≡ exception_of message.now) }
+{
+    let joined = SliceOctets::new(message.payload.as_slice());
+    match ReplyHead::view(&joined, message.version, message.order) {
+        Ok((head, place)) if head.status == 1 => exception_behind(alloc, message, place),
+        _ => Ok(None),
+    }
+}
+
+// The text with which the body begins that stands at an offset of the joined octets.
+#[tactic(auto, unfolding(giop_cdr::specs::Layout::text), using(crate::proofs::IncomingLemmas::none_past))]
+fn exception_behind(
+    alloc: Global,
+    message: &Msg,
+    place: usize,
+) -> Result<Option<OctetList>, Failure>
+    requires { length message.now.payload ≤ 2 ^ 62 }
+    ensures { IfOk result (λ exception.
+        exception ≡ read_text (text.read (body_at message.now place))) }
 {
     let octets = message.payload.as_slice();
-    let joined = SliceOctets::new(octets);
-    let (status, place) = match ReplyHead::view(&joined, message.version, message.order) {
-        Ok((head, place)) => (head.status, place),
-        Err(_) => return Ok(None),
-    };
-    let body = match octets.get(place.saturating_sub(12)..) {
-        Some(body) if body.len() <= MOST => SliceOctets::new(body),
-        _ => return Ok(None),
-    };
-    // No number is aligned to more than 8.
+    let body = octets.get(place.saturating_sub(12)..).unwrap_or(&[]);
+    let body = SliceOctets::new(body);
     let mut input = CdrIn::new(&body, message.order, place % 8);
-    match input.read_string(alloc, u32::MAX) {
-        Ok(exception) if status == 1 => Ok(Some(exception)),
+    match input.read_string(alloc, 0) {
+        Ok(exception) => Ok(Some(OctetList::from(exception))),
         Err(fault) if fault.kind == CdrKind::NoMemory => Err(Failure::Memory),
-        _ => Ok(None),
+        Err(_) => Ok(None),
     }
 }

@@ -1,5 +1,10 @@
-//! What the message that begins a call is.
-ghost use Rattle.std.specs.Prelude.{◌^◌, ◌≤◌, length};
+//! What the message that begins a call is. Its meaning is specs/TracedCalls.antt: change both.
+ghost use Rattle.std.specs.Prelude.{◌≡◌, ◌^◌, ◌≤◌, false, length, IfOk, option_copied};
+ghost use Rattle.giop_msg.specs.Joined.{whole_of_joined};
+ghost use Rattle.giop_msg.specs.Locate.{locate_request};
+ghost use Rattle.giop_msg.specs.Messages.RequestAnswer.{IsWholeWant, request_of_joined};
+ghost use Rattle.giop_trace.specs.Flows.{is_answer};
+ghost use Rattle.giop_commands.specs.TracedCalls.{asked_locate, asked_of, asked_request, is_call, request_in};
 
 use crate::failure::Failure;
 use giop_cdr::{CdrKind, SliceOctets};
@@ -29,7 +34,9 @@ pub enum Asked {
 
 impl Asked {
     /// Whether it begins a call.
-    pub fn is_call(&self) -> bool {
+    pub fn is_call(&self) -> bool
+        ensures { result ≡ is_call self.now }
+    {
         match self {
             Asked::Nothing | Asked::Other => false,
             _ => true,
@@ -43,7 +50,9 @@ pub fn asked_of(
     alloc: Global,
     interface: &Interface,
     message: &Option<Msg>,
-) -> Result<Asked, Failure> {
+) -> Result<Asked, Failure>
+    ensures { IfOk result (λ asked. asked ≡ asked_of interface.now message.now) }
+{
     let Some(message) = message else {
         return Ok(Asked::Nothing);
     };
@@ -61,6 +70,9 @@ pub fn asked_of(
 #[inline(always)]
 fn request_of(alloc: Global, interface: &Interface, message: &Msg) -> Result<Asked, Failure>
     requires { length message.now.payload ≤ 2 ^ 62 }
+    ensures { IfOk result (λ asked. asked ≡ asked_request
+        (request_of_joined interface.now message.now.version message.now.order
+        message.now.payload)) }
 {
     let joined = SliceOctets::new(message.payload.as_slice());
     match Request::decode(alloc, interface, &joined, message.version, message.order) {
@@ -72,6 +84,9 @@ fn request_of(alloc: Global, interface: &Interface, message: &Msg) -> Result<Ask
 
 fn locate_of(alloc: Global, message: &Msg) -> Result<Asked, Failure>
     requires { length message.now.payload ≤ 2 ^ 62 }
+    ensures { IfOk result (λ asked. asked ≡ asked_locate
+        (whole_of_joined (locate_request message.now.version) message.now.order
+        message.now.payload)) }
 {
     let joined = SliceOctets::new(message.payload.as_slice());
     match LocateRequest::decode(alloc, &joined, message.version, message.order) {
@@ -82,7 +97,9 @@ fn locate_of(alloc: Global, message: &Msg) -> Result<Asked, Failure>
 }
 
 // Whether the fault is that it was out of memory.
-fn is_want(fault: RequestFault) -> bool {
+fn is_want(fault: RequestFault) -> bool
+    ensures { result ≡ false → IsWholeWant fault → ⊥ }
+{
     match fault {
         RequestFault::Header(fault) => fault.kind == CdrKind::NoMemory,
         RequestFault::Operation => false,
@@ -91,7 +108,9 @@ fn is_want(fault: RequestFault) -> bool {
 }
 
 /// The Request, where it was decoded.
-pub fn request_in(asked: &Asked) -> Option<&Request> {
+pub fn request_in(asked: &Asked) -> Option<&Request>
+    ensures { option_copied result ≡ request_in asked.now }
+{
     match asked {
         Asked::Request(request) => Some(request),
         _ => None,
@@ -99,7 +118,9 @@ pub fn request_in(asked: &Asked) -> Option<&Request> {
 }
 
 /// Whether a message of this kind answers a call.
-pub fn is_answer(kind: Kind) -> bool {
+pub fn is_answer(kind: Kind) -> bool
+    ensures { result ≡ is_answer kind }
+{
     match kind {
         Kind::Reply | Kind::LocateReply => true,
         _ => false,

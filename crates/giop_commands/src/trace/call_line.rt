@@ -1,16 +1,21 @@
-//! The line of a call, in text or in JSON.
+//! The line of a call, in text or in JSON. It is `call_line` in specs/TracedJson.antt, of the texts of
+//! specs/TracedLines.antt: change both.
+ghost use Rattle.std.specs.Prelude.{◌≡◌, IfOk, OnOk, option_copied};
+ghost use Rattle.std.specs.Io.KnownBytes.{Appends};
+ghost use Rattle.giop_commands.specs.Dump.{ended};
+ghost use Rattle.giop_commands.specs.TracedCalls.{answered_of};
+ghost use Rattle.giop_commands.specs.TracedJson.{call_line};
+ghost use Rattle.giop_commands.specs.TracedLines.{open_text, parts_text};
 
-use crate::call::table::brought_by;
 use crate::failure::Failure;
 use crate::form::LineForm;
-use crate::serve::table::request_ins;
 use crate::trace::answer_part::write_answer;
 use crate::trace::answered::{Answered, answered_by};
 use crate::trace::asked::{Asked, asked_of, request_in};
 use crate::trace::asked_part::write_asked;
 use crate::trace::json::write_call_json;
-use giop_lines::{EscapedText, IdText, OwnTargetText};
-use giop_msg::{Msg, ReplyBody, Request};
+use giop_lines::IdText;
+use giop_msg::{Msg, Request};
 use giop_trace::Flow;
 use giop_types::{Interface, NumberForm};
 use std::alloc::Global;
@@ -45,6 +50,7 @@ pub struct Told<'a> {
 }
 
 /// Writes the line of a call: its id, what was asked, and what it came to.
+#[tactic(auto, unfolding(crate::specs::TracedLines::call_text, crate::specs::TracedJson::call_json))]
 pub fn write_call<W: Write>(
     alloc: Global,
     interface: &Interface,
@@ -53,7 +59,10 @@ pub fn write_call<W: Write>(
     flow: &Flow,
     unanswered: Unanswered,
     writer: &mut W,
-) -> Result<(), Failure> {
+) -> Result<(), Failure>
+    ensures { OnOk result (Appends (W.contents writer.old) (W.contents writer.new)
+        (ended (call_line form interface.now id flow.now unanswered))) }
+{
     let asked = asked_of(alloc, interface, &flow.asked)?;
     let answered = answered_of(alloc, interface, request_in(&asked), &flow.answer)?;
     let told = Told {
@@ -65,8 +74,8 @@ pub fn write_call<W: Write>(
         unanswered,
     };
     match form {
-        LineForm::Text(_) => write_call_text(alloc, interface, told, writer),
-        LineForm::Json(_) => write_call_json(alloc, interface, told, writer),
+        LineForm::Text(_) => write_call_text(alloc, interface, &told, writer),
+        LineForm::Json(_) => write_call_json(alloc, interface, &told, writer),
     }
 }
 
@@ -77,68 +86,33 @@ fn answered_of(
     interface: &Interface,
     request: Option<&Request>,
     answer: &Option<Msg>,
-) -> Result<Option<Answered>, Failure> {
+) -> Result<Option<Answered>, Failure>
+    ensures { IfOk result (λ answered. answered
+        ≡ answered_of interface.now (option_copied request.entry) answer.now) }
+{
     match answer {
         Some(message) => Ok(Some(answered_by(alloc, interface, request, message)?)),
         None => Ok(None),
     }
 }
 
+// The line of a call as text.
 fn write_call_text<W: Write>(
     alloc: Global,
     interface: &Interface,
-    told: Told<'_>,
+    told: &Told<'_>,
     writer: &mut W,
-) -> Result<(), Failure> {
-    match (told.asked, told.answered) {
-        (Asked::Request(request), Some(Answered::Reply(reply))) if is_result(&reply.body) => {
-            write_result(alloc, interface, told, request, &reply.body, writer)
-        }
-        _ => write_parts(alloc, interface, told, writer),
-    }
-}
-
-// Whether a Reply brought the outs of its operation.
-fn is_result(body: &ReplyBody) -> bool {
-    matches!(body, ReplyBody::NoException(_))
-}
-
-// The line of a call that brought its outs, as most do, at once: each part by itself takes longer.
-fn write_result<W: Write>(
-    alloc: Global,
-    interface: &Interface,
-    told: Told<'_>,
-    request: &Request,
-    body: &ReplyBody,
-    writer: &mut W,
-) -> Result<(), Failure> {
-    let ins = request_ins(alloc, told.numbers, interface, request)?;
-    let outs = brought_by(alloc, told.numbers, interface, request, body)?;
-    let (id, target) = (IdText(told.id), OwnTargetText(&request.head.target));
-    let operation = EscapedText(request.head.operation.as_slice());
-    writeln!(
-        writer,
-        "{id} Asked {target} {operation} {} Done 0 {}",
-        ins.as_str(),
-        outs.as_str()
-    )?;
-    Ok(())
-}
-
-// The line of any call, part by part.
-#[inline(never)]
-fn write_parts<W: Write>(
-    alloc: Global,
-    interface: &Interface,
-    told: Told<'_>,
-    writer: &mut W,
-) -> Result<(), Failure> {
+) -> Result<(), Failure>
+    ensures { OnOk result (Appends (W.contents writer.old) (W.contents writer.new)
+        (ended (parts_text told.now.numbers interface.now told.now.id told.now.flow.now
+        told.now.unanswered told.now.asked.now told.now.answered.now))) }
+{
     let Told {
         numbers,
         flow,
         asked,
         ..
-    } = told;
+    } = *told;
     write!(writer, "{}", IdText(told.id))?;
     write_asked(alloc, numbers, interface, flow, asked, writer)?;
     match (&flow.answer, told.answered) {
@@ -148,16 +122,20 @@ fn write_parts<W: Write>(
                 alloc, numbers, interface, request, message, answered, writer,
             )?
         }
-        _ if !asked.is_call() => {}
-        _ if flow.cancelled => write!(writer, " Cancelled")?,
-        _ => write_unanswered(told.unanswered, writer)?,
+        _ => write_open(told, writer)?,
     }
     writeln!(writer)?;
     Ok(())
 }
 
-fn write_unanswered<W: Write>(unanswered: Unanswered, writer: &mut W) -> Result<(), Failure> {
-    match unanswered {
+// What is said of a call that has no answer.
+fn write_open<W: Write>(told: &Told<'_>, writer: &mut W) -> Result<(), Failure>
+    ensures { OnOk result (Appends (W.contents writer.old) (W.contents writer.new)
+        (open_text told.now.unanswered told.now.flow.now told.now.asked.now)) }
+{
+    match told.unanswered {
+        _ if !told.asked.is_call() => {}
+        _ if told.flow.cancelled => write!(writer, " Cancelled")?,
         Unanswered::Oneway => write!(writer, " OnewaySent")?,
         Unanswered::NoAnswer => write!(writer, " NoAnswer")?,
         Unanswered::Untold => {}

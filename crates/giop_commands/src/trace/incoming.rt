@@ -1,7 +1,8 @@
 //! What is left of the octets of one direction, and its messages.
-ghost use Rattle.std.specs.Prelude.{◌≡◌, ◌^◌, ◌<◌, None, IfNone, IfOk, OnOk, length};
-ghost use Rattle.std.specs.Io.KnownBytes.{Appends, IsAtEnd};
+ghost use Rattle.std.specs.Prelude.{◌≡◌, ◌^◌, ◌<◌, [], None, IfNone, IfSome, IfOk, OnOk, length};
+ghost use Rattle.std.specs.Io.KnownBytes.{Appends, IsAtEnd, Keeps};
 ghost use Rattle.giop_commands.specs.Dump.{ended};
+ghost use Rattle.giop_commands.specs.Incoming.{IsLast, IsNext, unheard};
 ghost use Rattle.giop_commands.specs.Trace.{direction_end_in, direction_status};
 
 use crate::failure::Failure;
@@ -42,6 +43,7 @@ impl Incoming {
     pub fn new(alloc: Global, limit: u32) -> Result<Incoming, AllocError>
         ensures limit { IfOk result (λ incoming. incoming.framer.limit ≡ limit) }
         ensures ok { IfOk result (λ incoming. incoming.fault ≡ None) }
+        ensures unread { IfOk result (λ incoming. incoming.framer.octets ≡ []) }
     {
         Ok(Incoming {
             framer: Framer::new(alloc, limit),
@@ -59,6 +61,15 @@ impl Incoming {
     ) -> Result<Option<Brought>, Failure>
         ensures end { IfOk result (λ o. IfNone o
             (self.new.fault ≡ None → IsAtEnd (R.remaining reader.new))) }
+        ensures found { IfOk result (λ o. IfSome o (λ brought. IsNext self.old.framer.limit
+            (unheard self.old.framer (R.remaining reader.old))
+            (unheard self.new.framer (R.remaining reader.new)) brought.message)) }
+        ensures last { IfOk result (λ o. IfNone o (IsLast self.old.framer.limit
+            (unheard self.old.framer (R.remaining reader.old))
+            (unheard self.new.framer (R.remaining reader.new)) self.new.fault
+            self.new.framer.octets)) }
+        ensures limit { OnOk result (self.new.framer.limit ≡ self.old.framer.limit) }
+        ensures text { OnOk result (Keeps (W.contents writer.old) (W.contents writer.new)) }
     {
         'pieces: for _ in 0..u64::MAX {
             match self.framer.next() {
@@ -73,6 +84,7 @@ impl Incoming {
             writer.flush()?;
             let piece = self.buffer.fill(reader)?;
             if piece.is_empty() {
+                self.fault = None;
                 return Ok(None);
             }
             if self.framer.feed(piece).is_err() {

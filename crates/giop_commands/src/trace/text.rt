@@ -1,6 +1,8 @@
-//! `trace` by the text of an interface.
+//! `trace` by the text of an interface. Its meaning is `TracesText` in specs/TracedText.antt: change
+//! both.
 ghost use Rattle.std.specs.Prelude.{◌≡◌, IfOk};
 ghost use Rattle.std.specs.Io.KnownBytes.{IsAtEnd};
+ghost use Rattle.giop_commands.specs.TracedText.{TracesText};
 
 use crate::convert::value::form_refusal;
 use crate::failure::Failure;
@@ -29,6 +31,9 @@ pub fn trace_text<C: Read, S: Read, W: Write>(
     ensures server { IfOk result (λ status. status ≡ Status.Done → heard ≡ Heard.Both
         → IsAtEnd (S.remaining server.new)) }
     ensures alone { heard ≡ Heard.Client → S.remaining server.new ≡ S.remaining server.old }
+    ensures text { IfOk result (TracesText interface.now limit form heard
+        (C.remaining client.old) (S.remaining server.old)
+        (W.contents writer.old) (W.contents writer.new)) }
 {
     match Interface::from_json(alloc, interface) {
         Ok(interface) => trace_stream(

@@ -2,7 +2,7 @@
 //! program (tests/cases/serving).
 use crate::tests::session_files::interface;
 use giop_commands::serve::answers::{Answers, answers_from_json};
-use giop_commands::serve::given::{Sending, ServedObject};
+use giop_commands::serve::given::{Sending, ServedObject, Serving};
 use giop_commands::serve::in_turn::Passed;
 use giop_commands::serve_session;
 use giop_commands::status::Status;
@@ -67,17 +67,13 @@ fn served<R: Read, W: Write>(
         answers: &answers,
     }];
     let mut out: Vec<u8> = Vec::new(alloc);
-    Ok(serve_session(
-        alloc,
-        1,
-        &interface,
-        &objects,
-        &mut passed,
+    let serving = Serving {
+        interface: &interface,
+        objects: &objects,
         form,
-        reader,
-        writer,
-        &mut out,
-    ))
+        limits: Limits::default(),
+    };
+    Ok(serve_session(alloc, 1, serving, &mut passed, reader, writer, &mut out))
 }
 
 #[test]

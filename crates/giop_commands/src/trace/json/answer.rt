@@ -1,10 +1,14 @@
-//! The answer of a call, in its JSON line.
+//! The answer of a call, in its JSON line. Its text is `answer_json` in specs/TracedJson.antt: change
+//! both.
+ghost use Rattle.std.specs.Prelude.{OnOk, Some, option_copied};
+ghost use Rattle.std.specs.Io.KnownBytes.{Appends};
+ghost use Rattle.giop_commands.specs.TracedJson.{answer_json, body_json, done_json, named_json, result_json, undecoded_reply_json};
 
 use crate::call::table::brought_by;
 use crate::failure::Failure;
 use crate::trace::answered::Answered;
 use crate::trace::json::{write_message, write_null};
-use giop_cdr::CdrFault;
+use giop_cdr::{CdrFault, OctetList};
 use giop_lines::{CdrFaultJson, HexJson, OutcomeJson, TextJson};
 use giop_msg::{Msg, ReplyBody, Request};
 use giop_types::{Interface, NumberForm};
@@ -20,7 +24,11 @@ pub fn write_answer_json<W: Write>(
     message: &Msg,
     answered: &Answered,
     writer: &mut W,
-) -> Result<(), Failure> {
+) -> Result<(), Failure>
+    ensures { OnOk result (Appends (W.contents writer.old) (W.contents writer.new)
+        (answer_json numbers interface.now (option_copied request.entry) message.now
+        answered.now)) }
+{
     match answered {
         Answered::Pieces => write_message("unfinished", message, writer),
         Answered::Reply(reply) => {
@@ -45,41 +53,67 @@ fn write_body<W: Write>(
     request: Option<&Request>,
     body: &ReplyBody,
     writer: &mut W,
-) -> Result<(), Failure> {
-    if let ReplyBody::SystemException { .. } = body {
-        return write_outcome(body, "", writer);
+) -> Result<(), Failure>
+    ensures { OnOk result (Appends (W.contents writer.old) (W.contents writer.new)
+        (body_json numbers interface.now (option_copied request.entry) body.now)) }
+{
+    match (body, request) {
+        (ReplyBody::SystemException { .. }, _) => write_outcome(body, "", writer),
+        (_, Some(request)) => write_result(alloc, numbers, interface, request, body, writer),
+        (_, None) => write_null(writer),
     }
-    let Some(request) = request else {
-        return write_null(writer);
-    };
+}
+
+// What a Reply says to a Request that was decoded.
+fn write_result<W: Write>(
+    alloc: Global,
+    numbers: NumberForm,
+    interface: &Interface,
+    request: &Request,
+    body: &ReplyBody,
+    writer: &mut W,
+) -> Result<(), Failure>
+    ensures { OnOk result (Appends (W.contents writer.old) (W.contents writer.new)
+        (result_json numbers interface.now body.now (Some request.now))) }
+{
     let brought = brought_by(alloc, numbers, interface, request, body)?;
     write_outcome(body, brought.as_str(), writer)
 }
 
 // An object of what a Reply says, with its values as a JSON list or the text of its reference.
-fn write_outcome<W: Write>(body: &ReplyBody, brought: &str, writer: &mut W) -> Result<(), Failure> {
+fn write_outcome<W: Write>(body: &ReplyBody, brought: &str, writer: &mut W) -> Result<(), Failure>
+    ensures { OnOk result (Appends (W.contents writer.old) (W.contents writer.new)
+        (done_json body.now brought.now)) }
+{
     write!(writer, "{{\"what\":{}}}", OutcomeJson(body, brought))?;
     Ok(())
 }
 
 fn write_undecoded<W: Write>(
     fault: CdrFault,
-    exception: &Option<Vec<u8>>,
+    exception: &Option<OctetList>,
     message: &Msg,
     writer: &mut W,
-) -> Result<(), Failure> {
-    write!(
-        writer,
-        "{{\"what\":\"undecoded\",\"fault\":{}",
-        CdrFaultJson(fault)
-    )?;
-    if let Some(exception) = exception {
-        write!(writer, ",\"exception\":{}", TextJson(exception.as_slice()))?;
+) -> Result<(), Failure>
+    ensures { OnOk result (Appends (W.contents writer.old) (W.contents writer.new)
+        (undecoded_reply_json fault exception.now message.now)) }
+{
+    let fault = CdrFaultJson(fault);
+    write!(writer, "{{\"what\":\"undecoded\",\"fault\":{fault}")?;
+    write_named(exception, writer)?;
+    let octets = HexJson(message.payload.as_slice());
+    write!(writer, ",\"octets\":{octets}}}")?;
+    Ok(())
+}
+
+// The user exception that a Reply names.
+fn write_named<W: Write>(exception: &Option<OctetList>, writer: &mut W) -> Result<(), Failure>
+    ensures { OnOk result (Appends (W.contents writer.old) (W.contents writer.new)
+        (named_json exception.now)) }
+{
+    match exception {
+        Some(exception) => write!(writer, ",\"exception\":{}", TextJson(exception.as_slice()))?,
+        None => {}
     }
-    write!(
-        writer,
-        ",\"octets\":{}}}",
-        HexJson(message.payload.as_slice())
-    )?;
     Ok(())
 }

@@ -1,4 +1,8 @@
-//! What was asked, in the JSON line of a call.
+//! What was asked, in the JSON line of a call. Its text is `asked_json` in specs/TracedJson.antt:
+//! change both.
+ghost use Rattle.std.specs.Prelude.{OnOk};
+ghost use Rattle.std.specs.Io.KnownBytes.{Appends};
+ghost use Rattle.giop_commands.specs.TracedJson.{asked_json, request_json, unasked_json, undecoded_json};
 
 use crate::failure::Failure;
 use crate::serve::table::request_ins;
@@ -19,7 +23,10 @@ pub fn write_asked_json<W: Write>(
     flow: &Flow,
     asked: &Asked,
     writer: &mut W,
-) -> Result<(), Failure> {
+) -> Result<(), Failure>
+    ensures { OnOk result (Appends (W.contents writer.old) (W.contents writer.new)
+        (asked_json numbers interface.now flow.now asked.now)) }
+{
     match (asked, &flow.asked) {
         (Asked::Request(request), _) => {
             write_request(alloc, numbers, interface, request, writer)
@@ -42,7 +49,10 @@ fn write_request<W: Write>(
     interface: &Interface,
     request: &Request,
     writer: &mut W,
-) -> Result<(), Failure> {
+) -> Result<(), Failure>
+    ensures { OnOk result (Appends (W.contents writer.old) (W.contents writer.new)
+        (request_json numbers interface.now request.now)) }
+{
     let ins = request_ins(alloc, numbers, interface, request)?;
     let target = TargetJson(&request.head.target);
     let operation = TextJson(request.head.operation.as_slice());
@@ -55,7 +65,10 @@ fn write_request<W: Write>(
 }
 
 // That no one asked for an answer.
-fn write_unasked<W: Write>(answer: &Option<Msg>, writer: &mut W) -> Result<(), Failure> {
+fn write_unasked<W: Write>(answer: &Option<Msg>, writer: &mut W) -> Result<(), Failure>
+    ensures { OnOk result (Appends (W.contents writer.old) (W.contents writer.new)
+        (unasked_json answer.now)) }
+{
     match answer {
         Some(message) if is_answer(message.kind) => write_what("nothing", writer),
         _ => write_null(writer),
@@ -66,7 +79,10 @@ fn write_undecoded<W: Write>(
     fault: RequestFault,
     message: &Msg,
     writer: &mut W,
-) -> Result<(), Failure> {
+) -> Result<(), Failure>
+    ensures { OnOk result (Appends (W.contents writer.old) (W.contents writer.new)
+        (undecoded_json fault message.now)) }
+{
     let fault = RequestFaultJson(fault);
     let octets = HexJson(message.payload.as_slice());
     write!(

@@ -1,10 +1,10 @@
 use Rattle.std.proofs.Common.{take}
 use Rattle.std.specs.List.{flat_map}
 use Rattle.std.specs.Io.KnownBytes.{Appends}
-use Rattle.giop_commands.specs.Streaming.{over_at}
-use Rattle.giop_commands.proofs.session.streaming.write_over.Given as goal
+use Rattle.giop_commands.specs.TracedText.{open_line}
+use Rattle.giop_commands.proofs.trace.write_open.Given as goal
 
 abbrev pub invariant-loop-id : goal.invariant-loop-id
 invariant-loop-id g l =
     Appends (g.W.Write.contents l.fn.writer) (g.W.Write.contents l.writer)
-    (flat_map (over_at (g.R.CallRule.closed l.end.calls.rule) (g.R.Streamed.told l.lines l.interface) l.end.calls.table) (take l.id-index l.ids))
+    (flat_map (open_line l.tracing.form l.interface l.tracing.observer.alone l.tracing.observer.calls.entries) (take l.id-index l.id-items))

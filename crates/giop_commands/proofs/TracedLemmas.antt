@@ -1,0 +1,35 @@
+-- Texts of the lines of `trace`.
+use Rattle.std.proofs.Common.{◌≡◌, ℕ, Bool, List, Option, Some, refl}
+use Rattle.std.specs.Io.KnownBytes.{Appends}
+use Rattle.giop_trace.specs.declared.heard.Heard.{Heard}
+use Rattle.giop_commands.specs.declared.form.LineForm.{LineForm}
+use Rattle.giop_commands.specs.declared.trace.call_line.Unanswered.{Unanswered}
+use Rattle.giop_commands.specs.TracedText.{flow_line, heard_lines, over_as, still_open}
+use Rattle.giop_commands.proofs.DumpLemmas.{Appends-append}
+use Rattle.giop_types.specs.declared.json.interface.Interface.{Interface}
+use Rattle.giop_types.specs.declared.json.number_form.NumberForm.{NumberForm}
+use Rattle.giop_msg.specs.declared.messages.completion.Completion.{Completion}
+use Rattle.giop_msg.specs.declared.messages.reply_body.ReplyBody.{ReplyBody}
+use Rattle.giop_msg.specs.declared.messages.reply_body.ReplyBody.TheVariants.{NoException, UserException, SystemException, Forward, ForwardPerm, NeedsAddressing}
+use Rattle.giop_msg.specs.declared.messages.request.Request.{Request}
+use Rattle.giop_commands.specs.TracedJson.{body_json, result_json}
+
+-- what a Reply says that brings no system exception is what it brought
+pub body_brought : (numbers : NumberForm) (interface : Interface) (request : Request) (body : ReplyBody)
+    → ((id : List ℕ) (minor : ℕ) (completed : Completion) → body ≡ SystemException id minor completed → ⊥)
+    → body_json numbers interface (Some request) body ≡ result_json numbers interface body (Some request)
+body_brought numbers interface request (NoException outs) other = refl
+body_brought numbers interface request (UserException id members) other = refl
+body_brought numbers interface request (SystemException id minor completed) other = absurd (other id minor completed refl)
+body_brought numbers interface request (Forward ior) other = refl
+body_brought numbers interface request (ForwardPerm ior) other = refl
+body_brought numbers interface request (NeedsAddressing disposition) other = refl
+
+-- the lines of the calls that are over by a message, one behind the other
+pub told_lines : (form : LineForm) (interface : Interface) (alone : Bool) (told : Heard) (waits over : Unanswered) (a b c : Option (List ℕ))
+    → waits ≡ still_open alone → over ≡ over_as alone told.id
+    → Appends a b (flow_line form interface told.id waits told.earlier) → Appends b c (flow_line form interface told.id over told.over)
+    → Appends a c (heard_lines form interface alone told)
+told_lines form interface alone told waits over a b c still end first second =
+    Appends-append a b c (flow_line form interface told.id (still_open alone) told.earlier) (flow_line form interface told.id (over_as alone told.id) told.over)
+    (rw still at first) (rw end at second)
