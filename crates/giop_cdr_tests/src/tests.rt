@@ -1,3 +1,2 @@
-//! What of giop_cdr only a proved test can say: refused allocations, and what is shown by `{:?}`.
+//! What of giop_cdr only a proved test can say: refused allocations.
 mod memory;
-mod shown;
