@@ -1,5 +1,3 @@
-//! What of giop_cdr only a proved test can say: longs at once, refused allocations, and what is shown
-//! by `{:?}`.
+//! What of giop_cdr only a proved test can say: longs at once, and refused allocations.
 mod longs;
 mod memory;
-mod shown;

@@ -2,6 +2,7 @@
 
 mod dump;
 mod failing;
+mod limits;
 mod octets;
 mod reading;
 mod serving;
