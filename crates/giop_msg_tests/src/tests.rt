@@ -1,4 +1,3 @@
-//! What of giop_msg only a proved test can say: messages of any size, and refused allocations.
-mod large;
+//! What of giop_msg only a proved test can say: refused allocations.
 mod memory;
 mod memory_last;
