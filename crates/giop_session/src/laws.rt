@@ -6,9 +6,9 @@
 ghost use Rattle.std.specs.Prelude.{◌≡◌};
 ghost use Rattle.giop_ids.specs.Runs.{own, alone, told_alone, Runs};
 ghost use Rattle.giop_session.specs.Runs.Alone.{SameCalls, SameOfEach, RunsFreely, SameActs, answers_of, MeetsNone, IsHeardAlone};
-ghost use Rattle.giop_session.specs.Hearing.Feeding.{FedInTurn, Through};
-ghost use Rattle.giop_session.specs.Hearing.Heard.{hears_in};
-ghost use Rattle.giop_session.specs.Calls.CallTable.{at, rules_by, turn_by};
+ghost use Rattle.giop_end.specs.Hearing.Feeding.{FedInTurn, Through};
+ghost use Rattle.giop_end.specs.Hearing.Heard.{hears_in};
+ghost use Rattle.giop_table.specs.CallTable.{at, rules_by, turn_by};
 
 mod inputs;
 mod one_end;

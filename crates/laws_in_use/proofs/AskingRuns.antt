@@ -20,16 +20,16 @@ use Rattle.giop_calls.specs.declared.client.rule.ClientRule.{ClientRule}
 use Rattle.giop_calls.specs.declared.kind.CallKind.TheVariants as kind
 use Rattle.giop_calls.specs.ClientTable.{client_step, is_closed, is_gathering}
 use Rattle.giop_ids.specs.Runs.{Does}
-use Rattle.giop_session.specs.Calls.Begun.{no_calls}
+use Rattle.giop_session.specs.Ends.Begun.{no_calls}
 use Rattle.giop_session.specs.Calls.CallTable.{Act, Answers, Call, First, Hears, Held, More, Nothing, at, put_call, rules_of}
 use Rattle.giop_session.specs.Hearing.ClientHears.{client_befalls, client_breaks, client_side}
 use Rattle.giop_session.specs.Runs.ClientRuns.{client_run}
 use Rattle.giop_session.specs.Runs.SideRuns.{SideTakes}
 use Rattle.giop_session.specs.Hearing.Heard.{kept, hears as hears_at}
-use Rattle.giop_session.specs.Runs.Inputs.{nothing_unread}
-use Rattle.giop_session.specs.declared.limits.Limits.{Limits}
-use Rattle.giop_session.specs.declared.calls.plan.Plan.TheVariants.{Next, Put}
-use Rattle.giop_session.specs.declared.calls.plan.Planned.{Planned}
+use Rattle.giop_session.specs.Hearing.Feeding.{nothing_unread}
+use Rattle.giop_session.specs.declared.Limits.{Limits}
+use Rattle.giop_session.specs.declared.Plan.TheVariants.{Next, Put}
+use Rattle.giop_session.specs.declared.Planned.{Planned}
 use Rattle.laws_in_use.specs.Asking.{here, here_begins, here_ends, one_way, other_way, short, unknown_big, unknown_little}
 use Rattle.laws_in_use.specs.Locating.{cancel_big, cancel_little, door, door_begins, door_ends, here_little, key, key_big, key_little, limits, tight_limits}
 use Rattle.laws_in_use.proofs.AskingMessages.{decoded, named}

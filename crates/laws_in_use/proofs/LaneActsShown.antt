@@ -25,8 +25,8 @@ use Rattle.giop_calls.specs.declared.client.heard.HeardReply.TheVariants as repl
 use Rattle.giop_calls.specs.declared.kind.CallKind.TheVariants as kind
 use Rattle.giop_calls.specs.declared.server.entry.ServerEntry.{ServerEntry}
 use Rattle.giop_calls.specs.declared.server.entry.ServerEntry.TheVariants.{Gathering}
-use Rattle.giop_session.specs.declared.session_fault.SessionFault.{SessionFault}
-use Rattle.giop_session.specs.declared.session_fault.SessionFault.TheVariants.{NoMemory}
+use Rattle.giop_session.specs.declared.SessionFault.{SessionFault}
+use Rattle.giop_session.specs.declared.SessionFault.TheVariants.{NoMemory}
 use Rattle.giop_session.specs.Calls.CallTable.{Call, Hears, Nothing, at, put_call}
 use Rattle.giop_session.specs.Hearing.ClientHears.{client_befalls, client_breaks, client_side}
 use Rattle.giop_session.specs.Worlds.Coding.{coding}

@@ -16,20 +16,19 @@ use Rattle.giop_calls.specs.declared.server.heard.HeardCall.{HeardCall}
 use Rattle.giop_calls.specs.declared.server.heard.HeardCall.TheVariants as heard
 use Rattle.giop_calls.specs.declared.server.rule.ServerRule.{ServerRule}
 use Rattle.giop_calls.specs.ServerTable.{arrived, is_closed, is_gathering, server_step}
-use Rattle.giop_session.specs.Calls.Begun.{no_calls}
+use Rattle.giop_session.specs.Ends.Begun.{no_calls}
 use Rattle.giop_ids.specs.Runs.{Does}
 use Rattle.giop_session.specs.Calls.CallTable.{Act, Answers, Call, First, Hears, Held, More, Nothing, Reply, at, put_call, rules_of}
 use Rattle.giop_session.specs.Runs.ServerRuns.{server_run}
 use Rattle.giop_session.specs.Runs.SideRuns.{SideTakes}
-use Rattle.giop_session.specs.Hearing.Feeding.{Fed, Through}
+use Rattle.giop_session.specs.Hearing.Feeding.{Fed, Through, nothing_unread}
 use Rattle.giop_session.specs.Hearing.Heard.{kept, silent, hears as hears_at}
-use Rattle.giop_session.specs.Runs.Inputs.{nothing_unread}
 use Rattle.giop_session.specs.Hearing.ServerHears.{server_befalls, server_breaks, server_side}
-use Rattle.giop_session.specs.declared.session_fault.SessionFault.{SessionFault}
-use Rattle.giop_session.specs.declared.limits.Limits.{Limits}
+use Rattle.giop_session.specs.declared.SessionFault.{SessionFault}
+use Rattle.giop_session.specs.declared.Limits.{Limits}
 use Rattle.laws_in_use.specs.Locating.{bad, cancel_big, cancel_little, door, door_begins, door_ends, door_whole, here_big, here_little, key, key_big, key_little, limits, one_way, other_way, tight_limits}
 use Rattle.laws_in_use.proofs.LocatingMessages.{decoded, messages, named, undecoded}
-use Rattle.giop_session.specs.declared.calls.plan.Plan.TheVariants.{Put}
+use Rattle.giop_session.specs.declared.Plan.TheVariants.{Put}
 use Rattle.laws_in_use.proofs.LocatingReads.{Brings, first, last, only, second, third, tight, wide}
 use Rattle.laws_in_use.proofs.Taking.{Stands, at-put, done, hears, stands_more, stands_none}
 

@@ -6,7 +6,7 @@ use Rattle.giop_msg.specs.declared.msg.Msg.{Msg}
 use Rattle.giop_calls.specs.declared.client.event.ClientEvent.{ClientEvent}
 use Rattle.giop_calls.specs.declared.fault.CallFault.{CallFault}
 use Rattle.giop_calls.specs.ClientTable.{client_step, is_closed, is_gathering}
-use Rattle.giop_session.specs.declared.calls.plan.Planned.{Planned}
+use Rattle.giop_session.specs.declared.Planned.{Planned}
 use Rattle.giop_session.specs.Acts.Putting.{Puts}
 use Rattle.giop_session.specs.Calls.CallTable.{Answers, Hears, Nothing, rules_of}
 use Rattle.giop_session.specs.Hearing.Heard.{in_call}

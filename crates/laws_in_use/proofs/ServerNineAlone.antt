@@ -19,7 +19,7 @@ use Rattle.giop_session.specs.Hearing.Heard.{kept}
 use Rattle.giop_session.specs.Hearing.ServerHears.{server_befalls, server_breaks}
 use Rattle.giop_session.specs.Items.Carries.{Carries, CarriesItem, Got}
 use Rattle.giop_session.specs.Items.ServerCarries.{ServerItem, server_telling}
-use Rattle.giop_session.specs.Runs.Driven.{EndState, end_state}
+use Rattle.giop_session.specs.Ends.Begun.{EndState, end_state}
 use Rattle.giop_session.specs.Runs.Events.{Event, own_events, Comes as Came}
 use Rattle.giop_session.specs.Runs.Fits.{only}
 use Rattle.giop_session.specs.Runs.ServerRuns.{at_server, server_run}

@@ -12,14 +12,14 @@ use Rattle.giop_mux.specs.declared.step.Step.{Step}
 use Rattle.giop_msg.specs.declared.msg.Msg.{Msg}
 use Rattle.giop_msg.specs.RequestId.{request_id_of}
 use Rattle.giop_calls.specs.declared.fault.CallFault.{CallFault}
-use Rattle.giop_session.specs.declared.limits.Limits.{Limits}
-use Rattle.giop_session.specs.declared.calls.plan.Planned.{Planned}
-use Rattle.giop_session.specs.declared.calls.sending.Sends.{Sends}
-use Rattle.giop_session.specs.declared.session_fault.SessionFault.{SessionFault}
-use Rattle.giop_session.specs.declared.calls.slot.Slot.{Slot}
-use Rattle.giop_session.specs.declared.calls.table_fault.TableFault.{TableFault}
-use Rattle.giop_session.specs.declared.calls.table_fault.TableFault.TheVariants.{TooManyCalls, GatherFull}
-use Rattle.giop_session.specs.Calls.Begun.{no_calls}
+use Rattle.giop_session.specs.declared.Limits.{Limits}
+use Rattle.giop_session.specs.declared.Planned.{Planned}
+use Rattle.giop_session.specs.declared.Sends.{Sends}
+use Rattle.giop_session.specs.declared.SessionFault.{SessionFault}
+use Rattle.giop_session.specs.declared.Slot.{Slot}
+use Rattle.giop_session.specs.declared.TableFault.{TableFault}
+use Rattle.giop_session.specs.declared.TableFault.TheVariants.{TooManyCalls, GatherFull}
+use Rattle.giop_session.specs.Ends.Begun.{no_calls}
 use Rattle.giop_session.specs.Calls.CallTable.{Act, Answers, Brings, Call, First, Hears, Held, More, Nothing, at, calls_fault, gathers, octets_fault, put_call, room_fault, rules_of, step_of, turn}
 use Rattle.giop_session.specs.Hearing.Heard.{Befalls, IsHeardAs, heard_of, hears_by, in_call, silent}
 

@@ -12,7 +12,7 @@ use Rattle.giop_calls.specs.declared.server.entry.ServerEntry.TheVariants.{Gathe
 use Rattle.giop_calls.specs.declared.server.event.ServerEvent.{ServerEvent}
 use Rattle.giop_calls.specs.declared.server.event.ServerEvent.TheVariants as event
 use Rattle.giop_calls.specs.declared.server.heard.HeardCall.TheVariants as heard
-use Rattle.giop_session.specs.declared.calls.table_fault.TableFault.{TableFault}
+use Rattle.giop_session.specs.declared.TableFault.{TableFault}
 use Rattle.giop_session.specs.Calls.CallTable.{Act, Answers, Call, First, Hears, Nothing, Reply}
 use Rattle.giop_session.specs.Hearing.Heard.{kept, silent}
 use Rattle.laws_in_use.specs.Locating.{door_begins, door_ends, key, key_little}

@@ -15,7 +15,7 @@ ghost use Rattle.giop_calls.specs.declared.server.event.ServerEvent.TheVariants 
 ghost use Rattle.giop_calls.specs.declared.server.rule.ServerRule.{ServerRule};
 ghost use Rattle.giop_calls.specs.ClientTable as client;
 ghost use Rattle.giop_calls.specs.ServerTable as server;
-ghost use Rattle.giop_session.specs.declared.session_fault.SessionFault.TheVariants.{Call as InCall};
+ghost use Rattle.giop_session.specs.declared.SessionFault.TheVariants.{Call as InCall};
 ghost use Rattle.giop_session.specs.Calls.CallTable.{Held, rules_of};
 ghost use Rattle.giop_session.specs.Acts.ClientCalls.{IsCall, IsCancel, IsLocate};
 ghost use Rattle.giop_session.specs.Runs.Events.{Does};

@@ -6,16 +6,16 @@ use Rattle.giop_ids.specs.Runs.{Does, left, told, within}
 use Rattle.giop_ids.proofs.Puts.{get-put_other, get-put_same}
 use Rattle.giop_msg.specs.declared.msg.Msg.{Msg}
 use Rattle.giop_mux.specs.declared.step.Step.{Step}
-use Rattle.giop_session.specs.declared.calls.plan.Plan.{Plan}
-use Rattle.giop_session.specs.declared.calls.plan.Planned.{Planned}
-use Rattle.giop_session.specs.declared.calls.sending.Sends.{Sends}
-use Rattle.giop_session.specs.declared.session_fault.SessionFault.{SessionFault}
-use Rattle.giop_session.specs.declared.calls.table_fault.TableFault.{TableFault}
+use Rattle.giop_table.specs.declared.plan.Plan.{Plan}
+use Rattle.giop_table.specs.declared.plan.Planned.{Planned}
+use Rattle.giop_table.specs.declared.sending.Sends.{Sends}
+use Rattle.giop_end.specs.declared.session_fault.SessionFault.{SessionFault}
+use Rattle.giop_table.specs.declared.table_fault.TableFault.{TableFault}
 use Rattle.giop_session.specs.Acts.Acting.{IsAccepted}
-use Rattle.giop_session.specs.Calls.CallTable.{Answers, Call, Held, Hears, Nothing, Reply, at, brought, event_reply, limit, rules_of, turn, turned}
-use Rattle.giop_session.specs.Hearing.Heard.{told_of}
-use Rattle.giop_session.specs.Acts.Putting.{Befell, octets_of, put_out}
-use Rattle.giop_session.specs.Calls.Sending.{entry_of, message_of, settled_by, slot_of, unsent_after, unsent_of}
+use Rattle.giop_table.specs.CallTable.{Answers, Call, Held, Hears, Nothing, Reply, at, brought, event_reply, limit, rules_of, turn, turned}
+use Rattle.giop_end.specs.Hearing.Heard.{told_of}
+use Rattle.giop_end.specs.Acts.Putting.{Befell, octets_of, put_out}
+use Rattle.giop_table.specs.Sending.{entry_of, message_of, settled_by, slot_of, unsent_after, unsent_of}
 
 -- the message that is answered, if one is
 abbrev message_told : {E A F : Type 0} → Result (Reply E A) (TableFault F) → Option Msg

@@ -47,11 +47,11 @@ use Rattle.giop_calls.specs.declared.client.call.Call.TheVariants as asked
 use Rattle.giop_calls.specs.declared.client.entry.ClientEntry.{ClientEntry}
 use Rattle.giop_calls.specs.declared.client.event.ClientEvent.TheVariants as at_client
 use Rattle.giop_calls.specs.declared.server.event.ServerEvent.TheVariants as at_server
-use Rattle.giop_session.specs.Acts.ClientCalls.{IsCancel, locate_octets, request_octets}
+use Rattle.giop_end.specs.Acts.ClientCalls.{IsCancel, locate_octets, request_octets}
 use Rattle.giop_session.specs.Worlds.OnTheWay.{Names, id_of}
 use Rattle.giop_session.specs.Worlds.OwnLane.{PlansCall, PlansReply, sends_cut}
-use Rattle.giop_session.specs.Acts.Sent.{cancel_request, sends_one}
-use Rattle.giop_session.specs.Acts.ServerAnswers.{IsLocateAnswer, located, reply_octets}
+use Rattle.giop_end.specs.Acts.Sent.{cancel_request, sends_one}
+use Rattle.giop_end.specs.Acts.ServerAnswers.{IsLocateAnswer, located, reply_octets}
 use Rattle.giop_session.proofs.OnActs.WrittenLemmas.{locate_written, reply_written, request_written}
 use Rattle.giop_session.proofs.OnLanes.CodingLemmas.{same_piece, told_fits, told_holds, told_of}
 

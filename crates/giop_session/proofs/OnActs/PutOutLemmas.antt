@@ -20,23 +20,23 @@ use Rattle.giop_msg.specs.Msg.{message_octets}
 use Rattle.giop_msg.specs.RequestId.{request_id_of}
 use Rattle.giop_session.specs.declared.laws.inputs.Answered.{Answered}
 use Rattle.giop_session.specs.declared.laws.inputs.Answered.TheVariants as answer
-use Rattle.giop_session.specs.declared.calls.plan.Plan.{Plan}
-use Rattle.giop_session.specs.declared.calls.plan.Plan.TheVariants.{Put, Next, Keep}
-use Rattle.giop_session.specs.declared.calls.plan.Planned.{Planned}
-use Rattle.giop_session.specs.declared.calls.sending.Sends.{Sends}
-use Rattle.giop_session.specs.declared.session_fault.SessionFault.{SessionFault}
-use Rattle.giop_session.specs.declared.calls.slot.Slot.{Slot}
-use Rattle.giop_session.specs.declared.calls.table_fault.TableFault.{TableFault}
-use Rattle.giop_session.specs.Calls.CallTable.{Act, Answers, Call, Held, Hears, IsTaken, Nothing, Reply, at}
-use Rattle.giop_session.specs.Calls.CallTable.{brought, event_reply, put_call, taken, turned}
-use Rattle.giop_session.specs.Runs.Driven.{Closes, Deed, EndRuns, EndState, Feeds, IsDoneBy, IsGivenBy, PutsOut, TakesOut}
-use Rattle.giop_session.specs.Hearing.Feeding.{Through}
-use Rattle.giop_session.specs.Hearing.Heard.{Befalls, Breaks, Heard, IsHeardAs, heard_by, heard_of, SideOf, turn_at, rules_at, hears}
+use Rattle.giop_table.specs.declared.plan.Plan.{Plan}
+use Rattle.giop_table.specs.declared.plan.Plan.TheVariants.{Put, Next, Keep}
+use Rattle.giop_table.specs.declared.plan.Planned.{Planned}
+use Rattle.giop_table.specs.declared.sending.Sends.{Sends}
+use Rattle.giop_end.specs.declared.session_fault.SessionFault.{SessionFault}
+use Rattle.giop_table.specs.declared.slot.Slot.{Slot}
+use Rattle.giop_table.specs.declared.table_fault.TableFault.{TableFault}
+use Rattle.giop_table.specs.CallTable.{Act, Answers, Call, Held, Hears, IsTaken, Nothing, Reply, at, brought, event_reply, put_call, taken, turned}
+use Rattle.giop_session.specs.Runs.Driven.{Closes, Deed, EndRuns, Feeds, IsDoneBy, IsGivenBy, PutsOut, TakesOut}
+use Rattle.giop_end.specs.Ends.Begun.{EndState}
+use Rattle.giop_end.specs.Hearing.Feeding.{Through}
+use Rattle.giop_end.specs.Hearing.Heard.{Befalls, Breaks, Heard, IsHeardAs, heard_by, heard_of, SideOf, turn_at, rules_at, hears}
 use Rattle.giop_session.specs.Acts.PutOut.{AreOf, ArePutOut}
-use Rattle.giop_session.specs.Acts.Putting.{Puts, octets_of, put_out}
-use Rattle.giop_session.specs.Calls.Sending.{entry_of, message_of, sending_step, settled_by, slot_of, unsent_after, unsent_of}
-use Rattle.giop_session.specs.Acts.Sent.{close_connection}
-use Rattle.giop_session.specs.Calls.Unsent.{first_of}
+use Rattle.giop_end.specs.Acts.Putting.{Puts, octets_of, put_out}
+use Rattle.giop_table.specs.Sending.{entry_of, message_of, sending_step, settled_by, slot_of, unsent_after, unsent_of}
+use Rattle.giop_end.specs.Acts.Sent.{close_connection}
+use Rattle.giop_table.specs.Unsent.{first_of}
 
 module _ (sends : Kind → Bool) where
   dropped : (messages : List Msg) → AreOf sends messages → AreOf sends (drop 1 messages)

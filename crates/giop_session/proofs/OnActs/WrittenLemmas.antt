@@ -19,12 +19,12 @@ use Rattle.giop_calls.specs.declared.client.call.Call.TheVariants as asked
 use Rattle.giop_calls.specs.declared.client.entry.ClientEntry.{ClientEntry}
 use Rattle.giop_calls.specs.declared.client.event.ClientEvent.TheVariants as at_client
 use Rattle.giop_calls.specs.declared.server.event.ServerEvent.TheVariants as at_server
-use Rattle.giop_session.specs.Acts.ClientCalls.{locate_octets, request_octets}
-use Rattle.giop_session.specs.Acts.Sent.{sends_one}
-use Rattle.giop_session.specs.Acts.ServerAnswers.{IsLocateAnswer, located, reply_octets}
+use Rattle.giop_end.specs.Acts.ClientCalls.{locate_octets, request_octets}
+use Rattle.giop_end.specs.Acts.Sent.{sends_one}
+use Rattle.giop_end.specs.Acts.ServerAnswers.{IsLocateAnswer, located, reply_octets}
 use Rattle.giop_session.specs.Items.Carries.{IsWrittenAs}
 use Rattle.giop_session.specs.Worlds.OwnLane.{PlansCall, PlansReply, sends_cut}
-use Rattle.giop_session.proofs.OnActs.LocatedLemmas.{located_eight}
+use Rattle.giop_end.proofs.OnActs.LocatedLemmas.{located_eight}
 use Rattle.giop_session.proofs.OnLanes.CodingLemmas.{locate_sent, reply_sent, request_sent, same_piece, same_pieces, told_fits, told_holds, told_of}
 
 pub request_written : (interface : Interface) (entry : Option ClientEntry) (q : Request) (cut : Cut)

@@ -14,14 +14,14 @@ use Rattle.giop_calls.specs.declared.client.late.Late.{Late}
 use Rattle.giop_calls.specs.declared.client.late.Late.TheVariants as late
 use Rattle.giop_calls.specs.declared.fault.CallFault.{CallFault}
 use Rattle.giop_calls.specs.ClientTable.{client_step, is_closed, is_gathering}
-use Rattle.giop_session.specs.declared.calls.plan.Planned.{Planned}
-use Rattle.giop_session.specs.declared.calls.slot.Slot.{Slot}
-use Rattle.giop_session.specs.Calls.CallTable.{Act, Call, Hears, Nothing, Turned, turn}
+use Rattle.giop_table.specs.declared.plan.Planned.{Planned}
+use Rattle.giop_table.specs.declared.slot.Slot.{Slot}
+use Rattle.giop_table.specs.CallTable.{Act, Call, Hears, Nothing, Turned, turn}
 use Rattle.giop_session.specs.Items.Carries.{AreFragments}
-use Rattle.giop_session.specs.Hearing.ClientHears.{client_befalls}
+use Rattle.giop_end.specs.Hearing.ClientHears.{client_befalls}
 use Rattle.giop_session.specs.Runs.Events.{Comes, Follows}
-use Rattle.giop_session.specs.Hearing.Heard.{kept}
-use Rattle.giop_session.specs.Calls.Sending.{entry_of}
+use Rattle.giop_end.specs.Hearing.Heard.{kept}
+use Rattle.giop_table.specs.Sending.{entry_of}
 use Rattle.giop_session.proofs.OnItems.ItemLemmas.{entry_left, heard}
 
 abbrev Answer : Type 0

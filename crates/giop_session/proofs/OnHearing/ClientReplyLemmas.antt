@@ -26,14 +26,14 @@ use Rattle.giop_calls.specs.declared.fault.CallFault.TheVariants.{WrongKind}
 use Rattle.giop_calls.specs.declared.kind.CallKind.{CallKind}
 use Rattle.giop_calls.specs.declared.kind.CallKind.TheVariants as kind
 use Rattle.giop_calls.specs.ClientTable.{answers, becomes, client_step, is_closed, is_gathering, refused, settles}
-use Rattle.giop_session.specs.declared.calls.slot.Slot.{Slot}
-use Rattle.giop_session.specs.Calls.CallTable.{Call, First, Hears, More, Nothing}
+use Rattle.giop_table.specs.declared.slot.Slot.{Slot}
+use Rattle.giop_table.specs.CallTable.{Call, First, Hears, More, Nothing}
 use Rattle.giop_session.specs.Items.Carries.{AreFragments, IsSeries}
 use Rattle.giop_session.specs.Items.ClientCarries.{SpellsReply, answered, begun, received, replies, unspelled}
-use Rattle.giop_session.specs.Hearing.ClientHears.{awaited, client_befalls, comes, heard_located_by, heard_reply, heard_reply_by}
+use Rattle.giop_end.specs.Hearing.ClientHears.{awaited, client_befalls, comes, heard_located_by, heard_reply, heard_reply_by}
 use Rattle.giop_session.specs.Runs.Events.{Comes, Follows}
-use Rattle.giop_session.specs.Hearing.Heard.{kept}
-use Rattle.giop_session.specs.Calls.Sending.{entry_of}
+use Rattle.giop_end.specs.Hearing.Heard.{kept}
+use Rattle.giop_table.specs.Sending.{entry_of}
 use Rattle.giop_session.proofs.OnItems.ItemLemmas.{call_of, entry_is, entry_left, heard}
 use Rattle.giop_session.proofs.OnHearing.ClientCancelLemmas.{Passes, accepted, behind, client_turn, ended, ignored, with}
 

@@ -7,17 +7,17 @@ use Rattle.giop_msg.specs.Msg.{message_octets}
 use Rattle.giop_msg.specs.Stream.{TakesMessage, TakesMessages, Unread, Waits}
 use Rattle.giop_msg.proofs.StreamLemmas.{each_head, each_tail, fault_stands, message_or_fault, one_fault, same_message}
 use Rattle.giop_mux.specs.declared.step.Step.{Step}
-use Rattle.giop_session.specs.declared.session_fault.SessionFault.{SessionFault}
-use Rattle.giop_session.specs.declared.session_fault.SessionFault.TheVariants.{NoMemory}
-use Rattle.giop_session.specs.declared.session_fault.SessionFault.TheVariants as session
-use Rattle.giop_session.specs.declared.calls.sending.Sends.{Sends}
-use Rattle.giop_session.specs.declared.calls.table_fault.TableFault.{TableFault}
-use Rattle.giop_session.specs.declared.calls.table_fault.TableFault.TheVariants as table
-use Rattle.giop_session.specs.Calls.CallTable.{Act, Call, Held, event_reply, rules_of}
-use Rattle.giop_session.specs.Hearing.Feeding.{Fed, Stops, Through, standing, with_octets}
-use Rattle.giop_session.specs.Hearing.Heard.{Befalls, Breaks, Heard, IsHeard, IsHeardAs, hears_by, heard_of, told_of}
-use Rattle.giop_session.specs.Pumping.{Feeds, State}
-use Rattle.giop_session.proofs.OnHearing.FeedingLemmas.{fed_in_turn}
+use Rattle.giop_end.specs.declared.session_fault.SessionFault.{SessionFault}
+use Rattle.giop_end.specs.declared.session_fault.SessionFault.TheVariants.{NoMemory}
+use Rattle.giop_end.specs.declared.session_fault.SessionFault.TheVariants as session
+use Rattle.giop_table.specs.declared.sending.Sends.{Sends}
+use Rattle.giop_table.specs.declared.table_fault.TableFault.{TableFault}
+use Rattle.giop_table.specs.declared.table_fault.TableFault.TheVariants as table
+use Rattle.giop_table.specs.CallTable.{Act, Call, Held, event_reply, rules_of}
+use Rattle.giop_end.specs.Hearing.Feeding.{Fed, Stops, Through, standing, with_octets}
+use Rattle.giop_end.specs.Hearing.Heard.{Befalls, Breaks, Heard, IsHeard, IsHeardAs, hears_by, heard_of, told_of}
+use Rattle.giop_end.specs.Pumping.{Feeds, State}
+use Rattle.giop_end.proofs.OnHearing.FeedingLemmas.{fed_in_turn}
 
 -- what is done isn't refused too
 done_or_refused : {V Answer Why : Type 0} (d : Result (Done V Answer) Why) (answer : Answer) (why : Why)

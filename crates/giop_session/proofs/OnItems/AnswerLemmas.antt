@@ -11,17 +11,16 @@ use Rattle.giop_mux.specs.Runs.{Hears as IsTold, IsTaken as IsTakenOut}
 use Rattle.giop_session.specs.declared.laws.inputs.Answered.{Answered}
 use Rattle.giop_session.specs.declared.laws.inputs.Answered.TheVariants as answer
 use Rattle.giop_session.specs.Runs.Alone.{names}
-use Rattle.giop_session.specs.Calls.CallTable.{Act, Call, Held, Turned, at}
+use Rattle.giop_table.specs.CallTable.{Act, Call, Held, Turned, at}
 use Rattle.giop_session.specs.Items.Carries.{Bad, Begun, Cancel, Carries, CarriesItem, Did, Got, Item, Rest, Telling, done_by}
 use Rattle.giop_session.specs.Runs.Driven.{Closes, Deed, Feeds, IsAct, PutsOut, TakesAs, TakesOut, answer_to, id_of, is_named, item_answers, own_answers, taken_answer}
-use Rattle.giop_session.specs.Runs.Events.{Comes, Event, Follows, Local, Meets, act_of, is_of, own_events}
-use Rattle.giop_session.specs.Runs.Events.{Does as Happens}
+use Rattle.giop_session.specs.Runs.Events.{Comes, Event, Follows, Local, Meets, act_of, is_of, own_events, Does as Happens}
 use Rattle.giop_session.specs.Runs.Inputs.{AreEvents, Does, Input, Reads}
-use Rattle.giop_session.specs.Calls.Sending.{entry_of}
+use Rattle.giop_table.specs.Sending.{entry_of}
 use Rattle.giop_session.proofs.OnRuns.EventLemmas.{each_follows, rule_stays}
 use Rattle.giop_session.proofs.OnRuns.InputLemmas.{takes_events}
 use Rattle.giop_session.proofs.OnItems.ItemLemmas.{ItemLeaves, in_two}
-use Rattle.giop_session.specs.Hearing.Heard.{SideOf, turn_at}
+use Rattle.giop_end.specs.Hearing.Heard.{SideOf, turn_at}
 
 -- one more in front, if it is
 one_in_front : {X : Type 0} (b : Bool) (x : X) (rest : List X) → cond b (x ∷ rest) rest ≡ cond b (x ∷ []) [] ++ rest

@@ -40,29 +40,28 @@ use Rattle.giop_calls.specs.ClientTable as table
 use Rattle.giop_calls.specs.ClientTable.{client_step, is_gathering, settles}
 use Rattle.giop_session.specs.declared.laws.inputs.ClientInput.{ClientInput}
 use Rattle.giop_session.specs.declared.laws.inputs.ClientInput.TheVariants as input
-use Rattle.giop_session.specs.declared.limits.Limits.{Limits}
-use Rattle.giop_session.specs.declared.session_fault.SessionFault.{SessionFault}
-use Rattle.giop_session.specs.declared.calls.plan.Plan.{Plan}
-use Rattle.giop_session.specs.declared.calls.plan.Plan.TheVariants.{Keep}
-use Rattle.giop_session.specs.declared.calls.slot.Slot.{Slot}
-use Rattle.giop_session.specs.Calls.CallTable.{Act, Call, Held, Hears, IsTaken, Nothing, at, gathers}
-use Rattle.giop_session.specs.Calls.Sending.{entry_of, settled_by, slot_of}
-use Rattle.giop_session.specs.Acts.ClientCalls.{IsCancel, open_version}
-use Rattle.giop_session.specs.Hearing.ClientHears.{befalls_by, breaks_by, client_befalls, client_breaks, comes, continued, continues, gathered_call}
-use Rattle.giop_session.specs.Hearing.Heard.{kept}
+use Rattle.giop_end.specs.declared.limits.Limits.{Limits}
+use Rattle.giop_end.specs.declared.session_fault.SessionFault.{SessionFault}
+use Rattle.giop_table.specs.declared.plan.Plan.{Plan}
+use Rattle.giop_table.specs.declared.plan.Plan.TheVariants.{Keep}
+use Rattle.giop_table.specs.declared.slot.Slot.{Slot}
+use Rattle.giop_table.specs.CallTable.{Act, Call, Held, Hears, IsTaken, Nothing, at, gathers}
+use Rattle.giop_table.specs.Sending.{entry_of, settled_by, slot_of}
+use Rattle.giop_end.specs.Acts.ClientCalls.{IsCancel, open_version}
+use Rattle.giop_end.specs.Hearing.ClientHears.{befalls_by, breaks_by, client_befalls, client_breaks, comes, continued, continues, gathered_call}
+use Rattle.giop_end.specs.Hearing.Heard.{kept}
 use Rattle.giop_session.specs.Items.Carries.{Bad, Begun, Did, Got, IsSeries, Rest}
 use Rattle.giop_session.specs.Items.ClientCarries.{Known, SpellsReply, answered, begun, client_telling, received, replies, unknown, unspelled}
 use Rattle.giop_session.specs.Runs.ClientRuns.{client_deed}
 use Rattle.giop_session.specs.Runs.Driven.{IsAct}
-use Rattle.giop_session.specs.Runs.Events.{Comes, Event, Follows, what}
-use Rattle.giop_session.specs.Runs.Events.{Does as DoesTo}
+use Rattle.giop_session.specs.Runs.Events.{Comes, Event, Follows, what, Does as DoesTo}
 use Rattle.giop_session.specs.Runs.Inputs.{Input}
 use Rattle.giop_session.proofs.OnHearing.ClientCancelLemmas.{Passes, accepted, client_turn, with}
 use Rattle.giop_session.proofs.OnHearing.ClientReplyLemmas.{Nobody, Waits, awaits, begins as begins_reply, first_unread, more_act, unread_first}
 use Rattle.giop_session.proofs.OnItems.ClientItemLemmas.{client_item_leaves}
 use Rattle.giop_session.proofs.OnItems.HeldLemmas.{Each, Ends, Goes, GoesOn, IsOwnInput, IsTakenEvent, Said, all_said, ends_with, one_said}
 use Rattle.giop_session.proofs.OnItems.SeriesLemmas.{continued_version, fragment_version, joined_on, message_is, orders, series_on, twice}
-use Rattle.giop_session.proofs.OnLimits.QuietLemmas.{call_quiet, cancel_quiet, client_send_quiet}
+use Rattle.giop_end.proofs.OnActs.QuietLemmas.{call_quiet, cancel_quiet, client_send_quiet}
 
 -- the acts that a client's end does itself
 abbrev pub is_own : ClientEvent → Bool

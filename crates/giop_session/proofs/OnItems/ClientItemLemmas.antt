@@ -9,12 +9,12 @@ use Rattle.giop_calls.specs.declared.client.event.ClientEvent.{ClientEvent}
 use Rattle.giop_calls.specs.declared.client.event.ClientEvent.TheVariants as event
 use Rattle.giop_calls.specs.declared.client.heard.HeardReply.TheVariants as heard_as
 use Rattle.giop_calls.specs.ClientTable.{client_step, is_closed, is_gathering}
-use Rattle.giop_session.specs.Calls.CallTable.{Call}
+use Rattle.giop_table.specs.CallTable.{Call}
 use Rattle.giop_session.specs.Items.Carries.{Got, Bad, Begun, Rest, Cancel, Did, done_by}
 use Rattle.giop_session.specs.Items.ClientCarries.{Known, begun, client_telling, entry_behind, received}
-use Rattle.giop_session.specs.Hearing.ClientHears.{client_befalls}
+use Rattle.giop_end.specs.Hearing.ClientHears.{client_befalls}
 use Rattle.giop_session.specs.Runs.Events.{Follows, Local, act_of}
-use Rattle.giop_session.specs.Calls.Sending.{entry_of}
+use Rattle.giop_table.specs.Sending.{entry_of}
 use Rattle.giop_session.proofs.OnItems.ItemLemmas.{ItemLeaves, entry_left, taken_out}
 use Rattle.giop_session.proofs.OnHearing.ClientCancelLemmas.{Passes, behind, client_turn, ignored}
 use Rattle.giop_session.proofs.OnHearing.ClientReplyLemmas.{read_as, series, told_in, unread_as}

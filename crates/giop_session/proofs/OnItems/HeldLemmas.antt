@@ -7,16 +7,15 @@ use Rattle.giop_msg.specs.Stream.{Unread}
 use Rattle.giop_msg.proofs.StreamLemmas.{each_head, each_tail}
 use Rattle.giop_mux.specs.Runs.{Hears as IsTold, IsTaken as TakesOut}
 use Rattle.giop_session.specs.declared.laws.inputs.Answered.{Answered}
-use Rattle.giop_session.specs.declared.session_fault.SessionFault.{SessionFault}
-use Rattle.giop_session.specs.Calls.CallTable.{Act, Call, Held, Turned}
+use Rattle.giop_end.specs.declared.session_fault.SessionFault.{SessionFault}
+use Rattle.giop_table.specs.CallTable.{Act, Call, Held, Turned}
 use Rattle.giop_session.specs.Items.Carries.{Carries, CarriesItem, Item, Telling, behind_all}
 use Rattle.giop_session.specs.Runs.Driven.{Deed, IsAct, TakesAs}
-use Rattle.giop_session.specs.Runs.Events.{Comes, Event, Follows, is_of, own_events, what}
-use Rattle.giop_session.specs.Runs.Events.{Does as DoesTo}
+use Rattle.giop_session.specs.Runs.Events.{Comes, Event, Follows, is_of, own_events, what, Does as DoesTo}
 use Rattle.giop_session.specs.Runs.Inputs.{AreEvents, Does, Input, Reads}
 use Rattle.giop_session.proofs.OnItems.ItemLemmas.{ItemLeaves, items_leave}
 use Rattle.giop_session.proofs.OnRuns.FollowedLemmas.{AreHeard}
-use Rattle.giop_session.specs.Hearing.Heard.{SideOf}
+use Rattle.giop_end.specs.Hearing.Heard.{SideOf}
 
 -- each of these is so
 abbrev pub Each : {X : Type 0} → (X → Type 0) → List X → Type 0

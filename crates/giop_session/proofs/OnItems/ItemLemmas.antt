@@ -6,12 +6,12 @@ use Rattle.giop_ids.specs.Runs.{left}
 use Rattle.giop_msg.specs.declared.msg.Msg.{Msg}
 use Rattle.giop_mux.specs.Faults.{no_fault}
 use Rattle.giop_mux.specs.declared.step.Step.{Step}
-use Rattle.giop_session.specs.declared.calls.plan.Plan.{Plan}
-use Rattle.giop_session.specs.declared.calls.plan.Planned.{Planned}
-use Rattle.giop_session.specs.Calls.CallTable.{Act, Brings, Call, Hears, IsTaken, Nothing, Turned, brought, gathers, taken, turn, turned}
+use Rattle.giop_table.specs.declared.plan.Plan.{Plan}
+use Rattle.giop_table.specs.declared.plan.Planned.{Planned}
+use Rattle.giop_table.specs.CallTable.{Act, Brings, Call, Hears, IsTaken, Nothing, Turned, brought, gathers, taken, turn, turned}
 use Rattle.giop_session.specs.Items.Carries.{Item, Telling, CarriesItem, Carries, behind_all}
 use Rattle.giop_session.specs.Runs.Events.{Event, Follows, what}
-use Rattle.giop_session.specs.Calls.Sending.{entry_of, settled_by, slot_of, unsent_after, unsent_of}
+use Rattle.giop_table.specs.Sending.{entry_of, settled_by, slot_of, unsent_after, unsent_of}
 
 -- the entry of the slot of an entry
 pub entry_is : {E : Type 0} (entry : Option E) (unsent : List Msg) → entry_of (slot_of entry unsent) ≡ entry

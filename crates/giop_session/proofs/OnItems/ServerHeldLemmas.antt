@@ -38,29 +38,28 @@ use Rattle.giop_calls.specs.ServerTable.{arrived, is_closed, is_gathering, serve
 use Rattle.giop_session.specs.declared.laws.inputs.Answered.{Answered}
 use Rattle.giop_session.specs.declared.laws.inputs.ServerInput.{ServerInput}
 use Rattle.giop_session.specs.declared.laws.inputs.ServerInput.TheVariants as input
-use Rattle.giop_session.specs.declared.limits.Limits.{Limits}
-use Rattle.giop_session.specs.declared.session_fault.SessionFault.{SessionFault}
-use Rattle.giop_session.specs.declared.calls.plan.Plan.{Plan}
-use Rattle.giop_session.specs.declared.calls.plan.Plan.TheVariants.{Keep}
-use Rattle.giop_session.specs.declared.calls.slot.Slot.{Slot}
-use Rattle.giop_session.specs.Calls.CallTable.{Act, Call, First, Held, Hears, IsTaken, Nothing, at, gathers}
-use Rattle.giop_session.specs.Calls.Sending.{entry_of, settled_by, slot_of, unsent_of}
-use Rattle.giop_session.specs.Acts.ServerAnswers.{IsAnswer, IsLocateAnswer, locate_of, question_of}
-use Rattle.giop_session.specs.Hearing.Decoding.{heard_call}
-use Rattle.giop_session.specs.Hearing.Heard.{kept}
-use Rattle.giop_session.specs.Hearing.ServerHears.{befalls_by, breaks_by, comes, continued, continues, gathered_kind, server_befalls, server_breaks}
+use Rattle.giop_end.specs.declared.limits.Limits.{Limits}
+use Rattle.giop_end.specs.declared.session_fault.SessionFault.{SessionFault}
+use Rattle.giop_table.specs.declared.plan.Plan.{Plan}
+use Rattle.giop_table.specs.declared.plan.Plan.TheVariants.{Keep}
+use Rattle.giop_table.specs.declared.slot.Slot.{Slot}
+use Rattle.giop_table.specs.CallTable.{Act, Call, First, Held, Hears, IsTaken, Nothing, at, gathers}
+use Rattle.giop_table.specs.Sending.{entry_of, settled_by, slot_of, unsent_of}
+use Rattle.giop_end.specs.Acts.ServerAnswers.{IsAnswer, IsLocateAnswer, locate_of, question_of}
+use Rattle.giop_end.specs.Hearing.Decoding.{heard_call}
+use Rattle.giop_end.specs.Hearing.Heard.{kept}
+use Rattle.giop_end.specs.Hearing.ServerHears.{befalls_by, breaks_by, comes, continued, continues, gathered_kind, server_befalls, server_breaks}
 use Rattle.giop_session.specs.Items.Carries.{Bad, Begun, Cancel, Did, Got, IsSeries, Rest}
 use Rattle.giop_session.specs.Items.ServerCarries.{SpellsCall, asks, server_telling}
 use Rattle.giop_session.specs.Runs.Driven.{IsAct}
-use Rattle.giop_session.specs.Runs.Events.{Comes, Event, Follows, what}
-use Rattle.giop_session.specs.Runs.Events.{Does as DoesTo}
+use Rattle.giop_session.specs.Runs.Events.{Comes, Event, Follows, what, Does as DoesTo}
 use Rattle.giop_session.specs.Runs.Inputs.{Input}
 use Rattle.giop_session.specs.Runs.ServerRuns.{server_deed}
 use Rattle.giop_session.proofs.OnItems.HeldLemmas.{Each, Ends, Goes, GoesOn, IsOwnInput, IsTakenEvent, Said, all_said, ends_with, one_said}
 use Rattle.giop_session.proofs.OnItems.ItemLemmas.{call_of, heard}
 use Rattle.giop_session.proofs.OnItems.SeriesLemmas.{continued_version, fragment_version, joined_on, message_is, orders, series_on, twice}
 use Rattle.giop_session.proofs.OnItems.ServerItemLemmas.{begun, first_act, more_act, server_item_leaves, server_turn}
-use Rattle.giop_session.proofs.OnLimits.QuietLemmas.{answer_locate_quiet, answer_quiet, server_send_quiet}
+use Rattle.giop_end.proofs.OnActs.QuietLemmas.{answer_locate_quiet, answer_quiet, server_send_quiet}
 
 -- the acts that a server's end does itself
 abbrev pub is_own : ServerEvent → Bool

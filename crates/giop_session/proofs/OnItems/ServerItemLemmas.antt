@@ -27,15 +27,15 @@ use Rattle.giop_calls.specs.declared.server.event.ServerEvent.TheVariants as eve
 use Rattle.giop_calls.specs.declared.server.heard.HeardCall.{HeardCall}
 use Rattle.giop_calls.specs.declared.server.heard.HeardCall.TheVariants as heard_as
 use Rattle.giop_calls.specs.ServerTable.{arrived, becomes, begins, is_closed, is_free, is_gathering, refused, server_step}
-use Rattle.giop_session.specs.declared.calls.slot.Slot.{Slot}
-use Rattle.giop_session.specs.Calls.CallTable.{Act, Call, First, Hears, More, Nothing, Turned, turn}
+use Rattle.giop_table.specs.declared.slot.Slot.{Slot}
+use Rattle.giop_table.specs.CallTable.{Act, Call, First, Hears, More, Nothing, Turned, turn}
 use Rattle.giop_session.specs.Items.Carries.{AreFragments, Got, Bad, Begun, Rest, Cancel, Did, IsSeries, done_by}
-use Rattle.giop_session.specs.Hearing.Decoding.{heard_call}
+use Rattle.giop_end.specs.Hearing.Decoding.{heard_call}
 use Rattle.giop_session.specs.Runs.Events.{Comes, Follows, Local, act_of}
-use Rattle.giop_session.specs.Hearing.Heard.{kept}
-use Rattle.giop_session.specs.Calls.Sending.{entry_of, unsent_of}
+use Rattle.giop_end.specs.Hearing.Heard.{kept}
+use Rattle.giop_table.specs.Sending.{entry_of, unsent_of}
 use Rattle.giop_session.specs.Items.ServerCarries.{SpellsCall, asks, server_behind, server_telling}
-use Rattle.giop_session.specs.Hearing.ServerHears.{server_befalls}
+use Rattle.giop_end.specs.Hearing.ServerHears.{server_befalls}
 use Rattle.giop_session.proofs.OnItems.ItemLemmas.{ItemLeaves, call_of, entry_is, entry_left, heard, taken_out}
 
 abbrev Answer : Type 0

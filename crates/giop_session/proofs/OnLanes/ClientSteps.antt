@@ -21,15 +21,15 @@ use Rattle.giop_calls.specs.declared.client.late.Late.TheVariants as late
 use Rattle.giop_calls.specs.declared.fault.CallFault.TheVariants.{OrderDiffers, WrongKind}
 use Rattle.giop_calls.specs.declared.kind.CallKind.{CallKind}
 use Rattle.giop_calls.specs.declared.kind.CallKind.TheVariants as kind
-use Rattle.giop_session.specs.declared.calls.slot.Slot.{Slot}
-use Rattle.giop_session.specs.Calls.CallTable.{Brings, Call, First, Hears, More, Nothing, brought}
+use Rattle.giop_table.specs.declared.slot.Slot.{Slot}
+use Rattle.giop_table.specs.CallTable.{Brings, Call, First, Hears, More, Nothing, brought}
 use Rattle.giop_session.specs.Items.ClientCarries.{replies}
-use Rattle.giop_session.specs.Hearing.ClientHears.{awaited, breaks_by, client_befalls, client_breaks, comes}
-use Rattle.giop_session.specs.Hearing.ClientHears as hearing
+use Rattle.giop_end.specs.Hearing.ClientHears.{awaited, breaks_by, client_befalls, client_breaks, comes}
+use Rattle.giop_end.specs.Hearing.ClientHears as hearing
 use Rattle.giop_session.specs.Worlds.Coding.{coding}
-use Rattle.giop_session.specs.Hearing.Heard.{behind_id, kept}
+use Rattle.giop_end.specs.Hearing.Heard.{behind_id, kept}
 use Rattle.giop_session.specs.Worlds.LaneAtEnds.{gathered_in, seen}
-use Rattle.giop_session.specs.Calls.Sending.{entry_of}
+use Rattle.giop_table.specs.Sending.{entry_of}
 use Rattle.giop_session.proofs.OnHearing.ClientCancelLemmas as cancelled
 use Rattle.giop_session.proofs.OnLanes.HearsNext.{same_orders}
 use Rattle.giop_session.proofs.OnLanes.LaneAtEndsLemmas as ends

@@ -41,20 +41,20 @@ use Rattle.giop_calls.specs.declared.kind.CallKind.TheVariants as kind
 use Rattle.giop_calls.specs.declared.server.event.ServerEvent.{ServerEvent}
 use Rattle.giop_calls.specs.declared.server.event.ServerEvent.TheVariants as at_server
 use Rattle.giop_calls.specs.declared.server.heard.HeardCall.TheVariants as heard
-use Rattle.giop_session.specs.declared.acts.form.Form.{Form}
-use Rattle.giop_session.specs.declared.calls.plan.Plan.{Plan}
-use Rattle.giop_session.specs.declared.calls.plan.Plan.TheVariants.{Put, Next, Keep}
-use Rattle.giop_session.specs.declared.calls.plan.Planned.{Planned}
+use Rattle.giop_end.specs.declared.acts.form.Form.{Form}
+use Rattle.giop_table.specs.declared.plan.Plan.{Plan}
+use Rattle.giop_table.specs.declared.plan.Plan.TheVariants.{Put, Next, Keep}
+use Rattle.giop_table.specs.declared.plan.Planned.{Planned}
 use Rattle.giop_session.specs.Items.Carries.{IsSeries}
-use Rattle.giop_session.specs.Acts.ClientCalls.{begin_fault, is_locate_sendable, is_request_sendable, locate_octets, request_octets}
-use Rattle.giop_session.specs.Hearing.ClientHears.{heard_reply}
+use Rattle.giop_end.specs.Acts.ClientCalls.{begin_fault, is_locate_sendable, is_request_sendable, locate_octets, request_octets}
+use Rattle.giop_end.specs.Hearing.ClientHears.{heard_reply}
 use Rattle.giop_session.specs.Worlds.Coding.{coding, kind_asked, last_piece, read_call, read_reply}
-use Rattle.giop_session.specs.Hearing.Decoding.{heard_call}
-use Rattle.giop_session.specs.Acts.Form.{IsForm, is_sendable, largest}
+use Rattle.giop_end.specs.Hearing.Decoding.{heard_call}
+use Rattle.giop_end.specs.Acts.Form.{IsForm, is_sendable, largest}
 use Rattle.giop_session.specs.Worlds.OwnLane.{IsOwn, OwnRuns, PlansCall, PlansLocated, PlansReply, sends_cut}
-use Rattle.giop_session.specs.Calls.Refused.{unfit_unless}
-use Rattle.giop_session.specs.Acts.Sent.{IsSent, sends_one}
-use Rattle.giop_session.specs.Acts.ServerAnswers.{is_reply_sendable, located, reply_octets}
+use Rattle.giop_end.specs.Acts.Refused.{unfit_unless}
+use Rattle.giop_end.specs.Acts.Sent.{IsSent, sends_one}
+use Rattle.giop_end.specs.Acts.ServerAnswers.{is_reply_sendable, located, reply_octets}
 use Rattle.giop_session.proofs.OnItems.CutItemLemmas.{cut_series}
 
 -- ---- the pieces of a series

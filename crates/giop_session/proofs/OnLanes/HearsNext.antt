@@ -15,17 +15,17 @@ use Rattle.giop_mux.specs.declared.step.Step.{Step}
 use Rattle.giop_calls.specs.Lane.{taken}
 use Rattle.giop_calls.specs.Messages.{is_same_order}
 use Rattle.giop_calls.specs.declared.fault.CallFault.{CallFault}
-use Rattle.giop_session.specs.declared.calls.plan.Planned.{Planned}
-use Rattle.giop_session.specs.declared.session_fault.SessionFault.{SessionFault}
-use Rattle.giop_session.specs.declared.session_fault.SessionFault.TheVariants as session
-use Rattle.giop_session.specs.declared.calls.slot.Slot.{Slot}
-use Rattle.giop_session.specs.declared.calls.table_fault.TableFault.{TableFault}
-use Rattle.giop_session.specs.declared.calls.table_fault.TableFault.TheVariants.{TooManyCalls, GatherFull, NoMemory}
-use Rattle.giop_session.specs.Calls.CallTable.{Act, Brings, Call, First, Hears, Held, More, Nothing, Reply, Turned, at, brought, calls_fault, gathers, limit, octets_fault, put_call, room_fault, turn, turned}
-use Rattle.giop_session.specs.Hearing.Heard.{Befalls, IsHeard, heard_by, heard_of, kept, SideOf, turn_at, rules_at, hears}
+use Rattle.giop_table.specs.declared.plan.Planned.{Planned}
+use Rattle.giop_end.specs.declared.session_fault.SessionFault.{SessionFault}
+use Rattle.giop_end.specs.declared.session_fault.SessionFault.TheVariants as session
+use Rattle.giop_table.specs.declared.slot.Slot.{Slot}
+use Rattle.giop_table.specs.declared.table_fault.TableFault.{TableFault}
+use Rattle.giop_table.specs.declared.table_fault.TableFault.TheVariants.{TooManyCalls, GatherFull, NoMemory}
+use Rattle.giop_table.specs.CallTable.{Act, Brings, Call, First, Hears, Held, More, Nothing, Reply, Turned, at, brought, calls_fault, gathers, limit, octets_fault, put_call, room_fault, turn, turned}
+use Rattle.giop_end.specs.Hearing.Heard.{Befalls, IsHeard, heard_by, heard_of, kept, SideOf, turn_at, rules_at, hears}
 use Rattle.giop_session.specs.Worlds.OnTheWay.{Names}
-use Rattle.giop_session.specs.Calls.Sending.{entry_of, sending_step, settled_by, slot_of, unsent_of}
-use Rattle.giop_session.specs.Calls.SessionFaults.{of_table}
+use Rattle.giop_table.specs.Sending.{entry_of, sending_step, settled_by, slot_of, unsent_of}
+use Rattle.giop_end.specs.Ends.SessionFaults.{of_table}
 use Rattle.giop_session.proofs.OnItems.ItemLemmas.{call_of, heard}
 use Rattle.giop_session.proofs.OnLimits.LimitLemmas.{brought_by}
 use Rattle.giop_session.proofs.OnLanes.NextHeard.{IsBeside, IsFull}

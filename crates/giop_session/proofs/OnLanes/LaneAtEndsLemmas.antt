@@ -25,23 +25,23 @@ use Rattle.giop_calls.specs.declared.kind.CallKind.TheVariants as kind
 use Rattle.giop_calls.specs.declared.server.entry.ServerEntry.{ServerEntry}
 use Rattle.giop_calls.specs.declared.server.entry.ServerEntry.TheVariants as server_entry
 use Rattle.giop_calls.specs.declared.server.event.ServerEvent.TheVariants as at_server
-use Rattle.giop_session.specs.declared.acts.form.Form.{Form}
-use Rattle.giop_session.specs.declared.calls.plan.Planned.{Planned}
-use Rattle.giop_session.specs.Calls.CallTable.{Call, First, Hears, More, Nothing, brought}
+use Rattle.giop_end.specs.declared.acts.form.Form.{Form}
+use Rattle.giop_table.specs.declared.plan.Planned.{Planned}
+use Rattle.giop_table.specs.CallTable.{Call, First, Hears, More, Nothing, brought}
 use Rattle.giop_session.specs.Items.Carries.{IsSeries}
 use Rattle.giop_session.specs.Items.ClientCarries.{replies}
-use Rattle.giop_session.specs.Hearing.ClientHears as client
-use Rattle.giop_session.specs.Hearing.ClientHears.{awaited, client_befalls, heard_reply}
+use Rattle.giop_end.specs.Hearing.ClientHears as client
+use Rattle.giop_end.specs.Hearing.ClientHears.{awaited, client_befalls, heard_reply}
 use Rattle.giop_session.specs.Worlds.Coding.{coding, kind_asked, last_piece, read_call, read_reply}
-use Rattle.giop_session.specs.Hearing.Decoding.{heard_call}
-use Rattle.giop_session.specs.Hearing.Heard.{behind_id, kept}
+use Rattle.giop_end.specs.Hearing.Decoding.{heard_call}
+use Rattle.giop_end.specs.Hearing.Heard.{behind_id, kept}
 use Rattle.giop_session.specs.Worlds.LaneAtEnds.{carried, gathered_in, gathers, seen, seen_as}
 use Rattle.giop_session.specs.Worlds.OwnLane.{PlansCall, PlansLocated, PlansReply, sends_cut}
-use Rattle.giop_session.specs.Acts.Sent.{IsSent, sends_one}
-use Rattle.giop_session.specs.Acts.ServerAnswers.{located}
+use Rattle.giop_end.specs.Acts.Sent.{IsSent, sends_one}
+use Rattle.giop_end.specs.Acts.ServerAnswers.{located}
 use Rattle.giop_session.specs.Items.ServerCarries.{asks}
-use Rattle.giop_session.specs.Hearing.ServerHears as server
-use Rattle.giop_session.specs.Hearing.ServerHears.{server_befalls}
+use Rattle.giop_end.specs.Hearing.ServerHears as server
+use Rattle.giop_end.specs.Hearing.ServerHears.{server_befalls}
 use Rattle.giop_session.proofs.OnLanes.CodingLemmas.{put_of, same_piece}
 use Rattle.giop_session.proofs.OnItems.CutItemLemmas.{series}
 

@@ -19,14 +19,14 @@ use Rattle.giop_calls.specs.declared.kind.CallKind.TheVariants as kind
 use Rattle.giop_calls.specs.declared.server.entry.ServerEntry.{ServerEntry}
 use Rattle.giop_calls.specs.declared.server.entry.ServerEntry.TheVariants as server_entry
 use Rattle.giop_calls.specs.declared.server.event.ServerEvent.TheVariants as at_server
-use Rattle.giop_session.specs.Calls.CallTable.{Brings, Call, First, Hears, More, Nothing}
+use Rattle.giop_table.specs.CallTable.{Brings, Call, First, Hears, More, Nothing}
 use Rattle.giop_session.specs.Items.ClientCarries.{replies}
-use Rattle.giop_session.specs.Hearing.ClientHears.{awaited, client_befalls}
+use Rattle.giop_end.specs.Hearing.ClientHears.{awaited, client_befalls}
 use Rattle.giop_session.specs.Worlds.Coding.{coding}
-use Rattle.giop_session.specs.Hearing.Heard.{behind_id, kept}
+use Rattle.giop_end.specs.Hearing.Heard.{behind_id, kept}
 use Rattle.giop_session.specs.Worlds.LaneAtEnds.{gathers, seen, seen_as}
 use Rattle.giop_session.specs.Items.ServerCarries.{asks}
-use Rattle.giop_session.specs.Hearing.ServerHears.{server_befalls}
+use Rattle.giop_end.specs.Hearing.ServerHears.{server_befalls}
 use Rattle.giop_session.proofs.OnLanes.LaneAtEndsLemmas as ends
 
 -- ---- a message as its lane has it

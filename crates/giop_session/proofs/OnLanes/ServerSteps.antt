@@ -19,14 +19,14 @@ use Rattle.giop_calls.specs.declared.server.event.ServerEvent.{ServerEvent}
 use Rattle.giop_calls.specs.declared.server.event.ServerEvent.TheVariants as event
 use Rattle.giop_calls.specs.declared.server.heard.HeardCall.{HeardCall}
 use Rattle.giop_calls.specs.declared.server.heard.HeardCall.TheVariants as heard_as
-use Rattle.giop_session.specs.declared.calls.slot.Slot.{Slot}
-use Rattle.giop_session.specs.Calls.CallTable.{Brings, Call, First, Hears, More, Nothing, brought}
+use Rattle.giop_table.specs.declared.slot.Slot.{Slot}
+use Rattle.giop_table.specs.CallTable.{Brings, Call, First, Hears, More, Nothing, brought}
 use Rattle.giop_session.specs.Worlds.Coding.{coding}
-use Rattle.giop_session.specs.Hearing.Heard.{behind_id, kept}
+use Rattle.giop_end.specs.Hearing.Heard.{behind_id, kept}
 use Rattle.giop_session.specs.Worlds.LaneAtEnds.{gathered_in, seen, seen_as}
-use Rattle.giop_session.specs.Calls.Sending.{entry_of}
+use Rattle.giop_table.specs.Sending.{entry_of}
 use Rattle.giop_session.specs.Items.ServerCarries.{asks}
-use Rattle.giop_session.specs.Hearing.ServerHears.{breaks_by, server_befalls, server_breaks}
+use Rattle.giop_end.specs.Hearing.ServerHears.{breaks_by, server_befalls, server_breaks}
 use Rattle.giop_session.proofs.OnLanes.HearsNext.{same_orders}
 use Rattle.giop_session.proofs.OnLanes.LaneAtEndsLemmas as ends
 use Rattle.giop_session.proofs.OnLanes.LaneEventLemmas.{asked_seen, fragment_seen}

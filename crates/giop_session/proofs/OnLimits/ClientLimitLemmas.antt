@@ -13,10 +13,10 @@ use Rattle.giop_calls.specs.declared.client.event.ClientEvent.{ClientEvent}
 use Rattle.giop_calls.specs.declared.client.event.ClientEvent.TheVariants as event
 use Rattle.giop_calls.specs.declared.client.heard.HeardReply.TheVariants as heard
 use Rattle.giop_calls.specs.ClientTable.{client_step}
-use Rattle.giop_session.specs.declared.session_fault.SessionFault.{SessionFault}
-use Rattle.giop_session.specs.Calls.CallTable.{Call, First, Hears, More, Nothing}
-use Rattle.giop_session.specs.Hearing.ClientHears.{awaited, befalls_by, breaks_by, client_befalls, client_breaks, comes, continued, continues, gathered_call, heard_reply}
-use Rattle.giop_session.specs.Hearing.Heard.{behind_id, in_call, kept}
+use Rattle.giop_end.specs.declared.session_fault.SessionFault.{SessionFault}
+use Rattle.giop_table.specs.CallTable.{Call, First, Hears, More, Nothing}
+use Rattle.giop_end.specs.Hearing.ClientHears.{awaited, befalls_by, breaks_by, client_befalls, client_breaks, comes, continued, continues, gathered_call, heard_reply}
+use Rattle.giop_end.specs.Hearing.Heard.{behind_id, in_call, kept}
 use Rattle.giop_session.specs.Runs.Limits.{begins_at_client, octets_by, octets_with}
 use Rattle.giop_session.proofs.OnLimits.LimitLemmas.{IsSmall, IsUnlimited}
 

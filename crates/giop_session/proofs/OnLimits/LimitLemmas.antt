@@ -20,22 +20,22 @@ use Rattle.giop_frag.proofs.TotalLemmas.{octets_in-grown, total_put}
 use Rattle.giop_mux.specs.Calls.{is_one_too_many}
 use Rattle.giop_mux.specs.Runs.{Hears as IsTold, IsTaken as TakesOut}
 use Rattle.giop_mux.specs.declared.step.Step.{Step}
-use Rattle.giop_session.specs.declared.limits.Limits.{Limits}
-use Rattle.giop_session.specs.declared.calls.plan.Planned.{Planned}
-use Rattle.giop_session.specs.declared.calls.sending.Sends.{Sends}
-use Rattle.giop_session.specs.declared.session_fault.SessionFault.{SessionFault}
-use Rattle.giop_session.specs.declared.session_fault.SessionFault.TheVariants as session
-use Rattle.giop_session.specs.declared.calls.slot.Slot.{Slot}
-use Rattle.giop_session.specs.declared.calls.table_fault.TableFault.{TableFault}
-use Rattle.giop_session.specs.declared.calls.table_fault.TableFault.TheVariants.{Rule, TooManyCalls, GatherFull, StillOpen, NoMemory}
+use Rattle.giop_end.specs.declared.limits.Limits.{Limits}
+use Rattle.giop_table.specs.declared.plan.Planned.{Planned}
+use Rattle.giop_table.specs.declared.sending.Sends.{Sends}
+use Rattle.giop_end.specs.declared.session_fault.SessionFault.{SessionFault}
+use Rattle.giop_end.specs.declared.session_fault.SessionFault.TheVariants as session
+use Rattle.giop_table.specs.declared.slot.Slot.{Slot}
+use Rattle.giop_table.specs.declared.table_fault.TableFault.{TableFault}
+use Rattle.giop_table.specs.declared.table_fault.TableFault.TheVariants.{Rule, TooManyCalls, GatherFull, StillOpen, NoMemory}
 use Rattle.giop_session.specs.Runs.Alone.{names_by}
-use Rattle.giop_session.specs.Calls.Begun.{no_calls}
-use Rattle.giop_session.specs.Calls.CallTable.{Act, Brings, Call, First, Hears, Held, IsTaken, More, Nothing, Reply, Turned, at, brought, calls_fault, gathers, limit, octets_fault, room_fault, rules_of, taken, turn, turned}
+use Rattle.giop_end.specs.Ends.Begun.{no_calls}
+use Rattle.giop_table.specs.CallTable.{Act, Brings, Call, First, Hears, Held, IsTaken, More, Nothing, Reply, Turned, at, brought, calls_fault, gathers, limit, octets_fault, room_fault, rules_of, taken, turn, turned}
 use Rattle.giop_session.specs.Runs.Events.{Accepts, Comes, Does, Event, Meets}
-use Rattle.giop_session.specs.Hearing.Heard.{IsHeard, heard_by, SideOf, rules_at}
+use Rattle.giop_end.specs.Hearing.Heard.{IsHeard, heard_by, SideOf, rules_at}
 use Rattle.giop_session.specs.Runs.Limits.{AreWithin, IsNext, Refuses, octets_of, octets_with, opens}
-use Rattle.giop_session.specs.Calls.Sending.{sending_step, settled_by}
-use Rattle.giop_session.specs.Calls.SessionFaults.{of_table}
+use Rattle.giop_table.specs.Sending.{sending_step, settled_by}
+use Rattle.giop_end.specs.Ends.SessionFaults.{of_table}
 
 -- ---- plain facts
 

@@ -12,21 +12,22 @@ use Rattle.giop_msg.specs.Stream.{BeginsWithMessage, Msgs, Unread}
 use Rattle.giop_msg.proofs.StreamLemmas.{each_head, each_one, each_tail, same_message}
 use Rattle.giop_session.specs.declared.laws.inputs.Answered.{Answered}
 use Rattle.giop_session.specs.declared.laws.inputs.Answered.TheVariants as answer
-use Rattle.giop_session.specs.declared.limits.Limits.{Limits}
-use Rattle.giop_session.specs.declared.calls.plan.Planned.{Planned}
-use Rattle.giop_session.specs.declared.calls.sending.Sends.{Sends}
-use Rattle.giop_session.specs.declared.session_fault.SessionFault.{SessionFault}
-use Rattle.giop_session.specs.declared.session_fault.SessionFault.TheVariants as session
-use Rattle.giop_session.specs.declared.calls.table_fault.TableFault.{TableFault}
+use Rattle.giop_end.specs.declared.limits.Limits.{Limits}
+use Rattle.giop_table.specs.declared.plan.Planned.{Planned}
+use Rattle.giop_table.specs.declared.sending.Sends.{Sends}
+use Rattle.giop_end.specs.declared.session_fault.SessionFault.{SessionFault}
+use Rattle.giop_end.specs.declared.session_fault.SessionFault.TheVariants as session
+use Rattle.giop_table.specs.declared.table_fault.TableFault.{TableFault}
 use Rattle.giop_session.specs.Runs.Alone.{names}
-use Rattle.giop_session.specs.Calls.CallTable.{Call, Held, Hears, IsTaken, Nothing, event_reply}
-use Rattle.giop_session.specs.Runs.Driven.{Closes, Deed, EndRuns, EndState, Feeds, IsDoneBy, IsGiven, IsGivenBy, PutsOut, TakesOut, new_end}
-use Rattle.giop_session.specs.Hearing.Feeding.{Fed, Stops, Through, standing, with_octets}
-use Rattle.giop_session.specs.Hearing.Heard.{told_of, SideOf, rules_at, hears}
+use Rattle.giop_table.specs.CallTable.{Call, Held, Hears, IsTaken, Nothing, event_reply}
+use Rattle.giop_session.specs.Runs.Driven.{Closes, Deed, EndRuns, Feeds, IsDoneBy, IsGiven, IsGivenBy, PutsOut, TakesOut}
+use Rattle.giop_end.specs.Ends.Begun.{EndState, new_end}
+use Rattle.giop_end.specs.Hearing.Feeding.{Fed, Stops, Through, standing, with_octets}
+use Rattle.giop_end.specs.Hearing.Heard.{told_of, SideOf, rules_at, hears}
 use Rattle.giop_session.specs.Runs.Limits.{octets_with}
-use Rattle.giop_session.specs.Acts.Putting.{Puts}
+use Rattle.giop_end.specs.Acts.Putting.{Puts}
 use Rattle.giop_session.specs.Runs.RunLimits.{IsForNoLimit, NoneForALimit}
-use Rattle.giop_session.specs.Calls.SessionFaults.{of_table}
+use Rattle.giop_end.specs.Ends.SessionFaults.{of_table}
 use Rattle.giop_session.proofs.OnLimits.LimitLemmas.{Fits, IsSmall, IsUnlimited, fits_then, heard_fits, heard_free, new_fits, refused_free, table_free}
 
 -- what is taken from the front of octets is the front of the messages that stand there

@@ -11,12 +11,12 @@ use Rattle.giop_calls.specs.declared.server.entry.ServerEntry.{ServerEntry}
 use Rattle.giop_calls.specs.declared.server.event.ServerEvent.{ServerEvent}
 use Rattle.giop_calls.specs.declared.server.event.ServerEvent.TheVariants as event
 use Rattle.giop_calls.specs.ServerTable.{server_step}
-use Rattle.giop_session.specs.declared.session_fault.SessionFault.{SessionFault}
-use Rattle.giop_session.specs.Calls.CallTable.{Call, First, Hears, More, Nothing}
-use Rattle.giop_session.specs.Hearing.Decoding.{heard_call}
-use Rattle.giop_session.specs.Hearing.Heard.{behind_id, in_call, kept}
+use Rattle.giop_end.specs.declared.session_fault.SessionFault.{SessionFault}
+use Rattle.giop_table.specs.CallTable.{Call, First, Hears, More, Nothing}
+use Rattle.giop_end.specs.Hearing.Decoding.{heard_call}
+use Rattle.giop_end.specs.Hearing.Heard.{behind_id, in_call, kept}
 use Rattle.giop_session.specs.Runs.Limits.{begins_at_server, is_asking, octets_by, octets_with}
-use Rattle.giop_session.specs.Hearing.ServerHears.{befalls_by, breaks_by, comes, continued, continues, gathered_kind, server_befalls, server_breaks}
+use Rattle.giop_end.specs.Hearing.ServerHears.{befalls_by, breaks_by, comes, continued, continues, gathered_kind, server_befalls, server_breaks}
 use Rattle.giop_session.proofs.OnLimits.LimitLemmas.{IsSmall, IsUnlimited}
 
 -- an id without a call gets one only by an event that begins it

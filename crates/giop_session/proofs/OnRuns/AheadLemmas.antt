@@ -11,22 +11,22 @@ use Rattle.giop_msg.proofs.FramerLemmas.{waits_for_header}
 use Rattle.giop_msg.proofs.StreamLemmas.{each_one}
 use Rattle.giop_session.specs.declared.laws.inputs.Answered.{Answered}
 use Rattle.giop_session.specs.declared.laws.inputs.Answered.TheVariants as answer
-use Rattle.giop_session.specs.declared.calls.plan.Planned.{Planned}
-use Rattle.giop_session.specs.declared.calls.sending.Sends.{Sends}
-use Rattle.giop_session.specs.declared.session_fault.SessionFault.{SessionFault}
-use Rattle.giop_session.specs.declared.session_fault.SessionFault.TheVariants as session
-use Rattle.giop_session.specs.declared.calls.table_fault.TableFault.{TableFault}
-use Rattle.giop_session.specs.declared.calls.table_fault.TableFault.TheVariants.{Rule, TooManyCalls, GatherFull, StillOpen, NoMemory}
-use Rattle.giop_session.specs.Acts.Putting.{Puts}
-use Rattle.giop_session.specs.Calls.CallTable.{Act, Call, Held, Hears, IsTaken, Nothing, Turned, at, event_reply, is_of_call, limit, taken}
-use Rattle.giop_session.specs.Calls.Sending.{entry_of}
-use Rattle.giop_session.specs.Calls.SessionFaults.{of_table}
-use Rattle.giop_session.specs.Hearing.Feeding.{Fed, Through, with_octets}
-use Rattle.giop_session.specs.Hearing.Heard.{IsHeard, heard_by, told_of, SideOf, turn_at, rules_at, hears}
-use Rattle.giop_session.specs.Runs.Driven.{Closes, Deed, EndRuns, EndState, Feeds, IsDoneBy, IsGivenBy, NoneRefused, PutsOut, TakesOut, id_of, is_named, own_answers}
-use Rattle.giop_session.specs.Runs.Inputs.{nothing_unread}
+use Rattle.giop_table.specs.declared.plan.Planned.{Planned}
+use Rattle.giop_table.specs.declared.sending.Sends.{Sends}
+use Rattle.giop_end.specs.declared.session_fault.SessionFault.{SessionFault}
+use Rattle.giop_end.specs.declared.session_fault.SessionFault.TheVariants as session
+use Rattle.giop_table.specs.declared.table_fault.TableFault.{TableFault}
+use Rattle.giop_table.specs.declared.table_fault.TableFault.TheVariants.{Rule, TooManyCalls, GatherFull, StillOpen, NoMemory}
+use Rattle.giop_end.specs.Acts.Putting.{Puts}
+use Rattle.giop_table.specs.CallTable.{Act, Call, Held, Hears, IsTaken, Nothing, Turned, at, event_reply, is_of_call, limit, taken}
+use Rattle.giop_table.specs.Sending.{entry_of}
+use Rattle.giop_end.specs.Ends.SessionFaults.{of_table}
+use Rattle.giop_end.specs.Hearing.Feeding.{Fed, Through, with_octets, nothing_unread}
+use Rattle.giop_end.specs.Hearing.Heard.{IsHeard, heard_by, told_of, SideOf, turn_at, rules_at, hears}
+use Rattle.giop_session.specs.Runs.Driven.{Closes, Deed, EndRuns, Feeds, IsDoneBy, IsGivenBy, NoneRefused, PutsOut, TakesOut, id_of, is_named, own_answers}
+use Rattle.giop_end.specs.Ends.Begun.{EndState}
 use Rattle.giop_session.specs.Runs.Met.{Comes, Does, Met, Sorting, given_as}
-use Rattle.giop_session.proofs.OnCalls.TableLemmas.{told_apart}
+use Rattle.giop_table.proofs.TableLemmas.{told_apart}
 use Rattle.giop_session.proofs.OnRuns.EventLemmas.{Changes, changes, heard}
 use Rattle.giop_session.proofs.OnRuns.InputLemmas.{same_taken}
 

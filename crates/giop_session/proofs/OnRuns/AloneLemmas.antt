@@ -10,16 +10,16 @@ use Rattle.giop_msg.specs.Stream.{BeginsWithFault, Msgs, TakesMessages, Unread, 
 use Rattle.giop_msg.proofs.StreamLemmas.{each_head, each_one, each_tail, message_or_fault}
 use Rattle.giop_session.specs.declared.laws.inputs.Answered.{Answered}
 use Rattle.giop_session.specs.declared.laws.inputs.Answered.TheVariants as answer
-use Rattle.giop_session.specs.declared.limits.Limits.{Limits}
-use Rattle.giop_session.specs.declared.session_fault.SessionFault.{SessionFault}
-use Rattle.giop_session.specs.declared.session_fault.SessionFault.TheVariants as session
-use Rattle.giop_session.specs.Calls.CallTable.{Act, Call, Held, at}
-use Rattle.giop_session.specs.Hearing.Feeding.{Fed, Stops, Through, with_octets}
-use Rattle.giop_session.specs.Hearing.Heard.{IsHeard, heard_by, SideOf, rules_at, hears}
+use Rattle.giop_end.specs.declared.limits.Limits.{Limits}
+use Rattle.giop_end.specs.declared.session_fault.SessionFault.{SessionFault}
+use Rattle.giop_end.specs.declared.session_fault.SessionFault.TheVariants as session
+use Rattle.giop_table.specs.CallTable.{Act, Call, Held, at}
+use Rattle.giop_end.specs.Hearing.Feeding.{Fed, Stops, Through, with_octets, nothing_unread}
+use Rattle.giop_end.specs.Hearing.Heard.{IsHeard, heard_by, SideOf, rules_at, hears}
 use Rattle.giop_session.specs.Runs.Alone.{names_by}
-use Rattle.giop_session.specs.Runs.Driven.{Closes, Deed, EndRuns, EndState, Feeds, IsDoneBy, IsGivenBy, NoneRefused, PutsOut, TakesOut, id_of, is_named, new_end, own_answers}
+use Rattle.giop_session.specs.Runs.Driven.{Closes, Deed, EndRuns, Feeds, IsDoneBy, IsGivenBy, NoneRefused, PutsOut, TakesOut, id_of, is_named, own_answers}
+use Rattle.giop_end.specs.Ends.Begun.{EndState, new_end}
 use Rattle.giop_session.specs.Runs.Fits.{only}
-use Rattle.giop_session.specs.Runs.Inputs.{nothing_unread}
 use Rattle.giop_session.specs.Runs.Met.{AreMet, Comes, Does, IsMet, IsOfCall, Met, Sorting, given_alone, own_met}
 use Rattle.giop_session.specs.Runs.RunLimits.{IsForNoLimit, NoneForALimit}
 use Rattle.giop_session.proofs.OnLimits.RunLimitLemmas.{front}

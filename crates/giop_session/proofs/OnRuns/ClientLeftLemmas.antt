@@ -22,15 +22,15 @@ use Rattle.giop_calls.specs.declared.client.heard.HeardReply.TheVariants as hear
 use Rattle.giop_calls.specs.declared.client.late.Late.TheVariants as late
 use Rattle.giop_calls.specs.Messages.{is_oneway}
 use Rattle.giop_calls.specs.ClientTable.{ClientStep, answers, becomes, begins, cancel, client_step, first, is_closed, is_free, is_gathering, last, left_of, more, refused, send, sending, sent, settles, whole}
-use Rattle.giop_session.specs.declared.calls.plan.Plan.{Plan}
-use Rattle.giop_session.specs.declared.calls.plan.Plan.TheVariants.{Put, Next, Keep}
-use Rattle.giop_session.specs.declared.calls.plan.Planned.{Planned}
-use Rattle.giop_session.specs.declared.calls.slot.Slot.{Slot}
-use Rattle.giop_session.specs.Calls.CallTable.{Act, Brings, Call, First, More, Nothing, Hears, turn}
-use Rattle.giop_session.specs.Hearing.ClientHears.{awaited, befalls_by, breaks_by, client_befalls, client_breaks, comes, continued, continues, gathered_call, heard_reply}
-use Rattle.giop_session.specs.Hearing.Heard.{behind_id, kept}
+use Rattle.giop_table.specs.declared.plan.Plan.{Plan}
+use Rattle.giop_table.specs.declared.plan.Plan.TheVariants.{Put, Next, Keep}
+use Rattle.giop_table.specs.declared.plan.Planned.{Planned}
+use Rattle.giop_table.specs.declared.slot.Slot.{Slot}
+use Rattle.giop_table.specs.CallTable.{Act, Brings, Call, First, More, Nothing, Hears, turn}
+use Rattle.giop_end.specs.Hearing.ClientHears.{awaited, befalls_by, breaks_by, client_befalls, client_breaks, comes, continued, continues, gathered_call, heard_reply}
+use Rattle.giop_end.specs.Hearing.Heard.{behind_id, kept}
 use Rattle.giop_session.specs.Runs.LeftToSend.{ClientPlans, IsLeft}
-use Rattle.giop_session.specs.Calls.Sending.{entry_of, sending_step, settled_by, unsent_after, unsent_of}
+use Rattle.giop_table.specs.Sending.{entry_of, sending_step, settled_by, unsent_after, unsent_of}
 use Rattle.giop_session.proofs.OnRuns.FollowedLemmas.{behind, event_left}
 
 -- so many are left where a step is accepted

@@ -5,18 +5,18 @@ use Rattle.giop_msg.specs.Stream.{Unread}
 use Rattle.giop_mux.specs.Runs.{Hears as IsTold, IsTaken as IsTakenOut}
 use Rattle.giop_session.specs.declared.laws.inputs.Answered.{Answered}
 use Rattle.giop_session.specs.declared.laws.inputs.Answered.TheVariants as answer
-use Rattle.giop_session.specs.declared.calls.plan.Planned.{Planned}
-use Rattle.giop_session.specs.declared.calls.sending.Sends.{Sends}
-use Rattle.giop_session.specs.declared.session_fault.SessionFault.{SessionFault}
-use Rattle.giop_session.specs.declared.session_fault.SessionFault.TheVariants.{NoMemory}
-use Rattle.giop_session.specs.declared.calls.table_fault.TableFault.{TableFault}
-use Rattle.giop_session.specs.Calls.CallTable.{Answers, Held, Hears, Nothing, event_reply}
-use Rattle.giop_session.specs.Runs.Driven.{Closes, Deed, EndRuns, EndState, Feeds, InTurn, IsAct, IsDoneBy, IsGiven, IsGivenBy, NoneRefused, PutsOut, TakesAs, TakesOut, answer_of, taken_answer}
-use Rattle.giop_session.specs.Runs.Events.{Accepts}
-use Rattle.giop_session.specs.Runs.Events.{Does as Happens}
-use Rattle.giop_session.specs.Hearing.Heard.{told_of, SideOf, rules_at}
+use Rattle.giop_table.specs.declared.plan.Planned.{Planned}
+use Rattle.giop_table.specs.declared.sending.Sends.{Sends}
+use Rattle.giop_end.specs.declared.session_fault.SessionFault.{SessionFault}
+use Rattle.giop_end.specs.declared.session_fault.SessionFault.TheVariants.{NoMemory}
+use Rattle.giop_table.specs.declared.table_fault.TableFault.{TableFault}
+use Rattle.giop_table.specs.CallTable.{Answers, Held, Hears, Nothing, event_reply}
+use Rattle.giop_session.specs.Runs.Driven.{Closes, Deed, EndRuns, Feeds, InTurn, IsAct, IsDoneBy, IsGiven, IsGivenBy, NoneRefused, PutsOut, TakesAs, TakesOut, answer_of, taken_answer}
+use Rattle.giop_end.specs.Ends.Begun.{EndState}
+use Rattle.giop_session.specs.Runs.Events.{Accepts, Does as Happens}
+use Rattle.giop_end.specs.Hearing.Heard.{told_of, SideOf, rules_at}
 use Rattle.giop_session.specs.Runs.Inputs.{Does, Input, Reads, Takes}
-use Rattle.giop_session.specs.Acts.Putting.{Puts}
+use Rattle.giop_end.specs.Acts.Putting.{Puts}
 
 module _ {S I A : Type 0} (Steps : S → I → A → S → Type 0) where
   -- a run and then one step is a run

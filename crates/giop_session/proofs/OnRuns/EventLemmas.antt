@@ -7,13 +7,12 @@ use Rattle.giop_msg.specs.declared.msg.Msg.{Msg}
 use Rattle.giop_msg.specs.RequestId.{request_id_of}
 use Rattle.giop_ids.specs.Runs.{Does, left, told}
 use Rattle.giop_ids.proofs.RunLemmas.{done_within}
-use Rattle.giop_session.specs.declared.session_fault.SessionFault.{SessionFault}
+use Rattle.giop_end.specs.declared.session_fault.SessionFault.{SessionFault}
 use Rattle.giop_session.specs.Runs.Alone.{names_by}
-use Rattle.giop_session.specs.Calls.CallTable.{Act, Call, Held, Reply, Turned, at, limit}
-use Rattle.giop_session.specs.Runs.Events.{Event, Comes, act_of, is_of, own_events, Accepts, Meets, what, Follows}
-use Rattle.giop_session.specs.Runs.Events.{Does as DoesTo}
-use Rattle.giop_session.specs.Hearing.Heard.{IsHeard, heard_by, SideOf, turn_at, rules_at}
-use Rattle.giop_session.proofs.OnCalls.TableLemmas.{table_apart}
+use Rattle.giop_table.specs.CallTable.{Act, Call, Held, Reply, Turned, at, limit}
+use Rattle.giop_session.specs.Runs.Events.{Event, Comes, act_of, is_of, own_events, Accepts, Meets, what, Follows, Does as DoesTo}
+use Rattle.giop_end.specs.Hearing.Heard.{IsHeard, heard_by, SideOf, turn_at, rules_at}
+use Rattle.giop_table.proofs.TableLemmas.{table_apart}
 
 -- what is told an answer was done
 done_is : {E A F : Type 0} (done : Turned E A F) (reply : Reply E A) → told done ≡ Ok reply → IsOk done

@@ -7,16 +7,16 @@ use Rattle.giop_mux.specs.Runs.{Hears as IsTold, IsTaken as TakesOut}
 use Rattle.giop_mux.specs.declared.step.Step.{Step}
 use Rattle.giop_msg.specs.declared.msg.Msg.{Msg}
 use Rattle.giop_msg.specs.RequestId.{request_id_of}
-use Rattle.giop_session.specs.declared.session_fault.SessionFault.{SessionFault}
-use Rattle.giop_session.specs.declared.calls.plan.Plan.{Plan}
-use Rattle.giop_session.specs.declared.calls.plan.Planned.{Planned}
-use Rattle.giop_session.specs.declared.calls.sending.Sends.{Sends}
-use Rattle.giop_session.specs.declared.calls.slot.Slot.{Slot}
-use Rattle.giop_session.specs.Calls.CallTable.{Act, Brings, Call, Held, Hears, at, IsTaken, Nothing, brought, taken, turn, turned}
+use Rattle.giop_end.specs.declared.session_fault.SessionFault.{SessionFault}
+use Rattle.giop_table.specs.declared.plan.Plan.{Plan}
+use Rattle.giop_table.specs.declared.plan.Planned.{Planned}
+use Rattle.giop_table.specs.declared.sending.Sends.{Sends}
+use Rattle.giop_table.specs.declared.slot.Slot.{Slot}
+use Rattle.giop_table.specs.CallTable.{Act, Brings, Call, Held, Hears, at, IsTaken, Nothing, brought, taken, turn, turned}
 use Rattle.giop_session.specs.Runs.Events.{Comes, Does, Event, Follows, Meets, is_of, own_events}
-use Rattle.giop_session.specs.Hearing.Heard.{IsHeard, heard_by, SideOf, rules_at}
+use Rattle.giop_end.specs.Hearing.Heard.{IsHeard, heard_by, SideOf, rules_at}
 use Rattle.giop_session.specs.Runs.LeftToSend.{ArePlanned, IsLeft}
-use Rattle.giop_session.specs.Calls.Sending.{sending_step}
+use Rattle.giop_table.specs.Sending.{sending_step}
 
 -- no message among these events ends the session
 abbrev pub AreHeard : {V : Type 0} → (Msg → Option SessionFault) → List (Event V) → Type 0

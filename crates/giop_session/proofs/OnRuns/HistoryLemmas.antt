@@ -7,10 +7,10 @@ use Rattle.giop_msg.specs.declared.msg.Msg.{Msg}
 use Rattle.giop_mux.specs.Runs.{Happening}
 use Rattle.giop_mux.specs.Runs as mux
 use Rattle.giop_mux.specs.declared.step.Step.{Step}
-use Rattle.giop_session.specs.declared.calls.plan.Plan.{Plan}
-use Rattle.giop_session.specs.declared.calls.slot.Slot.{Slot}
-use Rattle.giop_session.specs.Calls.CallTable.{Act, Call, Hears, IsTaken, Turned, brought, taken, turn, turned}
-use Rattle.giop_session.specs.Calls.Sending.{entry_of, settled_by, slot_of, unsent_of}
+use Rattle.giop_table.specs.declared.plan.Plan.{Plan}
+use Rattle.giop_table.specs.declared.slot.Slot.{Slot}
+use Rattle.giop_table.specs.CallTable.{Act, Call, Hears, IsTaken, Turned, brought, taken, turn, turned}
+use Rattle.giop_table.specs.Sending.{entry_of, settled_by, slot_of, unsent_of}
 use Rattle.giop_session.specs.Runs.Events.{Event, Follows, happening, history, what}
 
 entry_is : {E : Type 0} (entry : Option E) (unsent : List Msg) → entry_of (slot_of entry unsent) ≡ entry

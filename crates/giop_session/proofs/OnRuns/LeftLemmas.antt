@@ -21,17 +21,17 @@ use Rattle.giop_calls.specs.declared.server.question.Question.TheVariants as que
 use Rattle.giop_calls.specs.declared.server.undecoded.UndecodedCall.{UndecodedCall}
 use Rattle.giop_calls.specs.Messages.{is_oneway, is_same_version, is_system_exception}
 use Rattle.giop_calls.specs.ServerTable.{ServerStep, server_step, is_closed, is_free, is_gathering, left_of, arrived, begins, becomes, becomes_if, refused, more, last, cancel, answer, answer_undecoded, answer_locate, answer_locate_undecoded, send}
-use Rattle.giop_session.specs.declared.calls.plan.Plan.{Plan}
-use Rattle.giop_session.specs.declared.calls.plan.Plan.TheVariants.{Put, Next, Keep}
-use Rattle.giop_session.specs.declared.calls.plan.Planned.{Planned}
-use Rattle.giop_session.specs.declared.calls.slot.Slot.{Slot}
-use Rattle.giop_session.specs.Calls.CallTable.{Act, Brings, Call, First, More, Nothing, Hears, turn}
-use Rattle.giop_session.specs.Hearing.Decoding.{heard_call}
-use Rattle.giop_session.specs.Hearing.Heard.{behind_id, kept}
-use Rattle.giop_session.specs.Runs.LeftToSend.{IsLeft, ServerPlans, left_in}
-use Rattle.giop_session.specs.Calls.Sending.{entry_of, sending_step, settled_by, unsent_after, unsent_of}
+use Rattle.giop_table.specs.declared.plan.Plan.{Plan}
+use Rattle.giop_table.specs.declared.plan.Plan.TheVariants.{Put, Next, Keep}
+use Rattle.giop_table.specs.declared.plan.Planned.{Planned}
+use Rattle.giop_table.specs.declared.slot.Slot.{Slot}
+use Rattle.giop_table.specs.CallTable.{Act, Brings, Call, First, More, Nothing, Hears, turn}
+use Rattle.giop_end.specs.Hearing.Decoding.{heard_call}
+use Rattle.giop_end.specs.Hearing.Heard.{behind_id, kept}
+use Rattle.giop_session.specs.Runs.LeftToSend.{IsLeft, ServerPlans}
+use Rattle.giop_table.specs.Sending.{left_in, entry_of, sending_step, settled_by, unsent_after, unsent_of}
 use Rattle.giop_session.proofs.OnRuns.FollowedLemmas.{behind, event_left}
-use Rattle.giop_session.specs.Hearing.ServerHears.{befalls_by, breaks_by, comes, continued, continues, gathered_kind, server_befalls, server_breaks}
+use Rattle.giop_end.specs.Hearing.ServerHears.{befalls_by, breaks_by, comes, continued, continues, gathered_kind, server_befalls, server_breaks}
 
 -- so many are left where a step is accepted
 abbrev Leaves : ServerStep → Plan → List Msg → Type 0

@@ -8,16 +8,17 @@ use Rattle.giop_msg.specs.Stream.{Unread}
 use Rattle.giop_mux.specs.Runs.{Happening}
 use Rattle.giop_mux.specs.Runs as mux
 use Rattle.giop_session.specs.declared.laws.inputs.Answered.{Answered}
-use Rattle.giop_session.specs.declared.limits.Limits.{Limits}
-use Rattle.giop_session.specs.Calls.Begun.{no_calls}
-use Rattle.giop_session.specs.Calls.CallTable.{Call, Held, at, entry_at}
-use Rattle.giop_session.specs.Calls.Sending.{entry_of}
-use Rattle.giop_session.specs.Hearing.Heard.{turn_at}
+use Rattle.giop_end.specs.declared.limits.Limits.{Limits}
+use Rattle.giop_end.specs.Ends.Begun.{no_calls, EndState, new_end}
+use Rattle.giop_table.specs.CallTable.{Call, Held, at, entry_at}
+use Rattle.giop_table.specs.Sending.{entry_of}
+use Rattle.giop_end.specs.Hearing.Heard.{turn_at}
 use Rattle.giop_session.specs.Items.Carries.{Carries, Item, behind_all}
-use Rattle.giop_session.specs.Runs.Driven.{EndState, Feeds, IsAct, NoneRefused, id_of, item_answers, new_end, own_answers}
+use Rattle.giop_session.specs.Runs.Driven.{Feeds, IsAct, NoneRefused, id_of, item_answers, own_answers}
 use Rattle.giop_session.specs.Runs.Events.{Event, Follows, Meets, no_call, own_events}
 use Rattle.giop_session.specs.Runs.Fits.{Fits, IsAsAlone, IsAsSaid, KeepsCallsApart, SaysAlone, Stands, history_of, only}
-use Rattle.giop_session.specs.Runs.Inputs.{Input, nothing_unread}
+use Rattle.giop_session.specs.Runs.Inputs.{Input}
+use Rattle.giop_end.specs.Hearing.Feeding.{nothing_unread}
 use Rattle.giop_session.specs.Runs.Met.{given_alone}
 use Rattle.giop_session.specs.Runs.RunLimits.{NoneForALimit}
 use Rattle.giop_session.specs.Runs.SideRuns.{ActsHold, EntriesAre, RunOf, SameEntries, SideHolds, SideRuns, SideTakes, SideTakesAs, SideTakesItems}

@@ -5,8 +5,8 @@ use Rattle.giop_msg.specs.declared.msg.Msg.{Msg}
 use Rattle.giop_msg.specs.RequestId.{request_id_of}
 use Rattle.giop_ids.specs.declared.addressed.Addressed.{Addressed}
 use Rattle.giop_ids.specs.Runs.{MeetsNoLimit, Rules, Runs, addressed, left, own}
-use Rattle.giop_session.specs.declared.calls.table_fault.TableFault.{TableFault}
-use Rattle.giop_session.specs.Calls.CallTable.{Act, Call, Held, Reply, Turned, at, is_of_call}
+use Rattle.giop_table.specs.declared.table_fault.TableFault.{TableFault}
+use Rattle.giop_table.specs.CallTable.{Act, Call, Held, Reply, Turned, at, is_of_call}
 
 -- whether a message names an id
 abbrev pub names_by : Option (Result ℕ CdrFault) → ℕ → Bool

@@ -6,10 +6,10 @@ use Rattle.giop_ids.specs.Runs.{Does as DoesAct}
 use Rattle.giop_msg.specs.declared.msg.Msg.{Msg}
 use Rattle.giop_mux.specs.Runs.{Happening}
 use Rattle.giop_mux.specs.Runs.{Hears as IsTold, IsTaken as TakesOut}
-use Rattle.giop_session.specs.declared.calls.plan.Planned.{Planned}
+use Rattle.giop_table.specs.declared.plan.Planned.{Planned}
 use Rattle.giop_session.specs.Runs.Alone.{names}
-use Rattle.giop_session.specs.Calls.CallTable.{Act, Call, Held, Hears, IsTaken, Nothing, Reply, Turned, at}
-use Rattle.giop_session.specs.Hearing.Heard.{SideOf, hears, rules_at, turn_at}
+use Rattle.giop_table.specs.CallTable.{Act, Call, Held, Hears, IsTaken, Nothing, Reply, Turned, at}
+use Rattle.giop_end.specs.Hearing.Heard.{SideOf, hears, rules_at, turn_at}
 
 -- an act of an end on one of its calls: an event of its own, with the messages that are sent for
 -- it, or that it takes the entry out

@@ -14,11 +14,11 @@ use Rattle.giop_calls.specs.declared.kind.CallKind.{CallKind}
 use Rattle.giop_calls.specs.declared.server.entry.ServerEntry.{ServerEntry}
 use Rattle.giop_calls.specs.declared.server.event.ServerEvent.{ServerEvent}
 use Rattle.giop_calls.specs.declared.server.event.ServerEvent.TheVariants as at_server
-use Rattle.giop_session.specs.declared.calls.plan.Planned.{Planned}
-use Rattle.giop_session.specs.Calls.CallTable.{Act, Brings, Call, First, Hears, More}
-use Rattle.giop_session.specs.Hearing.ClientHears.{client_befalls}
-use Rattle.giop_session.specs.Hearing.Heard.{behind_id, kept}
-use Rattle.giop_session.specs.Hearing.ServerHears.{server_befalls}
+use Rattle.giop_table.specs.declared.plan.Planned.{Planned}
+use Rattle.giop_table.specs.CallTable.{Act, Brings, Call, First, Hears, More}
+use Rattle.giop_end.specs.Hearing.ClientHears.{client_befalls}
+use Rattle.giop_end.specs.Hearing.Heard.{behind_id, kept}
+use Rattle.giop_end.specs.Hearing.ServerHears.{server_befalls}
 use Rattle.giop_session.specs.Worlds.Coding.{coding}
 use Rattle.giop_session.specs.Worlds.LaneAtEnds.{seen}
 

@@ -3,16 +3,13 @@
 //! `Agreed` and `FailsByLimits` in specs/Worlds/Agreement.antt: change both.
 ghost use Rattle.std.specs.Prelude.{◌≡◌, ◌≤◌, ◌^◌, IfOk, length, None, take, drop};
 ghost use Rattle.giop_session.specs.Worlds.Agreement.{Agreed, FailsByLimits};
-ghost use Rattle.giop_session.specs.Worlds.World.{AreJoined, ArriveAtClient, ArriveAtServer, AtClient, AtServer, IsStep};
-ghost use Rattle.giop_session.specs.Worlds.World.{ends_of, GoesBy, returned_for, WorldRuns};
+ghost use Rattle.giop_session.specs.Worlds.World.{AreJoined, ArriveAtClient, ArriveAtServer, AtClient, AtServer, IsStep, ends_of, GoesBy, returned_for, WorldRuns};
 
 use super::inputs::{Answered, ClientInput, ServerInput, WorldEvent};
 use super::running::{Driven, feed_to, take_all};
 use super::two_ends::two_ends_agree;
-use crate::end::{ClientEnd, End, ServerEnd};
-use crate::limits::Limits;
-use crate::session_fault::SessionFault;
 use giop_calls::{ClientRule, ServerRule};
+use giop_end::{ClientEnd, End, Limits, ServerEnd, SessionFault};
 use giop_types::Interface;
 use std::alloc::{AllocError, Global};
 

@@ -1,5 +1,5 @@
 use Rattle.std.proofs.Common.{◌≡◌, None}
-use Rattle.giop_session.specs.Hearing.Heard.{hears_by}
+use Rattle.giop_end.specs.Hearing.Heard.{hears_by}
 use Rattle.giop_commands.proofs.CheckLemmas.{SoFar}
 use Rattle.giop_commands.proofs.check.hear.Given as goal
 

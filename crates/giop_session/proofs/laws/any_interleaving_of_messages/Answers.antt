@@ -1,8 +1,8 @@
 use Rattle.std.proofs.Common.{sym, ap, ◌∙◌}
 use Rattle.giop_session.specs.Runs.Alone.{alone_heard}
-use Rattle.giop_session.specs.Calls.CallTable.{at, turn}
-use Rattle.giop_session.proofs.OnHearing.HeardLemmas.{calls_alone}
-use Rattle.giop_session.specs.Hearing.Heard.{side_by}
+use Rattle.giop_table.specs.CallTable.{at, turn}
+use Rattle.giop_session.proofs.OnRuns.HeardAlone.{calls_alone}
+use Rattle.giop_end.specs.Hearing.Heard.{side_by}
 use Rattle.giop_session.proofs.laws.any_interleaving_of_messages.Goals as goal
 
 pub returns : goal.returns

@@ -1,5 +1,5 @@
-use Rattle.giop_session.specs.Hearing.Heard.{hears_by}
-use Rattle.giop_session.proofs.OnHearing.FeedingLemmas.{fed_in_turn}
+use Rattle.giop_end.specs.Hearing.Heard.{hears_by}
+use Rattle.giop_end.proofs.OnHearing.FeedingLemmas.{fed_in_turn}
 use Rattle.giop_session.proofs.laws.any_reads.Goals as goal
 
 pub returns : goal.returns

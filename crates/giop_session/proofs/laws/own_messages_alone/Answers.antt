@@ -1,5 +1,5 @@
-use Rattle.giop_session.proofs.OnHearing.HeardLemmas.{calls_alone}
-use Rattle.giop_session.specs.Hearing.Heard.{side_by}
+use Rattle.giop_session.proofs.OnRuns.HeardAlone.{calls_alone}
+use Rattle.giop_end.specs.Hearing.Heard.{side_by}
 use Rattle.giop_session.proofs.laws.own_messages_alone.Goals as goal
 
 pub returns : goal.returns

@@ -2,8 +2,8 @@
 //! empty, and no program calls these.
 ghost use Rattle.std.specs.Prelude.{◌≡◌, Err, Ok};
 ghost use Rattle.giop_session.specs.Acts.Acting.{IsAccepted};
-ghost use Rattle.giop_session.specs.Calls.CallTable.{rules_by};
-ghost use Rattle.giop_session.specs.Acts.Putting.{Befell};
+ghost use Rattle.giop_table.specs.CallTable.{rules_by};
+ghost use Rattle.giop_end.specs.Acts.Putting.{Befell};
 
 use crate::Side;
 

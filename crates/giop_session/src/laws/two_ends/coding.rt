@@ -10,17 +10,16 @@ ghost use Rattle.giop_calls.specs.declared.client.event.ClientEvent.TheVariants 
 ghost use Rattle.giop_calls.specs.declared.kind.CallKind.TheVariants as kind;
 ghost use Rattle.giop_calls.specs.declared.server.entry.ServerEntry.TheVariants as server;
 ghost use Rattle.giop_calls.specs.declared.server.event.ServerEvent.TheVariants as at_server;
-ghost use Rattle.giop_session.specs.Calls.CallTable.{brought, First, Hears, More, Nothing};
+ghost use Rattle.giop_table.specs.CallTable.{brought, First, Hears, More, Nothing};
 ghost use Rattle.giop_session.specs.Items.ClientCarries.{replies};
-ghost use Rattle.giop_session.specs.Hearing.ClientHears.{awaited, client_befalls};
+ghost use Rattle.giop_end.specs.Hearing.ClientHears.{awaited, client_befalls};
 ghost use Rattle.giop_session.specs.Worlds.Coding.{coding};
-ghost use Rattle.giop_session.specs.Hearing.Heard.{behind_id, kept};
+ghost use Rattle.giop_end.specs.Hearing.Heard.{behind_id, kept};
 ghost use Rattle.giop_session.specs.Worlds.LaneAtEnds.{carried, gathered_in, gathers, seen};
-ghost use Rattle.giop_session.specs.Worlds.OwnLane.{BringsClient, located_run, OwnRuns, PlansCall, PlansLocated, SendsCall, SendsLocated, SendsReply, IsAnswerable, IsReplied, IsLocated};
-ghost use Rattle.giop_session.specs.Worlds.OwnLane.{PlansReply, replied_run, sends_cut};
-ghost use Rattle.giop_session.specs.Acts.Sent.{sends_one};
+ghost use Rattle.giop_session.specs.Worlds.OwnLane.{BringsClient, located_run, OwnRuns, PlansCall, PlansLocated, SendsCall, SendsLocated, SendsReply, IsAnswerable, IsReplied, IsLocated, PlansReply, replied_run, sends_cut};
+ghost use Rattle.giop_end.specs.Acts.Sent.{sends_one};
 ghost use Rattle.giop_session.specs.Items.ServerCarries.{asks};
-ghost use Rattle.giop_session.specs.Hearing.ServerHears.{server_befalls};
+ghost use Rattle.giop_end.specs.Hearing.ServerHears.{server_befalls};
 ghost use Rattle.giop_session.specs.Worlds.Reading.{IsContinuedBy, whole_call, last_of_call, whole_reply, first_of_reply, last_of_reply};
 
 use giop_calls::laws::ends_of_one_lane_agree;

@@ -3,8 +3,8 @@ use Rattle.giop_calls.specs.declared.fault.CallFault.TheVariants.{NotOpen}
 use Rattle.giop_calls.specs.declared.server.entry.ServerEntry.{ServerEntry}
 use Rattle.giop_calls.specs.declared.server.event.ServerEvent.TheVariants as event
 use Rattle.giop_calls.specs.ServerTable.{is_closed, is_gathering, server_step}
-use Rattle.giop_session.specs.declared.session_fault.SessionFault.TheVariants.{Call as InCall}
-use Rattle.giop_session.specs.declared.calls.table_fault.TableFault.TheVariants.{Rule}
+use Rattle.giop_session.specs.declared.SessionFault.TheVariants.{Call as InCall}
+use Rattle.giop_session.specs.declared.TableFault.TheVariants.{Rule}
 use Rattle.giop_session.specs.Calls.CallTable.{Call, Hears, Nothing, rules_of, turn}
 use Rattle.giop_session.specs.Hearing.Heard.{in_call}
 use Rattle.giop_session.specs.Calls.Sending.{entry_of, slot_of}

@@ -2,7 +2,7 @@ use Rattle.std.proofs.Common.{[], ◌∷◌, ap, ◌∙◌}
 use Rattle.std.specs.Option.{option_map}
 use Rattle.giop_calls.specs.ServerTable as server
 use Rattle.giop_calls.specs.declared.fault.CallFault.TheVariants.{NotOpen}
-use Rattle.giop_session.specs.declared.session_fault.SessionFault.TheVariants.{Call as InCall}
+use Rattle.giop_session.specs.declared.SessionFault.TheVariants.{Call as InCall}
 use Rattle.giop_session.specs.Hearing.Heard.{in_call}
 use Rattle.laws_in_use.specs.Left.{new_client}
 use Rattle.laws_in_use.specs.Limited.{new_server}

@@ -1,4 +1,4 @@
-use Rattle.giop_session.specs.Hearing.Heard.{hears_by}
+use Rattle.giop_end.specs.Hearing.Heard.{hears_by}
 use Rattle.giop_session.proofs.OnHearing.ReadsLemmas.{behind_a_fault, hears_same, in_two_reads}
 use Rattle.giop_session.proofs.laws.one_end.feeding.any_reads_leave_the_same.Goals as goal
 

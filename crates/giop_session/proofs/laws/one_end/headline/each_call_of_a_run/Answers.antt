@@ -1,5 +1,5 @@
 use Rattle.giop_session.proofs.OnRuns.EventLemmas.{each_follows}
-use Rattle.giop_session.specs.Hearing.Heard.{side_by}
+use Rattle.giop_end.specs.Hearing.Heard.{side_by}
 use Rattle.giop_session.proofs.laws.one_end.headline.each_call_of_a_run.Goals as goal
 
 pub returns : goal.returns
