@@ -93,7 +93,7 @@ fn hear<S: Hearing, R: Read>(
     requires begins { end.old.framer.octets ≡ [] }
     requires sound { end.old.fault ≡ None }
     ensures heard { OnOk result (HeardKnown (hears_by S.next S.closed S.gathering S.in_call
-        S.breaks (S.befalls end.old.interface.now)) (R.remaining reader.old)
+        S.breaks (S.act_by end.old.interface.now)) (R.remaining reader.old)
         end.old.framer end.old.calls end.new.fault end.new.framer end.new.calls) }
     ensures memory { OnOk result (end.new.fault ≢ Some NoMemory) }
     ensures end { OnOk result (behind ≡ BehindFault.Read → IsAtEnd (R.remaining reader.new)) }

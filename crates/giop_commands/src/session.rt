@@ -47,7 +47,7 @@ pub fn goes_on<R: Hearing, I: Read, W: Write>(
     writer: &mut W,
 ) -> Result<bool, Failure>
     ensures goes { GoesOn (hears_by R.next R.closed R.gathering R.in_call R.breaks
-        (R.befalls end.old.interface.now))
+        (R.act_by end.old.interface.now))
         (between (I.remaining reader.old) (W.contents writer.old) end.old.outgoing end.old.framer
         end.old.calls end.old.fault)
         result

@@ -28,7 +28,7 @@ pub trait Hearing: Side {
 
     ghost breaks: { Msg → Option SessionFault };
 
-    ghost befalls: { Interface → Msg → Call Self.Entry → Act Self.Event };
+    ghost act_by: { Interface → Msg → Call Self.Entry → Act Self.Event };
 
     ghost in_call: { ℕ → Self.Fault → SessionFault };
 

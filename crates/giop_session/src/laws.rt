@@ -61,7 +61,7 @@ pub fn any_interleaving<R: Side>(rule: &R)
 /// before. Messages that name other ids may lie between them anywhere.
 pub fn own_messages_alone<R: Hearing>(rule: &R)
     ensures { (interface h k messages id : _) → Through (hears_in R.Hearing interface) h messages k
-        → IsHeardAlone (turn_by R.Side h.rule) (R.befalls interface) h messages k id }
+        → IsHeardAlone (turn_by R.Side h.rule) (R.act_by interface) h messages k id }
 {}
 
 /// Two ends that heard the same messages of each id, in the same order, hold the same calls,

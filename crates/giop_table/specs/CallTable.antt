@@ -56,7 +56,7 @@ pub data Brings : Type 0 where
   More : List ℕ → Brings
   Nothing : Brings
 
--- what may befall a call: an event, with what is done to its unsent messages and the octets that it
+-- an act on a call: an event, with what is done to its unsent messages and the octets that it
 -- brings; or that its entry is taken out
 pub data Act (V : Type 0) : Type 0 where
   Hears : Planned V → Brings → Act V
@@ -151,7 +151,7 @@ module _ {E V A F : Type 0} (next : Option E → V → Step E A F) (closed gathe
   abbrev pub step_of : Option (Slot E) → Planned V → Step (Slot E) (Sends A) F
   step_of slot planned = sending_step next slot planned
 
-  -- what befalls one call, whatever is stored for other ids
+  -- what an act does to one call, whatever is stored for other ids
   abbrev pub turn : Call E → Act V → Turned E A F
   turn call (Hears planned brings) =
       turned gathering (brought brings call.pieces) (step_of call.slot planned).entry
@@ -185,7 +185,7 @@ RuleOf R E V A F = record {
 }
 
 module _ {R E V A F : Type 0} (of : RuleOf R E V A F) where
-  -- what befalls one call by it
+  -- what an act does to one call by it
   abbrev pub turn_by : R → Call E → Act V → Turned E A F
   turn_by rule = turn (of.next rule) (of.closed rule) of.gathering
 

@@ -126,7 +126,7 @@ impl<R: Side> CallTable<R> {
     /// Refusals, in this order: the rule's fault; `TooManyCalls`; `NoMemory`, only where an id
     /// without an entry would get one. A refusal changes nothing.
     #[inline(always)]
-    pub fn hear(
+    pub fn apply(
         &mut self,
         id: u32,
         planned: Planned<R::Event>,

@@ -99,13 +99,13 @@ fn step_at<R: Side>(
         ≡ record { entry = Some slot.new; outcome = result } }
 {
     let answer = rule.step_at(&mut slot.entry, planned.event)?;
-    let message = put_out(&mut slot.unsent, planned.plan);
+    let message = take_planned(&mut slot.unsent, planned.plan);
     Ok(Sends { answer, message })
 }
 
 // The message that is put out; the others are left.
 #[inline(always)]
-fn put_out(unsent: &mut Unsent, plan: Plan) -> Option<Msg>
+fn take_planned(unsent: &mut Unsent, plan: Plan) -> Option<Msg>
     ensures message { result ≡ message_of plan unsent.old }
     ensures left { unsent.new ≡ unsent_after plan unsent.old }
 {
@@ -146,7 +146,7 @@ fn settle<E: Drop, A: Drop, F: Drop>(
     match outcome {
         Ok(answer) => {
             let mut left = unsent;
-            let message = put_out(&mut left, plan);
+            let message = take_planned(&mut left, plan);
             Step {
                 entry: beside(entry, left),
                 outcome: Ok(Sends { answer, message }),

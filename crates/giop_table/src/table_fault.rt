@@ -1,4 +1,4 @@
-//! Why the table of an end's calls refuses an act. `told` in heard.rt makes a `SessionFault` of it.
+//! Why the table of an end's calls refuses an act.
 ghost use Rattle.std.specs.Prelude.{◌≡◌};
 
 use giop_frag::GatherFault;

@@ -30,8 +30,8 @@ use Rattle.giop_session.specs.Acts.ClientCalls.{IsCancel, cancel_fault, locate_f
 use Rattle.giop_session.specs.Acts.Sent.{sends_one}
 use Rattle.giop_session.specs.Calls.CallTable.{Call, Gives, Held, IsTaken, Nothing, at, put_call, rules_of, turn, entry_at}
 use Rattle.giop_session.specs.Calls.Sending.{entry_of}
-use Rattle.giop_session.specs.Hearing.ClientHears.{client_befalls, client_breaks, client_side}
-use Rattle.giop_session.specs.Hearing.Heard.{kept, hears as hears_at}
+use Rattle.giop_session.specs.Hearing.ClientHears.{client_act, client_breaks, client_side}
+use Rattle.giop_session.specs.Hearing.Heard.{silently, hears as hears_at}
 use Rattle.giop_session.specs.Items.Carries.{Carries, Did}
 use Rattle.giop_session.specs.Items.ClientCarries.{ClientItem, client_telling, unknown}
 use Rattle.giop_session.specs.Runs.ClientRuns.{at_client, client_run}
@@ -153,8 +153,8 @@ module _ (interface : Interface) (forms : Forms) where
 
   comes_late : Hears_it unknown_little nine_2 nine_3
   comes_late =
-      hears client_step is_closed is_gathering client_breaks (client_befalls interface) nine_2 limits (7 ∷ 9 ∷ []) 0 unknown_little 9
-      (kept (event.Whole kind.Locate V10 heard.Unread)) Nothing cancelled seen refl named.unknown_little nine_stands_2 (omega arith) (omega arith)
+      hears client_step is_closed is_gathering client_breaks (client_act interface) nine_2 limits (7 ∷ 9 ∷ []) 0 unknown_little 9
+      (silently (event.Whole kind.Locate V10 heard.Unread)) Nothing cancelled seen refl named.unknown_little nine_stands_2 (omega arith) (omega arith)
       nine_at_2 refl refl
 
   asks_again : Does_it 9 (record { event = event.Call (asked.Locate key) 1; plan = Put (key_big ∷ []) }) key_big nine_3 nine_4
@@ -165,8 +165,8 @@ module _ (interface : Interface) (forms : Forms) where
 
   comes_bad : Hears_it short nine_4 nine_5
   comes_bad =
-      hears client_step is_closed is_gathering client_breaks (client_befalls interface) nine_4 limits (7 ∷ 9 ∷ []) 0 short 9
-      (kept (event.Whole kind.Locate V10 (heard.Undecoded (record { at = 16; kind = Short })))) Nothing key_waiting undecoded refl named.short
+      hears client_step is_closed is_gathering client_breaks (client_act interface) nine_4 limits (7 ∷ 9 ∷ []) 0 short 9
+      (silently (event.Whole kind.Locate V10 (heard.Undecoded (record { at = 16; kind = Short })))) Nothing key_waiting undecoded refl named.short
       nine_stands_4 (omega arith) (omega arith) nine_at_4 (whole_old (decoded interface).short) refl
 
   taken_out : DoesAct (rules_of client_step is_closed is_gathering) nine_5 (record { id = 9; what = IsTaken }) (Ok (Gives undecoded.slot)) nine_end

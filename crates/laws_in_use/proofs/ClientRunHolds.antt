@@ -17,7 +17,7 @@ use Rattle.giop_session.specs.declared.laws.inputs.Answered.{Answered}
 use Rattle.giop_session.specs.declared.laws.inputs.ClientInput.{ClientInput}
 use Rattle.giop_session.specs.Ends.Begun.{no_calls}
 use Rattle.giop_session.specs.Calls.CallTable.{Held, turn}
-use Rattle.giop_session.specs.Hearing.ClientHears.{client_befalls}
+use Rattle.giop_session.specs.Hearing.ClientHears.{client_act}
 use Rattle.giop_session.specs.Items.Carries.{Did}
 use Rattle.giop_session.specs.Items.ClientCarries.{client_telling, unknown}
 use Rattle.giop_session.specs.Runs.ClientRuns.{client_run}
@@ -55,7 +55,7 @@ module _ (interface : Interface) (old : IsWhole (locate_reply V10)) (table : IsW
   pub asking_told : history_of (client_run interface) 7 (run_holds own_acts own_told).0 ≡ history_of_asking
   unfolding run_holds
   asking_told =
-      ap (history (turn client_step is_closed is_gathering) (client_befalls interface) no_call) (one_own own_acts takes 7)
+      ap (history (turn client_step is_closed is_gathering) (client_act interface) no_call) (one_own own_acts takes 7)
       ∙ ap (λ reply. Hears (Call (asked.Locate door) 2) ∷ Hears Send ∷ Hears (First kind.Locate V12) ∷ Hears (Last true reply) ∷ [])
       (decoded interface).here_joined
 

@@ -25,8 +25,8 @@ use Rattle.giop_session.specs.declared.Plan.TheVariants.{Next, Put}
 use Rattle.giop_session.specs.Acts.ClientCalls.{locate_fault}
 use Rattle.giop_session.specs.Calls.CallTable.{Call, First, Held, Hears, More, Nothing, at, put_call, entry_at}
 use Rattle.giop_session.specs.Calls.Sending.{entry_of}
-use Rattle.giop_session.specs.Hearing.ClientHears.{client_befalls, client_breaks, client_side}
-use Rattle.giop_session.specs.Hearing.Heard.{kept, hears as hears_at}
+use Rattle.giop_session.specs.Hearing.ClientHears.{client_act, client_breaks, client_side}
+use Rattle.giop_session.specs.Hearing.Heard.{silently, hears as hears_at}
 use Rattle.giop_session.specs.Items.Carries.{Carries}
 use Rattle.giop_session.specs.Items.ClientCarries.{ClientItem, client_telling, unknown}
 use Rattle.giop_session.specs.Runs.ClientRuns.{at_client, client_run}
@@ -110,15 +110,15 @@ module _ (interface : Interface) (forms : Forms) where
 
   begins : Hears_it here_begins seven_2 seven_3
   begins =
-      hears client_step is_closed is_gathering client_breaks (client_befalls interface) seven_2 limits (7 ∷ 9 ∷ []) 0 here_begins 7
-      (kept (event.First kind.Locate V12)) (First Big here_begins.payload) waiting gathering refl named.here_begins stands_2 (omega arith)
+      hears client_step is_closed is_gathering client_breaks (client_act interface) seven_2 limits (7 ∷ 9 ∷ []) 0 here_begins 7
+      (silently (event.First kind.Locate V12)) (First Big here_begins.payload) waiting gathering refl named.here_begins stands_2 (omega arith)
       (omega arith) at_2 refl refl
 
   ends : Hears_it here_ends seven_3 seven_end
   ends =
-      hears client_step is_closed is_gathering client_breaks (client_befalls interface) seven_3 limits (7 ∷ 9 ∷ []) 4 here_ends 7
-      (kept (event.Last true (heard.Locate here))) (More (drop 4 here_ends.payload)) gathering door_located refl named.here_ends stands_3 (omega arith)
-      (omega arith) at_3 (ap (λ told. Hears (kept (event.Last true told)) (More (drop 4 here_ends.payload))) (decoded interface).here_joined)
+      hears client_step is_closed is_gathering client_breaks (client_act interface) seven_3 limits (7 ∷ 9 ∷ []) 4 here_ends 7
+      (silently (event.Last true (heard.Locate here))) (More (drop 4 here_ends.payload)) gathering door_located refl named.here_ends stands_3 (omega arith)
+      (omega arith) at_3 (ap (λ told. Hears (silently (event.Last true told)) (More (drop 4 here_ends.payload))) (decoded interface).here_joined)
       refl
 
   entry_0 : (id : ℕ) → entry_at (new limits) id ≡ None

@@ -26,4 +26,4 @@ pub puts_so : (id : ℕ) (refusal : Option CallFault) (Plans : Planned ClientEve
     → refusal ≡ None → Plans planned → Does_it id planned m h k → PutsSo id refusal Plans h out k (out ++ message_octets m)
 puts_so id refusal Plans h k out planned m none_so plans does =
     subst (λ r. PutsSo id r Plans h out k (out ++ message_octets m)) (sym none_so)
-    (inr (planned, plans, record { answered = Ok (record { answer = tt; message = Some m }); does = does; told = refl; puts = refl }))
+    (inr (planned, plans, record { answered = Ok (record { answer = tt; message = Some m }); does = does; returned = refl; puts = refl }))

@@ -17,7 +17,7 @@ use Rattle.giop_session.specs.declared.laws.inputs.Answered.{Answered}
 use Rattle.giop_session.specs.declared.laws.inputs.ServerInput.{ServerInput}
 use Rattle.giop_session.specs.Ends.Begun.{no_calls}
 use Rattle.giop_session.specs.Calls.CallTable.{Held, turn}
-use Rattle.giop_session.specs.Hearing.ServerHears.{server_befalls}
+use Rattle.giop_session.specs.Hearing.ServerHears.{server_act}
 use Rattle.giop_session.specs.Items.Carries.{CarriesItem, Did, Got, done_by}
 use Rattle.giop_session.specs.Runs.Events.{Comes, Event, Local, history, no_call, own_events, Does as DoesTo}
 use Rattle.giop_session.specs.Runs.Fits.{history_of}
@@ -55,7 +55,7 @@ module _ (interface : Interface) (old : IsTable (locate_request V10)) (table : I
   pub door_told : history_of (server_run interface) 7 (run_holds (answering here_big) refl).0 ≡ history_of_door
   unfolding run_holds
   door_told =
-      ap (history (turn server_step is_closed is_gathering) (server_befalls interface) no_call) (one_own (answering here_big) takes 7)
+      ap (history (turn server_step is_closed is_gathering) (server_act interface) no_call) (one_own (answering here_big) takes 7)
       ∙ ap (λ call. Hears (First kind.Locate) ∷ Hears (Last true call) ∷ Hears (AnswerLocate true) ∷ IsTaken ∷ []) (decoded interface).door_joined
 
   -- so do the acts as which any end takes that

@@ -22,8 +22,8 @@ use Rattle.giop_session.specs.Acts.Sent.{sends_one}
 use Rattle.giop_session.specs.Acts.ServerAnswers.{IsLocateAnswer, locate_of}
 use Rattle.giop_session.specs.Calls.CallTable.{Call, Gives, Held, Hears, IsTaken, More, Nothing, at, put_call, rules_of, turn, entry_at}
 use Rattle.giop_session.specs.Calls.Sending.{entry_of}
-use Rattle.giop_session.specs.Hearing.Heard.{kept}
-use Rattle.giop_session.specs.Hearing.ServerHears.{server_befalls, server_breaks}
+use Rattle.giop_session.specs.Hearing.Heard.{silently}
+use Rattle.giop_session.specs.Hearing.ServerHears.{server_act, server_breaks}
 use Rattle.giop_session.specs.Items.Carries.{Carries, CarriesItem, Did, Got}
 use Rattle.giop_session.specs.Items.ServerCarries.{ServerItem, server_telling}
 use Rattle.giop_session.specs.Ends.Begun.{EndState, end_state}
@@ -82,10 +82,10 @@ module _ (interface : Interface) where
   at_3 = at-put seven_2 7 door_answered 7
 
   ended : Hears_it interface door_ends (one_1 interface) seven_2
-  ended = hears server_step is_closed is_gathering server_breaks (server_befalls interface) (one_1 interface) limits (7 ∷ 9 ∷ []) 12 door_ends 7
-      (kept (event.Last true (heard.Locate door)))
+  ended = hears server_step is_closed is_gathering server_breaks (server_act interface) (one_1 interface) limits (7 ∷ 9 ∷ []) 12 door_ends 7
+      (silently (event.Last true (heard.Locate door)))
       (More (drop 4 door_ends.payload)) gathering door_asked refl named.door_ends stands_1 (omega arith) (omega arith) at_1
-      (ap (λ call. Hears (kept (event.Last true call)) (More (drop 4 door_ends.payload))) (decoded interface).door_joined) refl
+      (ap (λ call. Hears (silently (event.Last true call)) (More (drop 4 door_ends.payload))) (decoded interface).door_joined) refl
 
   answered : DoesAct (rules_of server_step is_closed is_gathering) seven_2
       (record { id = 7; what = Hears (sends_one (event.AnswerLocate true) here_big) Nothing }) (Ok (sent_here interface)) seven_3
@@ -129,7 +129,7 @@ module _ (interface : Interface) where
             inr (
               sends_one (event.AnswerLocate true) here_big,
               plans,
-              record { answered = Ok (record { answer = tt; message = Some here_big }); does = answered; told = refl; puts = refl },
+              record { answered = Ok (record { answer = tt; message = Some here_big }); does = answered; returned = refl; puts = refl },
             ),
             refl,
           ),

@@ -54,11 +54,11 @@ use Rattle.giop_session.specs.Runs.SideRuns.{SideIsGiven}
 use Rattle.giop_session.specs.Runs.Driven.{Says}
 use Rattle.giop_session.specs.Ends.Begun.{EndState, new_end}
 use Rattle.giop_session.specs.Hearing.Feeding.{Fed, Through}
-use Rattle.giop_session.specs.Hearing.Heard.{in_call, kept, hears}
-use Rattle.giop_session.specs.Acts.Putting.{Befell, Puts, octets_of}
+use Rattle.giop_session.specs.Hearing.Heard.{in_call, silently, hears}
+use Rattle.giop_session.specs.Acts.Putting.{ActsOnCall, Puts, octets_of}
 use Rattle.giop_session.specs.Calls.Sending.{entry_of, message_of, unsent_of}
 use Rattle.giop_session.specs.Calls.Unsent.{first_of}
-use Rattle.giop_session.specs.Hearing.ServerHears.{server_befalls, server_side}
+use Rattle.giop_session.specs.Hearing.ServerHears.{server_act, server_side}
 use Rattle.giop_session.specs.Worlds.World.{Returned, WorldRuns, WorldState, returned_for}
 use Rattle.laws_in_use.specs.Left.{new_client}
 use Rattle.laws_in_use.specs.Limited.{new_server}
@@ -84,7 +84,7 @@ module _ {R E V A F : Type 0} (rules : Rules (Held R E) (Call E) (Act V) (Reply 
 
   -- and what an event that is planned does
   planned_so : (fault : Option F) → fault ≡ None → Puts rules of_rule id fault Plans h out (Ok tt) k out'
-      → (planned : Planned V) × Plans planned × Befell rules of_rule id planned h out (Ok tt) k out'
+      → (planned : Planned V) × Plans planned × ActsOnCall rules of_rule id planned h out (Ok tt) k out'
   planned_so None is (inl none) = let want = none.0 in absurd cc
   planned_so None is (inr done) = done
   planned_so (Some why) is puts = absurd cc
@@ -139,14 +139,14 @@ unrefused = refl
 
 module _ (interface : Interface)
     (leaves : (planned : Planned ClientEvent) (k : Held ClientRule ClientEntry) (out' : List ℕ)
-    → Befell (rules_of client.client_step client.is_closed client.is_gathering) in_call 9 planned (new_client limits) [] (Ok tt) k out'
+    → ActsOnCall (rules_of client.client_step client.is_closed client.is_gathering) in_call 9 planned (new_client limits) [] (Ok tt) k out'
     → IsAccepted client.client_step 9 planned (new_client limits) [] k out')
     (split : OneSplit)
     (own : (k : Held ServerRule ServerEntry)
     → Through (hears (server_side interface))
     (new_server limits) (key_little ∷ []) k
     → at k 9
-    ≡ alone_heard (turn server.server_step server.is_closed server.is_gathering) (server_befalls interface) (at (new_server limits) 9)
+    ≡ alone_heard (turn server.server_step server.is_closed server.is_gathering) (server_act interface) (at (new_server limits) 9)
     (own_messages 9 (key_little ∷ []))) where
   -- its octets are outgoing then
   outgoing_by : (form : Form) (t : EndState (Held ClientRule ClientEntry)) → form ≡ record { order = Little; piece = 64 }
@@ -154,13 +154,13 @@ module _ (interface : Interface)
       (locate_fault limits (entry_at (new_client limits) 9) key form) (IsLocate key form) (new_client limits) [] (Ok tt) t.calls t.outgoing
       → t.outgoing ≡ message_octets key_little
   outgoing_by form t is puts =
-      let (planned, sends, befell) =
+      let (planned, sends, on_call) =
       planned_so (rules_of client.client_step client.is_closed client.is_gathering) in_call 9 (IsLocate key form) (new_client limits) t.calls []
       t.outgoing (locate_fault limits (entry_at (new_client limits) 9) key form)
       (ap (λ entry. locate_fault limits entry key form) (no_client_entry 9) ∙ ap (λ (form : Form). locate_fault limits None key form) is ∙ unrefused) puts in
       let (messages, cut, plans) = sends.sent in
       let one = sent_by messages (subst (λ (form : Form). IsCut V10 LocateRequest form.order (locate_octets key form.order) form.piece messages) is cut) in
-      (leaves planned t.calls t.outgoing befell).puts
+      (leaves planned t.calls t.outgoing on_call).puts
       ∙ ap (λ (p : Planned ClientEvent). octets_of (message_of p.plan (unsent_of (finite.get (new_client limits).table 9)))) plans
       ∙ ap (λ (messages : List Msg). octets_of (first_of messages)) one
 
@@ -195,12 +195,12 @@ module _ (interface : Interface)
   stands k through =
       ap (λ (call : Call ServerEntry). entry_of call.slot)
       (own k through
-      ∙ ap (λ messages. alone_heard (turn server.server_step server.is_closed server.is_gathering) (server_befalls interface) (at (new_server limits) 9)
+      ∙ ap (λ messages. alone_heard (turn server.server_step server.is_closed server.is_gathering) (server_act interface) (at (new_server limits) 9)
       messages) own_is
-      ∙ ap (λ call. alone_heard (turn server.server_step server.is_closed server.is_gathering) (server_befalls interface) call (key_little ∷ []))
+      ∙ ap (λ call. alone_heard (turn server.server_step server.is_closed server.is_gathering) (server_act interface) call (key_little ∷ []))
       (none_at limits 9)
       ∙ ap (λ (read : HeardCall). left none (turn server.server_step server.is_closed server.is_gathering none
-      (Hears (kept (at_server.Whole read)) Nothing))) (decoded interface).key_little)
+      (Hears (silently (at_server.Whole read)) Nothing))) (decoded interface).key_little)
 
   given_done : {E : Type 0} (P : Result (Unit {0}) SessionFault → Type 0) (answered : Answered E) → Ok tt ≡ returned_for answered
       → Says answered P → P (Ok tt)

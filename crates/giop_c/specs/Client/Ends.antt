@@ -23,7 +23,7 @@ use Rattle.giop_end.specs.Acts.ClientCalls.{IsCancel, cancel_fault, open_version
 use Rattle.giop_table.specs.CallTable.{rules_of, entry_at}
 use Rattle.giop_end.specs.Hearing.Feeding.{Fed, standing, with_octets}
 use Rattle.giop_end.specs.Hearing.Heard.{hears_by, in_call}
-use Rattle.giop_end.specs.Hearing.ClientHears.{client_befalls, client_breaks}
+use Rattle.giop_end.specs.Hearing.ClientHears.{client_act, client_breaks}
 use Rattle.giop_end.specs.Ends.Begun.{end_state, new_end}
 use Rattle.giop_c.specs.declared.client.caller.Caller.{Caller}
 use Rattle.giop_c.specs.declared.shared.Shared.{Shared}
@@ -59,7 +59,7 @@ FeedsClient octets old answer new =
     Fails old answer new
     × (old.end.fault ≡ None
     → Fed (hears_by (λ rule. client.client_step) (λ rule. client.is_closed) client.is_gathering
-    in_call client_breaks (client_befalls (arc_value old.interface)))
+    in_call client_breaks (client_act (arc_value old.interface)))
     (with_octets old.end.framer octets) old.end.calls answer new.end.framer new.end.calls)
     × (old.end.fault ≡ None → new.end.fault ≡ standing answer)
     × (new ≡ record old {
@@ -71,7 +71,7 @@ FeedsClient octets old answer new =
     })
 
 -- something is done to the call of an id: that is refused for this, or else an event that is planned
--- so befalls the call, and what it sends is put out
+-- so acts on the call, and what it sends is put out
 abbrev pub PutsAtClient : ℕ → Option CallFault → (Planned ClientEvent → Type 0) → Caller
     → Result (Unit {0}) SessionFault → Caller → Type 0
 PutsAtClient id refusal Plans old answer new =

@@ -23,7 +23,7 @@ use Rattle.giop_end.specs.Acts.ServerAnswers.{IsLocateAnswer, locate_of}
 use Rattle.giop_table.specs.CallTable.{rules_of, entry_at}
 use Rattle.giop_end.specs.Hearing.Feeding.{Fed, standing, with_octets}
 use Rattle.giop_end.specs.Hearing.Heard.{hears_by, in_call}
-use Rattle.giop_end.specs.Hearing.ServerHears.{server_befalls, server_breaks}
+use Rattle.giop_end.specs.Hearing.ServerHears.{server_act, server_breaks}
 use Rattle.giop_end.specs.Ends.Begun.{end_state, new_end}
 use Rattle.giop_c.specs.declared.server.served.Served.{Served}
 use Rattle.giop_c.specs.declared.shared.Shared.{Shared}
@@ -59,7 +59,7 @@ FeedsServer octets old answer new =
     Fails old answer new
     × (old.end.fault ≡ None
     → Fed (hears_by (λ rule. server.server_step) (λ rule. server.is_closed) server.is_gathering
-    in_call server_breaks (server_befalls (arc_value old.interface)))
+    in_call server_breaks (server_act (arc_value old.interface)))
     (with_octets old.end.framer octets) old.end.calls answer new.end.framer new.end.calls)
     × (old.end.fault ≡ None → new.end.fault ≡ standing answer)
     × (new ≡ record old {
@@ -71,7 +71,7 @@ FeedsServer octets old answer new =
     })
 
 -- something is done to the call of an id: that is refused for this, or else an event that is planned
--- so befalls the call, and what it sends is put out
+-- so acts on the call, and what it sends is put out
 abbrev pub PutsAtServer : ℕ → Option CallFault → (Planned ServerEvent → Type 0) → Served
     → Result (Unit {0}) SessionFault → Served → Type 0
 PutsAtServer id refusal Plans old answer new =

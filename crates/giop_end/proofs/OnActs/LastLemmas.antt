@@ -35,11 +35,11 @@ use Rattle.giop_table.specs.declared.table_fault.TableFault.{TableFault}
 use Rattle.giop_table.specs.declared.table_fault.TableFault.TheVariants as table
 use Rattle.giop_end.specs.declared.session_fault.SessionFault.{SessionFault}
 use Rattle.giop_end.specs.declared.session_fault.SessionFault.TheVariants.{NoMemory}
-use Rattle.giop_end.specs.Acts.Putting.{Befell, Puts}
+use Rattle.giop_end.specs.Acts.Putting.{ActsOnCall, Puts}
 use Rattle.giop_end.specs.Acts.ServerAnswers.{IsAnswer, IsFitAnswer, answer_fault, expects_locate, locate_of, question_of, unasked_fault, undecoded_locate, undecoded_question}
 use Rattle.giop_table.specs.CallTable.{Held, Hears, Nothing, at, brought, event_reply, limit, rules_of, turned}
 use Rattle.giop_table.specs.Sending.{entry_of, settled_by, unsent_of}
-use Rattle.giop_end.specs.Hearing.Heard.{in_call, kept, told_of}
+use Rattle.giop_end.specs.Hearing.Heard.{in_call, silently, result_of}
 
 -- ---- what the rule refuses is refused for that
 
@@ -52,10 +52,10 @@ module _ {E V A : Type 0} (next : Option E → V → Step E A CallFault) (closed
   found_by over pieces entry plan unsent (Ok answer) why is = absurd cc
   found_by over pieces entry plan unsent (Err fault) why is = let same : fault ≡ why = cc in ap (λ why. Some (table.Rule why)) same
 
-  pub befell_refused : {R : Type 0} (h : Held R E) (id : ℕ) (planned : Planned V) (why : CallFault) (out : List ℕ)
+  pub act_refused : {R : Type 0} (h : Held R E) (id : ℕ) (planned : Planned V) (why : CallFault) (out : List ℕ)
       (result : Result (Unit {0}) SessionFault) → (next (entry_of (finite.get h.table id)) planned.event).outcome ≡ Err why
-      → result ≡ Err (in_call id why) → Befell (rules_of next closed gathering) in_call id planned h out result h out
-  befell_refused h id planned why out result is told = record {
+      → result ≡ Err (in_call id why) → ActsOnCall (rules_of next closed gathering) in_call id planned h out result h out
+  act_refused h id planned why out result is told = record {
     answered = Err (table.Rule why);
     does = record {
       answer = tt;
@@ -64,7 +64,7 @@ module _ {E V A : Type 0} (next : Option E → V → Step E A CallFault) (closed
           (next (entry_of (finite.get h.table id)) planned.event).outcome why is);
       leaves = refl;
     };
-    told = told;
+    returned = told;
     puts = sym (append-nil out);
   }
 
@@ -81,7 +81,7 @@ module _ {E V A : Type 0} (next : Option E → V → Step E A CallFault) (closed
 
   pub wanted_by : {R : Type 0} (h k : Held R E) (id : ℕ) (planned : Planned V) (answered : Result (Sends A) (TableFault CallFault))
       → Does (rules_of next closed gathering) h (record { id = id; what = Hears planned Nothing }) (event_reply answered) k
-      → Err NoMemory ≡ told_of (in_call id) answered
+      → Err NoMemory ≡ result_of (in_call id) answered
       → IsOk (next (entry_of (finite.get h.table id)) planned.event).outcome
   wanted_by h k id planned (Ok sends) does told = absurd cc
   wanted_by h k id planned (Err (table.Rule why)) does told = absurd cc
@@ -155,7 +155,7 @@ server_sends_none h id out result none told =
     inr (
       record { event = event.Send; plan = Next },
       refl,
-      befell_refused server_table.server_step server_table.is_closed server_table.is_gathering h id
+      act_refused server_table.server_step server_table.is_closed server_table.is_gathering h id
           (record { event = event.Send; plan = Next }) NothingToSend out result (server_nothing (entry_of (finite.get h.table id)) none) told,
     )
 
@@ -186,9 +186,9 @@ pub unasked_answer : {R : Type 0} (interface : Interface) (limits : Limits) (ans
     (IsAnswer interface (question_of (entry_of (finite.get h.table answer.id))) answer form) h out result h out
 unasked_answer interface limits answer form h out result none told =
     rw none (inr (
-      kept (event.Answer answer 1),
+      silently (event.Answer answer 1),
       refl,
-      befell_refused server_table.server_step server_table.is_closed server_table.is_gathering h answer.id (kept (event.Answer answer 1))
+      act_refused server_table.server_step server_table.is_closed server_table.is_gathering h answer.id (silently (event.Answer answer 1))
           (unasked_fault (entry_of (finite.get h.table answer.id))) out result (unasked (entry_of (finite.get h.table answer.id)) answer 1 none) told,
     ))
 
@@ -231,7 +231,7 @@ pub wanted_accepted : {R : Type 0} (h k : Held R ServerEntry) (id : ℕ) (planne
     (answered : Result (Sends (Unit {0})) (TableFault CallFault))
     → Does (rules_of server_table.server_step server_table.is_closed server_table.is_gathering) h
     (record { id = id; what = Hears planned Nothing }) (event_reply answered) k
-    → Err NoMemory ≡ told_of (in_call id) answered
+    → Err NoMemory ≡ result_of (in_call id) answered
     → IsOk (server_table.server_step (entry_of (finite.get h.table id)) planned.event).outcome
 wanted_accepted = wanted_by server_table.server_step server_table.is_closed server_table.is_gathering
 
@@ -262,6 +262,6 @@ client_sends_none h id out result none told =
     inr (
       record { event = client_event.Send; plan = Next },
       refl,
-      befell_refused client_table.client_step client_table.is_closed client_table.is_gathering h id
+      act_refused client_table.client_step client_table.is_closed client_table.is_gathering h id
           (record { event = client_event.Send; plan = Next }) NothingToSend out result (client_nothing (entry_of (finite.get h.table id)) none) told,
     )

@@ -24,7 +24,7 @@ use Rattle.giop_table.specs.declared.slot.Slot.{Slot}
 use Rattle.giop_table.specs.declared.table_fault.TableFault.TheVariants as table
 use Rattle.giop_table.specs.CallTable.{Held, More, Hears, Stays, gathers, limit}
 use Rattle.giop_end.specs.Hearing.ClientHears.{AtClient, continued, continues, gathered_call, heard_located_by, heard_reply, heard_reply_by}
-use Rattle.giop_end.specs.Hearing.Heard.{Befalls, behind_id, kept, silent}
+use Rattle.giop_end.specs.Hearing.Heard.{ActsOn, behind_id, silently, silent}
 use Rattle.giop_table.specs.Sending.{sending_step}
 use Rattle.giop_table.proofs.TableLemmas.{does_over}
 
@@ -63,17 +63,17 @@ continued_is order (Some call) (Some p) is = (call, p, refl, refl, by_order (sam
 
 -- a further piece changes nothing at a call whose reply is gathered
 pub more_stays : (slot : Option (Slot ClientEntry)) (call : Asked) → gathered_call slot ≡ Some call
-    → Stays (sending_step client_step slot (kept (event.More true))) slot silent
+    → Stays (sending_step client_step slot (silently (event.More true))) slot silent
 more_stays slot call is =
     let stands = gathering_is slot call is in
-    subst (λ s. Stays (sending_step client_step s (kept (event.More true))) s silent) (sym stands.1) refl
+    subst (λ s. Stays (sending_step client_step s (silently (event.More true))) s silent) (sym stands.1) refl
 
 -- the last piece settles the call
 module _ (interface : Interface) (version : Version) (order : Order) (octets : List ℕ) where
   abbrev last_step : Asked → List Msg → HeardReply → Type 0
   last_step call unsent heard =
-      IsOk (sending_step client_step (gathering_slot call unsent) (kept (event.Last true heard))).outcome
-      × (gathers is_gathering (sending_step client_step (gathering_slot call unsent) (kept (event.Last true heard))).entry ≡ false)
+      IsOk (sending_step client_step (gathering_slot call unsent) (silently (event.Last true heard))).outcome
+      × (gathers is_gathering (sending_step client_step (gathering_slot call unsent) (silently (event.Last true heard))).entry ≡ false)
 
   settled : (call : Asked) (unsent : List Msg) → last_step call unsent (heard_reply interface call version order octets)
   settled (asked.Request request) unsent = by_reading ((reply interface (Some request) version).read (joined_from order octets))
@@ -89,31 +89,31 @@ module _ (interface : Interface) (version : Version) (order : Order) (octets : L
 
   pub last_settles : (slot : Option (Slot ClientEntry)) (call : Asked) (heard : HeardReply) → gathered_call slot ≡ Some call
       → heard ≡ heard_reply interface call version order octets
-      → IsOk (sending_step client_step slot (kept (event.Last true heard))).outcome
-      × (gathers is_gathering (sending_step client_step slot (kept (event.Last true heard))).entry ≡ false)
+      → IsOk (sending_step client_step slot (silently (event.Last true heard))).outcome
+      × (gathers is_gathering (sending_step client_step slot (silently (event.Last true heard))).entry ≡ false)
   last_settles slot call heard gathered is =
       let stands = gathering_is slot call gathered in
-      subst (λ s. IsOk (sending_step client_step s (kept (event.Last true heard))).outcome
-      × (gathers is_gathering (sending_step client_step s (kept (event.Last true heard))).entry ≡ false)) (sym stands.1)
+      subst (λ s. IsOk (sending_step client_step s (silently (event.Last true heard))).outcome
+      × (gathers is_gathering (sending_step client_step s (silently (event.Last true heard))).entry ≡ false)) (sym stands.1)
       (subst (last_step call stands.0) (sym is) (settled call stands.0))
 
 -- the last piece of a reply, where there is no room for it
 module _ {R : Type 0} (h : Held R ClientEntry) (id : ℕ) (call : Asked) (octets : List ℕ) where
   full : (heard : HeardReply) (slot : Option (Slot ClientEntry)) (unsent : List Msg) → slot ≡ gathering_slot call unsent → finite.get h.table id ≡ slot
       → is_over h.room h.gathered (length octets) ≡ true
-      → limit client_step is_closed is_gathering h id (Hears (kept (event.Last true heard)) (More octets)) ≡ Some table.GatherFull
+      → limit client_step is_closed is_gathering h id (Hears (silently (event.Last true heard)) (More octets)) ≡ Some table.GatherFull
   full heard slot unsent is at over = rw (at ∙ is, over) refl
 
   pub complete_refused : (interface : Interface) (version : Version) (order : Order) (joined : List ℕ) → gathered_call (finite.get h.table id) ≡ Some call
       → is_over h.room h.gathered (length octets) ≡ true
-      → AtClient (Befalls id (Hears (kept (event.Last true (heard_reply interface call version order joined))) (More octets))) h (Err GatherFull) h
+      → AtClient (ActsOn id (Hears (silently (event.Last true (heard_reply interface call version order joined))) (More octets))) h (Err GatherFull) h
   complete_refused interface version order joined gathered over =
       let heard = heard_reply interface call version order joined in
       let stands = gathering_is (finite.get h.table id) call gathered in
       let settles = last_settles interface version order joined (finite.get h.table id) call heard gathered refl in
       inr (
         Err table.GatherFull,
-        does_over client_step is_closed is_gathering h h id (kept (event.Last true heard)) (More octets) table.GatherFull settles.0
+        does_over client_step is_closed is_gathering h h id (silently (event.Last true heard)) (More octets) table.GatherFull settles.0
             (inl (full heard (finite.get h.table id) stands.0 stands.1 refl over)) refl,
         refl,
       )
@@ -121,5 +121,5 @@ module _ {R : Type 0} (h : Held R ClientEntry) (id : ℕ) (call : Asked) (octets
 -- a Fragment that continues pieces, and with which no more come, is the last of them
 pub continues_last : (interface : Interface) (m : Msg) (call : Asked) (octets : List ℕ) → m.more ≡ false
     → continues interface m (Some (call, octets))
-    ≡ Hears (kept (event.Last true (heard_reply interface call m.version m.order (octets ++ behind_id m)))) (More (behind_id m))
+    ≡ Hears (silently (event.Last true (heard_reply interface call m.version m.order (octets ++ behind_id m)))) (More (behind_id m))
 continues_last interface m call octets last = rw last refl

@@ -15,23 +15,23 @@ use Rattle.giop_end.specs.declared.session_fault.SessionFault.TheVariants.{Call 
 use Rattle.giop_table.specs.declared.slot.Slot.{Slot}
 use Rattle.giop_table.specs.declared.table_fault.TableFault.TheVariants as table
 use Rattle.giop_table.specs.CallTable.{Held, First, More, Hears, Stays, limit}
-use Rattle.giop_end.specs.Hearing.Heard.{Befalls, kept, silent}
+use Rattle.giop_end.specs.Hearing.Heard.{ActsOn, silently, silent}
 use Rattle.giop_table.specs.Sending.{entry_of, sending_step}
 use Rattle.giop_end.specs.Hearing.ServerHears.{AtServer, gathered_kind}
 use Rattle.giop_table.proofs.TableLemmas.{does_own, does_over}
 
 -- a first piece for an id that is in use
 in_use : (slot : Option (Slot ServerEntry)) (kind : CallKind) → is_free (entry_of slot) ≡ false
-    → (sending_step server_step slot (kept (event.First kind))).outcome ≡ Err IdInUse
+    → (sending_step server_step slot (silently (event.First kind))).outcome ≡ Err IdInUse
 in_use slot kind busy = rw busy refl
 
 pub begin_refused : {R : Type 0} (h : Held R ServerEntry) (id : ℕ) (kind : CallKind) (order : Order) (octets : List ℕ)
     → is_free (entry_of (finite.get h.table id)) ≡ false
-    → AtServer (Befalls id (Hears (kept (event.First kind)) (First order octets))) h (Err (InCall id IdInUse)) h
+    → AtServer (ActsOn id (Hears (silently (event.First kind)) (First order octets))) h (Err (InCall id IdInUse)) h
 begin_refused h id kind order octets busy =
     inr (
       Err (table.Rule IdInUse),
-      does_own server_step is_closed is_gathering h id (kept (event.First kind)) (First order octets) IdInUse (in_use (finite.get h.table id) kind busy),
+      does_own server_step is_closed is_gathering h id (silently (event.First kind)) (First order octets) IdInUse (in_use (finite.get h.table id) kind busy),
       refl,
     )
 
@@ -55,10 +55,10 @@ gathering_is (Some slot) kind is = by_entry slot.entry slot.unsent is
 
 -- a further piece changes nothing at a message that is gathered
 pub more_stays : (slot : Option (Slot ServerEntry)) (kind : CallKind) → gathered_kind slot ≡ Some kind
-    → Stays (sending_step server_step slot (kept (event.More true))) slot silent
+    → Stays (sending_step server_step slot (silently (event.More true))) slot silent
 more_stays slot kind is =
     let stands = gathering_is slot kind is in
-    subst (λ s. Stays (sending_step server_step s (kept (event.More true))) s silent) (sym stands.1) refl
+    subst (λ s. Stays (sending_step server_step s (silently (event.More true))) s silent) (sym stands.1) refl
 
 -- what isn't false is true
 pub is_full : (b : Bool) → not b ≡ false → b ≡ true
@@ -73,20 +73,20 @@ isnt_full false free = refl
 module _ {R : Type 0} (h : Held R ServerEntry) (id : ℕ) (kind : CallKind) (call : HeardCall) (octets : List ℕ) where
   over : (slot : Option (Slot ServerEntry)) (unsent : List Msg) → slot ≡ Some (record { entry = Gathering kind; unsent = unsent })
       → finite.get h.table id ≡ slot → is_over h.room h.gathered (length octets) ≡ true
-      → IsOk (sending_step server_step slot (kept (event.Last true call))).outcome
-      × (limit server_step is_closed is_gathering h id (Hears (kept (event.Last true call)) (More octets)) ≡ Some table.GatherFull)
+      → IsOk (sending_step server_step slot (silently (event.Last true call))).outcome
+      × (limit server_step is_closed is_gathering h id (Hears (silently (event.Last true call)) (More octets)) ≡ Some table.GatherFull)
   over slot unsent is at full = (
-    subst (λ s. IsOk (sending_step server_step s (kept (event.Last true call))).outcome) (sym is) refl,
+    subst (λ s. IsOk (sending_step server_step s (silently (event.Last true call))).outcome) (sym is) refl,
     rw (at ∙ is, full) refl,
   )
 
   pub complete_refused : gathered_kind (finite.get h.table id) ≡ Some kind → is_over h.room h.gathered (length octets) ≡ true
-      → AtServer (Befalls id (Hears (kept (event.Last true call)) (More octets))) h (Err GatherFull) h
+      → AtServer (ActsOn id (Hears (silently (event.Last true call)) (More octets))) h (Err GatherFull) h
   complete_refused gathered full =
       let stands = gathering_is (finite.get h.table id) kind gathered in
       let both = over (finite.get h.table id) stands.0 stands.1 refl full in
       inr (
         Err table.GatherFull,
-        does_over server_step is_closed is_gathering h h id (kept (event.Last true call)) (More octets) table.GatherFull both.0 (inl both.1) refl,
+        does_over server_step is_closed is_gathering h h id (silently (event.Last true call)) (More octets) table.GatherFull both.0 (inl both.1) refl,
         refl,
       )

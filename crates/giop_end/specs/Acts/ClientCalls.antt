@@ -115,7 +115,7 @@ IsCancel id order (Some version) planned =
     (id < 2 ^ 32) × (planned ≡ sends_one event.Cancel (cancel_request version order id))
 
 -- a client's own program does something to the call of an id: it is refused for this, or else an
--- event that is planned so befalls the call
+-- event that is planned so acts on the call
 abbrev pub ClientPuts : ℕ → Option CallFault → (Planned ClientEvent → Type 0)
     → Held ClientRule ClientEntry → List ℕ → Result (Unit {0}) SessionFault
     → Held ClientRule ClientEntry → List ℕ → Type 0

@@ -13,14 +13,14 @@ abbrev pub unfit_unless : Bool → Option CallFault
 unfit_unless true = None
 unfit_unless false = Some Unfit
 
--- it reports the fault that was found, if one was
-abbrev pub Tells : ℕ → Option CallFault → SessionFault → Type 0
-Tells id None told = ⊥
-Tells id (Some fault) told = told ≡ in_call id fault
+-- it is the fault that was found, if one was
+abbrev pub IsFound : ℕ → Option CallFault → SessionFault → Type 0
+IsFound id None why = ⊥
+IsFound id (Some fault) why = why ≡ in_call id fault
 
 -- or that it is out of memory
 abbrev pub IsRefusal : ℕ → Option CallFault → SessionFault → Type 0
-IsRefusal id found told = (told ≡ NoMemory) ⊎ Tells id found told
+IsRefusal id found why = (why ≡ NoMemory) ⊎ IsFound id found why
 
 -- a message isn't sent: no octets spell it, or those that do aren't let
 abbrev pub IsNotSent : {V : Type 0} → (V → Bool) → Result V EncodeFault → Type 0

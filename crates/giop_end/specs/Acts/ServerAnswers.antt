@@ -30,7 +30,7 @@ use Rattle.giop_end.specs.declared.session_fault.SessionFault.{SessionFault}
 use Rattle.giop_end.specs.Acts.Form.{is_sendable}
 use Rattle.giop_end.specs.Acts.Putting.{Puts}
 use Rattle.giop_table.specs.CallTable.{Held, entry_at, rules_of}
-use Rattle.giop_end.specs.Hearing.Heard.{in_call, kept}
+use Rattle.giop_end.specs.Hearing.Heard.{in_call, silently}
 use Rattle.giop_end.specs.Acts.Refused.{unfit_unless}
 use Rattle.giop_end.specs.Acts.Sent.{IsValueSent, sends_one}
 
@@ -96,7 +96,7 @@ answer_fault interface limits (Some question) answer form =
 -- it is sent, where one is waited for, and its numbers are in range; else the table is asked alone
 abbrev pub IsAnswer : Interface → Option (Option Request) → Reply → Form → Planned ServerEvent
     → Type 0
-IsAnswer interface None answer form planned = planned ≡ kept (event.Answer answer 1)
+IsAnswer interface None answer form planned = planned ≡ silently (event.Answer answer 1)
 IsAnswer interface (Some question) answer form planned =
     IsValueSent (reply interface question answer.version) answer answer.version message.Reply form
     (reply_octets interface question answer form.order) (event.Answer answer) planned
@@ -132,12 +132,12 @@ located version order id here =
 
 -- it is sent, where one is waited for, and the id is in range; else the table refuses it
 abbrev pub IsLocateAnswer : ℕ → Bool → Order → Option Version → Planned ServerEvent → Type 0
-IsLocateAnswer id here order None planned = planned ≡ kept (event.AnswerLocate here)
+IsLocateAnswer id here order None planned = planned ≡ silently (event.AnswerLocate here)
 IsLocateAnswer id here order (Some version) planned =
     (id < 2 ^ 32) × (planned ≡ sends_one (event.AnswerLocate here) (located version order id here))
 
 -- a server's own program does something to the call of an id: it is refused for this, or else an
--- event that is planned so befalls the call
+-- event that is planned so acts on the call
 abbrev pub ServerPuts : ℕ → Option CallFault → (Planned ServerEvent → Type 0)
     → Held ServerRule ServerEntry → List ℕ → Result (Unit {0}) SessionFault
     → Held ServerRule ServerEntry → List ℕ → Type 0

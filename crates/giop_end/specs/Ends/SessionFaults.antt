@@ -29,7 +29,7 @@ of_wire_kind fault kind = Wire fault
 abbrev pub of_wire : WireFault → SessionFault
 of_wire fault = of_wire_kind fault fault.kind
 
--- the table's refusal of what befalls the call of an id, where the rule's own fault is reported so
+-- the table's refusal of an act on the call of an id, where the rule's own fault is reported so
 abbrev pub of_table : {F : Type 0} → (F → SessionFault) → TableFault F → SessionFault
 of_table of_rule (table.Rule fault) = of_rule fault
 of_table of_rule table.TooManyCalls = TooManyCalls

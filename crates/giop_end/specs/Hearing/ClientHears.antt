@@ -31,7 +31,7 @@ use Rattle.giop_end.specs.declared.session_fault.SessionFault.{SessionFault}
 use Rattle.giop_end.specs.declared.session_fault.SessionFault.TheVariants.{WrongDirection, PeerError, Closed}
 use Rattle.giop_table.specs.declared.slot.Slot.{Slot}
 use Rattle.giop_table.specs.CallTable.{Act, Call, Hears, First, More, Nothing, Held, rules_of}
-use Rattle.giop_end.specs.Hearing.Heard.{Effect, Heard, IsHeard, SideOf, befalls_of, behind_id, breaks_of, in_call, kept}
+use Rattle.giop_end.specs.Hearing.Heard.{Effect, Heard, IsHeard, SideOf, effect_act, behind_id, breaks_of, in_call, silently}
 
 -- a Reply, by what reading it gives
 abbrev pub heard_reply_by : Result Reply CdrFault → HeardReply
@@ -66,19 +66,19 @@ reply_in interface call m joined = heard_reply interface call m.version m.order 
 
 -- the first piece of a reply comes, for a call that waits for it: its octets are gathered
 abbrev pub begins : CallKind → Msg → Act ClientEvent
-begins kind m = Hears (kept (event.First kind m.version)) (First m.order m.payload)
+begins kind m = Hears (silently (event.First kind m.version)) (First m.order m.payload)
 
 -- all of one comes, for such a call
 abbrev pub arrives : Interface → CallKind → Msg → Asked → Act ClientEvent
 arrives interface kind m call =
-    Hears (kept (event.Whole kind m.version (reply_in interface call m m.payload))) Nothing
+    Hears (silently (event.Whole kind m.version (reply_in interface call m m.payload))) Nothing
 
 -- a Reply or a LocateReply comes, its first piece or all of it, for this call; it is neither
 -- gathered nor decoded where none waits for it
 abbrev pub comes : Interface → CallKind → Msg → Option Asked → Act ClientEvent
 comes interface kind m None =
-    if m.more then Hears (kept (event.First kind m.version)) Nothing
-    else Hears (kept (event.Whole kind m.version heard.Unread)) Nothing
+    if m.more then Hears (silently (event.First kind m.version)) Nothing
+    else Hears (silently (event.Whole kind m.version heard.Unread)) Nothing
 comes interface kind m (Some call) =
     if m.more then begins kind m else arrives interface kind m call
 
@@ -117,25 +117,25 @@ continued_at h id order =
 
 -- a piece comes that continues what is gathered, and more are to come
 abbrev pub goes_on : Msg → Act ClientEvent
-goes_on m = Hears (kept (event.More true)) (More (behind_id m))
+goes_on m = Hears (silently (event.More true)) (More (behind_id m))
 
 -- the last one comes, behind these octets
 abbrev pub completes : Interface → Asked → Msg → List ℕ → Act ClientEvent
 completes interface call m octets =
-    Hears (kept (event.Last true (reply_in interface call m (octets ++ behind_id m))))
+    Hears (silently (event.Last true (reply_in interface call m (octets ++ behind_id m))))
     (More (behind_id m))
 
 -- a Fragment comes, whose first four octets are its request id (9.4.9); it continues these pieces,
 -- or none
 abbrev pub continues : Interface → Msg → Option (Asked × List ℕ) → Act ClientEvent
 continues interface m None =
-    if m.more then Hears (kept (event.More false)) Nothing
-    else Hears (kept (event.Last false heard.Unread)) Nothing
+    if m.more then Hears (silently (event.More false)) Nothing
+    else Hears (silently (event.Last false heard.Unread)) Nothing
 continues interface m (Some pieces) =
     if m.more then goes_on m else completes interface pieces.0 m pieces.1
 
--- what a message of each type is to a client: a server sends it, and so it befalls its call; or it
--- ends the session, since a server doesn't send it, or says so
+-- what a message of each type is to a client: a server sends it, and it is this act on its call;
+-- or it ends the session, since a server doesn't send it, or says so
 abbrev pub effect_by : Kind → Effect ClientEntry ClientEvent
 effect_by message.Reply = Ok (λ interface m call.
     comes interface kind.Request m (awaited kind.Request m.version call.slot))
@@ -156,12 +156,12 @@ breaks_by kind = breaks_of (effect_by kind)
 abbrev pub client_breaks : Msg → Option SessionFault
 client_breaks m = breaks_by m.kind
 
--- what befalls the call that one names
-abbrev pub befalls_by : Interface → Msg → Call ClientEntry → Kind → Act ClientEvent
-befalls_by interface m call kind = befalls_of (effect_by kind) interface m call
+-- the act that one is on the call that it names
+abbrev pub act_by_kind : Interface → Msg → Call ClientEntry → Kind → Act ClientEvent
+act_by_kind interface m call kind = effect_act (effect_by kind) interface m call
 
-abbrev pub client_befalls : Interface → Msg → Call ClientEntry → Act ClientEvent
-client_befalls interface m call = befalls_by interface m call m.kind
+abbrev pub client_act : Interface → Msg → Call ClientEntry → Act ClientEvent
+client_act interface m call = act_by_kind interface m call m.kind
 
 -- a client hears a message that does this, and leaves these calls
 abbrev pub AtClient : {R : Type 0} → Heard ClientEvent → Held R ClientEntry
@@ -176,5 +176,5 @@ client_side interface = record {
   gathering = is_gathering;
   of_rule = in_call;
   breaks = client_breaks;
-  befalls = client_befalls interface;
+  act_by = client_act interface;
 }

@@ -22,7 +22,7 @@ use Rattle.giop_table.specs.declared.slot.Slot.{Slot}
 use Rattle.giop_calls.specs.ServerTable.{server_step, is_closed, is_gathering}
 use Rattle.giop_table.specs.CallTable.{Act, Call, Hears, First, More, Nothing, Held, rules_of}
 use Rattle.giop_end.specs.Hearing.Decoding.{heard_call}
-use Rattle.giop_end.specs.Hearing.Heard.{Effect, Heard, IsHeard, SideOf, befalls_of, behind_id, breaks_of, in_call, kept}
+use Rattle.giop_end.specs.Hearing.Heard.{Effect, Heard, IsHeard, SideOf, effect_act, behind_id, breaks_of, in_call, silently}
 
 -- what joined octets come to, at the message that brings the last of them
 abbrev pub call_in : Interface → CallKind → Msg → List ℕ → HeardCall
@@ -30,12 +30,12 @@ call_in interface kind m joined = heard_call interface kind m.version m.order jo
 
 -- the first piece of a Request or a LocateRequest comes: its octets are gathered
 abbrev pub begins : CallKind → Msg → Act ServerEvent
-begins kind m = Hears (kept (event.First kind)) (First m.order m.payload)
+begins kind m = Hears (silently (event.First kind)) (First m.order m.payload)
 
 -- all of one comes
 abbrev pub arrives : Interface → CallKind → Msg → Act ServerEvent
 arrives interface kind m =
-    Hears (kept (event.Whole (call_in interface kind m m.payload))) Nothing
+    Hears (silently (event.Whole (call_in interface kind m m.payload))) Nothing
 
 -- a Request or a LocateRequest comes, its first piece or all of it
 abbrev pub comes : Interface → CallKind → Msg → Act ServerEvent
@@ -65,27 +65,27 @@ continued_at h id order =
 
 -- a piece comes that continues what is gathered, and more are to come
 abbrev pub goes_on : Msg → Act ServerEvent
-goes_on m = Hears (kept (event.More true)) (More (behind_id m))
+goes_on m = Hears (silently (event.More true)) (More (behind_id m))
 
 -- the last one comes, behind these octets
 abbrev pub completes : Interface → CallKind → Msg → List ℕ → Act ServerEvent
 completes interface kind m octets =
-    Hears (kept (event.Last true (call_in interface kind m (octets ++ behind_id m))))
+    Hears (silently (event.Last true (call_in interface kind m (octets ++ behind_id m))))
     (More (behind_id m))
 
 -- a Fragment comes, whose first four octets are its request id (9.4.9); it continues these pieces,
 -- or none
 abbrev pub continues : Interface → Msg → Option (CallKind × List ℕ) → Act ServerEvent
-continues interface m None = Hears (kept (event.More false)) Nothing
+continues interface m None = Hears (silently (event.More false)) Nothing
 continues interface m (Some pieces) =
     if m.more then goes_on m else completes interface pieces.0 m pieces.1
 
--- what a message of each type is to a server: a client sends it, and so it befalls its call; or it
--- ends the session, since a client doesn't send it, or says so
+-- what a message of each type is to a server: a client sends it, and it is this act on its call;
+-- or it ends the session, since a client doesn't send it, or says so
 abbrev pub effect_by : Kind → Effect ServerEntry ServerEvent
 effect_by message.Request = Ok (λ interface m call. comes interface kind.Request m)
 effect_by message.LocateRequest = Ok (λ interface m call. comes interface kind.Locate m)
-effect_by message.CancelRequest = Ok (λ interface m call. Hears (kept event.Cancel) Nothing)
+effect_by message.CancelRequest = Ok (λ interface m call. Hears (silently event.Cancel) Nothing)
 effect_by message.Fragment = Ok (λ interface m call.
     continues interface m (continued m.order (gathered_kind call.slot) call.pieces))
 effect_by message.Reply = Err WrongDirection
@@ -100,12 +100,12 @@ breaks_by kind = breaks_of (effect_by kind)
 abbrev pub server_breaks : Msg → Option SessionFault
 server_breaks m = breaks_by m.kind
 
--- what befalls the call that one names
-abbrev pub befalls_by : Interface → Msg → Call ServerEntry → Kind → Act ServerEvent
-befalls_by interface m call kind = befalls_of (effect_by kind) interface m call
+-- the act that one is on the call that it names
+abbrev pub act_by_kind : Interface → Msg → Call ServerEntry → Kind → Act ServerEvent
+act_by_kind interface m call kind = effect_act (effect_by kind) interface m call
 
-abbrev pub server_befalls : Interface → Msg → Call ServerEntry → Act ServerEvent
-server_befalls interface m call = befalls_by interface m call m.kind
+abbrev pub server_act : Interface → Msg → Call ServerEntry → Act ServerEvent
+server_act interface m call = act_by_kind interface m call m.kind
 
 -- a server hears a message that does this, and leaves these calls
 abbrev pub AtServer : {R : Type 0} → Heard ServerEvent → Held R ServerEntry
@@ -120,5 +120,5 @@ server_side interface = record {
   gathering = is_gathering;
   of_rule = in_call;
   breaks = server_breaks;
-  befalls = server_befalls interface;
+  act_by = server_act interface;
 }

@@ -22,7 +22,7 @@ use crate::acts::local::{done, sent};
 use crate::acts::outgoing::Outgoing;
 use crate::acts::putting::put;
 use crate::acts::sendable::one_message;
-use crate::hearing::heard::kept;
+use crate::hearing::heard::silently;
 use crate::limits::Limits;
 use crate::session_fault::SessionFault;
 use giop_calls::{Aside, CallFault, CallKind, ServerEntry, ServerEvent, ServerRule};
@@ -85,7 +85,7 @@ pub fn answer_locate(
                 plan: Plan::Put(messages),
             }
         }
-        None => kept(event),
+        None => silently(event),
     };
     done(id, put(calls, outgoing, id, planned))
 }

@@ -5,13 +5,13 @@ ghost use Rattle.std.specs.Prelude.{◌≡◌, ◌⊎◌, ◌<◌, ◌^◌, true
 ghost use Rattle.giop_msg.specs.Cut.{IsCut, is_continued};
 ghost use Rattle.giop_calls.specs.declared.fault.CallFault.TheVariants.{Unfit};
 ghost use Rattle.giop_end.specs.Acts.Form.{is_sendable, IsForm};
-ghost use Rattle.giop_end.specs.Hearing.Heard.{in_call, told_of};
+ghost use Rattle.giop_end.specs.Hearing.Heard.{in_call, result_of};
 ghost use Rattle.giop_end.specs.Acts.Refused.{IsNotSent};
 ghost use Rattle.giop_end.specs.declared.session_fault.SessionFault.TheVariants.{NoMemory};
 
 use crate::acts::form::Form;
 use crate::acts::sendable::messages;
-use crate::hearing::heard::told;
+use crate::hearing::heard::result_of;
 use crate::limits::Limits;
 use crate::session_fault::SessionFault;
 use giop_calls::CallFault;
@@ -27,12 +27,12 @@ pub fn done(
     id: u32,
     answered: Option<Result<Sends<()>, TableFault<CallFault>>>,
 ) -> Result<(), SessionFault>
-    ensures told { IfSome answered (λ answered. result ≡ told_of (in_call id) answered) }
+    ensures returned { IfSome answered (λ answered. result ≡ result_of (in_call id) answered) }
     ensures want { IfNone answered (result ≡ Err NoMemory) }
 {
     match answered {
         Some(Ok(_)) => Ok(()),
-        Some(Err(fault)) => told(id, Err(fault)),
+        Some(Err(fault)) => result_of(id, Err(fault)),
         None => Err(SessionFault::NoMemory),
     }
 }

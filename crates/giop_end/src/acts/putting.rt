@@ -37,7 +37,7 @@ pub fn put<R: Side>(
     if put_message(calls, outgoing, id, &planned.plan).is_err() {
         return None;
     }
-    let answered = calls.hear(id, planned);
+    let answered = calls.apply(id, planned);
     if answered.is_err() {
         outgoing.back_to(before);
     }

@@ -1,14 +1,14 @@
 //! What a message of the server does at a client (CORBA 3.3 Part 2, 9.4), a function for each kind.
-//! Its meaning is `client_breaks` and `client_befalls` in specs/Hearing/ClientHears.antt: change both.
+//! Its meaning is `client_breaks` and `client_act` in specs/Hearing/ClientHears.antt: change both.
 ghost use Rattle.std.specs.Prelude.{◌≡◌, ◌≤◌, ◌^◌, ◌+◌, ◌++◌, length, option_copied, is_some, true, IfSome};
 ghost use Rattle.std.specs.FinMap as finite;
 ghost use Rattle.giop_frag.specs.Gathered.{octets_in};
 ghost use Rattle.giop_msg.specs.RequestId.{request_id_of};
 ghost use Rattle.giop_end.specs.Hearing.ClientHears.{arrives, AtClient, awaited, awaited_in, begins, comes, completes, continued_at, continues, gathered_in, goes_on, reply_in, OfAwaited, OfGathered};
-ghost use Rattle.giop_end.specs.Hearing.Heard.{Befalls, behind_id, named};
+ghost use Rattle.giop_end.specs.Hearing.Heard.{ActsOn, behind_id, named};
 
 use crate::hearing::Hearing;
-use crate::hearing::heard::{behind_id, kept, named, told};
+use crate::hearing::heard::{behind_id, named, result_of, silently};
 use crate::hearing::reply_decoding::heard_reply;
 use crate::hearing::with_last::WithLast;
 use crate::session_fault::SessionFault;
@@ -23,11 +23,11 @@ type Calls = CallTable<ClientRule>;
 
 impl Hearing for ClientRule {
     ghost use Rattle.giop_end.specs.Hearing.Heard.{in_call};
-    ghost use Rattle.giop_end.specs.Hearing.ClientHears.{client_befalls, client_breaks};
+    ghost use Rattle.giop_end.specs.Hearing.ClientHears.{client_act, client_breaks};
 
     ghost breaks = { client_breaks };
 
-    ghost befalls = { client_befalls };
+    ghost act_by = { client_act };
 
     ghost in_call = { in_call };
 
@@ -70,9 +70,9 @@ fn come(
     match (is_awaited(calls, id, kind, version), message.more) {
         (true, true) => begin(calls, id, kind, message),
         (true, false) => arrive(alloc, interface, calls, id, kind, message),
-        (false, true) => told(
+        (false, true) => result_of(
             id,
-            calls.hear(id, kept(ClientEvent::First { kind, version })),
+            calls.apply(id, silently(ClientEvent::First { kind, version })),
         ),
         (false, false) => {
             let reply = HeardReply::Unread;
@@ -81,7 +81,7 @@ fn come(
                 version,
                 reply,
             };
-            told(id, calls.hear(id, kept(whole)))
+            result_of(id, calls.apply(id, silently(whole)))
         }
     }
 }
@@ -108,13 +108,13 @@ fn is_awaited(calls: &Calls, id: u32, kind: CallKind, version: Version) -> bool
 // The first piece of the reply to a call that waits for it comes.
 fn begin(calls: &mut Calls, id: u32, kind: CallKind, message: &Msg) -> Result<(), SessionFault>
     requires { is_some (awaited kind message.now.version (finite.get calls.old.table id)) ≡ true }
-    ensures { AtClient (Befalls id (begins kind message.now)) calls.old result calls.new }
+    ensures { AtClient (ActsOn id (begins kind message.now)) calls.old result calls.new }
 {
-    let first = kept(ClientEvent::First {
+    let first = silently(ClientEvent::First {
         kind,
         version: message.version,
     });
-    told(
+    result_of(
         id,
         calls.begin(id, first, message.order, message.payload.as_slice()),
     )
@@ -131,7 +131,7 @@ fn arrive(
 ) -> Result<(), SessionFault>
     requires { length message.now.payload ≤ 2 ^ 62 }
     ensures { OfAwaited kind message.now.version calls.old id (λ call. AtClient
-        (Befalls id (arrives interface.now kind message.now call)) calls.old result calls.new) }
+        (ActsOn id (arrives interface.now kind message.now call)) calls.old result calls.new) }
 {
     let Some(reply) = reply_to(alloc, interface, calls, id, kind, message) else {
         return Err(SessionFault::NoMemory);
@@ -142,7 +142,7 @@ fn arrive(
         version,
         reply,
     };
-    told(id, calls.hear(id, kept(whole)))
+    result_of(id, calls.apply(id, silently(whole)))
 }
 
 // The message decoded, as the reply to the call that waits for it. `None` where it is out of
@@ -188,14 +188,14 @@ fn go_on(
         (true, false) => complete(alloc, interface, calls, id, message),
         (false, true) => {
             let more = ClientEvent::More { in_order: false };
-            told(id, calls.hear(id, kept(more)))
+            result_of(id, calls.apply(id, silently(more)))
         }
         (false, false) => {
             let last = ClientEvent::Last {
                 in_order: false,
                 reply: HeardReply::Unread,
             };
-            told(id, calls.hear(id, kept(last)))
+            result_of(id, calls.apply(id, silently(last)))
         }
     }
 }
@@ -213,11 +213,11 @@ fn is_continued(calls: &Calls, id: u32, order: Order) -> bool
 // A Fragment comes that continues what is gathered, with more to come.
 fn add(calls: &mut Calls, id: u32, message: &Msg) -> Result<(), SessionFault>
     requires { is_some (continued_at calls.old id message.now.order) ≡ true }
-    ensures { AtClient (Befalls id (goes_on message.now)) calls.old result calls.new }
+    ensures { AtClient (ActsOn id (goes_on message.now)) calls.old result calls.new }
 {
     match calls.go_on(id, message.order, behind_id(message)) {
         Ok(()) => Ok(()),
-        Err(fault) => told(id, Err(fault)),
+        Err(fault) => result_of(id, Err(fault)),
     }
 }
 
@@ -231,7 +231,7 @@ fn complete(
 ) -> Result<(), SessionFault>
     requires { is_some (continued_at calls.old id message.now.order) ≡ true }
     ensures { OfGathered calls.old id (λ call pieces. AtClient
-        (Befalls id (completes interface.now call message.now pieces.octets))
+        (ActsOn id (completes interface.now call message.now pieces.octets))
         calls.old result calls.new) }
 {
     let octets = behind_id(message);
@@ -241,7 +241,7 @@ fn complete(
     let Some(reply) = joined_reply(alloc, interface, calls, id, message) else {
         return Err(SessionFault::NoMemory);
     };
-    let last = kept(ClientEvent::Last {
+    let last = silently(ClientEvent::Last {
         in_order: true,
         reply,
     });

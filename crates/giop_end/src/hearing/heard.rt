@@ -3,7 +3,7 @@
 //! specs/Hearing/Heard.antt: change both.
 ghost use Rattle.std.specs.Prelude.{◌≡◌, ◌≤◌, ◌^◌, length};
 ghost use Rattle.giop_msg.specs.RequestId.{request_id_of};
-ghost use Rattle.giop_end.specs.Hearing.Heard.{behind_id, id_named, in_call, kept, told_of};
+ghost use Rattle.giop_end.specs.Hearing.Heard.{behind_id, id_named, in_call, silently, result_of};
 
 use crate::session_fault::SessionFault;
 use giop_calls::CallFault;
@@ -34,10 +34,10 @@ pub fn behind_id(message: &Msg) -> &[u8]
     }
 }
 
-/// An event that puts no message out: the messages of its call stay as they are.
+/// An event that sends nothing: the messages of its call stay unsent.
 #[inline(always)]
-pub fn kept<V>(event: V) -> Planned<V>
-    ensures { result ≡ kept event }
+pub fn silently<V>(event: V) -> Planned<V>
+    ensures { result ≡ silently event }
 {
     Planned {
         event,
@@ -47,8 +47,11 @@ pub fn kept<V>(event: V) -> Planned<V>
 
 /// What an end returns for an event of the call of an id, by what the table of calls answered.
 #[inline(never)]
-pub fn told(id: u32, answered: Result<Sends<()>, TableFault<CallFault>>) -> Result<(), SessionFault>
-    ensures { result ≡ told_of (in_call id) answered }
+pub fn result_of(
+    id: u32,
+    answered: Result<Sends<()>, TableFault<CallFault>>,
+) -> Result<(), SessionFault>
+    ensures { result ≡ result_of (in_call id) answered }
 {
     match answered {
         Ok(_) => Ok(()),

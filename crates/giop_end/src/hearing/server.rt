@@ -1,5 +1,5 @@
 //! What a message of the client does at a server (CORBA 3.3 Part 2, 9.4), a function for each kind.
-//! Its meaning is `server_breaks` and `server_befalls` in specs/Hearing/ServerHears.antt: change both.
+//! Its meaning is `server_breaks` and `server_act` in specs/Hearing/ServerHears.antt: change both.
 ghost use Rattle.std.specs.Prelude.{◌≡◌, ◌≤◌, ◌^◌, ◌+◌, ◌++◌, length, None, Some, IfSome, IfNone};
 ghost use Rattle.std.specs.FinMap as finite;
 ghost use Rattle.giop_frag.specs.Gathered.{octets_in, order_fault};
@@ -7,12 +7,12 @@ ghost use Rattle.giop_msg.specs.RequestId.{request_id_of};
 ghost use Rattle.giop_calls.specs.declared.server.event.ServerEvent.TheVariants as event;
 ghost use Rattle.giop_calls.specs.ServerTable.{is_free};
 ghost use Rattle.giop_table.specs.CallTable.{entry_at, Hears, Nothing};
-ghost use Rattle.giop_end.specs.Hearing.Heard.{Befalls, behind_id, kept, named};
+ghost use Rattle.giop_end.specs.Hearing.Heard.{ActsOn, behind_id, silently, named};
 ghost use Rattle.giop_end.specs.Hearing.ServerHears.{arrives, AtServer, begins, call_in, comes, completes, continued_at, continues, gathered_kind, goes_on, kind_in};
 
 use crate::hearing::Hearing;
 use crate::hearing::decoding::heard_call;
-use crate::hearing::heard::{behind_id, kept, named, told};
+use crate::hearing::heard::{behind_id, named, result_of, silently};
 use crate::hearing::with_last::WithLast;
 use crate::session_fault::SessionFault;
 use giop_calls::{CallFault, CallKind, HeardCall, ServerEntry, ServerEvent, ServerRule};
@@ -26,11 +26,11 @@ type Calls = CallTable<ServerRule>;
 
 impl Hearing for ServerRule {
     ghost use Rattle.giop_end.specs.Hearing.Heard.{in_call};
-    ghost use Rattle.giop_end.specs.Hearing.ServerHears.{server_befalls, server_breaks};
+    ghost use Rattle.giop_end.specs.Hearing.ServerHears.{server_act, server_breaks};
 
     ghost breaks = { server_breaks };
 
-    ghost befalls = { server_befalls };
+    ghost act_by = { server_act };
 
     ghost in_call = { in_call };
 
@@ -78,13 +78,13 @@ fn come(
 // The first piece of a Request or a LocateRequest comes. It is refused before its octets are
 // gathered where the id isn't free.
 fn begin(calls: &mut Calls, id: u32, kind: CallKind, message: &Msg) -> Result<(), SessionFault>
-    ensures { AtServer (Befalls id (begins kind message.now)) calls.old result calls.new }
+    ensures { AtServer (ActsOn id (begins kind message.now)) calls.old result calls.new }
 {
     if !is_free(calls, id) {
-        return told(id, Err(TableFault::Rule(CallFault::IdInUse)));
+        return result_of(id, Err(TableFault::Rule(CallFault::IdInUse)));
     }
-    let first = kept(ServerEvent::First { kind });
-    told(
+    let first = silently(ServerEvent::First { kind });
+    result_of(
         id,
         calls.begin(id, first, message.order, message.payload.as_slice()),
     )
@@ -101,7 +101,7 @@ fn arrive(
     message: &Msg,
 ) -> Result<(), SessionFault>
     requires { length message.now.payload ≤ 2 ^ 62 }
-    ensures { AtServer (Befalls id (arrives interface.now kind message.now)) calls.old result
+    ensures { AtServer (ActsOn id (arrives interface.now kind message.now)) calls.old result
         calls.new }
 {
     let joined = SliceOctets::new(message.payload.as_slice());
@@ -109,19 +109,19 @@ fn arrive(
     let Some(call) = heard_call(alloc, interface, kind, version, order, &joined) else {
         return Err(SessionFault::NoMemory);
     };
-    match calls.hear(id, kept(ServerEvent::Whole { call })) {
+    match calls.apply(id, silently(ServerEvent::Whole { call })) {
         Ok(_) => Ok(()),
-        Err(fault) => told(id, Err(fault)),
+        Err(fault) => result_of(id, Err(fault)),
     }
 }
 
 fn cancel(calls: &mut Calls, message: &Msg) -> Result<(), SessionFault>
     requires { length message.now.payload ≤ 2 ^ 62 }
     ensures { AtServer (named (request_id_of message.now)
-        (λ id. Hears (kept event.Cancel) Nothing)) calls.old result calls.new }
+        (λ id. Hears (silently event.Cancel) Nothing)) calls.old result calls.new }
 {
     let id = named(message)?;
-    told(id, calls.hear(id, kept(ServerEvent::Cancel)))
+    result_of(id, calls.apply(id, silently(ServerEvent::Cancel)))
 }
 
 // A Fragment comes.
@@ -137,9 +137,9 @@ fn go_on(
 {
     let id = named(message)?;
     let Some(kind) = continued(calls, id, message.order) else {
-        return told(
+        return result_of(
             id,
-            calls.hear(id, kept(ServerEvent::More { in_order: false })),
+            calls.apply(id, silently(ServerEvent::More { in_order: false })),
         );
     };
     if message.more {
@@ -174,11 +174,11 @@ fn gathered_kind(entry: &ServerEntry) -> Option<CallKind>
 fn add(calls: &mut Calls, id: u32, kind: CallKind, message: &Msg) -> Result<(), SessionFault>
     requires gathered { gathered_kind (finite.get calls.old.table id) ≡ Some kind }
     requires in_order { order_fault (finite.get calls.old.gathered id) message.now.order ≡ None }
-    ensures { AtServer (Befalls id (goes_on message.now)) calls.old result calls.new }
+    ensures { AtServer (ActsOn id (goes_on message.now)) calls.old result calls.new }
 {
     match calls.go_on(id, message.order, behind_id(message)) {
         Ok(()) => Ok(()),
-        Err(fault) => told(id, Err(fault)),
+        Err(fault) => result_of(id, Err(fault)),
     }
 }
 
@@ -192,7 +192,7 @@ fn complete(
     message: &Msg,
 ) -> Result<(), SessionFault>
     requires gathered { gathered_kind (finite.get calls.old.table id) ≡ Some kind }
-    ensures { (pieces : _) → finite.get calls.old.gathered id ≡ Some pieces → AtServer (Befalls id
+    ensures { (pieces : _) → finite.get calls.old.gathered id ≡ Some pieces → AtServer (ActsOn id
         (completes interface.now kind message.now pieces.octets)) calls.old result calls.new }
 {
     let octets = behind_id(message);
@@ -202,7 +202,7 @@ fn complete(
     let Some(call) = joined_call(alloc, interface, calls, id, kind, message) else {
         return Err(SessionFault::NoMemory);
     };
-    let last = kept(ServerEvent::Last {
+    let last = silently(ServerEvent::Last {
         in_order: true,
         call,
     });

@@ -31,7 +31,7 @@ use Rattle.giop_table.specs.declared.plan.Planned.{Planned}
 use Rattle.giop_table.specs.CallTable.{Act, Call, Held, entry_at}
 use Rattle.giop_end.specs.Acts.ClientCalls.{IsCancel, open_version}
 use Rattle.giop_end.specs.Hearing.ClientHears as client_hears
-use Rattle.giop_end.specs.Hearing.ClientHears.{client_befalls, client_side}
+use Rattle.giop_end.specs.Hearing.ClientHears.{client_act, client_side}
 use Rattle.giop_session.specs.Runs.ClientRuns.{client_deed, client_run}
 use Rattle.giop_session.specs.Runs.ServerRuns.{server_deed, server_run}
 use Rattle.giop_session.specs.Runs.SideRuns.{SideRuns}
@@ -41,7 +41,7 @@ use Rattle.giop_table.specs.Sending.{unsent_of}
 use Rattle.giop_end.specs.Acts.Sent.{IsSent}
 use Rattle.giop_end.specs.Acts.ServerAnswers.{IsAnswer, IsLocateAnswer, locate_of, question_of, reply_octets}
 use Rattle.giop_end.specs.Hearing.ServerHears as server_hears
-use Rattle.giop_end.specs.Hearing.ServerHears.{server_befalls, server_side}
+use Rattle.giop_end.specs.Hearing.ServerHears.{server_act, server_side}
 use Rattle.giop_session.proofs.OnActs.PutOutLemmas.{ActIsOf, DeedIsOf, PlanIsOf, cut_are, run_is}
 
 -- what is sent in messages of a kind
@@ -68,10 +68,10 @@ client_more : (interface : Interface) (m : Msg) (pieces : Option (Asked × List 
 client_more interface m None = act_if is_of_client m.more _ _ tt tt
 client_more interface m (Some pieces) = act_if is_of_client m.more _ _ tt tt
 
-client_comes : (interface : Interface) (m : Msg) (call : Call ClientEntry) → ActIsOf is_of_client (client_befalls interface m call)
+client_comes : (interface : Interface) (m : Msg) (call : Call ClientEntry) → ActIsOf is_of_client (client_act interface m call)
 client_comes interface m call = by_kind m.kind
   where
-    by_kind : (kind : Kind) → ActIsOf is_of_client (client_hears.befalls_by interface m call kind)
+    by_kind : (kind : Kind) → ActIsOf is_of_client (client_hears.act_by_kind interface m call kind)
     by_kind message.Reply = client_first interface kind.Request m (client_hears.awaited kind.Request m.version call.slot)
     by_kind message.LocateReply = client_first interface kind.Locate m (client_hears.awaited kind.Locate m.version call.slot)
     by_kind message.Fragment = client_more interface m (client_hears.continued m.order (client_hears.gathered_call call.slot) call.pieces)
@@ -113,10 +113,10 @@ server_more : (interface : Interface) (m : Msg) (pieces : Option (CallKind × Li
 server_more interface m None = tt
 server_more interface m (Some pieces) = act_if is_of_server m.more _ _ tt tt
 
-server_comes : (interface : Interface) (m : Msg) (call : Call ServerEntry) → ActIsOf is_of_server (server_befalls interface m call)
+server_comes : (interface : Interface) (m : Msg) (call : Call ServerEntry) → ActIsOf is_of_server (server_act interface m call)
 server_comes interface m call = by_kind m.kind
   where
-    by_kind : (kind : Kind) → ActIsOf is_of_server (server_hears.befalls_by interface m call kind)
+    by_kind : (kind : Kind) → ActIsOf is_of_server (server_hears.act_by_kind interface m call kind)
     by_kind message.Request = server_first interface kind.Request m
     by_kind message.LocateRequest = server_first interface kind.Locate m
     by_kind message.CancelRequest = tt

@@ -148,7 +148,7 @@ module _ (interface : Interface) (lane : Lane) (id : ℕ) (m : Msg) (later : Lis
       by_step result memory hears =
           heard_so result
           (came (client_side interface) id m its.what its.brings h k
-          its.small (subst (λ (one : ClientStep). IsOk one.outcome) (sym same_step) ok_there) is.unbroken is.names its.befalls result memory hears)
+          its.small (subst (λ (one : ClientStep). IsOk one.outcome) (sym same_step) ok_there) is.unbroken is.names its.act_by result memory hears)
 
 pub client_hears_next : (interface : Interface) (lane : Lane) (id : ℕ) (m : Msg) (later : List Message)
     (h k : Held ClientRule ClientEntry) (result : Result (Unit {0}) SessionFault)

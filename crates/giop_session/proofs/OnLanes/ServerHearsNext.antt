@@ -127,7 +127,7 @@ module _ (interface : Interface) (lane : Lane) (id : ℕ) (m : Msg) (later : Lis
       (subst (λ entry. IsOk (server_step entry lane_event).outcome) (sym shows.entry) one.0) in
       heard_so its after so one.1 result
       (came (server_side interface) id m its.what its.brings h k its.small ok
-      is.unbroken is.names its.befalls result memory hears)
+      is.unbroken is.names its.act_by result memory hears)
 
 pub server_hears_next : (interface : Interface) (lane : Lane) (id : ℕ) (m : Msg) (later : List Message)
     (h k : Held ServerRule ServerEntry) (result : Result (Unit {0}) SessionFault)

@@ -14,7 +14,7 @@ use Rattle.giop_table.specs.CallTable.{Answers, Held, Hears, Nothing, event_repl
 use Rattle.giop_session.specs.Runs.Driven.{Closes, Deed, EndRuns, Feeds, InTurn, IsAct, IsDoneBy, IsGiven, IsGivenBy, NoneRefused, PutsOut, TakesAs, TakesOut, answer_of, taken_answer}
 use Rattle.giop_end.specs.Ends.Begun.{EndState}
 use Rattle.giop_session.specs.Runs.Events.{Accepts, Does as Happens}
-use Rattle.giop_end.specs.Hearing.Heard.{told_of, SideOf, rules_at}
+use Rattle.giop_end.specs.Hearing.Heard.{result_of, SideOf, rules_at}
 use Rattle.giop_session.specs.Runs.Inputs.{Does, Input, Reads, Takes}
 use Rattle.giop_end.specs.Acts.Putting.{Puts}
 
@@ -60,10 +60,10 @@ module _ {R E V A F : Type 0} (side : SideOf R E V A F) where
   abbrev TakesAll : Unread → Held R E → List (Input V) → Unread → Held R E → Type 0
   TakesAll = Takes side
 
-  -- what befell a call is accepted, where the end tells so
+  -- what acted on a call is accepted, where the end tells so
   told_accepted : (h k : Held R E) (id : ℕ) (planned : Planned V) (answered : Result (Sends A) (TableFault F))
       → DoesAct (rules_at side h.rule) h (record { id = id; what = Hears planned Nothing }) (event_reply answered) k
-      → Ok tt ≡ told_of (side.of_rule id) answered → AcceptsOne h id planned k
+      → Ok tt ≡ result_of (side.of_rule id) answered → AcceptsOne h id planned k
   told_accepted h k id planned (Ok sends) does told = (Answers sends, does)
   told_accepted h k id planned (Err why) does told = absurd cc
 
@@ -72,8 +72,8 @@ module _ {R E V A F : Type 0} (side : SideOf R E V A F) where
       → (planned : Planned V) × Plans planned × AcceptsOne h id planned k
   puts_accepted h k id refusal Plans out out' (inl wanting) = let wrong = wanting.0 in absurd cc
   puts_accepted h k id (Some why) Plans out out' (inr refused) = let wrong = refused.0 in absurd cc
-  puts_accepted h k id None Plans out out' (inr (planned, plans, befell)) =
-      (planned, plans, told_accepted h k id planned befell.answered befell.does befell.told)
+  puts_accepted h k id None Plans out out' (inr (planned, plans, on_call)) =
+      (planned, plans, told_accepted h k id planned on_call.answered on_call.does on_call.returned)
 
   -- an input that is done is taken as an act
   done_taken : (deed : Deed V F) (s t : EndState (Held R E)) (answered : Answered E)

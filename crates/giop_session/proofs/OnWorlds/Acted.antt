@@ -78,14 +78,14 @@ module _ {R E V A F : Type 0} (next : Option E → V → Step E A F) (closed gat
       → ((k ≡ h) × (out' ≡ out)) ⊎ Acted id refusal Plans h out k out'
   comes_to id refusal Plans h k out out' result (inl (wanting, calls, is)) = inl (calls, is)
   comes_to id (Some why) Plans h k out out' result (inr (told, calls, is)) = inl (calls, is)
-  comes_to id None Plans h k out out' (Err why) (inr (planned, plans, befell)) =
-      inl (refused next closed gathering of_rule id planned h out why k out' befell)
-  comes_to id None Plans h k out out' (Ok done) (inr (planned, plans, befell)) = inr (record {
+  comes_to id None Plans h k out out' (Err why) (inr (planned, plans, on_call)) =
+      inl (refused next closed gathering of_rule id planned h out why k out' on_call)
+  comes_to id None Plans h k out out' (Ok done) (inr (planned, plans, on_call)) = inr (record {
     planned = planned;
     unrefused = refl;
     plans = plans;
-    is = accepted next closed gathering of_rule id planned h out k out' befell;
-    beside = beside id planned h k befell.answered befell.does;
+    is = accepted next closed gathering of_rule id planned h out k out' on_call;
+    beside = beside id planned h k on_call.answered on_call.does;
   })
 
 -- what an end's program does leaves it as it was, or is an act that is accepted; so whatever holds of it as it was, and behind such an act, holds

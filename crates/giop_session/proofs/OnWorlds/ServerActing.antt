@@ -33,7 +33,7 @@ use Rattle.giop_table.specs.declared.plan.Planned.{Planned}
 use Rattle.giop_session.specs.Acts.Acting.{IsAccepted}
 use Rattle.giop_table.specs.CallTable.{Held, at, entry_at}
 use Rattle.giop_session.specs.Worlds.Coding.{coding}
-use Rattle.giop_end.specs.Hearing.Heard.{kept}
+use Rattle.giop_end.specs.Hearing.Heard.{silently}
 use Rattle.giop_session.specs.Worlds.LaneAtEnds.{seen}
 use Rattle.giop_session.specs.Worlds.OwnLane.{PlansLocated, PlansReply, sends_cut}
 use Rattle.giop_table.specs.Sending.{entry_of, message_of, slot_of, unsent_after, unsent_of}
@@ -107,7 +107,7 @@ record IsReplyTo (interface : Interface) (limits : Limits) (entry : Option Serve
   plans : IsAnswer interface (Some (Some q)) r form planned
 
 -- what is planned where none is asked is refused
-refused_so : (entry : Option ServerEntry) (event : ServerEvent) (planned : Planned ServerEvent) → planned ≡ kept event
+refused_so : (entry : Option ServerEntry) (event : ServerEvent) (planned : Planned ServerEvent) → planned ≡ silently event
     → IsOk (server_step entry planned.event).outcome → IsOk (server_step entry event).outcome
 refused_so entry event planned is ok = subst (λ one. IsOk (server_step entry one.event).outcome) is ok
 

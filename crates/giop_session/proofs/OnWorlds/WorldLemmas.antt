@@ -47,14 +47,14 @@ module _ {R E V A F : Type 0} (side : SideOf R E V A F) where
       → Puts rules side.of_rule id refusal Plans h out result k out' → Puts rules side.of_rule id refusal Plans h (d ++ out) result k (d ++ out')
   puts_behind rules id refusal Plans h k d out out' result (inl (wanting, calls, is)) = inl (wanting, calls, ap (λ l. d ++ l) is)
   puts_behind rules id (Some why) Plans h k d out out' result (inr (refused, calls, is)) = inr (refused, calls, ap (λ l. d ++ l) is)
-  puts_behind rules id None Plans h k d out out' result (inr (planned, plans, befell)) = inr (
+  puts_behind rules id None Plans h k d out out' result (inr (planned, plans, on_call)) = inr (
     planned,
     plans,
     record {
-      answered = befell.answered;
-      does = befell.does;
-      told = befell.told;
-      puts = ap (λ l. d ++ l) befell.puts ∙ sym (append_assoc d out (put_out befell.answered));
+      answered = on_call.answered;
+      does = on_call.does;
+      returned = on_call.returned;
+      puts = ap (λ l. d ++ l) on_call.puts ∙ sym (append_assoc d out (put_out on_call.answered));
     },
   )
 

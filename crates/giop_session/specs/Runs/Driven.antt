@@ -38,7 +38,7 @@ pub data Deed (V F : Type 0) : Type 1 where
   -- octets of the peer are fed
   Feeds : List ℕ → Deed V F
   -- its program does something to the call of an id: that is refused for this, or else an event
-  -- that is planned so befalls the call
+  -- that is planned so acts on the call
   PutsOut : ℕ → Option F → (Planned V → Type 0) → Deed V F
   -- its program takes the entry of an id out
   TakesOut : ℕ → Deed V F

@@ -59,10 +59,10 @@ module _ {R E V A F : Type 0} (side : SideOf R E V A F) where
   Meets h (e ∷ events) k = (mid : Held R E) × Accepts e h mid × Meets mid events k
 
 module _ {E V A F : Type 0} (turn : Call E → Act V → Turned E A F)
-    (befalls : Msg → Call E → Act V) where
+    (act_by : Msg → Call E → Act V) where
   -- what an event is to the call that it names
   abbrev pub what : Event V → Call E → Act V
-  what (Comes m) call = befalls m call
+  what (Comes m) call = act_by m call
   what (Does id act) call = act_of act
 
   -- one call meets these events, one after another; none is refused, and this is left of it
@@ -81,4 +81,4 @@ module _ {R E V A F : Type 0} (side : SideOf R E V A F) where
   -- each call follows its own events, one after another, and none of them is refused
   abbrev pub EachFollows : Held R E → List (Event V) → Held R E → Type 0
   EachFollows h events k = (id : ℕ)
-      → Follows (turn_at side h.rule) side.befalls (at h id) (own_events id events) (at k id)
+      → Follows (turn_at side h.rule) side.act_by (at h id) (own_events id events) (at k id)

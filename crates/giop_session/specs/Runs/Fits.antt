@@ -73,7 +73,7 @@ module _ {R E V A F I T M : Type 0} (run : RunOf R E V A F I T M) where
   -- comes, and acts
   abbrev pub history_of : ℕ → List (Event V) → List (Happening V)
   history_of id events =
-      history (turn_at run.side run.rule) run.side.befalls no_call (own_events id events)
+      history (turn_at run.side run.rule) run.side.act_by no_call (own_events id events)
 
   -- what is stored for an id is what was said of its calls; it is what the table's steps come to by
   -- their own messages and acts; and it is what stands by those of the latest call, without steps

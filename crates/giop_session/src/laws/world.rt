@@ -109,7 +109,7 @@ fn at_client(
     ensures { IfOk result (λ told. IsStep (λ interface client server w. AtClient interface client
         server w given told) world.old world.new) }
 {
-    Ok(told_of(world.client.take_input(given)?))
+    Ok(result_of(world.client.take_input(given)?))
 }
 
 // The server's program does something at its end.
@@ -120,7 +120,7 @@ fn at_server(
     ensures { IfOk result (λ told. IsStep (λ interface client server w. AtServer interface client
         server w given told) world.old world.new) }
 {
-    Ok(told_of(world.server.take_input(given)?))
+    Ok(result_of(world.server.take_input(given)?))
 }
 
 // Up to so many octets that the client put out arrive at the server's end.
@@ -132,7 +132,7 @@ fn to_server(world: &mut World<'_>, n: usize) -> Result<Result<(), SessionFault>
     let count = octets.len();
     let answered = feed_to(&mut world.server, octets)?;
     world.client.wrote(count);
-    Ok(told_of(answered))
+    Ok(result_of(answered))
 }
 
 // Up to so many octets that the server put out arrive at the client's end.
@@ -144,7 +144,7 @@ fn to_client(world: &mut World<'_>, n: usize) -> Result<Result<(), SessionFault>
     let count = octets.len();
     let answered = feed_to(&mut world.client, octets)?;
     world.server.wrote(count);
-    Ok(told_of(answered))
+    Ok(result_of(answered))
 }
 
 // Up to so many octets, the first of these.
@@ -157,7 +157,7 @@ fn front(octets: &[u8], n: usize) -> &[u8]
 }
 
 // Whether an end did what it was given, or why it refused.
-fn told_of<E: Drop>(answered: Answered<E>) -> Result<(), SessionFault>
+fn result_of<E: Drop>(answered: Answered<E>) -> Result<(), SessionFault>
     ensures { result ≡ returned_for answered }
 {
     match answered {

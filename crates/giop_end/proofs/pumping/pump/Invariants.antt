@@ -8,7 +8,7 @@ abbrev pub invariant-turns : goal.invariant-turns
 invariant-turns g l = record {
   so_far :
       SoFar (hears_by g.R.CallRule.next g.R.CallRule.closed g.R.Side.gathering g.R.Hearing.in_call g.R.Hearing.breaks
-      (g.R.Hearing.befalls l.fn.end.interface.now))
+      (g.R.Hearing.act_by l.fn.end.interface.now))
       l.done
       (between (g.I.Read.remaining l.fn.reader) (g.W.Write.contents l.fn.writer) l.fn.end.outgoing l.fn.end.framer l.fn.end.calls l.fn.end.fault)
       (between (g.I.Read.remaining l.reader) (g.W.Write.contents l.writer) l.end.outgoing l.end.framer l.end.calls l.end.fault);

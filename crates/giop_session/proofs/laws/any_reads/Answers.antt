@@ -4,5 +4,5 @@ use Rattle.giop_session.proofs.laws.any_reads.Goals as goal
 
 pub returns : goal.returns
 returns g c = λ interface unread left last h mid k more result first second.
-    fed_in_turn (hears_by g.R.CallRule.next g.R.CallRule.closed g.R.Side.gathering g.R.Hearing.in_call g.R.Hearing.breaks (g.R.Hearing.befalls interface))
+    fed_in_turn (hears_by g.R.CallRule.next g.R.CallRule.closed g.R.Side.gathering g.R.Hearing.in_call g.R.Hearing.breaks (g.R.Hearing.act_by interface))
     unread left last h mid k more result first second

@@ -13,7 +13,7 @@ ghost use Rattle.giop_session.specs.Worlds.LaneAtEnds.{gathers};
 ghost use Rattle.giop_session.specs.Items.ServerCarries.{asks};
 ghost use Rattle.giop_session.specs.Worlds.Reading.{IsContinuedBy, ServerHearsEvent, ClientHearsEvent, IsGathering};
 
-/// What befalls a call at a server's end is the event that its lane has of the message: of what
+/// What a message does to a call at a server's end is the event that its lane has of it: of what
 /// opens a call, of a Fragment in the byte order of what is gathered, and of a CancelRequest.
 pub fn servers_hear_the_lanes_event()
     ensures opens { (interface k m call pieces : _) → m.kind ≡ asks k

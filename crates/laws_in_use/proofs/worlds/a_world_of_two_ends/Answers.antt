@@ -17,7 +17,7 @@ returns-clause-refused c = λ given. unasked_told_by c.args.interface.now c.args
 pub returns-clause-asked : goal.returns-clause-asked
 returns-clause-asked c = λ forms given told.
     asked_stands_by c.args.interface.now
-    (λ planned k out befell. c.what_an_own_act_leaves.ensures.accepted in_call 9 planned (new_client limits) k [] out befell)
+    (λ planned k out on_call. c.what_an_own_act_leaves.ensures.accepted in_call 9 planned (new_client limits) k [] out on_call)
     c.one_split.ensures
     (λ k through. c.own_messages_alone.ensures c.args.interface.now (new_server limits) k (key_little ∷ []) 9 through)
     forms c.args.schedule.items _ _ c.in_ok-run_world.ensures.value given told

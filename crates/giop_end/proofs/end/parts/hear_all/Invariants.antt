@@ -5,7 +5,7 @@ use Rattle.giop_end.proofs.end.parts.hear_all.Given as goal
 
 abbrev pub invariant-loop-message : goal.invariant-loop-message
 invariant-loop-message g l =
-    SoFar (hears_by g.R.CallRule.next g.R.CallRule.closed g.R.Side.gathering g.R.Hearing.in_call g.R.Hearing.breaks (g.R.Hearing.befalls l.fn.interface))
+    SoFar (hears_by g.R.CallRule.next g.R.CallRule.closed g.R.Side.gathering g.R.Hearing.in_call g.R.Hearing.breaks (g.R.Hearing.act_by l.fn.interface))
     l.initial.framer l.initial.calls l.framer l.calls
 
 abbrev pub decreases-loop-message : goal.decreases-loop-message

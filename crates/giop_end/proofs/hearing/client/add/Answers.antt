@@ -6,7 +6,7 @@ use Rattle.giop_calls.specs.declared.client.event.ClientEvent.TheVariants as eve
 use Rattle.giop_calls.specs.ClientTable.{client_step, is_closed, is_gathering}
 use Rattle.giop_table.specs.CallTable.{Answers, Hears, More, answered, event_reply, rules_of}
 use Rattle.giop_end.specs.Hearing.ClientHears.{gathered_call}
-use Rattle.giop_end.specs.Hearing.Heard.{kept, silent}
+use Rattle.giop_end.specs.Hearing.Heard.{silently, silent}
 use Rattle.giop_table.specs.declared.table_fault.TableFault.{TableFault}
 use Rattle.giop_end.proofs.OnHearing.ClientLemmas.{continued_is, more_stays}
 use Rattle.giop_end.proofs.hearing.client.add.Goals as goal
@@ -14,7 +14,7 @@ use Rattle.giop_end.proofs.hearing.client.add.Goals as goal
 pub returns-in-Ok : goal.returns-in-Ok
 returns-in-Ok c =
     let h = c.args.calls.now in
-    let more = kept (event.More true) in
+    let more = silently (event.More true) in
     let is = continued_is c.args.message.now.order (gathered_call (finite.get h.table c.args.id)) (finite.get h.gathered c.args.id) c.requires in
     inr (
       Ok silent,
@@ -29,7 +29,7 @@ returns-in-Ok c =
 pub returns-in-Err : goal.returns-in-Err
 returns-in-Err c =
     let h = c.args.calls.now in
-    let more = kept (event.More true) in
+    let more = silently (event.More true) in
     let is = continued_is c.args.message.now.order (gathered_call (finite.get h.table c.args.id)) (finite.get h.gathered c.args.id) c.requires in
     inr (
       Err c.in-Err.fault,
@@ -38,5 +38,5 @@ returns-in-Err c =
           (subst (λ (r : Result (Unit {0}) (TableFault CallFault)). Does (rules_of client_step is_closed is_gathering) h
           (record { id = c.args.id; what = Hears more (More c.behind_id.result.now) }) (event_reply (answered silent r)) c.go_on.new.self) c.in-Err.is
           (c.go_on.ensures more silent (more_stays (finite.get h.table c.args.id) is.0 is.2))),
-      c.told.ensures,
+      c.result_of.ensures,
     )

@@ -4,7 +4,7 @@ use Rattle.giop_frag.specs.Gathered.{is_over}
 use Rattle.giop_calls.specs.declared.client.event.ClientEvent.TheVariants as event
 use Rattle.giop_calls.specs.ClientTable.{client_step, is_closed, is_gathering}
 use Rattle.giop_ids.specs.Runs.{Does}
-use Rattle.giop_end.specs.Hearing.Heard.{behind_id, kept}
+use Rattle.giop_end.specs.Hearing.Heard.{behind_id, silently}
 use Rattle.giop_table.specs.CallTable.{Answers, Hears, More, gathers, rules_of}
 use Rattle.giop_end.specs.Hearing.ClientHears.{gathered_call}
 use Rattle.giop_table.specs.Sending.{sending_step}
@@ -27,7 +27,7 @@ finish-requires-clause-accepted c =
     let is = continued_is m.order (gathered_call (finite.get h.table c.args.id)) (finite.get h.gathered c.args.id) c.requires in
     let settles = last_settles c.args.interface.now m.version m.order (is.1.octets ++ behind_id m) (finite.get h.table c.args.id) is.0 c.in-Some.reply is.2
     (c.in-Some.ensures is.0 is.1 is.2 is.3) in
-    subst (λ planned. IsOk (sending_step client_step (finite.get h.table c.args.id) planned).outcome) (sym c.kept-last.ensures) settles.0
+    subst (λ planned. IsOk (sending_step client_step (finite.get h.table c.args.id) planned).outcome) (sym c.silently-last.ensures) settles.0
 
 pub finish-requires-clause-ends : goal.finish-requires-clause-ends
 finish-requires-clause-ends c =
@@ -36,13 +36,14 @@ finish-requires-clause-ends c =
     let is = continued_is m.order (gathered_call (finite.get h.table c.args.id)) (finite.get h.gathered c.args.id) c.requires in
     let settles = last_settles c.args.interface.now m.version m.order (is.1.octets ++ behind_id m) (finite.get h.table c.args.id) is.0 c.in-Some.reply is.2
     (c.in-Some.ensures is.0 is.1 is.2 is.3) in
-    subst (λ planned. gathers is_gathering (sending_step client_step (finite.get h.table c.args.id) planned).entry ≡ false) (sym c.kept-last.ensures) settles.1
+    subst (λ planned. gathers is_gathering (sending_step client_step (finite.get h.table c.args.id) planned).entry ≡ false)
+    (sym c.silently-last.ensures) settles.1
 
 pub returns : goal.returns
 returns c call pieces gathered there =
     let h = c.args.calls.now in
     let m = c.args.message.now in
-    let planned = c.kept-last.ensures ∙ ap (λ reply. kept (event.Last true reply)) (c.in-Some.ensures call pieces gathered there) in
+    let planned = c.silently-last.ensures ∙ ap (λ reply. silently (event.Last true reply)) (c.in-Some.ensures call pieces gathered there) in
     let room = ap (λ octets. is_over h.room h.gathered (length octets)) (sym c.behind_id-octets.ensures)
     ∙ isnt_full _ (sym c.has_room.ensures.value ∙ c.if-not-has_room.false) in
     inr (

@@ -5,7 +5,7 @@ use Rattle.giop_calls.specs.declared.fault.CallFault.{CallFault}
 use Rattle.giop_calls.specs.declared.server.event.ServerEvent.TheVariants as event
 use Rattle.giop_calls.specs.ServerTable.{server_step, is_closed, is_gathering}
 use Rattle.giop_table.specs.CallTable.{Answers, Hears, More, answered, event_reply, rules_of}
-use Rattle.giop_end.specs.Hearing.Heard.{kept, silent}
+use Rattle.giop_end.specs.Hearing.Heard.{silently, silent}
 use Rattle.giop_table.specs.declared.table_fault.TableFault.{TableFault}
 use Rattle.giop_end.proofs.OnHearing.ServerLemmas.{more_stays}
 use Rattle.giop_end.proofs.hearing.server.add.Goals as goal
@@ -13,7 +13,7 @@ use Rattle.giop_end.proofs.hearing.server.add.Goals as goal
 pub returns-in-Ok : goal.returns-in-Ok
 returns-in-Ok c =
     let h = c.args.calls.now in
-    let more = kept (event.More true) in
+    let more = silently (event.More true) in
     inr (
       Ok silent,
       subst (λ (octets : List ℕ). Does (rules_of server_step is_closed is_gathering) h (record { id = c.args.id; what = Hears more (More octets) })
@@ -27,7 +27,7 @@ returns-in-Ok c =
 pub returns-in-Err : goal.returns-in-Err
 returns-in-Err c =
     let h = c.args.calls.now in
-    let more = kept (event.More true) in
+    let more = silently (event.More true) in
     inr (
       Err c.in-Err.fault,
       subst (λ (octets : List ℕ). Does (rules_of server_step is_closed is_gathering) h (record { id = c.args.id; what = Hears more (More octets) })
@@ -35,5 +35,5 @@ returns-in-Err c =
           (subst (λ (r : Result (Unit {0}) (TableFault CallFault)). Does (rules_of server_step is_closed is_gathering) h
           (record { id = c.args.id; what = Hears more (More c.behind_id.result.now) }) (event_reply (answered silent r)) c.go_on.new.self) c.in-Err.is
           (c.go_on.ensures more silent (more_stays (finite.get h.table c.args.id) c.args.kind c.requires.gathered))),
-      c.told.ensures,
+      c.result_of.ensures,
     )

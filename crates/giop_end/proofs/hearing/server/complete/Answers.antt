@@ -4,7 +4,7 @@ use Rattle.giop_calls.specs.ServerTable.{is_closed, is_gathering, server_step}
 use Rattle.giop_ids.specs.Runs.{Does}
 use Rattle.giop_table.specs.CallTable.{Answers, Hears, More, rules_of}
 use Rattle.giop_frag.specs.Gathered.{is_over}
-use Rattle.giop_end.specs.Hearing.Heard.{behind_id, kept}
+use Rattle.giop_end.specs.Hearing.Heard.{behind_id, silently}
 use Rattle.giop_end.specs.Hearing.Decoding.{heard_call}
 use Rattle.giop_end.proofs.OnHearing.ServerLemmas.{complete_refused, is_full, isnt_full}
 use Rattle.giop_end.proofs.hearing.server.complete.Goals as goal
@@ -22,7 +22,7 @@ pub returns : goal.returns
 returns c pieces is =
     let h = c.args.calls.now in
     let m = c.args.message.now in
-    let planned = c.kept-last.ensures ∙ ap (λ call. kept (event.Last true call)) (c.in-Some.ensures pieces is) in
+    let planned = c.silently-last.ensures ∙ ap (λ call. silently (event.Last true call)) (c.in-Some.ensures pieces is) in
     let room = ap (λ octets. is_over h.room h.gathered (length octets)) (sym c.behind_id-octets.ensures)
     ∙ isnt_full _ (sym c.has_room.ensures.value ∙ c.if-not-has_room.false) in
     inr (

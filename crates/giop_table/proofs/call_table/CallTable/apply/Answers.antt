@@ -6,7 +6,7 @@ use Rattle.giop_ids.proofs.Puts.{get-put_same}
 use Rattle.giop_table.specs.Sending.{sending_step}
 use Rattle.giop_table.specs.CallTable.{Held, gathers, rules_of, Hears, Nothing, Answers}
 use Rattle.giop_table.proofs.TableLemmas.{held, tied_after, as_many_blocks, kept, has_pieces, does_heard}
-use Rattle.giop_table.proofs.call_table.CallTable.hear.Goals as goal
+use Rattle.giop_table.proofs.call_table.CallTable.apply.Goals as goal
 
 pub invariant_of-self-2 : goal.invariant_of-self-2
 invariant_of-self-2 g c =
