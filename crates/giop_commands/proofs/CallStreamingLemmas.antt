@@ -9,10 +9,10 @@ use Rattle.giop_calls.specs.declared.client.rule.ClientRule.{ClientRule}
 use Rattle.giop_calls.specs.declared.fault.CallFault.{CallFault}
 use Rattle.giop_calls.specs.ClientTable.{is_closed}
 use Rattle.giop_types.specs.declared.json.interface.Interface.{Interface}
-use Rattle.giop_session.specs.declared.end.End.{End}
-use Rattle.giop_session.specs.declared.session_fault.SessionFault.{SessionFault}
-use Rattle.giop_session.specs.Calls.CallTable.{Held}
-use Rattle.giop_session.specs.Pumping.{Between, between}
+use Rattle.giop_end.specs.declared.end.End.{End}
+use Rattle.giop_end.specs.declared.session_fault.SessionFault.{SessionFault}
+use Rattle.giop_table.specs.CallTable.{Held}
+use Rattle.giop_end.specs.Pumping.{Between, between}
 use Rattle.giop_commands.specs.declared.call.calls.CallLine.{CallLine}
 use Rattle.giop_commands.specs.declared.failure.Failure.{Failure}
 use Rattle.giop_commands.specs.declared.form.LineForm.{LineForm}

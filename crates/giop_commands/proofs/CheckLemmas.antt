@@ -8,14 +8,14 @@ use Rattle.giop_msg.specs.Msg.{message_octets}
 use Rattle.giop_msg.specs.Stream.{TakesMessage, Unread, Waits}
 use Rattle.giop_msg.proofs.StreamLemmas.{fault_stands, length-message_octets}
 use Rattle.giop_types.specs.declared.json.interface.Interface.{Interface}
-use Rattle.giop_session.specs.declared.limits.Limits.{Limits}
-use Rattle.giop_session.specs.declared.session_fault.SessionFault.{SessionFault}
-use Rattle.giop_session.specs.Hearing.Feeding.{Fed, Stops, with_octets}
-use Rattle.giop_session.proofs.OnHearing.FeedingLemmas.{fed_in_turn}
+use Rattle.giop_end.specs.declared.limits.Limits.{Limits}
+use Rattle.giop_end.specs.declared.session_fault.SessionFault.{SessionFault}
+use Rattle.giop_end.specs.Hearing.Feeding.{Fed, Stops, with_octets}
+use Rattle.giop_end.proofs.OnHearing.FeedingLemmas.{fed_in_turn}
 use Rattle.giop_calls.specs.declared.server.entry.ServerEntry.{ServerEntry}
 use Rattle.giop_calls.specs.declared.server.rule.ServerRule.{ServerRule}
-use Rattle.giop_session.specs.Calls.Begun.{no_calls}
-use Rattle.giop_session.specs.Calls.CallTable.{Held}
+use Rattle.giop_end.specs.Ends.Begun.{no_calls}
+use Rattle.giop_table.specs.CallTable.{Held}
 use Rattle.giop_commands.specs.declared.failure.Failure.{Failure}
 use Rattle.giop_commands.specs.declared.status.Status.{Status}
 use Rattle.giop_commands.specs.declared.status.Status.TheVariants.{Done, Refused, LimitPassed, Usage, InputOutput, Memory}

@@ -9,12 +9,12 @@ use Rattle.giop_msg.specs.Stream.{Unread}
 use Rattle.giop_calls.specs.declared.client.entry.ClientEntry.{ClientEntry}
 use Rattle.giop_calls.specs.ClientTable.{is_closed}
 use Rattle.giop_types.specs.declared.json.interface.Interface.{Interface}
-use Rattle.giop_session.specs.declared.calls.slot.Slot.{Slot}
-use Rattle.giop_session.specs.declared.limits.Limits.{Limits}
-use Rattle.giop_session.specs.declared.session_fault.SessionFault.{SessionFault}
-use Rattle.giop_session.specs.Calls.Begun.{no_calls}
-use Rattle.giop_session.specs.Calls.Sending.{entry_of}
-use Rattle.giop_session.specs.Pumping.{Between, between}
+use Rattle.giop_table.specs.declared.slot.Slot.{Slot}
+use Rattle.giop_end.specs.declared.limits.Limits.{Limits}
+use Rattle.giop_end.specs.declared.session_fault.SessionFault.{SessionFault}
+use Rattle.giop_end.specs.Ends.Begun.{no_calls}
+use Rattle.giop_table.specs.Sending.{entry_of}
+use Rattle.giop_end.specs.Pumping.{Between, between}
 use Rattle.giop_lines.specs.SessionJson.{unsent_json}
 use Rattle.giop_lines.specs.TableLines.{unsent_line}
 use Rattle.giop_commands.specs.declared.call.calls.CallLine.{CallLine}

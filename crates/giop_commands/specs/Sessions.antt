@@ -10,10 +10,10 @@ use Rattle.giop_types.specs.declared.json.interface.Interface.{Interface}
 use Rattle.giop_calls.specs.declared.client.entry.ClientEntry.{ClientEntry}
 use Rattle.giop_calls.specs.declared.client.entry.ClientEntry.TheVariants.{Done as done, OnewaySent}
 use Rattle.giop_calls.specs.declared.server.entry.ServerEntry.{ServerEntry}
-use Rattle.giop_session.specs.declared.session_fault.SessionFault.{SessionFault}
-use Rattle.giop_session.specs.declared.calls.slot.Slot.{Slot}
-use Rattle.giop_session.specs.Pumping.{between}
-use Rattle.giop_session.specs.Calls.Sending.{entry_of}
+use Rattle.giop_end.specs.declared.session_fault.SessionFault.{SessionFault}
+use Rattle.giop_table.specs.declared.slot.Slot.{Slot}
+use Rattle.giop_end.specs.Pumping.{between}
+use Rattle.giop_table.specs.Sending.{entry_of}
 use Rattle.giop_lines.specs.SessionJson.{connection_json}
 use Rattle.giop_lines.specs.TableLines.{connection_line}
 use Rattle.giop_commands.specs.declared.serve.in_turn.AnswerName.{AnswerName}

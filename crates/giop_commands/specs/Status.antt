@@ -2,8 +2,8 @@
 use Rattle.std.specs.Prelude.{ℕ, List, codes, Result, Ok, Err}
 use Rattle.giop_msg.specs.declared.fault.WireKind.{WireKind}
 use Rattle.giop_msg.specs.declared.fault.WireKind.TheVariants.{TooLarge}
-use Rattle.giop_session.specs.declared.session_fault.SessionFault.{SessionFault}
-use Rattle.giop_session.specs.declared.session_fault.SessionFault.TheVariants.{Wire, TooManyCalls, GatherFull}
+use Rattle.giop_end.specs.declared.session_fault.SessionFault.{SessionFault}
+use Rattle.giop_end.specs.declared.session_fault.SessionFault.TheVariants.{Wire, TooManyCalls, GatherFull}
 use Rattle.giop_commands.specs.declared.status.Limit.{Limit}
 use Rattle.giop_commands.specs.declared.status.Limit.TheVariants.{Message, Calls, Gathered}
 use Rattle.giop_commands.specs.declared.status.Status.{Status}

@@ -6,8 +6,8 @@ use Rattle.giop_ids.specs.ById.{ById}
 use Rattle.giop_types.specs.declared.json.interface.Interface.{Interface}
 use Rattle.giop_calls.specs.declared.server.entry.ServerEntry.{ServerEntry}
 use Rattle.giop_calls.specs.declared.client.entry.ClientEntry.{ClientEntry}
-use Rattle.giop_session.specs.declared.calls.slot.Slot.{Slot}
-use Rattle.giop_session.specs.Calls.Sending.{entry_of}
+use Rattle.giop_table.specs.declared.slot.Slot.{Slot}
+use Rattle.giop_table.specs.Sending.{entry_of}
 use Rattle.giop_commands.specs.Bodies.{brought_text, ins_text}
 use Rattle.giop_commands.specs.declared.form.LineForm.{LineForm}
 use Rattle.giop_commands.specs.Dump.{ended}

@@ -2,7 +2,7 @@
 //! specs/Sessions.antt for what is printed: change both.
 ghost use Rattle.std.specs.Prelude.{◌≡◌, ◌++◌, IfOk, OnOk};
 ghost use Rattle.std.specs.Io.KnownBytes.{Appends};
-ghost use Rattle.giop_session.specs.Pumping.{between};
+ghost use Rattle.giop_end.specs.Pumping.{between};
 ghost use Rattle.giop_calls.specs.ServerTable.{is_closed};
 ghost use Rattle.giop_commands.specs.Acts.{outbox};
 ghost use Rattle.giop_commands.specs.Dump.{ended};
@@ -34,8 +34,8 @@ use crate::session::ending::{Ending, ending_of};
 use crate::session::sending::send_all;
 use crate::session::{TURNS, goes_on, told, told_of, write_session};
 use crate::status::Status;
+use giop_end::{ServerEnd, SessionFault};
 use giop_lines::{ConnectionJson, ConnectionLine};
-use giop_session::{ServerEnd, SessionFault};
 use giop_types::{Interface, NumberForm};
 use std::alloc::Global;
 use std::io::{Read, Write};

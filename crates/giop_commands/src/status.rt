@@ -2,8 +2,8 @@
 //! docs/giopctl.md and the help list them: change all of these.
 ghost use Rattle.std.specs.Prelude.{◌≡◌};
 
+use giop_end::SessionFault;
 use giop_msg::WireKind;
-use giop_session::SessionFault;
 use std::fmt;
 
 /// A limit of what is held, as an option gives it.

@@ -5,7 +5,7 @@ ghost use Rattle.std.specs.Prelude.{◌≡◌, ◌++◌, ◌∷◌, [], IfOk, On
 ghost use Rattle.std.specs.FinMap as finite;
 ghost use Rattle.std.specs.List.{flat_map, list_all};
 ghost use Rattle.std.specs.Io.KnownBytes.{Appends};
-ghost use Rattle.giop_session.specs.Pumping.{between};
+ghost use Rattle.giop_end.specs.Pumping.{between};
 ghost use Rattle.giop_commands.specs.CallStreaming.{stream_status};
 ghost use Rattle.giop_commands.specs.Calling.{asked_of};
 ghost use Rattle.giop_commands.specs.Following.{CallsAt, body_place, calls_of, entry_place, followed_text, forward_at, forwards_of, ids_of, is_one_of, latest, latest_at, latest_well};
@@ -22,8 +22,8 @@ use crate::session::target::{Endpoint, place_in};
 use crate::session::{told, write_fault};
 use crate::status::Status;
 use giop_calls::{ClientEntry, ClientRule};
+use giop_end::{ClientEnd, SessionFault};
 use giop_msg::ReplyBody;
-use giop_session::{ClientEnd, SessionFault};
 use giop_types::Interface;
 use std::alloc::{AllocError, Global};
 use std::io::{Read, Write};

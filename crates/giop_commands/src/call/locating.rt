@@ -3,7 +3,7 @@
 ghost use Rattle.std.specs.Prelude.{◌≡◌, [], IfOk, OnOk, option_copied};
 ghost use Rattle.std.specs.Io.KnownBytes.{Appends};
 ghost use Rattle.giop_calls.specs.ClientTable.{is_closed};
-ghost use Rattle.giop_session.specs.Acts.Form.{IsForm};
+ghost use Rattle.giop_end.specs.Acts.Form.{IsForm};
 ghost use Rattle.giop_commands.specs.Acts.{outbox};
 ghost use Rattle.giop_commands.specs.Calling.{asked_of};
 ghost use Rattle.giop_commands.specs.Endings.{Ends};
@@ -21,8 +21,8 @@ use crate::session::{told, told_of, write_session};
 use crate::status::Status;
 use giop_calls::ClientEntry;
 use giop_cdr::OctetList;
+use giop_end::{ClientEnd, SessionFault};
 use giop_msg::{LocateRequest, Target, Version};
-use giop_session::{ClientEnd, SessionFault};
 use giop_types::Interface;
 use std::alloc::{AllocError, Global};
 use std::io::{Read, Write};

@@ -11,7 +11,7 @@ use crate::failure::Failure;
 use crate::form::{LineForm, refuse_in};
 use crate::pieces::{PieceBuffer, drain};
 use crate::status::Status;
-use giop_session::Limits;
+use giop_end::Limits;
 use giop_types::Interface;
 use std::alloc::Global;
 use std::io::{Read, Write};

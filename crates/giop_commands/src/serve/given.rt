@@ -1,9 +1,9 @@
 //! What `serve` takes beside a connection.
-ghost use Rattle.giop_session.specs.Acts.Form.{IsForm};
+ghost use Rattle.giop_end.specs.Acts.Form.{IsForm};
 ghost use Rattle.giop_commands.specs.Check.{AreLimits};
 
 use crate::serve::answers::Answers;
-use giop_session::{Form, Limits};
+use giop_end::{Form, Limits};
 use giop_types::Interface;
 
 /// An object that is served.

@@ -6,8 +6,8 @@ ghost use Rattle.giop_commands.specs.Table.{table_text};
 
 use crate::failure::Failure;
 use crate::form::LineForm;
+use giop_end::{End, Hearing};
 use giop_mux::CallRule;
-use giop_session::{End, Hearing};
 use giop_types::Interface;
 use std::alloc::{AllocError, Global};
 use std::io::Write;

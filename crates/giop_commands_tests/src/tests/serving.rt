@@ -6,7 +6,7 @@ use giop_commands::serve::given::{Sending, ServedObject, Serving};
 use giop_commands::serve::in_turn::Passed;
 use giop_commands::serve_session;
 use giop_commands::status::Status;
-use giop_session::{Form, Limits};
+use giop_end::{Form, Limits};
 use giop_types::Interface;
 use std::alloc::Global;
 use std::io;

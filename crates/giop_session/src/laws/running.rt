@@ -4,10 +4,10 @@
 //! it keeps apart specs/Runs/Fits.antt.
 ghost use Rattle.std.specs.Prelude.{◌≡◌, ◌≢◌, ◌≤◌, ◌^◌, ◌↔◌, Err, IfOk, IsErr};
 ghost use Rattle.giop_session.specs.declared.laws.inputs.Answered.TheVariants.{Refused};
-ghost use Rattle.giop_session.specs.declared.session_fault.SessionFault.TheVariants.{NoMemory};
+ghost use Rattle.giop_end.specs.declared.session_fault.SessionFault.TheVariants.{NoMemory};
 ghost use Rattle.giop_session.specs.Acts.PutOut.{ArePutOut, is_of_client, is_of_server};
-ghost use Rattle.giop_session.specs.Ends.View.{IsDriven, state_of};
-ghost use Rattle.giop_session.specs.Hearing.Heard.{side_of};
+ghost use Rattle.giop_end.specs.Ends.View.{IsDriven, state_of};
+ghost use Rattle.giop_end.specs.Hearing.Heard.{side_of};
 ghost use Rattle.giop_session.specs.Runs.ClientRuns.{client_run};
 ghost use Rattle.giop_session.specs.Runs.Driven.{answer_of, Closes, Feeds, InTurn, IsGiven, TakesOut};
 ghost use Rattle.giop_session.specs.Runs.Fits.{KeepsCallsApart};
@@ -15,11 +15,8 @@ ghost use Rattle.giop_session.specs.Runs.ServerRuns.{server_run};
 ghost use Rattle.giop_session.specs.Runs.SideRuns.{SideRuns};
 
 use super::inputs::{Answered, ClientInput, ServerInput};
-use crate::end::{ClientEnd, End, ServerEnd};
-use crate::hearing::Hearing;
-use crate::limits::Limits;
-use crate::session_fault::SessionFault;
 use giop_calls::{ClientEntry, ClientRule, ServerEntry, ServerRule};
+use giop_end::{ClientEnd, End, Hearing, Limits, ServerEnd, SessionFault};
 use giop_types::Interface;
 use std::alloc::{AllocError, Global};
 

@@ -7,7 +7,7 @@ ghost use Rattle.giop_commands.specs.Check.{AreLimits};
 use crate::cli::number_words::{number_of, number_option, short_number_of};
 use clap::builder::ValueParser;
 use clap::{Arg, ArgMatches, Command};
-use giop_session::Limits;
+use giop_end::Limits;
 use std::alloc::{AllocError, Global};
 
 // The greatest limit of gathered octets that an end can be given.

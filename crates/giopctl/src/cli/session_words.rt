@@ -1,7 +1,7 @@
 //! The options of a session that several commands have: the object that is called, how messages are
 //! sent, and when calls are told. A change here is one in docs/giopctl.md and tests/program too.
 ghost use Rattle.std.specs.Prelude.{◌≤◌, IfOk, IfSome};
-ghost use Rattle.giop_session.specs.Acts.Form.{IsForm};
+ghost use Rattle.giop_end.specs.Acts.Form.{IsForm};
 
 use crate::cli::limit_words::with_limits;
 use crate::cli::number_words::{number_option, short_number_of};
@@ -9,7 +9,7 @@ use clap::builder::ValueParser;
 use clap::{Arg, ArgAction, ArgMatches, Command};
 use giop_cdr::Order;
 use giop_commands::serve::given::Telling;
-use giop_session::Form;
+use giop_end::Form;
 use std::alloc::{AllocError, Global};
 
 /// The option of the object that is called.

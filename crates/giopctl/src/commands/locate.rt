@@ -16,7 +16,7 @@ use giop_commands::call::locating::locate_over;
 use giop_commands::failure::Failure;
 use giop_commands::status::Status;
 use giop_commands::{Ending, Endpoint};
-use giop_session::Limits;
+use giop_end::Limits;
 use std::io;
 use std::io::{BufWriter, Write};
 

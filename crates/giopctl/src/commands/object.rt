@@ -6,7 +6,7 @@ use crate::cli::object_words::ObjectWords;
 use giop_cdr::Order;
 use giop_commands::failure::Failure;
 use giop_commands::{Calling, Endpoint};
-use giop_session::{Form, Limits};
+use giop_end::{Form, Limits};
 use giop_types::Interface;
 use std::alloc::Global;
 

@@ -15,7 +15,7 @@ use giop_commands::call::words::call_from_words;
 use giop_commands::failure::Failure;
 use giop_commands::status::Status;
 use giop_commands::{Ending, Endpoint, call_over};
-use giop_session::Limits;
+use giop_end::Limits;
 use std::io;
 use std::io::{BufWriter, Write};
 use std::time::Instant;

@@ -2,7 +2,7 @@
 //! is taken for the open calls and for what one read gave. Its meaning is specs/CallFeeding.antt:
 //! change both.
 ghost use Rattle.std.specs.Prelude.{◌≡◌, ◌&&◌, [], None, IfOk, OnOk};
-ghost use Rattle.giop_session.specs.Pumping.{between};
+ghost use Rattle.giop_end.specs.Pumping.{between};
 ghost use Rattle.giop_commands.specs.CallFeeding.{FedEnd, FedStreams, Feeds, fed};
 ghost use Rattle.giop_commands.specs.CallLines.{feed, so_far};
 ghost use Rattle.giop_commands.specs.Calling.{asked_of};
@@ -16,7 +16,7 @@ use crate::failure::Failure;
 use crate::form::LineForm;
 use crate::session::TURNS;
 use crate::session::ending::Ending;
-use giop_session::{ClientEnd, SessionFault};
+use giop_end::{ClientEnd, SessionFault};
 use giop_types::Interface;
 use std::alloc::Global;
 use std::io::{Read, Write};

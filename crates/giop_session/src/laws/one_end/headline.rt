@@ -11,7 +11,7 @@ ghost use Rattle.giop_session.specs.Runs.ServerRuns.{server_run};
 ghost use Rattle.giop_session.specs.Runs.SideRuns.{EntriesAre, SameEntries, SideTakesItems};
 ghost use Rattle.giop_session.specs.Runs.Events.{EachFollows, Meets};
 ghost use Rattle.giop_session.specs.Items.ServerCarries.{CarryCall, IsRequestIn, IsLocateRequestIn};
-ghost use Rattle.giop_session.specs.Hearing.Heard.{side_of};
+ghost use Rattle.giop_end.specs.Hearing.Heard.{side_of};
 
 use crate::Hearing;
 

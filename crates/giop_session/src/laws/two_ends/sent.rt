@@ -14,13 +14,13 @@ ghost use Rattle.giop_calls.specs.declared.client.event.ClientEvent.TheVariants 
 ghost use Rattle.giop_calls.specs.declared.client.heard.HeardReply.TheVariants as answer;
 ghost use Rattle.giop_calls.specs.declared.server.event.ServerEvent.TheVariants as at_server;
 ghost use Rattle.giop_calls.specs.declared.server.heard.HeardCall.TheVariants as call;
-ghost use Rattle.giop_session.specs.Acts.ClientCalls.{IsCancel};
+ghost use Rattle.giop_end.specs.Acts.ClientCalls.{IsCancel};
 ghost use Rattle.giop_session.specs.Items.ClientCarries.{CarryReply, AwaitsReply, AwaitsLocateReply};
 ghost use Rattle.giop_session.specs.Items.ServerCarries.{CarryCall};
 ghost use Rattle.giop_session.specs.Worlds.OnTheWay.{id_of, IsFramed, Names, OnTheWay};
 ghost use Rattle.giop_session.specs.Worlds.OwnLane.{SendsCall, SendsLocated, SendsReply, SaysWhether};
-ghost use Rattle.giop_session.specs.Acts.Sent.{sends_one};
-ghost use Rattle.giop_session.specs.Acts.ServerAnswers.{IsLocateAnswer};
+ghost use Rattle.giop_end.specs.Acts.Sent.{sends_one};
+ghost use Rattle.giop_end.specs.Acts.ServerAnswers.{IsLocateAnswer};
 
 use crate::laws::one_end::what_is_cut_is_carried;
 

@@ -17,7 +17,7 @@ use giop_commands::failure::Failure;
 use giop_commands::session::ending::ending_of;
 use giop_commands::session::told;
 use giop_commands::status::Status;
-use giop_session::{ClientEnd, SessionFault};
+use giop_end::{ClientEnd, SessionFault};
 use giop_types::Interface;
 use std::alloc::{AllocError, Global};
 use std::io;

@@ -1,5 +1,5 @@
 //! The words of `call`. A change here is one in docs/giopctl.md and tests/program too.
-ghost use Rattle.giop_session.specs.Acts.Form.{IsForm};
+ghost use Rattle.giop_end.specs.Acts.Form.{IsForm};
 ghost use Rattle.giop_commands.specs.Check.{AreLimits};
 
 use crate::cli::Task;
@@ -15,7 +15,7 @@ use crate::files::apart;
 use clap::{Arg, ArgMatches, Command};
 use giop_commands::LineForm;
 use giop_commands::serve::given::Telling;
-use giop_session::{Form, Limits};
+use giop_end::{Form, Limits};
 use std::alloc::{AllocError, Global};
 
 /// What `call` is asked for.

@@ -8,7 +8,7 @@ use crate::cli::limit_words::{limits_of, with_limits};
 use crate::commands::check::help::CHECK_HELP;
 use clap::{Arg, ArgAction, ArgMatches, Command};
 use giop_commands::LineForm;
-use giop_session::Limits;
+use giop_end::Limits;
 use std::alloc::{AllocError, Global};
 
 /// What `check` is asked for.

@@ -16,7 +16,7 @@ use giop_commands::failure::Failure;
 use giop_commands::session::write_session;
 use giop_commands::status::Status;
 use giop_commands::{Ending, Endpoint};
-use giop_session::{ClientEnd, Limits, SessionFault};
+use giop_end::{ClientEnd, Limits, SessionFault};
 use giop_types::Interface;
 use std::io;
 use std::io::{BufWriter, Write};

@@ -15,8 +15,8 @@ use giop_commands::failure::Failure;
 use giop_commands::serve::answers::{Answers, answers_from_json};
 use giop_commands::serve::given::Sending;
 use giop_commands::status::{Limit, Status};
+use giop_end::Limits;
 use giop_names::interface_id;
-use giop_session::Limits;
 use giop_types::{FormFault, Interface};
 use std::alloc::{AllocError, Global};
 

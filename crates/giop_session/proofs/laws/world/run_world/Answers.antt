@@ -1,7 +1,8 @@
 use Rattle.std.proofs.Common.{subst}
 use Rattle.giop_types.specs.declared.json.interface.Interface.{Interface}
-use Rattle.giop_session.specs.declared.limits.Limits.{Limits}
-use Rattle.giop_session.specs.Runs.Driven.{InTurn, end_state}
+use Rattle.giop_end.specs.declared.limits.Limits.{Limits}
+use Rattle.giop_session.specs.Runs.Driven.{InTurn}
+use Rattle.giop_end.specs.Ends.Begun.{end_state}
 use Rattle.giop_session.specs.Worlds.World.{GoesBy, Happens, WorldRuns, ends_of}
 use Rattle.giop_session.proofs.OnRuns.DrivenLemmas.{in_turn_seen}
 use Rattle.giop_session.proofs.OnWorlds.WorldLemmas.{ends_are_joined}
