@@ -1,6 +1,6 @@
 use Rattle.std.proofs.Common.{ap, ◌∙◌}
 use Rattle.giop_msg.specs.ReplyHead.{reply_head}
-use Rattle.giop_msg.proofs.reply_head_writing.ReplyHead.is_writable.Goals as goal
+use Rattle.giop_msg.proofs.reply_head_writing.ReplyHeadLaidOut.fits.Goals as goal
 
 pub returns : goal.returns
 returns c =
