@@ -1,6 +1,6 @@
 -- What both ends make of the pieces of a message (CORBA 3.3 Part 2, 9.4.9). Of a message that is
 -- gathered a side knows something: a server its kind, a client the call that it answers.
-use Rattle.std.specs.Prelude.{ℕ, if◌then◌else◌, List, ◌++◌, Option, Some, None}
+use Rattle.std.specs.Prelude.{◌≡◌, ℕ, if◌then◌else◌, List, ◌++◌, Option, Some, None}
 use Rattle.std.specs.FinMap as finite
 use Rattle.giop_cdr.specs.declared.order.Order.{Order}
 use Rattle.giop_types.specs.declared.json.interface.Interface.{Interface}
@@ -19,6 +19,10 @@ pub record PiecesOf (E V Known Whole : Type 0) : Type 0 where
   pub more : V
   pub last : Whole → V
   pub stray : Msg → Act V
+
+-- of the pieces that are gathered for an id this is said, if any are
+abbrev pub OfPieces : {R E : Type 0} → Held R E → ℕ → (Pieces → Type 0) → Type 0
+OfPieces h id Says = (pieces : Pieces) → finite.get h.gathered id ≡ Some pieces → Says pieces
 
 -- what is known of the message that is gathered under an id
 abbrev pub known_at : {E Known : Type 0} → (E → Option Known) → Option (Slot E) → Option Known
@@ -54,3 +58,7 @@ module _ {E V Known Whole : Type 0} (side : PiecesOf E V Known Whole) where
   continues interface m None = side.stray m
   continues interface m (Some pieces) =
       if m.more then goes_on m else completes interface pieces.0 m pieces.1
+
+  -- one comes for an id, where an end has these calls
+  abbrev pub continues_at : {R : Type 0} → Interface → Msg → Held R E → ℕ → Act V
+  continues_at interface m h id = continues interface m (continued_at h id m.order)

@@ -5,7 +5,7 @@ ghost use Rattle.std.specs.FinMap as finite;
 ghost use Rattle.giop_frag.specs.Gathered.{octets_in};
 ghost use Rattle.giop_msg.specs.RequestId.{request_id_of};
 ghost use Rattle.giop_end.specs.Hearing.ClientHears.{arrives, AtClient, awaited, awaited_in, begins, comes, gathered_in, reply_in, OfAwaited, OfGathered, client_pieces};
-ghost use Rattle.giop_end.specs.Hearing.Pieces.{completes, continued_at, continues, goes_on};
+ghost use Rattle.giop_end.specs.Hearing.Pieces.{completes, continued_at, continues_at, goes_on};
 ghost use Rattle.giop_end.specs.Hearing.Heard.{ActsOn, behind_id, named};
 
 use crate::hearing::Hearing;
@@ -180,9 +180,8 @@ fn go_on(
     message: &Msg,
 ) -> Result<(), SessionFault>
     requires { length message.now.payload ≤ 2 ^ 62 }
-    ensures { AtClient (named (request_id_of message.now) (λ id. continues client_pieces interface.now
-        message.now (continued_at client_pieces calls.old id message.now.order))) calls.old result
-        calls.new }
+    ensures { AtClient (named (request_id_of message.now) (continues_at client_pieces interface.now
+        message.now calls.old)) calls.old result calls.new }
 {
     let id = named(message)?;
     match (is_continued(calls, id, message.order), message.more) {
