@@ -6,10 +6,10 @@ pub mod interfaces;
 
 use crate::files::interface_text::InterfaceText;
 use crate::report;
-use giop_commands::BehindFault;
-use giop_commands::failure::Failure;
-use giop_commands::pieces::PieceBuffer;
-use giop_commands::status::Status;
+use giop_show::BehindFault;
+use giop_show::failure::Failure;
+use giop_show::pieces::PieceBuffer;
+use giop_show::status::Status;
 use std::alloc::{AllocError, Global};
 use std::io::Read;
 use std::{fs, io};

@@ -11,7 +11,7 @@ mod report;
 
 use cli::Task;
 use commands::{call, check, convert, dump, locate, ping, serve, trace};
-use giop_commands::status::Status;
+use giop_show::status::Status;
 use std::process::ExitCode;
 use std::{env, io};
 

@@ -3,7 +3,7 @@
 
 use clap::builder::ValueParser;
 use clap::{Arg, ArgAction, ArgMatches};
-use giop_commands::LineForm;
+use giop_show::LineForm;
 use giop_types::NumberForm;
 use std::alloc::Global;
 

@@ -4,7 +4,7 @@
 use crate::cli::form_words::{json_option, plain_lines_of};
 use crate::cli::session_words::{little_option, target_option, timeout_of, timeout_option};
 use clap::{ArgMatches, Command};
-use giop_commands::LineForm;
+use giop_show::LineForm;
 use std::alloc::{AllocError, Global};
 
 /// What `locate` and `ping` are asked for.

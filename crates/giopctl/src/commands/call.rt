@@ -20,10 +20,10 @@ use crate::files::interfaces::{NOTHING, Offered, interface_of_each, own_of, read
 use crate::report;
 use giop_commands::call::calls::CallLine;
 use giop_commands::call::streaming::call_stream;
-use giop_commands::failure::Failure;
 use giop_commands::serve::given::Telling;
-use giop_commands::status::Status;
 use giop_commands::{Calling, Ending, Endpoint, call_over};
+use giop_show::failure::Failure;
+use giop_show::status::Status;
 use giop_types::Interface;
 use std::io;
 use std::io::{BufWriter, Write};

@@ -13,10 +13,10 @@ use crate::connection::target::{endpoint_of, peer_of, target_text};
 use crate::files::OUTPUT_BUFFER;
 use crate::report;
 use giop_commands::call::locating::locate_over;
-use giop_commands::failure::Failure;
-use giop_commands::status::Status;
 use giop_commands::{Ending, Endpoint};
 use giop_end::Limits;
+use giop_show::failure::Failure;
+use giop_show::status::Status;
 use std::io;
 use std::io::{BufWriter, Write};
 

@@ -4,9 +4,9 @@ ghost use Rattle.giop_commands.specs.Check.{AreLimits};
 
 use crate::cli::object_words::ObjectWords;
 use giop_cdr::Order;
-use giop_commands::failure::Failure;
 use giop_commands::{Calling, Endpoint};
 use giop_end::{Form, Limits};
+use giop_show::failure::Failure;
 use giop_types::Interface;
 use std::alloc::Global;
 

@@ -9,9 +9,9 @@ use crate::files::OUTPUT_BUFFER;
 use crate::files::interfaces::{By, Joined, join_offers, read_each};
 use crate::report::texts;
 use crate::{files, report};
-use giop_commands::failure::Failure;
-use giop_commands::status::Status;
-use giop_commands::{Heard, trace_stream, trace_text};
+use giop_show::failure::Failure;
+use giop_show::status::Status;
+use giop_show::{Heard, trace_stream, trace_text};
 use std::io;
 use std::io::{BufWriter, Read, Write};
 

@@ -13,9 +13,9 @@ use crate::cli::session_words::{
 use crate::commands::call::help::CALL_HELP;
 use crate::files::apart;
 use clap::{Arg, ArgMatches, Command};
-use giop_commands::LineForm;
 use giop_commands::serve::given::Telling;
 use giop_end::{Form, Limits};
+use giop_show::LineForm;
 use std::alloc::{AllocError, Global};
 
 /// What `call` is asked for.

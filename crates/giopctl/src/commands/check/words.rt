@@ -7,8 +7,8 @@ use crate::cli::form_words::{json_numbers_option, json_option, lines_of};
 use crate::cli::limit_words::{limits_of, with_limits};
 use crate::commands::check::help::CHECK_HELP;
 use clap::{Arg, ArgAction, ArgMatches, Command};
-use giop_commands::LineForm;
 use giop_end::Limits;
+use giop_show::LineForm;
 use std::alloc::{AllocError, Global};
 
 /// What `check` is asked for.

@@ -9,7 +9,7 @@ use crate::commands::convert::help::{
 use crate::files::apart;
 use clap::{Arg, ArgAction, ArgMatches, Command};
 use giop_cdr::Order;
-use giop_commands::{LineForm, Way};
+use giop_show::{LineForm, Way};
 use std::alloc::{AllocError, Global};
 
 /// The kinds of `convert`.

@@ -9,7 +9,7 @@ use crate::cli::limit_words::{
 use crate::commands::dump::help::DUMP_HELP;
 use crate::files::apart;
 use clap::{Arg, ArgMatches, Command};
-use giop_commands::LineForm;
+use giop_show::LineForm;
 use std::alloc::{AllocError, Global};
 
 /// What `dump` is asked for.

@@ -2,9 +2,9 @@
 
 use crate::commands::serve::words::ServeWords;
 use crate::report;
-use giop_commands::failure::Failure;
 use giop_commands::serve::reference::reference_text;
-use giop_commands::status::Status;
+use giop_show::failure::Failure;
+use giop_show::status::Status;
 use std::net::{Ipv4Addr, TcpListener};
 use std::{fs, io};
 

@@ -11,12 +11,12 @@ use crate::files::read_or_report;
 use crate::report;
 use crate::report::refusals::{refuse_form, refuse_unsent};
 use crate::report::texts;
-use giop_commands::failure::Failure;
 use giop_commands::serve::answers::{Answers, answers_from_json};
 use giop_commands::serve::given::Sending;
-use giop_commands::status::{Limit, Status};
 use giop_end::Limits;
 use giop_names::interface_id;
+use giop_show::failure::Failure;
+use giop_show::status::{Limit, Status};
 use giop_types::{FormFault, Interface};
 use std::alloc::{AllocError, Global};
 

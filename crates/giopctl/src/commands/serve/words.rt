@@ -11,9 +11,9 @@ use crate::cli::session_words::{message_form_of, stream_option, telling_of, with
 use crate::commands::serve::help::SERVE_HELP;
 use clap::builder::ValueParser;
 use clap::{Arg, ArgGroup, ArgMatches, Command};
-use giop_commands::LineForm;
 use giop_commands::serve::given::{KeyWord, Telling};
 use giop_end::{Form, Limits};
+use giop_show::LineForm;
 use std::alloc::{AllocError, Global};
 
 /// What `serve` is asked for.

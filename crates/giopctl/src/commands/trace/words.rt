@@ -7,7 +7,7 @@ use crate::cli::limit_words::{message_limit_of, message_limit_option};
 use crate::commands::trace::help::TRACE_HELP;
 use crate::files::apart;
 use clap::{Arg, ArgMatches, Command};
-use giop_commands::LineForm;
+use giop_show::LineForm;
 use std::alloc::{AllocError, Global};
 
 /// What `trace` is asked for.
