@@ -17,18 +17,6 @@ use std::{fs, io};
 /// The size of the buffer that output is written through, in octets.
 pub const OUTPUT_BUFFER: usize = 65_536;
 
-/// Refuses two files that are both the standard input, which is read once. It says why.
-pub fn apart(one: &str, other: &str) -> Result<(), &'static str>
-    ensures ok { OnOk result (one.now ≡ codes "-" → other.now ≢ codes "-") }
-    ensures err { IfErr result (λ _. (one.now ≡ codes "-") × (other.now ≡ codes "-")) }
-{
-    if one == "-" && other == "-" {
-        Err("- is the standard input, and stands for one file alone")
-    } else {
-        Ok(())
-    }
-}
-
 /// The octets of a file, or of the standard input where it is `-`.
 pub(crate) fn read(rt: &HostRuntime, file: &str) -> Result<Vec<u8>, Failure> {
     if file != "-" {

@@ -2,10 +2,7 @@
 //! 9.4.5). What is sent and told is giop_commands' call/locating.rt.
 
 mod following;
-mod help;
-pub mod words;
 
-use crate::cli::object_words::ObjectWords;
 use crate::commands::locate::following::locate_and_follow;
 use crate::commands::object::{calling_at, object_interface};
 use crate::connection::connect;
@@ -17,6 +14,7 @@ use giop_commands::{Ending, Endpoint};
 use giop_end::Limits;
 use giop_show::failure::Failure;
 use giop_show::status::Status;
+use giop_words::ObjectWords;
 use std::io;
 use std::io::{BufWriter, Write};
 

@@ -2,10 +2,6 @@
 //! which a client asks whether an object is there (CORBA 3.3 Part 2, 9.4.2.1), and tells how long
 //! that took.
 
-mod help;
-pub mod words;
-
-use crate::cli::object_words::ObjectWords;
 use crate::commands::object::{NON_EXISTENT, calling_at, object_interface};
 use crate::connection::connect;
 use crate::connection::target::{endpoint_of, peer_of, target_text};
@@ -16,6 +12,7 @@ use giop_commands::{Ending, Endpoint, call_over};
 use giop_end::Limits;
 use giop_show::failure::Failure;
 use giop_show::status::Status;
+use giop_words::ObjectWords;
 use std::io;
 use std::io::{BufWriter, Write};
 use std::time::Instant;

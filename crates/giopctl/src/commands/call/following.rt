@@ -3,7 +3,6 @@
 ghost use Rattle.std.specs.Prelude.{◌≡◌};
 
 use crate::commands::call::asked::{Given, calls_given};
-use crate::commands::call::words::CallWords;
 use crate::commands::call::{Object, calling_of};
 use crate::connection::connect;
 use crate::connection::forwards::{MOST_FORWARDS, place_text};
@@ -19,6 +18,7 @@ use giop_end::{ClientEnd, SessionFault};
 use giop_show::failure::Failure;
 use giop_show::status::Status;
 use giop_types::Interface;
+use giop_words::CallWords;
 use std::alloc::{AllocError, Global};
 use std::io;
 use std::io::{BufWriter, Write};

@@ -1,7 +1,6 @@
 //! `call` of a call a line, which are read as they are called.
 
 use crate::commands::call::places::of_call;
-use crate::commands::call::words::CallWords;
 use crate::commands::call::{Object, calling_of};
 use crate::connection::connect;
 use crate::connection::target::peer_of;
@@ -15,6 +14,7 @@ use giop_commands::{Calling, Ending, Endpoint};
 use giop_show::failure::Failure;
 use giop_show::status::Status;
 use giop_types::FormFault;
+use giop_words::CallWords;
 use std::io;
 use std::io::{BufWriter, Cursor, Read, Write};
 

@@ -3,7 +3,6 @@
 ghost use Rattle.std.specs.Prelude.{◌≡◌};
 ghost use Rattle.giop_commands.specs.Check.{AreLimits};
 
-use crate::cli::object_words::ObjectWords;
 use crate::commands::object::{calling_at, object_interface};
 use crate::connection::connect;
 use crate::connection::forwards::{MOST_FORWARDS, place_text};
@@ -18,6 +17,7 @@ use giop_end::{ClientEnd, Limits, SessionFault};
 use giop_show::failure::Failure;
 use giop_show::status::Status;
 use giop_types::Interface;
+use giop_words::ObjectWords;
 use std::io;
 use std::io::{BufWriter, Write};
 

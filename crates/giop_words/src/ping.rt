@@ -1,8 +1,10 @@
 //! The words of `ping`. A change here is one in docs/giopctl.md and tests/program too.
 
-use crate::cli::Task;
-use crate::cli::object_words::{object_command, object_words};
-use crate::commands::ping::help::PING_HELP;
+mod help;
+
+use crate::object_words::{object_command, object_words};
+use crate::ping::help::PING_HELP;
+use crate::task::Task;
 use clap::{ArgMatches, Command};
 use std::alloc::{AllocError, Global};
 

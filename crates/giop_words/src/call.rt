@@ -1,19 +1,19 @@
 //! The words of `call`. A change here is one in docs/giopctl.md and tests/program too.
 ghost use Rattle.giop_end.specs.Acts.Form.{IsForm};
-ghost use Rattle.giop_commands.specs.Check.{AreLimits};
+ghost use Rattle.std.specs.Prelude.{◌≤◌, ◌^◌};
 
-use crate::cli::Task;
-use crate::cli::file_words::{FileWord, Files, apart_from, interface_option};
-use crate::cli::form_words::{json_numbers_option, json_option, lines_of};
-use crate::cli::limit_words::limits_of;
-use crate::cli::session_words::{
-    follow_option, message_form_of, stream_option, target_option, telling_of, timeout_of,
+mod help;
+
+use crate::call::help::CALL_HELP;
+use crate::file_words::{FileWord, Files, apart, apart_from, interface_option};
+use crate::form_words::{json_numbers_option, json_option, lines_of};
+use crate::limit_words::limits_of;
+use crate::session_words::{
+    Telling, follow_option, message_form_of, stream_option, target_option, telling_of, timeout_of,
     timeout_option, with_sending,
 };
-use crate::commands::call::help::CALL_HELP;
-use crate::files::apart;
+use crate::task::Task;
 use clap::{Arg, ArgMatches, Command};
-use giop_commands::serve::given::Telling;
 use giop_end::{Form, Limits};
 use giop_show::LineForm;
 use std::alloc::{AllocError, Global};
@@ -44,7 +44,7 @@ pub struct CallWords<'a> {
     /// What the end holds at most.
     pub limits: Limits,
     pub ghost sent: { IsForm form },
-    pub ghost bounded: { AreLimits limits },
+    pub ghost bounded: { limits.gathered ≤ 2 ^ 62 },
 }
 
 /// The command `call`.

@@ -2,9 +2,8 @@
 //! defaults are those of giop_session's `Limits`: change both. A change here is one in
 //! docs/giopctl.md and tests/program too.
 ghost use Rattle.std.specs.Prelude.{◌≤◌, ◌^◌, IfOk};
-ghost use Rattle.giop_commands.specs.Check.{AreLimits};
 
-use crate::cli::number_words::{number_of, number_option, short_number_of};
+use crate::number_words::{number_of, number_option, short_number_of};
 use clap::builder::ValueParser;
 use clap::{Arg, ArgMatches, Command};
 use giop_end::Limits;
@@ -81,7 +80,7 @@ fn calls_limit_of(matches: &ArgMatches) -> Result<u32, &'static str> {
 
 /// The limits of an end, or what is wrong with a word.
 pub fn limits_of(matches: &ArgMatches) -> Result<Limits, &'static str>
-    ensures { IfOk result (λ limits. AreLimits limits) }
+    ensures { IfOk result (λ limits. limits.gathered ≤ 2 ^ 62) }
 {
     let message = message_limit_of(matches)?;
     let calls = calls_limit_of(matches)?;

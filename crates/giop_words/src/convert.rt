@@ -1,12 +1,12 @@
 //! The words of `convert`, a command for each kind. A change here is one in docs/giopctl.md and
 //! tests/program too.
 
-use crate::cli::Task;
-use crate::cli::form_words::{json_numbers_option, json_option, numbers_of, plain_lines_of};
-use crate::commands::convert::help::{
-    CONVERT_HELP, CORBALOC_HELP, DECODE_HELP, ENCODE_HELP, IOR_HELP,
-};
-use crate::files::apart;
+mod help;
+
+use crate::convert::help::{CONVERT_HELP, CORBALOC_HELP, DECODE_HELP, ENCODE_HELP, IOR_HELP};
+use crate::file_words::apart;
+use crate::form_words::{json_numbers_option, json_option, numbers_of, plain_lines_of};
+use crate::task::Task;
 use clap::{Arg, ArgAction, ArgMatches, Command};
 use giop_cdr::Order;
 use giop_show::{LineForm, Way};

@@ -1,20 +1,30 @@
 //! The words of `serve`. A change here is one in docs/giopctl.md and tests/program too.
 ghost use Rattle.giop_end.specs.Acts.Form.{IsForm};
-ghost use Rattle.giop_commands.specs.Check.{AreLimits};
+ghost use Rattle.std.specs.Prelude.{◌≤◌, ◌^◌};
 
-use crate::cli::Task;
-use crate::cli::file_words::{FileWord, Files, answers_option, apart_from, interface_option};
-use crate::cli::form_words::{json_numbers_option, json_option, lines_of};
-use crate::cli::limit_words::limits_of;
-use crate::cli::number_words::{number_option, short_number_of};
-use crate::cli::session_words::{message_form_of, stream_option, telling_of, with_sending};
-use crate::commands::serve::help::SERVE_HELP;
+mod help;
+
+use crate::file_words::{FileWord, Files, answers_option, apart_from, interface_option};
+use crate::form_words::{json_numbers_option, json_option, lines_of};
+use crate::limit_words::limits_of;
+use crate::number_words::{number_option, short_number_of};
+use crate::serve::help::SERVE_HELP;
+use crate::session_words::{Telling, message_form_of, stream_option, telling_of, with_sending};
+use crate::task::Task;
 use clap::builder::ValueParser;
 use clap::{Arg, ArgGroup, ArgMatches, Command};
-use giop_commands::serve::given::{KeyWord, Telling};
 use giop_end::{Form, Limits};
 use giop_show::LineForm;
 use std::alloc::{AllocError, Global};
+
+/// An object key, as it stands on the command line.
+#[derive(Clone, Copy, Debug)]
+pub enum KeyWord<'a> {
+    /// Pairs of hexadecimal digits.
+    Hex(&'a str),
+    /// A text, whose octets are the key.
+    Text(&'a str),
+}
 
 /// What `serve` is asked for.
 #[derive(Debug, Drop)]
@@ -42,7 +52,7 @@ pub struct ServeWords<'a> {
     /// What the end of each connection holds at most.
     pub limits: Limits,
     pub ghost sent: { IsForm form },
-    pub ghost bounded: { AreLimits limits },
+    pub ghost bounded: { limits.gathered ≤ 2 ^ 62 },
 }
 
 /// The command `serve`.

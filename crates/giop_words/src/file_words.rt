@@ -1,7 +1,8 @@
 //! The words of files that objects may have of their own: --interface and --answers, as FILE or
 //! KEY=FILE. A change here is one in docs/giopctl.md and tests/program too.
 
-use crate::files::apart;
+ghost use Rattle.std.specs.Prelude.{◌≡◌, ◌≢◌, codes, IfErr, OnOk};
+
 use clap::{Arg, ArgAction, ArgMatches};
 use giop_ior::{CorbalocKind, corbaloc_from_text};
 use std::alloc::{AllocError, Global};
@@ -104,6 +105,18 @@ fn key_of(alloc: Global, text: &[u8]) -> Result<Option<Vec<u8>>, AllocError> {
         Ok(corbaloc) => Ok(Some(Vec::from_slice(alloc, corbaloc.key.as_slice())?)),
         Err(fault) if fault.kind == CorbalocKind::NoMemory => Err(AllocError),
         Err(_) => Ok(None),
+    }
+}
+
+/// Refuses two files that are both the standard input, which is read once. It says why.
+pub fn apart(one: &str, other: &str) -> Result<(), &'static str>
+    ensures ok { OnOk result (one.now ≡ codes "-" → other.now ≢ codes "-") }
+    ensures err { IfErr result (λ _. (one.now ≡ codes "-") × (other.now ≡ codes "-")) }
+{
+    if one == "-" && other == "-" {
+        Err("- is the standard input, and stands for one file alone")
+    } else {
+        Ok(())
     }
 }
 

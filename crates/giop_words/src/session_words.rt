@@ -3,14 +3,22 @@
 ghost use Rattle.std.specs.Prelude.{◌≤◌, IfOk, IfSome};
 ghost use Rattle.giop_end.specs.Acts.Form.{IsForm};
 
-use crate::cli::limit_words::with_limits;
-use crate::cli::number_words::{number_option, short_number_of};
+use crate::limit_words::with_limits;
+use crate::number_words::{number_option, short_number_of};
 use clap::builder::ValueParser;
 use clap::{Arg, ArgAction, ArgMatches, Command};
 use giop_cdr::Order;
-use giop_commands::serve::given::Telling;
 use giop_end::Form;
 use std::alloc::{AllocError, Global};
+
+/// When the calls of a connection are told.
+#[derive(Clone, Copy, Debug, PartialEq, Eq)]
+pub enum Telling {
+    /// All of them, when the connection has ended.
+    AtTheEnd,
+    /// Each when it is over.
+    WhenOver,
+}
 
 /// The option of the object that is called.
 pub(crate) fn target_option<'a>(alloc: Global) -> Arg<'a> {
@@ -47,7 +55,7 @@ pub(crate) fn stream_option<'a>(alloc: Global) -> Arg<'a> {
 }
 
 /// The option of the byte order of what is sent.
-pub(super) fn little_option<'a>(alloc: Global) -> Arg<'a> {
+pub(crate) fn little_option<'a>(alloc: Global) -> Arg<'a> {
     Arg::new(alloc, "little")
         .long("little")
         .action(ArgAction::SetTrue)

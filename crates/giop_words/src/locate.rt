@@ -1,9 +1,11 @@
 //! The words of `locate`. A change here is one in docs/giopctl.md and tests/program too.
 
-use crate::cli::Task;
-use crate::cli::object_words::{ObjectWords, object_command, object_words};
-use crate::cli::session_words::follow_option;
-use crate::commands::locate::help::LOCATE_HELP;
+mod help;
+
+use crate::locate::help::LOCATE_HELP;
+use crate::object_words::{ObjectWords, object_command, object_words};
+use crate::session_words::follow_option;
+use crate::task::Task;
 use clap::{ArgMatches, Command};
 use std::alloc::{AllocError, Global};
 

@@ -1,24 +1,15 @@
-//! The command line: what it asks for, and the commands with the options that several of them have
-//! below cli. The words and the help of a command are below its own folder. A change here is one in
-//! docs/giopctl.md and tests/program too.
+//! What the command line asks for. A change here is one in docs/giopctl.md and tests/program too.
 
-pub mod file_words;
-pub mod form_words;
-pub mod limit_words;
-pub mod number_words;
-pub mod object_words;
-pub mod session_words;
-
-use crate::cli::file_words::file_words;
-use crate::cli::object_words::ObjectWords;
-use crate::commands::call::words::{CallWords, call_command, call_task, values_of};
-use crate::commands::check::words::{CheckWords, check_command, check_task};
-use crate::commands::convert::words::{ConvertKind, convert_command, convert_task};
-use crate::commands::dump::words::{DumpWords, dump_command, dump_task};
-use crate::commands::locate::words::{locate_command, locate_task};
-use crate::commands::ping::words::{ping_command, ping_task};
-use crate::commands::serve::words::{ServeWords, serve_command, serve_task};
-use crate::commands::trace::words::{TraceWords, trace_command, trace_task};
+use crate::call::{CallWords, call_command, call_task, values_of};
+use crate::check::{CheckWords, check_command, check_task};
+use crate::convert::{ConvertKind, convert_command, convert_task};
+use crate::dump::{DumpWords, dump_command, dump_task};
+use crate::file_words::file_words;
+use crate::locate::{locate_command, locate_task};
+use crate::object_words::ObjectWords;
+use crate::ping::{ping_command, ping_task};
+use crate::serve::{ServeWords, serve_command, serve_task};
+use crate::trace::{TraceWords, trace_command, trace_task};
 use clap::error::ErrorKind;
 use clap::{Command, Error};
 use std::alloc::{AllocError, Global};
@@ -69,7 +60,7 @@ examples/calls.json
 
 /// What the words ask for, of which the first is the program's name. There is no task where they
 /// are refused or ask for help or the version: then the error has the text to print.
-pub(crate) fn task_of<'a>(alloc: Global, words: &'a [String]) -> Result<Option<Task<'a>>, Error> {
+pub fn task_of<'a>(alloc: Global, words: &'a [String]) -> Result<Option<Task<'a>>, Error> {
     let matches = giopctl(alloc)?.try_get_matches_from(words)?;
     if let Some(dump) = matches.subcommand_matches("dump") {
         return or_usage_error(alloc, dump_task(dump));

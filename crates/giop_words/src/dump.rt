@@ -1,13 +1,15 @@
 //! The words of `dump`. A change here is one in docs/giopctl.md and tests/program too.
 ghost use Rattle.std.specs.Prelude.{◌≤◌, ◌^◌};
 
-use crate::cli::Task;
-use crate::cli::form_words::{json_numbers_option, json_option, lines_of};
-use crate::cli::limit_words::{
+mod help;
+
+use crate::dump::help::DUMP_HELP;
+use crate::file_words::apart;
+use crate::form_words::{json_numbers_option, json_option, lines_of};
+use crate::limit_words::{
     gathered_limit_of, gathered_limit_option, message_limit_of, message_limit_option,
 };
-use crate::commands::dump::help::DUMP_HELP;
-use crate::files::apart;
+use crate::task::Task;
 use clap::{Arg, ArgMatches, Command};
 use giop_show::LineForm;
 use std::alloc::{AllocError, Global};

@@ -1,11 +1,12 @@
 //! The words of `trace`. A change here is one in docs/giopctl.md and tests/program too.
 
-use crate::cli::Task;
-use crate::cli::file_words::{FileWord, Files, apart_from, interface_option};
-use crate::cli::form_words::{json_numbers_option, json_option, lines_of};
-use crate::cli::limit_words::{message_limit_of, message_limit_option};
-use crate::commands::trace::help::TRACE_HELP;
-use crate::files::apart;
+mod help;
+
+use crate::file_words::{FileWord, Files, apart, apart_from, interface_option};
+use crate::form_words::{json_numbers_option, json_option, lines_of};
+use crate::limit_words::{message_limit_of, message_limit_option};
+use crate::task::Task;
+use crate::trace::help::TRACE_HELP;
 use clap::{Arg, ArgMatches, Command};
 use giop_show::LineForm;
 use std::alloc::{AllocError, Global};

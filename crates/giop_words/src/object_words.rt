@@ -1,8 +1,8 @@
 //! What `locate` and `ping` are asked for, and the options that both have. A change here is one in
 //! docs/giopctl.md and tests/program too.
 
-use crate::cli::form_words::{json_option, plain_lines_of};
-use crate::cli::session_words::{little_option, target_option, timeout_of, timeout_option};
+use crate::form_words::{json_option, plain_lines_of};
+use crate::session_words::{little_option, target_option, timeout_of, timeout_option};
 use clap::{ArgMatches, Command};
 use giop_show::LineForm;
 use std::alloc::{AllocError, Global};

@@ -10,7 +10,7 @@ pub(crate) fn number_option<'a>(alloc: Global, name: &'a str, help: &'a str) -> 
 
 /// The number of an option; `None` where its word is no decimal digits, or a number of 2^64 or
 /// more.
-pub(super) fn number_of(matches: &ArgMatches, name: &str) -> Option<u64> {
+pub(crate) fn number_of(matches: &ArgMatches, name: &str) -> Option<u64> {
     let text = matches.get_str(name)?;
     if text.as_bytes().iter().all(|octet| octet.is_ascii_digit()) {
         text.parse::<u64>().ok()

@@ -1,11 +1,13 @@
 //! The words of `check`. A change here is one in docs/giopctl.md and tests/program too.
-ghost use Rattle.giop_commands.specs.Check.{AreLimits};
+ghost use Rattle.std.specs.Prelude.{◌≤◌, ◌^◌};
 
-use crate::cli::Task;
-use crate::cli::file_words::{FileWord, Files, apart_from, interface_option};
-use crate::cli::form_words::{json_numbers_option, json_option, lines_of};
-use crate::cli::limit_words::{limits_of, with_limits};
-use crate::commands::check::help::CHECK_HELP;
+mod help;
+
+use crate::check::help::CHECK_HELP;
+use crate::file_words::{FileWord, Files, apart_from, interface_option};
+use crate::form_words::{json_numbers_option, json_option, lines_of};
+use crate::limit_words::{limits_of, with_limits};
+use crate::task::Task;
 use clap::{Arg, ArgAction, ArgMatches, Command};
 use giop_end::Limits;
 use giop_show::LineForm;
@@ -24,7 +26,7 @@ pub struct CheckWords<'a> {
     pub strict: bool,
     /// The form of its lines.
     pub form: LineForm,
-    pub ghost bounded: { AreLimits limits },
+    pub ghost bounded: { limits.gathered ≤ 2 ^ 62 },
 }
 
 /// The command `check`.
