@@ -3,4 +3,5 @@ pub mod ClientHears
 pub mod Decoding
 pub mod Feeding
 pub mod Heard
+pub mod Pieces
 pub mod ServerHears

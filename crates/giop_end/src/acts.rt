@@ -1,5 +1,5 @@
-//! What an end's own program does: the messages of a call or an answer, within the limits, and what is put
-//! out of them.
+//! What an end's own program does: the messages of a call or an answer, within the limits, and what
+//! is put out of them.
 
 pub mod answering;
 pub mod calling;

@@ -1,5 +1,5 @@
-//! The trait of a side that hears messages: `client` and `server` implement it, and `End::feed` uses it
-//! for either side.
+//! The trait of a side that hears messages: `client` and `server` implement it, and `End::feed` uses
+//! it for either side.
 ghost use Rattle.std.specs.Prelude.{◌≤◌, ◌^◌, length};
 ghost use Rattle.giop_end.specs.Hearing.Heard.{hears_in};
 

@@ -1,5 +1,5 @@
 //! Why an end fails, or refuses a call of its own program. The numbers are `session_fault_number`
-//! in specs/Calls/SessionFaults.antt, and docs/PROFILE.md lists them: change all three.
+//! in specs/Ends/SessionFaults.antt, and docs/PROFILE.md lists them: change all three.
 ghost use Rattle.std.specs.Prelude.{◌≡◌};
 
 use giop_calls::CallFault;

@@ -1,6 +1,6 @@
 //! The table of an end's calls: for each request id its entry, its messages that are still to be
 //! sent, and the pieces gathered for it (CORBA 3.3 Part 2, 9.4.9). What an act does to one call,
-//! and what the whole refuses, is `rules_of` in specs/Calls/CallTable.antt: change both.
+//! and what the whole refuses, is `rules_of` in specs/CallTable.antt: change both.
 ghost use Rattle.std.specs.Prelude.{if◌then◌else◌, ◌≡◌, ◌==◌, ◌&&◌, ◌≤◌, ◌^◌, ◌+◌, ◌/◌, not, is_some, true, false, Ok, None, length, is_none, IfNone, IfErr, IfOk, IfSome, IsOk, OnErr, IsSome, option_copied};
 ghost use Rattle.std.specs.FinMap as finite;
 ghost use Rattle.std.specs.Option.{option_map};

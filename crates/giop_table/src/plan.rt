@@ -1,5 +1,5 @@
 //! What an event does to the messages of its call that are not put out yet. Its meaning is
-//! `unsent_after` and `message_of` in specs/Calls/Sending.antt: change both.
+//! `unsent_after` and `message_of` in specs/Sending.antt: change both.
 ghost use Rattle.std.specs.Prelude.{◌≡◌};
 ghost use Rattle.std.specs.FinMap as finite;
 ghost use Rattle.std.specs.Option.{option_copied};

@@ -1,6 +1,6 @@
 //! The rule of a call's slot: the rule of its entry, and beside it what each event does to the
 //! messages of the call that are still to be sent. Its meaning is `sending_step` in
-//! specs/Calls/Sending.antt: change both.
+//! specs/Sending.antt: change both.
 ghost use Rattle.std.specs.Prelude.{◌≡◌, Option, Some};
 ghost use Rattle.giop_table.specs.Sending.{entry_of, message_of, sending_step, settled_by, slot_of, unsent_after, unsent_of};
 ghost use Rattle.giop_table.specs.declared.slot.Slot.{Slot};

@@ -23,7 +23,8 @@ use Rattle.giop_end.specs.declared.session_fault.SessionFault.TheVariants.{Gathe
 use Rattle.giop_table.specs.declared.slot.Slot.{Slot}
 use Rattle.giop_table.specs.declared.table_fault.TableFault.TheVariants as table
 use Rattle.giop_table.specs.CallTable.{Held, More, Hears, Stays, gathers, limit}
-use Rattle.giop_end.specs.Hearing.ClientHears.{AtClient, continued, continues, gathered_call, heard_located_by, heard_reply, heard_reply_by}
+use Rattle.giop_end.specs.Hearing.ClientHears.{AtClient, gathered_call, heard_located_by, heard_reply, heard_reply_by, client_pieces}
+use Rattle.giop_end.specs.Hearing.Pieces.{continued, continues}
 use Rattle.giop_end.specs.Hearing.Heard.{ActsOn, behind_id, silently, silent}
 use Rattle.giop_table.specs.Sending.{sending_step}
 use Rattle.giop_table.proofs.TableLemmas.{does_over}
@@ -120,6 +121,6 @@ module _ {R : Type 0} (h : Held R ClientEntry) (id : ℕ) (call : Asked) (octets
 
 -- a Fragment that continues pieces, and with which no more come, is the last of them
 pub continues_last : (interface : Interface) (m : Msg) (call : Asked) (octets : List ℕ) → m.more ≡ false
-    → continues interface m (Some (call, octets))
+    → continues client_pieces interface m (Some (call, octets))
     ≡ Hears (silently (event.Last true (heard_reply interface call m.version m.order (octets ++ behind_id m)))) (More (behind_id m))
 continues_last interface m call octets last = rw last refl

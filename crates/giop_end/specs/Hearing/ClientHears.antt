@@ -1,5 +1,5 @@
 -- What a message of the server does at a client (CORBA 3.3 Part 2, 9.4).
-use Rattle.std.specs.Prelude.{◌≡◌, ℕ, true, false, if◌then◌else◌, List, ◌++◌, Option, Some, None, Result, Ok, Err}
+use Rattle.std.specs.Prelude.{◌≡◌, ℕ, true, false, if◌then◌else◌, List, Option, Some, None, Result, Ok, Err}
 use Rattle.std.specs.FinMap as finite
 use Rattle.giop_cdr.specs.declared.order.Order.{Order}
 use Rattle.giop_cdr.specs.declared.fault.CdrFault.{CdrFault}
@@ -13,7 +13,7 @@ use Rattle.giop_msg.specs.declared.version.Version.{Version}
 use Rattle.giop_msg.specs.Joined.{joined_from}
 use Rattle.giop_msg.specs.Messages.LocateReply.{locate_reply}
 use Rattle.giop_msg.specs.Messages.Reply.{reply}
-use Rattle.giop_frag.specs.Gathered.{Pieces, same_order}
+use Rattle.giop_frag.specs.Gathered.{Pieces}
 use Rattle.giop_calls.specs.declared.client.call.Call.{Call as Asked}
 use Rattle.giop_calls.specs.declared.client.call.Call.TheVariants as asked
 use Rattle.giop_calls.specs.declared.client.entry.ClientEntry.{ClientEntry}
@@ -30,8 +30,9 @@ use Rattle.giop_calls.specs.ClientTable.{answers, client_step, is_closed, is_gat
 use Rattle.giop_end.specs.declared.session_fault.SessionFault.{SessionFault}
 use Rattle.giop_end.specs.declared.session_fault.SessionFault.TheVariants.{WrongDirection, PeerError, Closed}
 use Rattle.giop_table.specs.declared.slot.Slot.{Slot}
-use Rattle.giop_table.specs.CallTable.{Act, Call, Hears, First, More, Nothing, Held, rules_of}
-use Rattle.giop_end.specs.Hearing.Heard.{Effect, Heard, IsHeard, SideOf, effect_act, behind_id, breaks_of, in_call, silently}
+use Rattle.giop_table.specs.CallTable.{Act, Call, Hears, First, Nothing, Held, rules_of}
+use Rattle.giop_end.specs.Hearing.Heard.{Effect, Heard, IsHeard, SideOf, effect_act, breaks_of, in_call, silently}
+use Rattle.giop_end.specs.Hearing.Pieces.{PiecesOf, continued, continues, known_at}
 
 -- a Reply, by what reading it gives
 abbrev pub heard_reply_by : Result Reply CdrFault → HeardReply
@@ -89,8 +90,7 @@ gathered_in _ = None
 
 -- the call under an id whose reply is gathered
 abbrev pub gathered_call : Option (Slot ClientEntry) → Option Asked
-gathered_call None = None
-gathered_call (Some slot) = gathered_in slot.entry
+gathered_call = known_at gathered_in
 
 -- of a call that waits so under an id this is said, if one does
 abbrev pub OfAwaited : {R : Type 0} → CallKind → Version → Held R ClientEntry → ℕ
@@ -104,35 +104,16 @@ OfGathered h id Says = (call : Asked) (pieces : Pieces)
     → gathered_call (finite.get h.table id) ≡ Some call
     → finite.get h.gathered id ≡ Some pieces → Says call pieces
 
--- the pieces that a Fragment of this byte order continues, with the call that they answer
-abbrev pub continued : Order → Option Asked → Option Pieces → Option (Asked × List ℕ)
-continued order (Some call) (Some pieces) =
-    if same_order order pieces.order then Some (call, pieces.octets) else None
-continued order call pieces = None
-
--- those under an id
-abbrev pub continued_at : {R : Type 0} → Held R ClientEntry → ℕ → Order → Option (Asked × List ℕ)
-continued_at h id order =
-    continued order (gathered_call (finite.get h.table id)) (finite.get h.gathered id)
-
--- a piece comes that continues what is gathered, and more are to come
-abbrev pub goes_on : Msg → Act ClientEvent
-goes_on m = Hears (silently (event.More true)) (More (behind_id m))
-
--- the last one comes, behind these octets
-abbrev pub completes : Interface → Asked → Msg → List ℕ → Act ClientEvent
-completes interface call m octets =
-    Hears (silently (event.Last true (reply_in interface call m (octets ++ behind_id m))))
-    (More (behind_id m))
-
--- a Fragment comes, whose first four octets are its request id (9.4.9); it continues these pieces,
--- or none
-abbrev pub continues : Interface → Msg → Option (Asked × List ℕ) → Act ClientEvent
-continues interface m None =
-    if m.more then Hears (silently (event.More false)) Nothing
-    else Hears (silently (event.Last false heard.Unread)) Nothing
-continues interface m (Some pieces) =
-    if m.more then goes_on m else completes interface pieces.0 m pieces.1
+-- how a client joins the pieces of a Reply or a LocateReply
+abbrev pub client_pieces : PiecesOf ClientEntry ClientEvent Asked HeardReply
+client_pieces = record {
+  known = gathered_in;
+  whole = reply_in;
+  more = event.More true;
+  last = event.Last true;
+  stray = λ m. if m.more then Hears (silently (event.More false)) Nothing
+      else Hears (silently (event.Last false heard.Unread)) Nothing;
+}
 
 -- what a message of each type is to a client: a server sends it, and it is this act on its call;
 -- or it ends the session, since a server doesn't send it, or says so
@@ -142,7 +123,7 @@ effect_by message.Reply = Ok (λ interface m call.
 effect_by message.LocateReply = Ok (λ interface m call.
     comes interface kind.Locate m (awaited kind.Locate m.version call.slot))
 effect_by message.Fragment = Ok (λ interface m call.
-    continues interface m (continued m.order (gathered_call call.slot) call.pieces))
+    continues client_pieces interface m (continued m.order (gathered_call call.slot) call.pieces))
 effect_by message.Request = Err WrongDirection
 effect_by message.LocateRequest = Err WrongDirection
 effect_by message.CancelRequest = Err WrongDirection

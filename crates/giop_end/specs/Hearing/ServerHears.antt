@@ -1,12 +1,9 @@
 -- What a message of the client does at a server (CORBA 3.3 Part 2, 9.4).
-use Rattle.std.specs.Prelude.{ℕ, true, false, if◌then◌else◌, List, ◌++◌, Option, Some, None, Result, Ok, Err}
-use Rattle.std.specs.FinMap as finite
-use Rattle.giop_cdr.specs.declared.order.Order.{Order}
+use Rattle.std.specs.Prelude.{ℕ, true, false, if◌then◌else◌, List, Option, Some, None, Result, Ok, Err}
 use Rattle.giop_types.specs.declared.json.interface.Interface.{Interface}
 use Rattle.giop_msg.specs.declared.kind.Kind.{Kind}
 use Rattle.giop_msg.specs.declared.kind.Kind.TheVariants as message
 use Rattle.giop_msg.specs.declared.msg.Msg.{Msg}
-use Rattle.giop_frag.specs.Gathered.{Pieces, same_order}
 use Rattle.giop_calls.specs.declared.fault.CallFault.{CallFault}
 use Rattle.giop_calls.specs.declared.kind.CallKind.{CallKind}
 use Rattle.giop_calls.specs.declared.kind.CallKind.TheVariants as kind
@@ -20,9 +17,10 @@ use Rattle.giop_end.specs.declared.session_fault.SessionFault.{SessionFault}
 use Rattle.giop_end.specs.declared.session_fault.SessionFault.TheVariants.{WrongDirection, PeerError, Closed}
 use Rattle.giop_table.specs.declared.slot.Slot.{Slot}
 use Rattle.giop_calls.specs.ServerTable.{server_step, is_closed, is_gathering}
-use Rattle.giop_table.specs.CallTable.{Act, Call, Hears, First, More, Nothing, Held, rules_of}
+use Rattle.giop_table.specs.CallTable.{Act, Call, Hears, First, Nothing, Held, rules_of}
 use Rattle.giop_end.specs.Hearing.Decoding.{heard_call}
-use Rattle.giop_end.specs.Hearing.Heard.{Effect, Heard, IsHeard, SideOf, effect_act, behind_id, breaks_of, in_call, silently}
+use Rattle.giop_end.specs.Hearing.Heard.{Effect, Heard, IsHeard, SideOf, effect_act, breaks_of, in_call, silently}
+use Rattle.giop_end.specs.Hearing.Pieces.{PiecesOf, continued, continues, known_at}
 
 -- what joined octets come to, at the message that brings the last of them
 abbrev pub call_in : Interface → CallKind → Msg → List ℕ → HeardCall
@@ -48,37 +46,17 @@ kind_in _ = None
 
 -- under an id
 abbrev pub gathered_kind : Option (Slot ServerEntry) → Option CallKind
-gathered_kind None = None
-gathered_kind (Some slot) = kind_in slot.entry
+gathered_kind = known_at kind_in
 
--- the pieces that a Fragment of this byte order continues, with the kind of their message
-abbrev pub continued : Order → Option CallKind → Option Pieces → Option (CallKind × List ℕ)
-continued order (Some kind) (Some pieces) =
-    if same_order order pieces.order then Some (kind, pieces.octets) else None
-continued order kind pieces = None
-
--- those under an id
-abbrev pub continued_at : {R : Type 0} → Held R ServerEntry → ℕ → Order
-    → Option (CallKind × List ℕ)
-continued_at h id order =
-    continued order (gathered_kind (finite.get h.table id)) (finite.get h.gathered id)
-
--- a piece comes that continues what is gathered, and more are to come
-abbrev pub goes_on : Msg → Act ServerEvent
-goes_on m = Hears (silently (event.More true)) (More (behind_id m))
-
--- the last one comes, behind these octets
-abbrev pub completes : Interface → CallKind → Msg → List ℕ → Act ServerEvent
-completes interface kind m octets =
-    Hears (silently (event.Last true (call_in interface kind m (octets ++ behind_id m))))
-    (More (behind_id m))
-
--- a Fragment comes, whose first four octets are its request id (9.4.9); it continues these pieces,
--- or none
-abbrev pub continues : Interface → Msg → Option (CallKind × List ℕ) → Act ServerEvent
-continues interface m None = Hears (silently (event.More false)) Nothing
-continues interface m (Some pieces) =
-    if m.more then goes_on m else completes interface pieces.0 m pieces.1
+-- how a server joins the pieces of a Request or a LocateRequest
+abbrev pub server_pieces : PiecesOf ServerEntry ServerEvent CallKind HeardCall
+server_pieces = record {
+  known = kind_in;
+  whole = call_in;
+  more = event.More true;
+  last = event.Last true;
+  stray = λ m. Hears (silently (event.More false)) Nothing;
+}
 
 -- what a message of each type is to a server: a client sends it, and it is this act on its call;
 -- or it ends the session, since a client doesn't send it, or says so
@@ -87,7 +65,7 @@ effect_by message.Request = Ok (λ interface m call. comes interface kind.Reques
 effect_by message.LocateRequest = Ok (λ interface m call. comes interface kind.Locate m)
 effect_by message.CancelRequest = Ok (λ interface m call. Hears (silently event.Cancel) Nothing)
 effect_by message.Fragment = Ok (λ interface m call.
-    continues interface m (continued m.order (gathered_kind call.slot) call.pieces))
+    continues server_pieces interface m (continued m.order (gathered_kind call.slot) call.pieces))
 effect_by message.Reply = Err WrongDirection
 effect_by message.LocateReply = Err WrongDirection
 effect_by message.CloseConnection = Err Closed

@@ -1,6 +1,6 @@
 //! What the calls of an end's own program have in common at a client and at a server: joined octets
 //! are cut into messages, and what the table of calls answered becomes what the end returns. Why a
-//! call is refused is specs/Calls/Refused.antt.
+//! call is refused is specs/Acts/Refused.antt.
 ghost use Rattle.std.specs.Prelude.{◌≡◌, ◌⊎◌, ◌<◌, ◌^◌, true, length, IfErr, IfNone, IfOk, IfSome, IsErrOf, IsOk, Err};
 ghost use Rattle.giop_msg.specs.Cut.{IsCut, is_continued};
 ghost use Rattle.giop_calls.specs.declared.fault.CallFault.TheVariants.{Unfit};

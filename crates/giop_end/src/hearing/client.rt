@@ -4,7 +4,8 @@ ghost use Rattle.std.specs.Prelude.{◌≡◌, ◌≤◌, ◌^◌, ◌+◌, ◌+
 ghost use Rattle.std.specs.FinMap as finite;
 ghost use Rattle.giop_frag.specs.Gathered.{octets_in};
 ghost use Rattle.giop_msg.specs.RequestId.{request_id_of};
-ghost use Rattle.giop_end.specs.Hearing.ClientHears.{arrives, AtClient, awaited, awaited_in, begins, comes, completes, continued_at, continues, gathered_in, goes_on, reply_in, OfAwaited, OfGathered};
+ghost use Rattle.giop_end.specs.Hearing.ClientHears.{arrives, AtClient, awaited, awaited_in, begins, comes, gathered_in, reply_in, OfAwaited, OfGathered, client_pieces};
+ghost use Rattle.giop_end.specs.Hearing.Pieces.{completes, continued_at, continues_at, goes_on};
 ghost use Rattle.giop_end.specs.Hearing.Heard.{ActsOn, behind_id, named};
 
 use crate::hearing::Hearing;
@@ -179,8 +180,8 @@ fn go_on(
     message: &Msg,
 ) -> Result<(), SessionFault>
     requires { length message.now.payload ≤ 2 ^ 62 }
-    ensures { AtClient (named (request_id_of message.now) (λ id. continues interface.now message.now
-        (continued_at calls.old id message.now.order))) calls.old result calls.new }
+    ensures { AtClient (named (request_id_of message.now) (continues_at client_pieces interface.now
+        message.now calls.old)) calls.old result calls.new }
 {
     let id = named(message)?;
     match (is_continued(calls, id, message.order), message.more) {
@@ -202,7 +203,7 @@ fn go_on(
 
 // Whether pieces of this byte order continue what is gathered for the id.
 fn is_continued(calls: &Calls, id: u32, order: Order) -> bool
-    ensures { result ≡ is_some (continued_at calls.now id order) }
+    ensures { result ≡ is_some (continued_at client_pieces calls.now id order) }
 {
     let (Some(slot), Some((held, _))) = (calls.slot(id), calls.pieces(id)) else {
         return false;
@@ -212,8 +213,8 @@ fn is_continued(calls: &Calls, id: u32, order: Order) -> bool
 
 // A Fragment comes that continues what is gathered, with more to come.
 fn add(calls: &mut Calls, id: u32, message: &Msg) -> Result<(), SessionFault>
-    requires { is_some (continued_at calls.old id message.now.order) ≡ true }
-    ensures { AtClient (ActsOn id (goes_on message.now)) calls.old result calls.new }
+    requires { is_some (continued_at client_pieces calls.old id message.now.order) ≡ true }
+    ensures { AtClient (ActsOn id (goes_on client_pieces message.now)) calls.old result calls.new }
 {
     match calls.go_on(id, message.order, behind_id(message)) {
         Ok(()) => Ok(()),
@@ -229,9 +230,9 @@ fn complete(
     id: u32,
     message: &Msg,
 ) -> Result<(), SessionFault>
-    requires { is_some (continued_at calls.old id message.now.order) ≡ true }
+    requires { is_some (continued_at client_pieces calls.old id message.now.order) ≡ true }
     ensures { OfGathered calls.old id (λ call pieces. AtClient
-        (ActsOn id (completes interface.now call message.now pieces.octets))
+        (ActsOn id (completes client_pieces interface.now call message.now pieces.octets))
         calls.old result calls.new) }
 {
     let octets = behind_id(message);

@@ -8,7 +8,8 @@ ghost use Rattle.giop_calls.specs.declared.server.event.ServerEvent.TheVariants 
 ghost use Rattle.giop_calls.specs.ServerTable.{is_free};
 ghost use Rattle.giop_table.specs.CallTable.{entry_at, Hears, Nothing};
 ghost use Rattle.giop_end.specs.Hearing.Heard.{ActsOn, behind_id, silently, named};
-ghost use Rattle.giop_end.specs.Hearing.ServerHears.{arrives, AtServer, begins, call_in, comes, completes, continued_at, continues, gathered_kind, goes_on, kind_in};
+ghost use Rattle.giop_end.specs.Hearing.ServerHears.{arrives, AtServer, begins, call_in, comes, gathered_kind, kind_in, server_pieces};
+ghost use Rattle.giop_end.specs.Hearing.Pieces.{OfPieces, completes, continued_at, continues_at, goes_on};
 
 use crate::hearing::Hearing;
 use crate::hearing::decoding::heard_call;
@@ -132,8 +133,8 @@ fn go_on(
     message: &Msg,
 ) -> Result<(), SessionFault>
     requires { length message.now.payload ≤ 2 ^ 62 }
-    ensures { AtServer (named (request_id_of message.now) (λ id. continues interface.now message.now
-        (continued_at calls.old id message.now.order))) calls.old result calls.new }
+    ensures { AtServer (named (request_id_of message.now) (continues_at server_pieces interface.now
+        message.now calls.old)) calls.old result calls.new }
 {
     let id = named(message)?;
     let Some(kind) = continued(calls, id, message.order) else {
@@ -154,7 +155,7 @@ fn continued(calls: &Calls, id: u32, order: Order) -> Option<CallKind>
     ensures some { IfSome result (λ kind.
         (gathered_kind (finite.get calls.now.table id) ≡ Some kind)
         × (order_fault (finite.get calls.now.gathered id) order ≡ None)) }
-    ensures none { IfNone result (continued_at calls.now id order ≡ None) }
+    ensures none { IfNone result (continued_at server_pieces calls.now id order ≡ None) }
 {
     let kind = gathered_kind(&calls.slot(id)?.entry)?;
     let (held, _) = calls.pieces(id)?;
@@ -174,7 +175,7 @@ fn gathered_kind(entry: &ServerEntry) -> Option<CallKind>
 fn add(calls: &mut Calls, id: u32, kind: CallKind, message: &Msg) -> Result<(), SessionFault>
     requires gathered { gathered_kind (finite.get calls.old.table id) ≡ Some kind }
     requires in_order { order_fault (finite.get calls.old.gathered id) message.now.order ≡ None }
-    ensures { AtServer (ActsOn id (goes_on message.now)) calls.old result calls.new }
+    ensures { AtServer (ActsOn id (goes_on server_pieces message.now)) calls.old result calls.new }
 {
     match calls.go_on(id, message.order, behind_id(message)) {
         Ok(()) => Ok(()),
@@ -192,8 +193,9 @@ fn complete(
     message: &Msg,
 ) -> Result<(), SessionFault>
     requires gathered { gathered_kind (finite.get calls.old.table id) ≡ Some kind }
-    ensures { (pieces : _) → finite.get calls.old.gathered id ≡ Some pieces → AtServer (ActsOn id
-        (completes interface.now kind message.now pieces.octets)) calls.old result calls.new }
+    ensures { OfPieces calls.old id (λ pieces. AtServer
+        (ActsOn id (completes server_pieces interface.now kind message.now pieces.octets))
+        calls.old result calls.new) }
 {
     let octets = behind_id(message);
     if !calls.has_room(octets.len()) {
@@ -222,8 +224,8 @@ fn joined_call(
 ) -> Option<HeardCall>
     requires { octets_in (finite.get calls.now.gathered id)
         + length (behind_id message.now) ≤ 2 ^ 62 }
-    ensures { IfSome result (λ call. (pieces : _) → finite.get calls.now.gathered id ≡ Some pieces
-        → call ≡ call_in interface.now kind message.now (pieces.octets ++ behind_id message.now)) }
+    ensures { IfSome result (λ call. OfPieces calls.now id (λ pieces.
+        call ≡ call_in interface.now kind message.now (pieces.octets ++ behind_id message.now))) }
 {
     let (_, gathered) = calls.pieces(id)?;
     let joined = WithLast::new(&gathered, behind_id(message));

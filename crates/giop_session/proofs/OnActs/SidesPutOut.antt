@@ -31,6 +31,7 @@ use Rattle.giop_table.specs.declared.plan.Planned.{Planned}
 use Rattle.giop_table.specs.CallTable.{Act, Call, Held, entry_at}
 use Rattle.giop_end.specs.Acts.ClientCalls.{IsCancel, open_version}
 use Rattle.giop_end.specs.Hearing.ClientHears as client_hears
+use Rattle.giop_end.specs.Hearing.Pieces as joining
 use Rattle.giop_end.specs.Hearing.ClientHears.{client_act, client_side}
 use Rattle.giop_session.specs.Runs.ClientRuns.{client_deed, client_run}
 use Rattle.giop_session.specs.Runs.ServerRuns.{server_deed, server_run}
@@ -64,7 +65,7 @@ client_first interface kind m None = act_if is_of_client m.more _ _ tt tt
 client_first interface kind m (Some call) = act_if is_of_client m.more _ _ tt tt
 
 client_more : (interface : Interface) (m : Msg) (pieces : Option (Asked × List ℕ))
-    → ActIsOf is_of_client (client_hears.continues interface m pieces)
+    → ActIsOf is_of_client (joining.continues client_hears.client_pieces interface m pieces)
 client_more interface m None = act_if is_of_client m.more _ _ tt tt
 client_more interface m (Some pieces) = act_if is_of_client m.more _ _ tt tt
 
@@ -74,7 +75,7 @@ client_comes interface m call = by_kind m.kind
     by_kind : (kind : Kind) → ActIsOf is_of_client (client_hears.act_by_kind interface m call kind)
     by_kind message.Reply = client_first interface kind.Request m (client_hears.awaited kind.Request m.version call.slot)
     by_kind message.LocateReply = client_first interface kind.Locate m (client_hears.awaited kind.Locate m.version call.slot)
-    by_kind message.Fragment = client_more interface m (client_hears.continued m.order (client_hears.gathered_call call.slot) call.pieces)
+    by_kind message.Fragment = client_more interface m (joining.continued m.order (client_hears.gathered_call call.slot) call.pieces)
     by_kind message.Request = tt
     by_kind message.LocateRequest = tt
     by_kind message.CancelRequest = tt
@@ -109,7 +110,7 @@ server_first : (interface : Interface) (kind : CallKind) (m : Msg) → ActIsOf i
 server_first interface kind m = act_if is_of_server m.more _ _ tt tt
 
 server_more : (interface : Interface) (m : Msg) (pieces : Option (CallKind × List ℕ))
-    → ActIsOf is_of_server (server_hears.continues interface m pieces)
+    → ActIsOf is_of_server (joining.continues server_hears.server_pieces interface m pieces)
 server_more interface m None = tt
 server_more interface m (Some pieces) = act_if is_of_server m.more _ _ tt tt
 
@@ -120,7 +121,7 @@ server_comes interface m call = by_kind m.kind
     by_kind message.Request = server_first interface kind.Request m
     by_kind message.LocateRequest = server_first interface kind.Locate m
     by_kind message.CancelRequest = tt
-    by_kind message.Fragment = server_more interface m (server_hears.continued m.order (server_hears.gathered_kind call.slot) call.pieces)
+    by_kind message.Fragment = server_more interface m (joining.continued m.order (server_hears.gathered_kind call.slot) call.pieces)
     by_kind message.Reply = tt
     by_kind message.LocateReply = tt
     by_kind message.CloseConnection = tt

@@ -48,7 +48,8 @@ use Rattle.giop_table.specs.declared.slot.Slot.{Slot}
 use Rattle.giop_table.specs.CallTable.{Act, Call, Held, Hears, IsTaken, Nothing, at, gathers}
 use Rattle.giop_table.specs.Sending.{entry_of, settled_by, slot_of}
 use Rattle.giop_end.specs.Acts.ClientCalls.{IsCancel, open_version}
-use Rattle.giop_end.specs.Hearing.ClientHears.{act_by_kind, breaks_by, client_act, client_breaks, comes, continued, continues, gathered_call}
+use Rattle.giop_end.specs.Hearing.ClientHears.{act_by_kind, breaks_by, client_act, client_breaks, comes, gathered_call, client_pieces}
+use Rattle.giop_end.specs.Hearing.Pieces.{continued, continues}
 use Rattle.giop_end.specs.Hearing.Heard.{silently}
 use Rattle.giop_session.specs.Items.Carries.{Bad, Begun, Did, Got, IsSeries, Rest}
 use Rattle.giop_session.specs.Items.ClientCarries.{Known, SpellsReply, answered, begun, client_telling, received, replies, unknown, unspelled}
@@ -282,7 +283,7 @@ module _ (interface : Interface) (limit : ℕ) where
 
   -- a Fragment where none is gathered comes behind a cancel
   behind_cancel : (m : Msg) (slot : Option (Slot ClientEntry)) (pieces : Option Pieces) (entry : Option ClientEntry) → entry_of slot ≡ entry → IsAway entry
-      → Passes (record { slot = slot; pieces = pieces }) (continues interface m (continued m.order (gathered_call slot) pieces))
+      → Passes (record { slot = slot; pieces = pieces }) (continues client_pieces interface m (continued m.order (gathered_call slot) pieces))
       → (l : Late) × (entry ≡ Some (client.Cancelled l))
   behind_cancel m None pieces entry stands away ok = by_more m.more ok
     where
@@ -296,7 +297,7 @@ module _ (interface : Interface) (limit : ℕ) where
       so e stands ok = let was = stray_refused m.more e slot.unsent pieces ok in (was.0, sym stands ∙ ap Some was.1)
 
       by_entry : (e : ClientEntry) → ◌≡◌ {A = Option ClientEntry} (Some e) entry
-          → Passes (with e slot.unsent pieces) (continues interface m
+          → Passes (with e slot.unsent pieces) (continues client_pieces interface m
           (continued m.order (gathered_call (Some (record { entry = e; unsent = slot.unsent }))) pieces))
           → (l : Late) × (entry ≡ Some (client.Cancelled l))
       by_entry (client.Gathering call) stands ok = absurd (let gathers : true ≡ false = subst IsAway (sym stands) away in cc)
@@ -352,9 +353,10 @@ module _ (interface : Interface) (limit : ℕ) where
 
   differs : (m : Msg) (one : Asked) (order : Order) (unsent : List Msg) (octets : List ℕ) → same_order m.order order ≡ false
       → Passes (gathering one order unsent octets)
-      (continues interface m (continued m.order (Some one) (Some (record { order = order; octets = octets })))) → ⊥
+      (continues client_pieces interface m (continued m.order (Some one) (Some (record { order = order; octets = octets })))) → ⊥
   differs m one order unsent octets is ok =
-      by_more m.more (subst (λ same. Passes (gathering one order unsent octets) (continues interface m (cond same (Some (one, octets)) None))) is ok)
+      by_more m.more
+      (subst (λ same. Passes (gathering one order unsent octets) (continues client_pieces interface m (cond same (Some (one, octets)) None))) is ok)
     where
       by_more : (more : Bool) → Passes (gathering one order unsent octets) (stray more) → ⊥
       by_more true ok = no_fault ok

@@ -48,7 +48,8 @@ use Rattle.giop_table.specs.Sending.{entry_of, settled_by, slot_of, unsent_of}
 use Rattle.giop_end.specs.Acts.ServerAnswers.{IsAnswer, IsLocateAnswer, locate_of, question_of}
 use Rattle.giop_end.specs.Hearing.Decoding.{heard_call}
 use Rattle.giop_end.specs.Hearing.Heard.{silently}
-use Rattle.giop_end.specs.Hearing.ServerHears.{act_by_kind, breaks_by, comes, continued, continues, gathered_kind, server_act, server_breaks}
+use Rattle.giop_end.specs.Hearing.ServerHears.{act_by_kind, breaks_by, comes, gathered_kind, server_act, server_breaks, server_pieces}
+use Rattle.giop_end.specs.Hearing.Pieces.{continued, continues}
 use Rattle.giop_session.specs.Items.Carries.{Bad, Begun, Cancel, Did, Got, IsSeries, Rest}
 use Rattle.giop_session.specs.Items.ServerCarries.{SpellsCall, asks, server_telling}
 use Rattle.giop_session.specs.Runs.Driven.{IsAct}
@@ -234,7 +235,7 @@ module _ (interface : Interface) (limit : ℕ) where
 
   -- a Fragment where none is gathered comes behind a cancel
   behind_cancel : (m : Msg) (slot : Option (Slot ServerEntry)) (pieces : Option Pieces) (entry : Option ServerEntry) → entry_of slot ≡ entry → Away entry
-      → Passes (record { slot = slot; pieces = pieces }) (continues interface m (continued m.order (gathered_kind slot) pieces))
+      → Passes (record { slot = slot; pieces = pieces }) (continues server_pieces interface m (continued m.order (gathered_kind slot) pieces))
       → (answered : Bool) × (left_over : ℕ) × (entry ≡ Some (server.Cancelled answered left_over))
   behind_cancel m None pieces entry stands away ok = absurd (no_fault ok)
   behind_cancel m (Some slot) pieces entry stands away ok =
@@ -242,7 +243,7 @@ module _ (interface : Interface) (limit : ℕ) where
     where
       by_entry : (e : ServerEntry) → ◌≡◌ {A = Option ServerEntry} (Some e) entry
           → Passes (record { slot = Some (record { entry = e; unsent = slot.unsent }); pieces = pieces })
-          (continues interface m (continued m.order (gathered_kind (Some (record { entry = e; unsent = slot.unsent }))) pieces))
+          (continues server_pieces interface m (continued m.order (gathered_kind (Some (record { entry = e; unsent = slot.unsent }))) pieces))
           → (answered : Bool) × (left_over : ℕ) × (entry ≡ Some (server.Cancelled answered left_over))
       by_entry (server.Cancelled answered left_over) stands ok = (answered, left_over, sym stands)
       by_entry (server.Gathering k) stands ok = absurd (let gathers : true ≡ false = subst Away (sym stands) away in cc)
@@ -295,9 +296,10 @@ module _ (interface : Interface) (limit : ℕ) where
       by_more false ok = no_fault ok
 
   differs : (m : Msg) (k : CallKind) (order : Order) (unsent : List Msg) (octets : List ℕ) → same_order m.order order ≡ false
-      → Passes (gathering k order unsent octets) (continues interface m (continued m.order (Some k) (Some (record { order = order; octets = octets })))) → ⊥
+      → Passes (gathering k order unsent octets)
+      (continues server_pieces interface m (continued m.order (Some k) (Some (record { order = order; octets = octets })))) → ⊥
   differs m k order unsent octets is ok =
-      no_fault (subst (λ same. Passes (gathering k order unsent octets) (continues interface m (cond same (Some (k, octets)) None))) is ok)
+      no_fault (subst (λ same. Passes (gathering k order unsent octets) (continues server_pieces interface m (cond same (Some (k, octets)) None))) is ok)
 
   -- a Fragment in their order
   fragment : (entry : Option ServerEntry) (front : List Msg) (call : Call ServerEntry) (m : Msg) (opened : Open entry front call) → IsMet (Comes m)

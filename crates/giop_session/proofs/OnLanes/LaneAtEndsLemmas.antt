@@ -31,6 +31,7 @@ use Rattle.giop_table.specs.CallTable.{Call, First, Hears, More, Nothing, brough
 use Rattle.giop_session.specs.Items.Carries.{IsSeries}
 use Rattle.giop_session.specs.Items.ClientCarries.{replies}
 use Rattle.giop_end.specs.Hearing.ClientHears as client
+use Rattle.giop_end.specs.Hearing.Pieces as joining
 use Rattle.giop_end.specs.Hearing.ClientHears.{awaited, client_act, heard_reply}
 use Rattle.giop_session.specs.Worlds.Coding.{coding, kind_asked, last_piece, read_call, read_reply}
 use Rattle.giop_end.specs.Hearing.Decoding.{heard_call}
@@ -110,7 +111,7 @@ pub more_call : (interface : Interface) (k : CallKind) (cut : Cut) (m : Msg) (un
     → server_act interface m (gathers (server_entry.Gathering k) unsent cut) ≡ Hears (silently (at_server.More true)) (More (behind_id m))
 more_call interface k cut m unsent fragment more order =
     ap (server.act_by_kind interface m (gathers (server_entry.Gathering k) unsent cut)) fragment
-    ∙ ap (λ same. server.continues interface m (if same then Some (k, joined (pieces_of cut)) else None))
+    ∙ ap (λ same. joining.continues server.server_pieces interface m (if same then Some (k, joined (pieces_of cut)) else None))
     (ap (λ one. same_order one cut.first.order) order ∙ same_is cut.first.order)
     ∙ more_is m.more _ _ more
 
@@ -123,7 +124,7 @@ last_call interface k cut m unsent is fragment more order =
     (λ i. heard_call interface (sym (ap kind_asked is ∙ asked_as k) i) (sym (last_is cut.first m cut.rest) i).version
     (sym (last_is cut.first m cut.rest) i).order (joined_is cut.first m cut.rest i)) in
     ap (server.act_by_kind interface m (gathers (server_entry.Gathering k) unsent cut)) fragment
-    ∙ ap (λ same. server.continues interface m (if same then Some (k, joined (pieces_of cut)) else None))
+    ∙ ap (λ same. joining.continues server.server_pieces interface m (if same then Some (k, joined (pieces_of cut)) else None))
     (ap (λ one. same_order one cut.first.order) order ∙ same_is cut.first.order)
     ∙ not_more m.more _ _ more
     ∙ ap (λ heard. Hears (silently (at_server.Last true heard)) (More (behind_id m))) read
@@ -156,7 +157,7 @@ pub more_reply : (interface : Interface) (q : Asked) (cut : Cut) (m : Msg) (unse
     → client_act interface m (gathers (client_entry.Gathering q) unsent cut) ≡ Hears (silently (at_client.More true)) (More (behind_id m))
 more_reply interface q cut m unsent fragment more order =
     ap (client.act_by_kind interface m (gathers (client_entry.Gathering q) unsent cut)) fragment
-    ∙ ap (λ same. client.continues interface m (if same then Some (q, joined (pieces_of cut)) else None))
+    ∙ ap (λ same. joining.continues client.client_pieces interface m (if same then Some (q, joined (pieces_of cut)) else None))
     (ap (λ one. same_order one cut.first.order) order ∙ same_is cut.first.order)
     ∙ more_is m.more _ _ more
 
@@ -169,7 +170,7 @@ last_reply interface q cut m unsent fragment more order =
     (λ i. heard_reply interface q (sym (last_is cut.first m cut.rest) i).version (sym (last_is cut.first m cut.rest) i).order
     (joined_is cut.first m cut.rest i)) in
     ap (client.act_by_kind interface m (gathers (client_entry.Gathering q) unsent cut)) fragment
-    ∙ ap (λ same. client.continues interface m (if same then Some (q, joined (pieces_of cut)) else None))
+    ∙ ap (λ same. joining.continues client.client_pieces interface m (if same then Some (q, joined (pieces_of cut)) else None))
     (ap (λ one. same_order one cut.first.order) order ∙ same_is cut.first.order)
     ∙ not_more m.more _ _ more
     ∙ ap (λ heard. Hears (silently (at_client.Last true heard)) (More (behind_id m))) read

@@ -15,7 +15,8 @@ use Rattle.giop_calls.specs.declared.client.heard.HeardReply.TheVariants as hear
 use Rattle.giop_calls.specs.ClientTable.{client_step}
 use Rattle.giop_end.specs.declared.session_fault.SessionFault.{SessionFault}
 use Rattle.giop_table.specs.CallTable.{Call, First, Hears, More, Nothing}
-use Rattle.giop_end.specs.Hearing.ClientHears.{awaited, act_by_kind, breaks_by, client_act, client_breaks, comes, continued, continues, gathered_call, heard_reply}
+use Rattle.giop_end.specs.Hearing.ClientHears.{awaited, act_by_kind, breaks_by, client_act, client_breaks, comes, gathered_call, heard_reply, client_pieces}
+use Rattle.giop_end.specs.Hearing.Pieces.{continued, continues}
 use Rattle.giop_end.specs.Hearing.Heard.{behind_id, in_call, silently}
 use Rattle.giop_session.specs.Runs.Limits.{begins_at_client, octets_by, octets_with}
 use Rattle.giop_session.proofs.OnLimits.LimitLemmas.{IsSmall, IsUnlimited}
@@ -47,7 +48,7 @@ comes_small interface kind m (Some call) = by_more m.more
     by_more false = (λ is. is, omega arith)
 
 continues_small : (interface : Interface) (m : Msg) (pieces : Option (Asked × List ℕ))
-    → IsSmall begins_at_client false (length (behind_id m)) (continues interface m pieces)
+    → IsSmall begins_at_client false (length (behind_id m)) (continues client_pieces interface m pieces)
 continues_small interface m None = by_more m.more
   where
     by_more : (b : Bool) → IsSmall begins_at_client false (length (behind_id m))

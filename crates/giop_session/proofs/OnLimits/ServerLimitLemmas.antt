@@ -16,7 +16,8 @@ use Rattle.giop_table.specs.CallTable.{Call, First, Hears, More, Nothing}
 use Rattle.giop_end.specs.Hearing.Decoding.{heard_call}
 use Rattle.giop_end.specs.Hearing.Heard.{behind_id, in_call, silently}
 use Rattle.giop_session.specs.Runs.Limits.{begins_at_server, is_asking, octets_by, octets_with}
-use Rattle.giop_end.specs.Hearing.ServerHears.{act_by_kind, breaks_by, comes, continued, continues, gathered_kind, server_act, server_breaks}
+use Rattle.giop_end.specs.Hearing.ServerHears.{act_by_kind, breaks_by, comes, gathered_kind, server_act, server_breaks, server_pieces}
+use Rattle.giop_end.specs.Hearing.Pieces.{continued, continues}
 use Rattle.giop_session.proofs.OnLimits.LimitLemmas.{IsSmall, IsUnlimited}
 
 -- an id without a call gets one only by an event that begins it
@@ -41,7 +42,7 @@ comes_small interface kind m = by_more m.more
     by_more false = (λ is. refl, omega arith)
 
 continues_small : (interface : Interface) (m : Msg) (pieces : Option (CallKind × List ℕ))
-    → IsSmall begins_at_server false (length (behind_id m)) (continues interface m pieces)
+    → IsSmall begins_at_server false (length (behind_id m)) (continues server_pieces interface m pieces)
 continues_small interface m None = (λ is. is, omega arith)
 continues_small interface m (Some pieces) = by_more m.more
   where

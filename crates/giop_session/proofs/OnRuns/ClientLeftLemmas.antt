@@ -27,7 +27,8 @@ use Rattle.giop_table.specs.declared.plan.Plan.TheVariants.{Put, Next, Keep}
 use Rattle.giop_table.specs.declared.plan.Planned.{Planned}
 use Rattle.giop_table.specs.declared.slot.Slot.{Slot}
 use Rattle.giop_table.specs.CallTable.{Act, Brings, Call, First, More, Nothing, Hears, turn}
-use Rattle.giop_end.specs.Hearing.ClientHears.{awaited, act_by_kind, breaks_by, client_act, client_breaks, comes, continued, continues, gathered_call, heard_reply}
+use Rattle.giop_end.specs.Hearing.ClientHears.{awaited, act_by_kind, breaks_by, client_act, client_breaks, comes, gathered_call, heard_reply, client_pieces}
+use Rattle.giop_end.specs.Hearing.Pieces.{continued, continues}
 use Rattle.giop_end.specs.Hearing.Heard.{behind_id, silently}
 use Rattle.giop_session.specs.Runs.LeftToSend.{ClientPlans, IsLeft}
 use Rattle.giop_table.specs.Sending.{entry_of, sending_step, settled_by, unsent_after, unsent_of}
@@ -297,7 +298,7 @@ came interface kind m (Some call) = by_more m.more
     }
 
 went_on : (interface : Interface) (m : Msg) (pieces : Option (Question × List ℕ))
-    → IsKept (continues interface m pieces)
+    → IsKept (continues client_pieces interface m pieces)
 went_on interface m None = by_more m.more
   where
     by_more : (b : Bool) → IsKept (cond b (Hears (silently (event.More false)) Nothing)

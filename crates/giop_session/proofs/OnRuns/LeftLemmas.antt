@@ -31,7 +31,8 @@ use Rattle.giop_end.specs.Hearing.Heard.{behind_id, silently}
 use Rattle.giop_session.specs.Runs.LeftToSend.{IsLeft, ServerPlans}
 use Rattle.giop_table.specs.Sending.{left_in, entry_of, sending_step, settled_by, unsent_after, unsent_of}
 use Rattle.giop_session.proofs.OnRuns.FollowedLemmas.{behind, event_left}
-use Rattle.giop_end.specs.Hearing.ServerHears.{act_by_kind, breaks_by, comes, continued, continues, gathered_kind, server_act, server_breaks}
+use Rattle.giop_end.specs.Hearing.ServerHears.{act_by_kind, breaks_by, comes, gathered_kind, server_act, server_breaks, server_pieces}
+use Rattle.giop_end.specs.Hearing.Pieces.{continued, continues}
 
 -- so many are left where a step is accepted
 abbrev Leaves : ServerStep → Plan → List Msg → Type 0
@@ -291,7 +292,7 @@ came interface kind m = by_more m.more
     by_more false = record { e = _; brings = Nothing; of = tt; same = refl }
 
 continues_kept : (interface : Interface) (m : Msg) (pieces : Option (CallKind × List ℕ))
-    → IsKept (continues interface m pieces)
+    → IsKept (continues server_pieces interface m pieces)
 continues_kept interface m None =
     record { e = event.More false; brings = Nothing; of = tt; same = refl }
 continues_kept interface m (Some pieces) = by_more m.more

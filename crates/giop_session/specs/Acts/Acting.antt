@@ -7,8 +7,8 @@ use Rattle.giop_table.specs.CallTable.{Held}
 use Rattle.giop_end.specs.Acts.Putting.{octets_of}
 use Rattle.giop_table.specs.Sending.{entry_of, message_of, slot_of, unsent_after, unsent_of}
 
--- an event acted on the call of an id by the rule of these steps: it is accepted, and leaves the entry
--- of the step, and the messages that the plan leaves unsent; each other id has what it had; and the
+-- an event acted on the call of an id by the rule of these steps: it is accepted, and leaves the
+-- entry of the step, and the messages that the plan leaves unsent; each other id has what it had; and the
 -- message that the plan sends, if it sends one, is outgoing behind what was
 pub record IsAccepted {R E V A F : Type 0} (next : Option E → V → Step E A F) (id : ℕ)
     (planned : Planned V) (h : Held R E) (out : List ℕ) (k : Held R E) (out' : List ℕ)

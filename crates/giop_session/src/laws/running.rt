@@ -1,6 +1,6 @@
 //! An end is made and given a list of inputs: `run_server` and `run_client`, whose contracts are
 //! the headline (docs/HEADLINE.md) of functions that run. Both say the same, each of a run of its
-//! side, `server_run` or `client_run`: what is told of a run is specs/Runs/SideRuns.antt, and what
+//! side, `server_run` or `client_run`: what is said of a run is specs/Runs/SideRuns.antt, and what
 //! it keeps apart specs/Runs/Fits.antt.
 ghost use Rattle.std.specs.Prelude.{◌≡◌, ◌≢◌, ◌≤◌, ◌^◌, ◌↔◌, Err, IfOk, IsErr};
 ghost use Rattle.giop_session.specs.declared.laws.inputs.Answered.TheVariants.{Refused};
@@ -210,12 +210,12 @@ fn close_end<R: Hearing>(end: &mut End<'_, R>) -> Result<Answered<R::Entry>, All
 
 // What is answered to an input, by what the call for it returned. AllocError where that was out of
 // memory.
-fn answered<E>(told: Result<(), SessionFault>) -> Result<Answered<E>, AllocError>
-    ensures value { IfOk result (λ answered. (answered ≡ answer_of told)
+fn answered<E>(outcome: Result<(), SessionFault>) -> Result<Answered<E>, AllocError>
+    ensures value { IfOk result (λ answered. (answered ≡ answer_of outcome)
         × (answered ≢ Refused NoMemory)) }
-    ensures err { IsErr result ↔ (told ≡ Err NoMemory) }
+    ensures err { IsErr result ↔ (outcome ≡ Err NoMemory) }
 {
-    match told {
+    match outcome {
         Ok(()) => Ok(Answered::Done),
         Err(SessionFault::NoMemory) => Err(AllocError),
         Err(why) => Ok(Answered::Refused(why)),

@@ -63,8 +63,8 @@ pub fn run_world<'a>(
         client: End::<ClientRule>::new(alloc, interface, client_limits),
         server: End::<ServerRule>::new(alloc, interface, server_limits),
     };
-    let told = take_all(alloc, &mut world, schedule)?;
-    Ok((world, told))
+    let returned = take_all(alloc, &mut world, schedule)?;
+    Ok((world, returned))
 }
 
 impl<'a> Driven for World<'a> {
@@ -74,8 +74,8 @@ impl<'a> Driven for World<'a> {
 
     type Answer = Result<(), SessionFault>;
 
-    ghost is_given = { λ world event told after. IsStep (λ interface client server w. Happens
-        interface client server w event told) world after };
+    ghost is_given = { λ world event returned after. IsStep (λ interface client server w. Happens
+        interface client server w event returned) world after };
 
     fn take_input(&mut self, event: WorldEvent) -> Result<Result<(), SessionFault>, AllocError> {
         match event {
@@ -106,8 +106,8 @@ fn at_client(
     world: &mut World<'_>,
     given: ClientInput,
 ) -> Result<Result<(), SessionFault>, AllocError>
-    ensures { IfOk result (λ told. IsStep (λ interface client server w. AtClient interface client
-        server w given told) world.old world.new) }
+    ensures { IfOk result (λ returned. IsStep (λ interface client server w. AtClient interface client
+        server w given returned) world.old world.new) }
 {
     Ok(result_of(world.client.take_input(given)?))
 }
@@ -117,16 +117,16 @@ fn at_server(
     world: &mut World<'_>,
     given: ServerInput,
 ) -> Result<Result<(), SessionFault>, AllocError>
-    ensures { IfOk result (λ told. IsStep (λ interface client server w. AtServer interface client
-        server w given told) world.old world.new) }
+    ensures { IfOk result (λ returned. IsStep (λ interface client server w. AtServer interface client
+        server w given returned) world.old world.new) }
 {
     Ok(result_of(world.server.take_input(given)?))
 }
 
 // Up to so many octets that the client put out arrive at the server's end.
 fn to_server(world: &mut World<'_>, n: usize) -> Result<Result<(), SessionFault>, AllocError>
-    ensures { IfOk result (λ told. IsStep (λ interface client server w. ArriveAtServer interface
-        client server w n told) world.old world.new) }
+    ensures { IfOk result (λ returned. IsStep (λ interface client server w. ArriveAtServer interface
+        client server w n returned) world.old world.new) }
 {
     let octets = front(world.client.outgoing(), n);
     let count = octets.len();
@@ -137,8 +137,8 @@ fn to_server(world: &mut World<'_>, n: usize) -> Result<Result<(), SessionFault>
 
 // Up to so many octets that the server put out arrive at the client's end.
 fn to_client(world: &mut World<'_>, n: usize) -> Result<Result<(), SessionFault>, AllocError>
-    ensures { IfOk result (λ told. IsStep (λ interface client server w. ArriveAtClient interface
-        client server w n told) world.old world.new) }
+    ensures { IfOk result (λ returned. IsStep (λ interface client server w. ArriveAtClient interface
+        client server w n returned) world.old world.new) }
 {
     let octets = front(world.server.outgoing(), n);
     let count = octets.len();

@@ -1,5 +1,6 @@
 //! What feeding an end comes to, in whatever reads its octets come. A function's contract is a
-//! law; the body is empty, and no program calls it. Its meaning is `Feeds` in specs/Pumping.antt.
+//! law; the body is empty, and no program calls it. Its words stand in specs/Pumping.antt of
+//! giop_end.
 ghost use Rattle.giop_end.specs.Hearing.Heard.{hears_in};
 ghost use Rattle.giop_end.specs.Pumping.{AreOneRead, StaysRefused};
 

@@ -36,8 +36,8 @@ pub fn what_is_sent_is_read()
         → (cut : Cut) × (planned ≡ sends_cut (at_server.Answer r) cut)
         × CutsReply (coding interface) q r (pieces_of cut) }
     ensures located { (interface q here planned : _) → PlansLocated q here planned
-        → (piece told : _) × (planned ≡ sends_one (at_server.AnswerLocate here) piece)
-        × CutsLocated (coding interface) q here piece told }
+        → (piece replied : _) × (planned ≡ sends_one (at_server.AnswerLocate here) piece)
+        × CutsLocated (coding interface) q here piece replied }
 {}
 
 /// `coding` is how a server's end reads: a Request or a LocateRequest, whole or as its last
@@ -113,6 +113,6 @@ pub fn own_lanes_come_to_replies()
         → IsReplied interface q r one other → BringsClient interface (replied_run q r one other)
         (client.Done q r) }
     ensures located { (interface q here one other : _) → IsLocated interface q here one other
-        → (told : _) × BringsClient interface (located_run q here one other) (client.LocateDone q
-        told) }
+        → (replied : _) × BringsClient interface (located_run q here one other) (client.LocateDone q
+        replied) }
 {}
