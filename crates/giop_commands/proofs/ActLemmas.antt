@@ -8,7 +8,7 @@ use Rattle.giop_end.specs.declared.session_fault.SessionFault.TheVariants.{NoMem
 use Rattle.giop_table.specs.declared.table_fault.TableFault.{TableFault}
 use Rattle.giop_table.specs.CallTable.{Act, Call, Held, Reply}
 use Rattle.giop_end.specs.Acts.Putting.{Puts}
-use Rattle.giop_commands.specs.declared.failure.Failure.{Failure}
+use Rattle.giop_show.specs.declared.failure.Failure.{Failure}
 use Rattle.giop_commands.specs.Check.{answer_of}
 use Rattle.giop_commands.specs.Acts.{Acts, ActsOrTells, Outbox, most}
 

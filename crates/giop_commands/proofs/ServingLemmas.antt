@@ -8,7 +8,7 @@ use Rattle.giop_end.specs.Pumping.{Between}
 use Rattle.giop_table.specs.Sending.{entry_of}
 use Rattle.giop_commands.specs.declared.serve.in_turn.AnswerName.{AnswerName}
 use Rattle.giop_commands.specs.declared.serve.answering.Due.{Due}
-use Rattle.giop_commands.specs.declared.failure.Failure.{Failure}
+use Rattle.giop_show.specs.declared.failure.Failure.{Failure}
 use Rattle.giop_commands.specs.Answering.{due_to}
 use Rattle.giop_commands.specs.Check.{server_hears}
 use Rattle.giop_commands.specs.Serving.{Answers, AnswersAll, AnswersOne, Converses, Desk, SendsDue, ServeEnds, Served, ServerCalls, Session, TurnAnswers, desk_of, session, with_desk}

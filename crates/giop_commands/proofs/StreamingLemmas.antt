@@ -16,10 +16,10 @@ use Rattle.giop_calls.specs.ServerTable.{is_closed}
 use Rattle.giop_msg.specs.declared.msg.Msg.{Msg}
 use Rattle.giop_end.specs.Pumping.{Between, Feeds, State, between}
 use Rattle.giop_commands.specs.declared.serve.in_turn.AnswerName.{AnswerName}
-use Rattle.giop_commands.specs.declared.failure.Failure.{Failure}
-use Rattle.giop_commands.specs.declared.form.LineForm.{LineForm}
+use Rattle.giop_show.specs.declared.failure.Failure.{Failure}
+use Rattle.giop_show.specs.declared.form.LineForm.{LineForm}
 use Rattle.giop_commands.specs.declared.session.ending.Ending.{Ending}
-use Rattle.giop_commands.specs.Dump.{ended}
+use Rattle.giop_show.specs.Dump.{ended}
 use Rattle.giop_commands.specs.Endings.{Ends, ServesStreamEnd}
 use Rattle.giop_commands.specs.Serving.{ServeEnds, Served, ServerCalls, Session, TurnAnswers, new_server, session}
 use Rattle.giop_commands.specs.Sessions.{Wire, connection_in, serve_status, told}

@@ -7,8 +7,8 @@ use Rattle.giop_msg.specs.declared.msg.Msg.{Msg}
 use Rattle.giop_end.specs.declared.pump_fault.PumpFault.TheVariants as turn
 use Rattle.giop_end.specs.declared.session_fault.SessionFault.{SessionFault}
 use Rattle.giop_end.specs.Pumping.{Between, Turned}
-use Rattle.giop_commands.specs.declared.failure.Failure.{Failure}
-use Rattle.giop_commands.specs.declared.failure.Failure.TheVariants.{Memory}
+use Rattle.giop_show.specs.declared.failure.Failure.{Failure}
+use Rattle.giop_show.specs.declared.failure.Failure.TheVariants.{Memory}
 use Rattle.giop_commands.specs.Turns.{GoesOn, IsOfConnection, WaitEnds, Waits, WaitsOn, peer_octets, with_output}
 use Rattle.giop_commands.proofs.StepLemmas.{Counted}
 

@@ -24,16 +24,16 @@ use Rattle.giop_table.specs.Sending.{entry_of}
 use Rattle.giop_end.specs.Hearing.Feeding.{Fed, with_octets}
 use Rattle.giop_end.specs.Hearing.Heard.{hears_by, in_call}
 use Rattle.giop_end.specs.Hearing.ServerHears.{server_act, server_breaks}
-use Rattle.giop_commands.specs.declared.status.Status.{Status}
-use Rattle.giop_commands.specs.declared.status.Status.TheVariants.{Done, Refused, InputOutput, Memory}
+use Rattle.giop_show.specs.declared.status.Status.{Status}
+use Rattle.giop_show.specs.declared.status.Status.TheVariants.{Done, Refused, InputOutput, Memory}
 use Rattle.giop_lines.specs.declared.refusal.RefusalLine.TheVariants.{Form}
-use Rattle.giop_commands.specs.declared.form.LineForm.{LineForm}
+use Rattle.giop_show.specs.declared.form.LineForm.{LineForm}
 use Rattle.giop_types.specs.declared.json.number_form.NumberForm.TheVariants.{Plain}
-use Rattle.giop_commands.specs.declared.form.LineForm.TheVariants.{Text}
-use Rattle.giop_commands.specs.Dump.{ended}
-use Rattle.giop_commands.specs.Forms.{refused_in}
+use Rattle.giop_show.specs.declared.form.LineForm.TheVariants.{Text}
+use Rattle.giop_show.specs.Dump.{ended}
+use Rattle.giop_show.specs.Forms.{refused_in}
 use Rattle.giop_commands.specs.SessionLines.{last_in}
-use Rattle.giop_commands.specs.Status.{broken_status}
+use Rattle.giop_commands.specs.BrokenStatus.{broken_status}
 use Rattle.giop_commands.specs.Table.{server_entry_in, table_text}
 
 -- the status of a session that ended with a fault: an orderly end is none of its own

@@ -17,7 +17,7 @@ use Rattle.giop_end.specs.declared.session_fault.SessionFault.{SessionFault}
 use Rattle.giop_end.specs.Pumping.{Between}
 use Rattle.giop_commands.specs.declared.call.calls.CallLine.{CallLine}
 use Rattle.giop_commands.specs.declared.call.following.Forward.{Forward}
-use Rattle.giop_commands.specs.declared.form.LineForm.{LineForm}
+use Rattle.giop_show.specs.declared.form.LineForm.{LineForm}
 use Rattle.giop_commands.specs.declared.session.target.Endpoint.{Endpoint}
 use Rattle.giop_commands.specs.Acts.{Outbox}
 use Rattle.giop_commands.specs.CallStreaming.{box_of, with_box}

@@ -13,9 +13,9 @@ use Rattle.giop_table.specs.Sending.{entry_of}
 use Rattle.giop_end.specs.Pumping.{Between, between}
 use Rattle.giop_calls.specs.ServerTable.{is_closed}
 use Rattle.giop_commands.specs.declared.serve.in_turn.AnswerName.{AnswerName}
-use Rattle.giop_commands.specs.declared.form.LineForm.{LineForm}
-use Rattle.giop_commands.specs.declared.status.Status.{Status}
-use Rattle.giop_commands.specs.Dump.{ended}
+use Rattle.giop_show.specs.declared.form.LineForm.{LineForm}
+use Rattle.giop_show.specs.declared.status.Status.{Status}
+use Rattle.giop_show.specs.Dump.{ended}
 use Rattle.giop_commands.specs.SessionLines.{last_in}
 use Rattle.giop_commands.specs.Serving.{ServeEnds, Served, ServerCalls, Session, TurnAnswers, new_server, session}
 use Rattle.giop_commands.specs.Sessions.{Wire, connection_in, serve_status, told}

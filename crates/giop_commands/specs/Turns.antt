@@ -11,8 +11,8 @@ use Rattle.giop_end.specs.declared.session_fault.SessionFault.{SessionFault}
 use Rattle.giop_end.specs.declared.session_fault.SessionFault.TheVariants.{NoMemory}
 use Rattle.giop_end.specs.Pumping.{Between, Turned, Writes}
 use Rattle.giop_end.specs.Ends.SessionFaults.{error_message_of}
-use Rattle.giop_commands.specs.declared.failure.Failure.{Failure}
-use Rattle.giop_commands.specs.declared.failure.Failure.TheVariants.{Memory, Connection, TurnsSpent}
+use Rattle.giop_show.specs.declared.failure.Failure.{Failure}
+use Rattle.giop_show.specs.declared.failure.Failure.TheVariants.{Memory, Connection, TurnsSpent}
 use Rattle.giop_commands.specs.Steps.{Each}
 
 -- a session has so many turns at most

@@ -7,15 +7,15 @@ ghost use Rattle.giop_end.specs.declared.session_fault.SessionFault.TheVariants.
 ghost use Rattle.giop_end.specs.Hearing.Heard.{hears_by};
 ghost use Rattle.giop_end.specs.Pumping.{Writes, between};
 ghost use Rattle.giop_end.specs.Ends.SessionFaults.{error_message_of};
-ghost use Rattle.giop_commands.specs.declared.failure.Failure.TheVariants.{Memory};
+ghost use Rattle.giop_show.specs.declared.failure.Failure.TheVariants.{Memory};
 ghost use Rattle.giop_commands.specs.Check.{answer_of};
-ghost use Rattle.giop_commands.specs.Dump.{ended};
+ghost use Rattle.giop_show.specs.Dump.{ended};
 ghost use Rattle.giop_commands.specs.SessionLines.{session_fault_in};
 ghost use Rattle.giop_commands.specs.Sessions.{fault_text, session_text, told};
 ghost use Rattle.giop_commands.specs.Turns.{GoesOn, IsOfConnection, peer_octets};
 
 pub mod ahead;
-pub mod bodies;
+pub mod broken;
 pub mod ending;
 pub mod fault_json;
 pub mod fault_line;
@@ -26,12 +26,12 @@ pub mod table;
 pub mod target;
 pub mod untold;
 
-use crate::failure::Failure;
-use crate::form::{LineForm, write_line};
 use crate::session::fault_json::SessionFaultJson;
 use crate::session::fault_line::SessionFaultLine;
 use crate::session::table::{Tabled, write_table};
 use giop_end::{End, Hearing, PumpFault, SessionFault, turn, write_out};
+use giop_show::failure::Failure;
+use giop_show::form::{LineForm, write_line};
 use giop_types::Interface;
 use std::alloc::Global;
 use std::io::{Read, Write};

@@ -9,12 +9,12 @@ ghost use Rattle.giop_commands.specs.LocateFollowing.{LocatesAt, is_elsewhere, l
 use crate::call::given::Calling;
 use crate::call::locating::{ID, locate_all};
 use crate::call::talk;
-use crate::failure::Failure;
 use crate::session::target::{Endpoint, place_in};
 use giop_calls::ClientEntry;
 use giop_cdr::{CdrIn, CdrKind, Order, SliceOctets};
 use giop_end::{ClientEnd, SessionFault};
 use giop_ior::read_ior;
+use giop_show::failure::Failure;
 use std::alloc::Global;
 use std::io::{Read, Write};
 

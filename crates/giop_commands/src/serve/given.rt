@@ -39,21 +39,3 @@ pub struct Sending {
     pub limits: Limits,
     pub ghost sent: { IsForm form },
 }
-
-/// When the calls of a connection are told.
-#[derive(Clone, Copy, Debug, PartialEq, Eq)]
-pub enum Telling {
-    /// All of them, when the connection has ended.
-    AtTheEnd,
-    /// Each when it is over.
-    WhenOver,
-}
-
-/// An object key, as it stands on the command line.
-#[derive(Clone, Copy, Debug)]
-pub enum KeyWord<'a> {
-    /// Pairs of hexadecimal digits.
-    Hex(&'a str),
-    /// A text, whose octets are the key.
-    Text(&'a str),
-}
