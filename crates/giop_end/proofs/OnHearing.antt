@@ -2,4 +2,5 @@
 pub mod ServerLemmas
 pub mod FeedingLemmas
 pub mod HeardLemmas
+pub mod PieceLemmas
 pub mod ClientLemmas
