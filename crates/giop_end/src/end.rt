@@ -69,7 +69,7 @@ impl<'a> End<'a, ServerRule> {
         ensures limits { result.limits ≡ limits }
         ensures fault { result.fault ≡ None }
     {
-        End::begun(alloc, ServerRule, interface, limits)
+        End::by_rule(alloc, ServerRule, interface, limits)
     }
 }
 
@@ -84,13 +84,13 @@ impl<'a> End<'a, ClientRule> {
         ensures limits { result.limits ≡ limits }
         ensures fault { result.fault ≡ None }
     {
-        End::begun(alloc, ClientRule, interface, limits)
+        End::by_rule(alloc, ClientRule, interface, limits)
     }
 }
 
 impl<'a, R: Hearing> End<'a, R> {
     // An end by this rule, which has heard nothing.
-    fn begun(alloc: Global, rule: R, interface: &'a Interface, limits: Limits) -> End<'a, R>
+    fn by_rule(alloc: Global, rule: R, interface: &'a Interface, limits: Limits) -> End<'a, R>
         requires { limits.gathered ≤ 2 ^ 62 }
         ensures interface { result.interface.now ≡ interface.now }
         ensures calls { result.calls ≡ no_calls rule limits }

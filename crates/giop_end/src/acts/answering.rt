@@ -18,7 +18,7 @@ ghost use Rattle.giop_end.specs.Acts.Sent.{InRange};
 ghost use Rattle.giop_end.specs.Acts.ServerAnswers.{is_locate, is_reply_sendable, IsFitAnswer, locate_in, locate_of, located, PutsAnswer, PutsLocateAnswer, PutsNext, question_in, question_of, reply_octets, ServerPuts, unasked_fault};
 
 use crate::acts::form::Form;
-use crate::acts::local::{done, sent};
+use crate::acts::local::{act_result, messages_to_send};
 use crate::acts::outgoing::Outgoing;
 use crate::acts::putting::put;
 use crate::acts::sendable::one_message;
@@ -87,7 +87,7 @@ pub fn answer_locate(
         }
         None => silently(event),
     };
-    done(id, put(calls, outgoing, id, planned))
+    act_result(id, put(calls, outgoing, id, planned))
 }
 
 /// Puts out the next piece of a Reply at an end that hasn't failed, of which these are parts, as
@@ -110,7 +110,7 @@ pub fn send(
         event: ServerEvent::Send,
         plan: Plan::Next,
     };
-    done(id, put(calls, outgoing, id, planned))
+    act_result(id, put(calls, outgoing, id, planned))
 }
 
 // The call is answered by a Reply in these messages.
@@ -139,7 +139,7 @@ fn put_reply(
         event: ServerEvent::Answer { reply, pieces },
         plan: Plan::Put(messages),
     };
-    done(id, put(calls, outgoing, id, planned))
+    act_result(id, put(calls, outgoing, id, planned))
 }
 
 // Whether a piece of the Reply of an id is left to be sent.
@@ -200,7 +200,7 @@ fn pieces_of_reply(
 {
     let encoded = reply.encode(alloc, interface, question, form.order);
     let (version, id) = (reply.version, reply.id);
-    sent(alloc, limits, version, Kind::Reply, form, id, encoded)
+    messages_to_send(alloc, limits, version, Kind::Reply, form, id, encoded)
 }
 
 // The version of the LocateRequest of an id that waits for this LocateReply, where one does.

@@ -18,7 +18,7 @@ ghost use Rattle.giop_end.specs.Acts.Refused.{IsRefusal};
 ghost use Rattle.giop_end.specs.Acts.Sent.{cancel_request, InRange};
 
 use crate::acts::form::Form;
-use crate::acts::local::{done, sent};
+use crate::acts::local::{act_result, messages_to_send};
 use crate::acts::outgoing::Outgoing;
 use crate::acts::putting::put;
 use crate::acts::sendable::one_message;
@@ -59,7 +59,7 @@ pub fn call(
         event,
         plan: Plan::Put(messages),
     };
-    done(id, put(calls, outgoing, id, planned))
+    act_result(id, put(calls, outgoing, id, planned))
 }
 
 /// Asks where an object is at an end that hasn't failed, of which these are parts, as
@@ -89,7 +89,7 @@ pub fn locate(
         event,
         plan: Plan::Put(messages),
     };
-    done(id, put(calls, outgoing, id, planned))
+    act_result(id, put(calls, outgoing, id, planned))
 }
 
 /// Cancels a call at an end that hasn't failed, of which these are parts, as `End::cancel`.
@@ -116,7 +116,7 @@ pub fn cancel(
         event: ClientEvent::Cancel,
         plan: Plan::Put(messages),
     };
-    done(id, put(calls, outgoing, id, planned))
+    act_result(id, put(calls, outgoing, id, planned))
 }
 
 /// Puts out the next piece of a call at an end that hasn't failed, of which these are parts, as
@@ -139,7 +139,7 @@ pub fn send(
         event: ClientEvent::Send,
         plan: Plan::Next,
     };
-    done(id, put(calls, outgoing, id, planned))
+    act_result(id, put(calls, outgoing, id, planned))
 }
 
 // The messages that a Request is sent in.
@@ -171,7 +171,7 @@ fn pieces_of_request(
     }
     let encoded = request.encode(alloc, interface, form.order);
     let version = head.version;
-    sent(
+    messages_to_send(
         alloc,
         limits,
         version,
@@ -209,7 +209,7 @@ fn pieces_of_locate(
     }
     let encoded = request.encode(alloc, form.order);
     let version = request.version;
-    sent(
+    messages_to_send(
         alloc,
         limits,
         version,

@@ -23,7 +23,7 @@ use std::alloc::Global;
 /// What an end returns for an event of its own program, by what the table of calls answered; that
 /// is `None` where it was out of memory for the event's message.
 #[inline(always)]
-pub fn done(
+pub fn act_result(
     id: u32,
     answered: Option<Result<Sends<()>, TableFault<CallFault>>>,
 ) -> Result<(), SessionFault>
@@ -41,7 +41,7 @@ pub fn done(
 /// the call of an id. Refused as Unfit where there are no such octets, or where the end doesn't
 /// send them; as NoMemory where it is out of memory.
 #[inline(always)]
-pub fn sent(
+pub fn messages_to_send(
     alloc: Global,
     limits: Limits,
     version: Version,

@@ -9,7 +9,7 @@ ghost use Rattle.giop_end.specs.Hearing.Pieces.{completes, continued_at, continu
 ghost use Rattle.giop_end.specs.Hearing.Heard.{ActsOn, behind_id, named};
 
 use crate::hearing::Hearing;
-use crate::hearing::heard::{behind_id, named, result_of, silently};
+use crate::hearing::heard::{behind_id, named_id, result_of, silently};
 use crate::hearing::reply_decoding::heard_reply;
 use crate::hearing::with_last::WithLast;
 use crate::session_fault::SessionFault;
@@ -66,7 +66,7 @@ fn come(
         message.now (awaited kind message.now.version (finite.get calls.old.table id)))) calls.old
         result calls.new }
 {
-    let id = named(message)?;
+    let id = named_id(message)?;
     let version = message.version;
     match (is_awaited(calls, id, kind, version), message.more) {
         (true, true) => begin(calls, id, kind, message),
@@ -183,7 +183,7 @@ fn go_on(
     ensures { AtClient (named (request_id_of message.now) (continues_at client_pieces interface.now
         message.now calls.old)) calls.old result calls.new }
 {
-    let id = named(message)?;
+    let id = named_id(message)?;
     match (is_continued(calls, id, message.order), message.more) {
         (true, true) => add(calls, id, message),
         (true, false) => complete(alloc, interface, calls, id, message),

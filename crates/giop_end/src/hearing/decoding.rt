@@ -48,7 +48,7 @@ fn heard_request<S: Octets>(
     match Request::decode(alloc, interface, joined, version, order) {
         Ok(request) => Some(HeardCall::Request(Aside::new(alloc, request).ok()?)),
         Err(fault) if is_want(fault) => None,
-        Err(fault) => Some(undecoded(version, expected(version, order, joined), fault)),
+        Err(fault) => Some(undecoded_call(version, expected_answer(version, order, joined), fault)),
     }
 }
 
@@ -67,12 +67,12 @@ fn heard_locate<S: Octets>(
         Err(fault) if fault.kind == CdrKind::NoMemory => None,
         Err(fault) => {
             let fault = RequestFault::Header(fault);
-            Some(undecoded(version, Some(CallKind::Locate), fault))
+            Some(undecoded_call(version, Some(CallKind::Locate), fault))
         }
     }
 }
 
-fn undecoded(version: Version, expects: Option<CallKind>, fault: RequestFault) -> HeardCall
+fn undecoded_call(version: Version, expects: Option<CallKind>, fault: RequestFault) -> HeardCall
     ensures { result ≡ undecoded version expects fault }
 {
     HeardCall::Undecoded(UndecodedCall {
@@ -95,7 +95,7 @@ fn is_want(fault: RequestFault) -> bool
 }
 
 // Which reply a Request expects, by its head; where that can't be read, a Reply.
-fn expected<S: Octets>(version: Version, order: Order, joined: &S) -> Option<CallKind>
+fn expected_answer<S: Octets>(version: Version, order: Order, joined: &S) -> Option<CallKind>
     requires { length (S.octets joined.now) ≤ 2 ^ 62 }
     ensures { result ≡ expected version order (S.octets joined.now) }
 {

@@ -13,7 +13,7 @@ use giop_table::{Plan, Planned, Sends, TableFault};
 /// The request id that a message names. Refused as NoId where it can't be read, and as
 /// WrongDirection for a kind that has none.
 #[inline(always)]
-pub fn named(message: &Msg) -> Result<u32, SessionFault>
+pub fn named_id(message: &Msg) -> Result<u32, SessionFault>
     requires { length message.now.payload ≤ 2 ^ 62 }
     ensures { result ≡ id_named (request_id_of message.now) }
 {

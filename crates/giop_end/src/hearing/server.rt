@@ -13,7 +13,7 @@ ghost use Rattle.giop_end.specs.Hearing.Pieces.{OfPieces, completes, continued_a
 
 use crate::hearing::Hearing;
 use crate::hearing::decoding::heard_call;
-use crate::hearing::heard::{behind_id, named, result_of, silently};
+use crate::hearing::heard::{behind_id, named_id, result_of, silently};
 use crate::hearing::with_last::WithLast;
 use crate::session_fault::SessionFault;
 use giop_calls::{CallFault, CallKind, HeardCall, ServerEntry, ServerEvent, ServerRule};
@@ -68,7 +68,7 @@ fn come(
     ensures { AtServer (named (request_id_of message.now)
         (λ id. comes interface.now kind message.now)) calls.old result calls.new }
 {
-    let id = named(message)?;
+    let id = named_id(message)?;
     if message.more {
         begin(calls, id, kind, message)
     } else {
@@ -121,7 +121,7 @@ fn cancel(calls: &mut Calls, message: &Msg) -> Result<(), SessionFault>
     ensures { AtServer (named (request_id_of message.now)
         (λ id. Hears (silently event.Cancel) Nothing)) calls.old result calls.new }
 {
-    let id = named(message)?;
+    let id = named_id(message)?;
     result_of(id, calls.apply(id, silently(ServerEvent::Cancel)))
 }
 
@@ -136,8 +136,8 @@ fn go_on(
     ensures { AtServer (named (request_id_of message.now) (continues_at server_pieces interface.now
         message.now calls.old)) calls.old result calls.new }
 {
-    let id = named(message)?;
-    let Some(kind) = continued(calls, id, message.order) else {
+    let id = named_id(message)?;
+    let Some(kind) = continued_kind(calls, id, message.order) else {
         return result_of(
             id,
             calls.apply(id, silently(ServerEvent::More { in_order: false })),
@@ -151,7 +151,7 @@ fn go_on(
 }
 
 // The kind of the message that is gathered for the id, where pieces of this byte order continue it.
-fn continued(calls: &Calls, id: u32, order: Order) -> Option<CallKind>
+fn continued_kind(calls: &Calls, id: u32, order: Order) -> Option<CallKind>
     ensures some { IfSome result (λ kind.
         (gathered_kind (finite.get calls.now.table id) ≡ Some kind)
         × (order_fault (finite.get calls.now.gathered id) order ≡ None)) }

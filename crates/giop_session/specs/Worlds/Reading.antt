@@ -15,7 +15,7 @@ use Rattle.giop_calls.specs.declared.server.entry.ServerEntry.{ServerEntry}
 use Rattle.giop_calls.specs.declared.server.event.ServerEvent.{ServerEvent}
 use Rattle.giop_calls.specs.declared.server.event.ServerEvent.TheVariants as at_server
 use Rattle.giop_table.specs.declared.plan.Planned.{Planned}
-use Rattle.giop_table.specs.CallTable.{Act, Brings, Call, First, Hears, More}
+use Rattle.giop_table.specs.CallTable.{Act, Brings, Call, Hears, More}
 use Rattle.giop_end.specs.Hearing.ClientHears.{client_act}
 use Rattle.giop_end.specs.Hearing.Heard.{behind_id, silently}
 use Rattle.giop_end.specs.Hearing.ServerHears.{server_act}
@@ -26,7 +26,8 @@ use Rattle.giop_session.specs.Worlds.LaneAtEnds.{seen}
 abbrev pub IsContinuedBy : Cut → Msg → Type 0
 IsContinuedBy cut m = (m.kind ≡ Fragment) × (m.order ≡ cut.first.order)
 
--- a call that comes in one piece, and one whose last piece this is: the pieces before it are gathered
+-- a call that comes in one piece, and one whose last piece this is: the pieces before it are
+-- gathered
 abbrev pub whole_call : Interface → Msg → Planned ServerEvent
 whole_call interface m = silently (at_server.Whole ((coding interface).read_call (m ∷ [])))
 
@@ -35,13 +36,10 @@ last_of_call interface cut m =
     let read = (coding interface).read_call (pieces_of cut ++ m ∷ []) in
     Hears (silently (at_server.Last true read)) (More (behind_id m))
 
--- a reply that comes in one piece, its first piece, and its last one
+-- a reply that comes in one piece, and one whose last piece this is
 abbrev pub whole_reply : Interface → CallKind → Asked → Msg → Planned ClientEvent
 whole_reply interface kind call m =
     silently (at_client.Whole kind m.version ((coding interface).read_reply call (m ∷ [])))
-
-abbrev pub first_of_reply : CallKind → Msg → Act ClientEvent
-first_of_reply kind m = Hears (silently (at_client.First kind m.version)) (First m.order m.payload)
 
 abbrev pub last_of_reply : Interface → Asked → Cut → Msg → Act ClientEvent
 last_of_reply interface call cut m =

@@ -121,11 +121,11 @@ impl<'a> Driven for End<'a, ServerRule> {
     fn take_input(&mut self, input: ServerInput) -> Result<Answered<ServerEntry>, AllocError> {
         match input {
             ServerInput::Feed(octets) => feed_to(self, octets.as_slice()),
-            ServerInput::Answer { reply, form } => answered(self.answer(reply, form.form)),
+            ServerInput::Answer { reply, form } => answer_of(self.answer(reply, form.form)),
             ServerInput::AnswerLocate { id, here, order } => {
-                answered(self.answer_locate(id, here, order))
+                answer_of(self.answer_locate(id, here, order))
             }
-            ServerInput::Send(id) => answered(self.send(id)),
+            ServerInput::Send(id) => answer_of(self.send(id)),
             ServerInput::Take(id) => take_from(self, id),
             ServerInput::Close => close_end(self),
         }
@@ -148,10 +148,10 @@ impl<'a> Driven for End<'a, ClientRule> {
     fn take_input(&mut self, input: ClientInput) -> Result<Answered<ClientEntry>, AllocError> {
         match input {
             ClientInput::Feed(octets) => feed_to(self, octets.as_slice()),
-            ClientInput::Call { request, form } => answered(self.call(request, form.form)),
-            ClientInput::Locate { request, form } => answered(self.locate(request, form.form)),
-            ClientInput::Cancel { id, order } => answered(self.cancel(id, order)),
-            ClientInput::Send(id) => answered(self.send(id)),
+            ClientInput::Call { request, form } => answer_of(self.call(request, form.form)),
+            ClientInput::Locate { request, form } => answer_of(self.locate(request, form.form)),
+            ClientInput::Cancel { id, order } => answer_of(self.cancel(id, order)),
+            ClientInput::Send(id) => answer_of(self.send(id)),
             ClientInput::Take(id) => take_from(self, id),
             ClientInput::Close => close_end(self),
         }
@@ -183,7 +183,7 @@ pub(super) fn feed_to<R: Hearing>(
         (Feeds octets.now) (state_of end.old) answered (state_of end.new)) }
     ensures others { IsDriven end.old end.new }
 {
-    answered(end.feed(octets))
+    answer_of(end.feed(octets))
 }
 
 // An entry is taken out of an end, where its call is over, and is the answer.
@@ -205,12 +205,12 @@ fn close_end<R: Hearing>(end: &mut End<'_, R>) -> Result<Answered<R::Entry>, All
         Closes (state_of end.old) answered (state_of end.new)) }
     ensures others { IsDriven end.old end.new }
 {
-    answered(end.close())
+    answer_of(end.close())
 }
 
 // What is answered to an input, by what the call for it returned. AllocError where that was out of
 // memory.
-fn answered<E>(outcome: Result<(), SessionFault>) -> Result<Answered<E>, AllocError>
+fn answer_of<E>(outcome: Result<(), SessionFault>) -> Result<Answered<E>, AllocError>
     ensures value { IfOk result (λ answered. (answered ≡ answer_of outcome)
         × (answered ≢ Refused NoMemory)) }
     ensures err { IsErr result ↔ (outcome ≡ Err NoMemory) }

@@ -69,10 +69,10 @@ pub fn what_is_cut_is_carried()
     ensures locate { (interface version order asked piece sent entry : _)
         → IsLocateRequestIn version order asked piece sent
         → CarryCall interface entry (call.Locate asked) sent }
-    ensures reply { (interface version order asked replied piece sent known : _)
-        → AwaitsReply known asked → IsReplyIn interface asked version order replied piece sent
-        → CarryReply interface known (answer.Reply replied) sent }
-    ensures located { (interface version order asked replied piece sent known : _)
-        → AwaitsLocateReply known asked → IsLocateReplyIn version order replied piece sent
-        → CarryReply interface known (answer.Locate replied) sent }
+    ensures reply { (interface version order asked reply piece sent known : _)
+        → AwaitsReply known asked → IsReplyIn interface asked version order reply piece sent
+        → CarryReply interface known (answer.Reply reply) sent }
+    ensures located { (interface version order asked reply piece sent known : _)
+        → AwaitsLocateReply known asked → IsLocateReplyIn version order reply piece sent
+        → CarryReply interface known (answer.Locate reply) sent }
 {}

@@ -64,12 +64,12 @@ pub fn what_is_sent_is_an_item()
     ensures locate { (interface entry asked cut there : _)
         → SendsCall interface entry (question.Locate asked) cut
         → CarryCall interface there (call.Locate asked) (pieces_of cut) }
-    ensures reply { (interface asked replied cut known : _) → AwaitsReply known asked
-        → SendsReply interface asked replied cut → CarryReply interface known (answer.Reply replied)
+    ensures reply { (interface asked reply cut known : _) → AwaitsReply known asked
+        → SendsReply interface asked reply cut → CarryReply interface known (answer.Reply reply)
         (pieces_of cut) }
     ensures located { (interface asked here m known : _) → AwaitsLocateReply known asked
-        → SendsLocated asked here m → (replied : _) × CarryReply interface known (answer.Locate replied)
-        (m ∷ []) × SaysWhether here replied }
+        → SendsLocated asked here m → (reply : _) × CarryReply interface known (answer.Locate reply)
+        (m ∷ []) × SaysWhether here reply }
 {
     what_is_cut_is_carried();
 }
