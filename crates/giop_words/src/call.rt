@@ -6,7 +6,7 @@ mod help;
 
 use crate::call::help::CALL_HELP;
 use crate::file_words::{FileWord, Files, apart, apart_from, interface_option};
-use crate::form_words::{json_numbers_option, json_option, lines_of};
+use crate::form_words::{lines_of, with_lines};
 use crate::limit_words::limits_of;
 use crate::session_words::{
     Telling, follow_option, message_form_of, stream_option, target_option, telling_of, timeout_of,
@@ -49,6 +49,26 @@ pub struct CallWords<'a> {
 
 /// The command `call`.
 pub(crate) fn call_command<'a>(alloc: Global) -> Result<Command<'a>, AllocError> {
+    let command = Command::new(alloc, "call")
+        .about("Calls operations of an object, and shows the replies")
+        .after_help(CALL_HELP)
+        .arg(target_option(alloc))?
+        .arg(interface_option(alloc))?;
+    let command = with_progress(alloc, with_lines(alloc, command)?)?;
+    with_calls(alloc, with_sending(alloc, command)?)
+}
+
+// A command with the options of when calls are told, whether they are followed, and for how long.
+fn with_progress<'a>(alloc: Global, command: Command<'a>) -> Result<Command<'a>, AllocError> {
+    let help = "A call that is forwarded is made again there, up to five times";
+    command
+        .arg(stream_option(alloc))?
+        .arg(follow_option(alloc, help))?
+        .arg(timeout_option(alloc))
+}
+
+// A command with the arguments of what is called.
+fn with_calls<'a>(alloc: Global, command: Command<'a>) -> Result<Command<'a>, AllocError> {
     let file = Arg::new(alloc, "FILE").required(true).help(
         "The file of the calls, in JSON, or - for the standard input; or an operation's name",
     );
@@ -56,20 +76,7 @@ pub(crate) fn call_command<'a>(alloc: Global) -> Result<Command<'a>, AllocError>
         .num_args(1..)
         .allow_negative_numbers(true)
         .help("The ins of that operation, each a JSON value");
-    let command = Command::new(alloc, "call")
-        .about("Calls operations of an object, and shows the replies")
-        .after_help(CALL_HELP)
-        .arg(target_option(alloc))?
-        .arg(interface_option(alloc))?
-        .arg(json_option(alloc))?
-        .arg(json_numbers_option(alloc))?
-        .arg(stream_option(alloc))?
-        .arg(follow_option(
-            alloc,
-            "A call that is forwarded is made again there, up to five times",
-        ))?
-        .arg(timeout_option(alloc))?;
-    with_sending(alloc, command)?.arg(file)?.arg(values)
+    command.arg(file)?.arg(values)
 }
 
 /// What `call` is asked for with these files and values, or what is wrong with a word.

@@ -5,7 +5,7 @@ mod help;
 
 use crate::check::help::CHECK_HELP;
 use crate::file_words::{FileWord, Files, apart_from, interface_option};
-use crate::form_words::{json_numbers_option, json_option, lines_of};
+use crate::form_words::{lines_of, with_lines};
 use crate::limit_words::{limits_of, with_limits};
 use crate::task::Task;
 use clap::{Arg, ArgAction, ArgMatches, Command};
@@ -41,10 +41,8 @@ pub(crate) fn check_command<'a>(alloc: Global) -> Result<Command<'a>, AllocError
     let command = Command::new(alloc, "check")
         .about("Shows what becomes of the calls of a file")
         .after_help(CHECK_HELP)
-        .arg(interface_option(alloc))?
-        .arg(json_option(alloc))?
-        .arg(json_numbers_option(alloc))?
-        .arg(strict)?;
+        .arg(interface_option(alloc))?;
+    let command = with_lines(alloc, command)?.arg(strict)?;
     with_limits(alloc, command)?.arg(file)
 }
 

@@ -32,31 +32,42 @@ pub enum ConvertKind<'a> {
 
 /// The command `convert`.
 pub(crate) fn convert_command<'a>(alloc: Global) -> Result<Command<'a>, AllocError> {
-    Command::new(alloc, "convert")
+    let command = Command::new(alloc, "convert")
         .about("Writes what a file holds in another form")
         .subcommand_required(true)
         .arg_required_else_help(true)
-        .after_help(CONVERT_HELP)
+        .after_help(CONVERT_HELP);
+    with_values(alloc, with_references(alloc, command)?)
+}
+
+// A command with the kinds for references.
+fn with_references<'a>(alloc: Global, command: Command<'a>) -> Result<Command<'a>, AllocError> {
+    command
         .subcommand(reference_kind(alloc, "ior", "Shows the text of a reference", IOR_HELP)?)?
         .subcommand(reference_kind(
             alloc,
             "corbaloc",
             "Writes a corbaloc in full, and its reference",
             CORBALOC_HELP,
-        )?)?
-        .subcommand(value_kind(
-            alloc,
-            "encode",
-            "Writes the octets of a value in JSON",
-            ENCODE_HELP,
-        )?)?
-        .subcommand(value_kind(
-            alloc,
-            "decode",
-            "Writes octets as a value in JSON",
-            DECODE_HELP,
-        )?
-        .arg(json_numbers_option(alloc))?)
+        )?)
+}
+
+// A command with the kinds for values.
+fn with_values<'a>(alloc: Global, command: Command<'a>) -> Result<Command<'a>, AllocError> {
+    let encode = value_kind(
+        alloc,
+        "encode",
+        "Writes the octets of a value in JSON",
+        ENCODE_HELP,
+    )?;
+    let decode = value_kind(
+        alloc,
+        "decode",
+        "Writes octets as a value in JSON",
+        DECODE_HELP,
+    )?
+    .arg(json_numbers_option(alloc))?;
+    command.subcommand(encode)?.subcommand(decode)
 }
 
 // A kind of `convert` for a reference, which may be told as JSON.

@@ -5,7 +5,7 @@ mod help;
 
 use crate::dump::help::DUMP_HELP;
 use crate::file_words::apart;
-use crate::form_words::{json_numbers_option, json_option, lines_of};
+use crate::form_words::{lines_of, with_lines};
 use crate::limit_words::{
     gathered_limit_of, gathered_limit_option, message_limit_of, message_limit_option,
 };
@@ -40,12 +40,11 @@ pub(crate) fn dump_command<'a>(alloc: Global) -> Result<Command<'a>, AllocError>
         .long("interface")
         .value_name("FILE")
         .help("The file of an interface, in JSON, by which bodies of Requests are shown");
-    Command::new(alloc, "dump")
+    let command = Command::new(alloc, "dump")
         .about("Shows each message of a file")
         .after_help(DUMP_HELP)
-        .arg(interface)?
-        .arg(json_option(alloc))?
-        .arg(json_numbers_option(alloc))?
+        .arg(interface)?;
+    with_lines(alloc, command)?
         .arg(message_limit_option(alloc))?
         .arg(gathered_limit_option(alloc))?
         .arg(file)

@@ -1,7 +1,7 @@
 //! The words of files that objects may have of their own: --interface and --answers, as FILE or
 //! KEY=FILE. A change here is one in docs/giopctl.md and tests/program too.
 
-ghost use Rattle.std.specs.Prelude.{◌≡◌, ◌≢◌, codes, IfErr, OnOk};
+ghost use Rattle.std.specs.Prelude.{◌≡◌, ◌≢◌, codes, option_map, IfErr, OnOk};
 
 use clap::{Arg, ArgAction, ArgMatches};
 use giop_ior::{CorbalocKind, corbaloc_from_text};
@@ -18,7 +18,10 @@ pub struct FileWord<'a> {
 
 impl FileWord<'_> {
     /// The key of its object, where it is of a single one.
-    pub(crate) fn key(&self) -> Option<&[u8]> {
+    pub fn key(&self) -> Option<&[u8]>
+        ensures { option_map (λ octets. octets.now) result
+            ≡ option_map (λ octets. octets.items) self.now.key }
+    {
         match &self.key {
             Some(key) => Some(key.as_slice()),
             None => None,

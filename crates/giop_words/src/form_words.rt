@@ -2,10 +2,10 @@
 //! --json-numbers. A change here is one in docs/giopctl.md and tests/program too.
 
 use clap::builder::ValueParser;
-use clap::{Arg, ArgAction, ArgMatches};
+use clap::{Arg, ArgAction, ArgMatches, Command};
 use giop_show::LineForm;
 use giop_types::NumberForm;
-use std::alloc::Global;
+use std::alloc::{AllocError, Global};
 
 /// The option of a command that may write lines of JSON.
 pub(crate) fn json_option<'a>(alloc: Global) -> Arg<'a> {
@@ -23,6 +23,16 @@ pub(crate) fn json_numbers_option<'a>(alloc: Global) -> Arg<'a> {
         .default_value("number")
         .value_parser(ValueParser::Names(&["number", "text"]))
         .help("With text, numbers in values beyond 2^53 - 1 are texts, which jq doesn't round")
+}
+
+/// A command with the options of how its lines are written.
+pub(crate) fn with_lines<'a>(
+    alloc: Global,
+    command: Command<'a>,
+) -> Result<Command<'a>, AllocError> {
+    command
+        .arg(json_option(alloc))?
+        .arg(json_numbers_option(alloc))
 }
 
 /// The form of the lines of a command that takes `--json` alone.

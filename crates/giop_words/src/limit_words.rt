@@ -1,5 +1,5 @@
 //! The options of what is held at most: --message-limit, --calls-limit and --gathered-limit. Their
-//! defaults are those of giop_session's `Limits`: change both. A change here is one in
+//! defaults are those of giop_end's `Limits`: change both. A change here is one in
 //! docs/giopctl.md and tests/program too.
 ghost use Rattle.std.specs.Prelude.{◌≤◌, ◌^◌, IfOk};
 

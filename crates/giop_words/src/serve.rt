@@ -5,7 +5,7 @@ ghost use Rattle.std.specs.Prelude.{◌≤◌, ◌^◌};
 mod help;
 
 use crate::file_words::{FileWord, Files, answers_option, apart_from, interface_option};
-use crate::form_words::{json_numbers_option, json_option, lines_of};
+use crate::form_words::{lines_of, with_lines};
 use crate::limit_words::limits_of;
 use crate::number_words::{number_option, short_number_of};
 use crate::serve::help::SERVE_HELP;
@@ -71,6 +71,27 @@ pub(crate) fn serve_command<'a>(alloc: Global) -> Result<Command<'a>, AllocError
     )
     .default_value("1")
     .value_parser(ValueParser::Unsigned(1, 65_535));
+    let command = Command::new(alloc, "serve")
+        .about("Answers the calls of one object")
+        .after_help(SERVE_HELP)
+        .arg(port)?
+        .arg(interface_option(alloc))?
+        .arg(answers_option(alloc))?;
+    let command = with_reference(alloc, with_key(alloc, command)?)?.arg(connections)?;
+    let command = with_lines(alloc, command)?.arg(stream_option(alloc))?;
+    with_sending(alloc, command)
+}
+
+// A command with the options of the object's key.
+fn with_key<'a>(alloc: Global, command: Command<'a>) -> Result<Command<'a>, AllocError> {
+    command
+        .arg(key_option(alloc))?
+        .arg(key_text_option(alloc))?
+        .group(key_group(alloc)?)
+}
+
+// A command with the options of the object's reference.
+fn with_reference<'a>(alloc: Global, command: Command<'a>) -> Result<Command<'a>, AllocError> {
     let ior_file = Arg::new(alloc, "ior-file")
         .long("ior-file")
         .value_name("FILE")
@@ -79,22 +100,7 @@ pub(crate) fn serve_command<'a>(alloc: Global) -> Result<Command<'a>, AllocError
         .long("type-id")
         .value_name("ID")
         .help("The object's type id, in place of the id that the interface has");
-    let command = Command::new(alloc, "serve")
-        .about("Answers the calls of one object")
-        .after_help(SERVE_HELP)
-        .arg(port)?
-        .arg(interface_option(alloc))?
-        .arg(answers_option(alloc))?
-        .arg(key_option(alloc))?
-        .arg(key_text_option(alloc))?
-        .group(key_group(alloc)?)?
-        .arg(ior_file)?
-        .arg(type_id)?
-        .arg(connections)?
-        .arg(json_option(alloc))?
-        .arg(json_numbers_option(alloc))?
-        .arg(stream_option(alloc))?;
-    with_sending(alloc, command)
+    command.arg(ior_file)?.arg(type_id)
 }
 
 fn key_option<'a>(alloc: Global) -> Arg<'a> {

@@ -11,7 +11,7 @@ use crate::ping::{ping_command, ping_task};
 use crate::serve::{ServeWords, serve_command, serve_task};
 use crate::trace::{TraceWords, trace_command, trace_task};
 use clap::error::ErrorKind;
-use clap::{Command, Error};
+use clap::{ArgMatches, Command, Error};
 use std::alloc::{AllocError, Global};
 
 /// What the command line asks for.
@@ -62,6 +62,14 @@ examples/calls.json
 /// are refused or ask for help or the version: then the error has the text to print.
 pub fn task_of<'a>(alloc: Global, words: &'a [String]) -> Result<Option<Task<'a>>, Error> {
     let matches = giopctl(alloc)?.try_get_matches_from(words)?;
+    match file_task(alloc, &matches)? {
+        Some(task) => Ok(Some(task)),
+        None => object_task(alloc, &matches),
+    }
+}
+
+// What is asked for of a file, if that is.
+fn file_task<'a>(alloc: Global, matches: &ArgMatches<'a>) -> Result<Option<Task<'a>>, Error> {
     if let Some(dump) = matches.subcommand_matches("dump") {
         return or_usage_error(alloc, dump_task(dump));
     }
@@ -73,6 +81,14 @@ pub fn task_of<'a>(alloc: Global, words: &'a [String]) -> Result<Option<Task<'a>
         let interfaces = file_words(alloc, trace, "interface")?;
         return or_usage_error(alloc, trace_task(trace, interfaces));
     }
+    match matches.subcommand_matches("convert") {
+        Some(convert) => or_usage_error(alloc, convert_task(convert)),
+        None => Ok(None),
+    }
+}
+
+// What is asked for of an object, if that is.
+fn object_task<'a>(alloc: Global, matches: &ArgMatches<'a>) -> Result<Option<Task<'a>>, Error> {
     if let Some(call) = matches.subcommand_matches("call") {
         let interfaces = file_words(alloc, call, "interface")?;
         return or_usage_error(alloc, call_task(call, interfaces, values_of(alloc, call)?));
@@ -83,13 +99,12 @@ pub fn task_of<'a>(alloc: Global, words: &'a [String]) -> Result<Option<Task<'a>
     if let Some(ping) = matches.subcommand_matches("ping") {
         return or_usage_error(alloc, ping_task(ping));
     }
-    if let Some(serve) = matches.subcommand_matches("serve") {
-        let interfaces = file_words(alloc, serve, "interface")?;
-        let answers = file_words(alloc, serve, "answers")?;
-        return or_usage_error(alloc, serve_task(serve, interfaces, answers));
-    }
-    match matches.subcommand_matches("convert") {
-        Some(convert) => or_usage_error(alloc, convert_task(convert)),
+    match matches.subcommand_matches("serve") {
+        Some(serve) => {
+            let interfaces = file_words(alloc, serve, "interface")?;
+            let answers = file_words(alloc, serve, "answers")?;
+            or_usage_error(alloc, serve_task(serve, interfaces, answers))
+        }
         None => Ok(None),
     }
 }
@@ -112,18 +127,32 @@ fn usage_error(alloc: Global, wrong: &str) -> Result<Error, AllocError> {
 }
 
 fn giopctl<'a>(alloc: Global) -> Result<Command<'a>, AllocError> {
-    Command::new(alloc, "giopctl")
+    let command = Command::new(alloc, "giopctl")
         .about(
             "Shows what GIOP messages, references and CDR values hold, checks sessions, calls and serves",
         )
         .version("0.1.0")
         .subcommand_required(true)
         .arg_required_else_help(true)
-        .after_help(STATUSES)
+        .after_help(STATUSES);
+    with_object_commands(alloc, with_file_commands(alloc, command)?)
+}
+
+// A command with those that read files.
+fn with_file_commands<'a>(alloc: Global, command: Command<'a>) -> Result<Command<'a>, AllocError> {
+    command
         .subcommand(dump_command(alloc)?)?
         .subcommand(check_command(alloc)?)?
         .subcommand(trace_command(alloc)?)?
-        .subcommand(convert_command(alloc)?)?
+        .subcommand(convert_command(alloc)?)
+}
+
+// A command with those that call objects, or serve them.
+fn with_object_commands<'a>(
+    alloc: Global,
+    command: Command<'a>,
+) -> Result<Command<'a>, AllocError> {
+    command
         .subcommand(call_command(alloc)?)?
         .subcommand(locate_command(alloc)?)?
         .subcommand(ping_command(alloc)?)?

@@ -3,7 +3,7 @@
 mod help;
 
 use crate::file_words::{FileWord, Files, apart, apart_from, interface_option};
-use crate::form_words::{json_numbers_option, json_option, lines_of};
+use crate::form_words::{lines_of, with_lines};
 use crate::limit_words::{message_limit_of, message_limit_option};
 use crate::task::Task;
 use crate::trace::help::TRACE_HELP;
@@ -32,12 +32,11 @@ pub(crate) fn trace_command<'a>(alloc: Global) -> Result<Command<'a>, AllocError
         "A file of what the client sent, or - for the standard input",
     );
     let server = Arg::new(alloc, "SERVER").help("A file of what the server sent, or -");
-    Command::new(alloc, "trace")
+    let command = Command::new(alloc, "trace")
         .about("Shows each call of a connection, and what it came to")
         .after_help(TRACE_HELP)
-        .arg(interface_option(alloc))?
-        .arg(json_option(alloc))?
-        .arg(json_numbers_option(alloc))?
+        .arg(interface_option(alloc))?;
+    with_lines(alloc, command)?
         .arg(message_limit_option(alloc))?
         .arg(client)?
         .arg(server)

@@ -1,5 +1,5 @@
 //! The JSON line of the fault that ended a session. Its text is `session_fault_json` in
-//! specs/CheckJson.antt; the numbers are giop_session's: change all three.
+//! specs/CheckJson.antt; the numbers are giop_end's: change all three.
 use giop_calls::CallFault;
 use giop_end::SessionFault;
 use giop_lines::{CdrFaultJson, WireFaultJson};

@@ -1,4 +1,4 @@
-//! The line of the fault that ended a session. The numbers are giop_session's: change both.
+//! The line of the fault that ended a session. The numbers are giop_end's: change both.
 use giop_end::SessionFault;
 use giop_lines::CdrFaultText;
 use std::fmt;

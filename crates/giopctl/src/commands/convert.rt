@@ -1,4 +1,4 @@
-//! `convert` over files and the standard output. What it prints is giop_commands'
+//! `convert` over files and the standard output. What it prints is giop_show's
 //! convert/reference.rt and convert/described.rt, over any writer.
 
 mod faults;

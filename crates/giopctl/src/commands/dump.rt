@@ -1,4 +1,4 @@
-//! `dump` over files and the standard output. What it prints is giop_commands' dump.rt, over any
+//! `dump` over files and the standard output. What it prints is giop_show's dump.rt, over any
 //! reader and writer.
 
 use crate::files::OUTPUT_BUFFER;

@@ -1,4 +1,4 @@
-//! `trace` over files and the standard output. What it prints is giop_commands' trace.rt, over any
+//! `trace` over files and the standard output. What it prints is giop_show's trace.rt, over any
 //! readers and writer.
 
 use crate::files::OUTPUT_BUFFER;
