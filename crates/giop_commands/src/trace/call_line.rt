@@ -9,20 +9,18 @@ ghost use Rattle.giop_commands.specs.TracedCalls.{answered_of};
 ghost use Rattle.giop_commands.specs.TracedJson.{call_line};
 ghost use Rattle.giop_commands.specs.TracedLines.{open_text, parts_text, request_text};
 
-use crate::call::table::brought_by;
 use crate::failure::Failure;
 use crate::form::LineForm;
-use crate::serve::table::request_ins;
 use crate::trace::answer_part::write_answer;
 use crate::trace::answered::{Answered, answered_by};
 use crate::trace::asked::{Asked, asked_of, request_in};
 use crate::trace::asked_part::write_asked;
 use crate::trace::json::write_call_json;
-use giop_lines::{EscapedText, IdText, OwnTargetText};
+use giop_lines::{IdText, append_escaped, append_id, append_target};
 use giop_msg::{Msg, ReplyBody, Request};
 use giop_trace::Flow;
-use giop_types::{Interface, NumberForm};
-use std::alloc::Global;
+use giop_types::{Interface, NumberForm, Parameter, Value, append_values};
+use std::alloc::{AllocError, Global};
 use std::io::Write;
 
 /// What is said of a call that has no answer and wasn't cancelled.
@@ -117,37 +115,74 @@ fn write_call_text<W: Write>(
         &told.flow.answer,
         told.answered,
     ) {
-        if let ReplyBody::NoException(_) = &reply.body {
-            return write_result(alloc, interface, told, request, &reply.body, writer);
+        if let ReplyBody::NoException(outs) = &reply.body {
+            return write_result(alloc, interface, told, request, outs.as_slice(), writer);
         }
     }
     write_parts(alloc, interface, told, writer)
 }
 
-// The line of a call that brought its outs, as most do, at once: each part by itself takes longer.
+// Writes the line of a call that brought its outs, as most do: whole, since each part by itself takes
+// longer.
 fn write_result<W: Write>(
     alloc: Global,
     interface: &Interface,
     told: &Told<'_>,
     request: &Request,
-    body: &ReplyBody,
+    outs: &[Value],
     writer: &mut W,
 ) -> Result<(), Failure>
     ensures { OnOk result (Appends (W.contents writer.old) (W.contents writer.new)
-        (ended (call_id_text told.now.id ++ (request_text told.now.numbers interface.now request.now
-        ++ (codes " Done 0 " ++ brought_by told.now.numbers interface.now request.now body.now))))) }
+        (ended (result_text told.now.numbers interface.now told.now.id request.now (map value_view outs.now)))) }
 {
-    let ins = request_ins(alloc, told.numbers, interface, request)?;
-    let outs = brought_by(alloc, told.numbers, interface, request, body)?;
-    let (id, target) = (IdText(told.id), OwnTargetText(&request.head.target));
-    let operation = EscapedText(request.head.operation.as_slice());
-    writeln!(
-        writer,
-        "{id} Asked {target} {operation} {} Done 0 {}",
-        ins.as_str(),
-        outs.as_str()
-    )?;
+    let mut line = String::with_capacity(alloc, 128)?;
+    append_result(alloc, interface, told.numbers, told.id, request, outs, &mut line)?;
+    line.push_str("\n")?;
+    writer.write_all(line.as_bytes())?;
     Ok(())
+}
+
+// Appends the line of a call that brought its outs.
+fn append_result(
+    alloc: Global,
+    interface: &Interface,
+    numbers: NumberForm,
+    id: Option<u32>,
+    request: &Request,
+    outs: &[Value],
+    line: &mut String,
+) -> Result<(), AllocError>
+{
+    append_id(line, id)?;
+    line.push_str(" Asked ")?;
+    append_target(line, &request.head.target)?;
+    line.push_str(" ")?;
+    append_escaped(line, request.head.operation.as_slice())?;
+    let ins = request.body.as_slice();
+    match request.head.operation_asked(interface) {
+        Some(operation) => {
+            let (of_ins, of_outs) = (operation.ins.as_slice(), operation.outs.as_slice());
+            append_values_of(alloc, numbers, of_ins, ins, of_outs, outs, line)
+        }
+        None => append_values_of(alloc, numbers, &[], ins, &[], outs, line),
+    }
+}
+
+// Appends the ins of a call and the outs that it brought.
+fn append_values_of(
+    alloc: Global,
+    numbers: NumberForm,
+    of_ins: &[Parameter],
+    ins: &[Value],
+    of_outs: &[Parameter],
+    outs: &[Value],
+    line: &mut String,
+) -> Result<(), AllocError>
+{
+    line.push_str(" ")?;
+    append_values(line, alloc, numbers, of_ins, ins)?;
+    line.push_str(" Done 0 ")?;
+    append_values(line, alloc, numbers, of_outs, outs)
 }
 
 // The line of any call, part by part.
