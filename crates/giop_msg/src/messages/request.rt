@@ -6,7 +6,8 @@ ghost use Rattle.giop_msg.specs.Messages.Outcome.{Checks};
 ghost use Rattle.giop_msg.specs.Messages.Request.{operation_asked, request};
 ghost use Rattle.giop_msg.specs.Messages.RequestAnswer.{DecodesRequest, FollowsRequest, IsRequestTold, IsWant, IsWholeWant, request_of_joined};
 
-use crate::messages::body::{no_memory, read_body};
+use crate::joined::no_memory;
+use crate::messages::body::read_body;
 use crate::messages::body_checking::check_body;
 use crate::messages::request_fault::RequestFault;
 use crate::request_head::{RequestHead, RequestHeadAt, view_head};

@@ -1,8 +1,8 @@
 use Rattle.std.proofs.Common.{IfOk, subst, sym}
-use Rattle.giop_session.specs.Acts.ClientCalls.{IsCall, call_fault}
-use Rattle.giop_session.specs.Calls.CallTable.{entry_at}
-use Rattle.giop_session.specs.Ends.View.{IsDriven, state_of}
-use Rattle.giop_session.specs.Hearing.ClientHears.{client_side}
+use Rattle.giop_end.specs.Acts.ClientCalls.{IsCall, call_fault}
+use Rattle.giop_table.specs.CallTable.{entry_at}
+use Rattle.giop_end.specs.Ends.View.{IsDriven, state_of}
+use Rattle.giop_end.specs.Hearing.ClientHears.{client_side}
 use Rattle.giop_session.specs.Runs.ClientRuns.{client_run}
 use Rattle.giop_session.specs.Runs.SideRuns.{SideIsGiven}
 use Rattle.giop_session.proofs.OnRuns.SeenLemmas.{acted_given}

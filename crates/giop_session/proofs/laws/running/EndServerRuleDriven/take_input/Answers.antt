@@ -1,8 +1,8 @@
 use Rattle.std.proofs.Common.{IfOk, subst, sym}
-use Rattle.giop_session.specs.Acts.ServerAnswers.{IsAnswer, answer_fault, question_of}
-use Rattle.giop_session.specs.Calls.CallTable.{entry_at}
-use Rattle.giop_session.specs.Ends.View.{IsDriven, state_of}
-use Rattle.giop_session.specs.Hearing.ServerHears.{server_side}
+use Rattle.giop_end.specs.Acts.ServerAnswers.{IsAnswer, answer_fault, question_of}
+use Rattle.giop_table.specs.CallTable.{entry_at}
+use Rattle.giop_end.specs.Ends.View.{IsDriven, state_of}
+use Rattle.giop_end.specs.Hearing.ServerHears.{server_side}
 use Rattle.giop_session.specs.Runs.ServerRuns.{server_run}
 use Rattle.giop_session.specs.Runs.SideRuns.{SideIsGiven}
 use Rattle.giop_session.proofs.OnRuns.SeenLemmas.{acted_given}
