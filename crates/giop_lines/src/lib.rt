@@ -23,8 +23,8 @@ mod server_entry;
 mod target;
 mod traced;
 
-pub use appending::{append_escaped, append_hex, append_id, append_target};
 pub use answered::{AnsweredLine, ConnectionLine, UnsentLine};
+pub use appending::{append_escaped, append_hex, append_id, append_target};
 pub use body::{InsLine, JoinedLine, UndecodedLine, UnjoinedLine};
 pub use cdr_fault::CdrFaultText;
 pub use client_entry::{ClientEntryLine, CompletionText, ReplyText};

@@ -57,7 +57,8 @@ pub fn append_values(
         }
         append_checked(text, alloc, numbers, &values[i], &parameters[i].desc)?;
     }
-    text.push_str("]")
+    text.push_str("]")?;
+    Ok(())
 }
 
 // Appends a value of a description; null where it is none.
