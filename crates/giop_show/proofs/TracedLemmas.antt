@@ -1,5 +1,5 @@
 -- Texts of the lines of `trace`.
-use Rattle.std.proofs.Common.{◌≡◌, ℕ, Bool, List, ◌++◌, Option, Some, codes, refl}
+use Rattle.std.proofs.Common.{◌≡◌, ℕ, Bool, false, List, ◌++◌, Option, Some, Ok, codes, refl}
 use Rattle.std.specs.Io.KnownBytes.{Appends}
 use Rattle.giop_trace.specs.declared.heard.Heard.{Heard}
 use Rattle.giop_show.specs.declared.form.LineForm.{LineForm}
@@ -13,7 +13,12 @@ use Rattle.giop_msg.specs.declared.messages.reply_body.ReplyBody.{ReplyBody}
 use Rattle.giop_msg.specs.declared.messages.reply_body.ReplyBody.TheVariants.{NoException, UserException, SystemException, Forward, ForwardPerm, NeedsAddressing}
 use Rattle.giop_msg.specs.declared.messages.request.Request.{Request}
 use Rattle.giop_show.specs.TracedJson.{body_json, result_json}
-use Rattle.giop_show.specs.TracedLines.{parts_text, request_text}
+use Rattle.giop_show.specs.TracedLines.{call_text, parts_text, result_text}
+use Rattle.giop_show.specs.TracedCalls.{answered_reply}
+use Rattle.giop_msg.specs.declared.kind.Kind.TheVariants as kind
+use Rattle.giop_msg.specs.Joined.{joined_from}
+use Rattle.giop_msg.specs.Messages.Reply.{reply}
+use Rattle.giop_msg.specs.Messages.RequestAnswer.{request_of_joined}
 use Rattle.giop_show.specs.Bodies.{brought_by}
 use Rattle.giop_show.specs.declared.trace.answered.Answered.TheVariants as answered
 use Rattle.giop_show.specs.declared.trace.asked.Asked.TheVariants as asked
@@ -47,5 +52,16 @@ told_lines form interface alone told waits over a b c still end first second =
 pub result_parts : (numbers : NumberForm) (interface : Interface) (id : Option ℕ) (flow : Flow) (unanswered : Unanswered) (request : Request) (m : Msg)
     (reply : Reply) (outs : List Tree) → flow.answer ≡ Some m → reply.body ≡ NoException outs
     → parts_text numbers interface id flow unanswered (asked.Request request) (Some (answered.Reply reply))
-    ≡ call_id_text id ++ (request_text numbers interface request ++ (codes " Done 0 " ++ brought_by numbers interface request reply.body))
+    ≡ result_text numbers interface id request outs
 result_parts numbers interface id flow unanswered request m reply outs came brought = rw (came, brought) refl
+
+-- a call whose Request and Reply are whole, and whose Request is decoded
+pub usual_call : (numbers : NumberForm) (interface : Interface) (id : Option ℕ) (flow : Flow) (unanswered : Unanswered) (one other : Msg)
+    (request : Request) → flow.asked ≡ Some one → flow.answer ≡ Some other → one.kind ≡ kind.Request → one.more ≡ false
+    → other.kind ≡ kind.Reply → other.more ≡ false → request_of_joined interface one.version one.order one.payload ≡ Ok request
+    → call_text numbers interface id flow unanswered
+    ≡ parts_text numbers interface id flow unanswered (asked.Request request) (Some (answered_reply other
+    ((reply interface (Some request) other.version).read (joined_from other.order other.payload))))
+unfolding call_text
+usual_call numbers interface id flow unanswered one other request came answered requested whole replied ended decoded =
+    rw (came, answered, requested, whole, decoded, replied, ended) refl

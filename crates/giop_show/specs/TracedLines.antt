@@ -4,9 +4,10 @@ use Rattle.std.specs.Fmt.{decimal}
 use Rattle.giop_cdr.specs.declared.fault.CdrFault.{CdrFault}
 use Rattle.giop_types.specs.declared.json.interface.Interface.{Interface}
 use Rattle.giop_types.specs.declared.json.number_form.NumberForm.{NumberForm}
+use Rattle.giop_types.specs.Values.Tree.{Tree}
 use Rattle.giop_msg.specs.declared.messages.completion.Completion.{Completion}
 use Rattle.giop_msg.specs.declared.messages.reply_body.ReplyBody.{ReplyBody}
-use Rattle.giop_msg.specs.declared.messages.reply_body.ReplyBody.TheVariants.{SystemException}
+use Rattle.giop_msg.specs.declared.messages.reply_body.ReplyBody.TheVariants.{NoException, SystemException}
 use Rattle.giop_msg.specs.declared.messages.request.Request.{Request}
 use Rattle.giop_msg.specs.declared.messages.request_fault.RequestFault.{RequestFault}
 use Rattle.giop_msg.specs.declared.msg.Msg.{Msg}
@@ -129,6 +130,12 @@ came_text answer none (Some m) None = none
 came_text answer none (Some m) (Some answered) = answer m answered
 
 -- ---- the line
+
+-- a call that brought its outs: ID Asked TARGET OPERATION INS Done 0 OUTS
+abbrev pub result_text : NumberForm → Interface → Option ℕ → Request → List Tree → List ℕ
+result_text numbers interface id request outs =
+    call_id_text id ++ (request_text numbers interface request ++
+    (codes " Done 0 " ++ brought_by numbers interface request (NoException outs)))
 
 -- a call whose messages are these
 abbrev pub parts_text : NumberForm → Interface → Option ℕ → Flow → Unanswered → Asked

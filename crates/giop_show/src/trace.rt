@@ -18,6 +18,7 @@ mod incoming;
 mod json;
 mod message_part;
 pub mod text;
+mod usual_line;
 
 use crate::failure::Failure;
 use crate::form::LineForm;

@@ -1,15 +1,12 @@
 //! The line of a call, in text or in JSON. It is `call_line` in specs/TracedJson.antt, of the texts of
 //! specs/TracedLines.antt: change both.
-ghost use Rattle.std.specs.Prelude.{◌≡◌, ◌++◌, IfOk, OnOk, codes, option_copied};
+ghost use Rattle.std.specs.Prelude.{◌≡◌, IfOk, OnOk, option_copied};
 ghost use Rattle.std.specs.Io.KnownBytes.{Appends};
-ghost use Rattle.giop_lines.specs.TraceLines.{call_id_text};
-ghost use Rattle.giop_show.specs.Bodies.{brought_by};
 ghost use Rattle.giop_show.specs.Dump.{ended};
 ghost use Rattle.giop_show.specs.TracedCalls.{answered_of};
 ghost use Rattle.giop_show.specs.TracedJson.{call_line};
-ghost use Rattle.giop_show.specs.TracedLines.{open_text, parts_text, request_text};
+ghost use Rattle.giop_show.specs.TracedLines.{open_text, parts_text};
 
-use crate::bodies::{brought_by, request_ins};
 use crate::failure::Failure;
 use crate::form::LineForm;
 use crate::trace::answer_part::write_answer;
@@ -17,8 +14,9 @@ use crate::trace::answered::{Answered, answered_by};
 use crate::trace::asked::{Asked, asked_of, request_in};
 use crate::trace::asked_part::write_asked;
 use crate::trace::json::write_call_json;
-use giop_lines::{EscapedText, IdText, OwnTargetText};
-use giop_msg::{Msg, ReplyBody, Request};
+use crate::trace::usual_line::usual_line;
+use giop_lines::IdText;
+use giop_msg::{Msg, Request};
 use giop_trace::Flow;
 use giop_types::{Interface, NumberForm};
 use std::alloc::Global;
@@ -53,8 +51,31 @@ pub struct Told<'a> {
 }
 
 /// Writes the line of a call: its id, what was asked, and what it came to.
-#[tactic(auto, unfolding(crate::specs::TracedLines::call_text, crate::specs::TracedJson::call_json))]
 pub fn write_call<W: Write>(
+    alloc: Global,
+    interface: &Interface,
+    form: LineForm,
+    id: Option<u32>,
+    flow: &Flow,
+    unanswered: Unanswered,
+    writer: &mut W,
+) -> Result<(), Failure>
+    ensures { OnOk result (Appends (W.contents writer.old) (W.contents writer.new)
+        (ended (call_line form interface.now id flow.now unanswered))) }
+{
+    if let LineForm::Text(numbers) = form {
+        if let Some(line) = usual_line(alloc, numbers, interface, id, flow)? {
+            writer.write_all(line.as_bytes())?;
+            return Ok(());
+        }
+    }
+    write_any(alloc, interface, form, id, flow, unanswered, writer)
+}
+
+// Writes the line of any call.
+#[inline(never)]
+#[tactic(auto, unfolding(crate::specs::TracedLines::call_text, crate::specs::TracedJson::call_json))]
+fn write_any<W: Write>(
     alloc: Global,
     interface: &Interface,
     form: LineForm,
@@ -77,13 +98,12 @@ pub fn write_call<W: Write>(
         unanswered,
     };
     match form {
-        LineForm::Text(_) => write_call_text(alloc, interface, &told, writer),
+        LineForm::Text(_) => write_parts(alloc, interface, &told, writer),
         LineForm::Json(_) => write_call_json(alloc, interface, &told, writer),
     }
 }
 
 // What the answer of a call is, if it has one.
-#[inline(always)]
 fn answered_of(
     alloc: Global,
     interface: &Interface,
@@ -99,58 +119,7 @@ fn answered_of(
     }
 }
 
-// The line of a call as text.
-#[tactic(auto, using(crate::proofs::TracedLemmas::result_parts))]
-fn write_call_text<W: Write>(
-    alloc: Global,
-    interface: &Interface,
-    told: &Told<'_>,
-    writer: &mut W,
-) -> Result<(), Failure>
-    ensures { OnOk result (Appends (W.contents writer.old) (W.contents writer.new)
-        (ended (parts_text told.now.numbers interface.now told.now.id told.now.flow.now
-        told.now.unanswered told.now.asked.now told.now.answered.now))) }
-{
-    if let (Asked::Request(request), Some(_), Some(Answered::Reply(reply))) = (
-        told.asked,
-        &told.flow.answer,
-        told.answered,
-    ) {
-        if let ReplyBody::NoException(_) = &reply.body {
-            return write_result(alloc, interface, told, request, &reply.body, writer);
-        }
-    }
-    write_parts(alloc, interface, told, writer)
-}
-
-// The line of a call that brought its outs, as most do, at once: each part by itself takes longer.
-fn write_result<W: Write>(
-    alloc: Global,
-    interface: &Interface,
-    told: &Told<'_>,
-    request: &Request,
-    body: &ReplyBody,
-    writer: &mut W,
-) -> Result<(), Failure>
-    ensures { OnOk result (Appends (W.contents writer.old) (W.contents writer.new)
-        (ended (call_id_text told.now.id ++ (request_text told.now.numbers interface.now request.now
-        ++ (codes " Done 0 " ++ brought_by told.now.numbers interface.now request.now body.now))))) }
-{
-    let ins = request_ins(alloc, told.numbers, interface, request)?;
-    let outs = brought_by(alloc, told.numbers, interface, request, body)?;
-    let (id, target) = (IdText(told.id), OwnTargetText(&request.head.target));
-    let operation = EscapedText(request.head.operation.as_slice());
-    writeln!(
-        writer,
-        "{id} Asked {target} {operation} {} Done 0 {}",
-        ins.as_str(),
-        outs.as_str()
-    )?;
-    Ok(())
-}
-
-// The line of any call, part by part.
-#[inline(never)]
+// The line of any call as text, part by part.
 fn write_parts<W: Write>(
     alloc: Global,
     interface: &Interface,

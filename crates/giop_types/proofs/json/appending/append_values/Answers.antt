@@ -1,7 +1,7 @@
 use Rattle.std.proofs.Common.{◌≡◌, ◌++◌, ◌∷◌, [], string_bytes, ◌∙◌, arith}
 use Rattle.std.proofs.lemmas.Grind.{common_steps}
 use Rattle.giop_types.proofs.JsonForms.ValuesTextLemmas.{none_left}
-use Rattle.giop_types.proofs.json.appending.values_to_text.Goals as goal
+use Rattle.giop_types.proofs.json.appending.append_values.Goals as goal
 
 pub returns : goal.returns
 returns c =
