@@ -148,7 +148,9 @@ fn flat(alloc: Global, message: &[u8]) -> Option<u64> {
     for _ in 0..MANY {
         let mut input = CdrIn::new(&source, Order::Little, 0);
         let longs = input.read_longs(alloc).ok()?;
-        let read = longs.iter().fold(0, |sum, n| mixed(sum, n.to_le_bytes()[0] as u64));
+        let read = longs
+            .iter()
+            .fold(0, |sum, n| mixed(sum, n.to_le_bytes()[0] as u64));
         sum = mixed(sum, read);
         let mut out = CdrOut::with_room(alloc, Order::Little, 0, message.len()).ok()?;
         out.write_longs(longs.as_slice()).ok()?;
