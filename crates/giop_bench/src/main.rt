@@ -25,7 +25,8 @@ use work::Work;
 
 const USAGE: &str = "usage: giop_bench mux
 or giop_bench frag-(24|512|4096)[-again] IDS, where IDS is 1, 64 or 1024
-or giop_bench types-(structs|longs)-(read|write), types-longs-both or types-json-(write|again)[-10],
+or giop_bench types-(structs|longs)-(read|write), types-longs-(both|flat),
+or giop_bench types-json-(write|again)[-10],
 or giop_bench msg-(add|put)-(read|write) or msg-cut or msg-join,
 or giop_bench ior-(text|corbaloc)[-10],
 or giop_bench session-calls[-512], session-pieces or session-loopback,

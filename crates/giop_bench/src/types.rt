@@ -1,6 +1,7 @@
 //! Values by their description: a sequence of 100,000 structs of an octet, a long long, a string of
 //! 16 octets, an unsigned short and a boolean, and a sequence of 100,000 longs, read and written;
-//! such longs in the machine's own order, read and written again, beside a copy and a tree.
+//! such longs in the machine's own order, read and written again as a value and as a list of
+//! numbers, beside a copy and a tree.
 //! And 10,000 and 100,000 such structs as JSON, written, and written and read again.
 //! `bench/types/twin.rs` does the same in plain Rust, but for what reads JSON.
 use crate::work::mixed;
@@ -137,6 +138,28 @@ fn both(alloc: Global, desc: &CheckedDesc, message: &[u8]) -> Option<u64> {
     Some(sum)
 }
 
+// Reads the longs of a message in little-endian order at once and writes them again, MANY times.
+fn flat(alloc: Global, message: &[u8]) -> Option<u64> {
+    let source = SliceOctets::new(message);
+    if message.len() > 1 << 62 {
+        return None;
+    }
+    let mut sum = 0;
+    for _ in 0..MANY {
+        let mut input = CdrIn::new(&source, Order::Little, 0);
+        let longs = input.read_longs(alloc).ok()?;
+        let read = longs
+            .iter()
+            .fold(0, |sum, n| mixed(sum, n.to_le_bytes()[0] as u64));
+        sum = mixed(sum, read);
+        let mut out = CdrOut::with_room(alloc, Order::Little, 0, message.len()).ok()?;
+        out.write_longs(longs.as_slice()).ok()?;
+        sum = mixed(sum, out.as_slice().last().map_or(0, |octet| *octet as u64));
+        sum = mixed(sum, out.as_slice().len() as u64);
+    }
+    Some(sum)
+}
+
 // Writes the value of a message as JSON, TIMES times, and reads it again where that is asked for.
 fn json(alloc: Global, desc: &CheckedDesc, message: &[u8], again: bool) -> Option<u64> {
     let source = SliceOctets::new(message);
@@ -164,6 +187,7 @@ pub fn run(alloc: Global, name: &str) -> Option<u64> {
         "json-write-10" | "json-again-10" => (a_struct(alloc).ok()?, structs(alloc, VALUES).ok()?),
         "longs-read" | "longs-write" => (Desc::Long, longs(alloc, Order::Big).ok()?),
         "longs-both" => (Desc::Long, longs(alloc, Order::Little).ok()?),
+        "longs-flat" => return flat(alloc, &longs(alloc, Order::Little).ok()?),
         _ => return None,
     };
     let desc = CheckedDesc::check(items(alloc, item).ok()?).ok()?;

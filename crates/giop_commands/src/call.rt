@@ -4,9 +4,9 @@ ghost use Rattle.std.specs.Prelude.{◌≡◌, [], ◌∷◌, IfOk, None, OnOk, 
 ghost use Rattle.std.specs.FinMap as finite;
 ghost use Rattle.std.specs.Io.KnownBytes.{Appends};
 ghost use Rattle.std.specs.List.{list_all};
-ghost use Rattle.giop_session.specs.Acts.Form.{IsForm};
-ghost use Rattle.giop_session.specs.Calls.Sending.{entry_of};
-ghost use Rattle.giop_session.specs.Pumping.{between};
+ghost use Rattle.giop_end.specs.Acts.Form.{IsForm};
+ghost use Rattle.giop_table.specs.Sending.{entry_of};
+ghost use Rattle.giop_end.specs.Pumping.{between};
 ghost use Rattle.giop_calls.specs.ClientTable.{is_closed};
 ghost use Rattle.giop_commands.specs.Acts.{outbox};
 ghost use Rattle.giop_commands.specs.Calling.{CallsAll, CallsOne, Converses, Talks, are_over, asked_of, client_hears, is_over, request_of};
@@ -29,16 +29,17 @@ pub mod words;
 
 use crate::call::calls::CallLine;
 use crate::call::given::Calling;
-use crate::failure::Failure;
-use crate::form::LineForm;
+use crate::session::broken::broken_status;
 use crate::session::ending::{Ending, ending_of};
 use crate::session::sending::send_all;
 use crate::session::{TURNS, goes_on, told, told_of, write_all_out, write_session};
-use crate::status::Status;
 use giop_calls::ClientEntry;
 use giop_cdr::OctetList;
+use giop_end::{ClientEnd, Form, SessionFault};
 use giop_msg::{Request, RequestHead, ServiceContexts, Target, Version};
-use giop_session::{ClientEnd, Form, SessionFault};
+use giop_show::failure::Failure;
+use giop_show::form::LineForm;
+use giop_show::status::Status;
 use giop_types::{Interface, NumberForm};
 use std::alloc::{AllocError, Global};
 use std::io::{Read, Write};
@@ -365,7 +366,7 @@ fn call_status(
         ≡ call_status refused end.now.fault end.now.calls.table) }
 {
     match refused {
-        Some(fault) => Ok(Status::broken_by(fault)),
+        Some(fault) => Ok(broken_status(fault)),
         None => own_status(alloc, end),
     }
 }
@@ -378,7 +379,7 @@ fn own_status(alloc: Global, end: &ClientEnd<'_>) -> Result<Status, Failure>
         return Ok(Status::Done);
     }
     Ok(match end.fault() {
-        Some(fault) => Status::broken_by(fault),
+        Some(fault) => broken_status(fault),
         None => Status::Refused,
     })
 }

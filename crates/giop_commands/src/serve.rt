@@ -2,10 +2,10 @@
 //! specs/Sessions.antt for what is printed: change both.
 ghost use Rattle.std.specs.Prelude.{◌≡◌, ◌++◌, IfOk, OnOk};
 ghost use Rattle.std.specs.Io.KnownBytes.{Appends};
-ghost use Rattle.giop_session.specs.Pumping.{between};
+ghost use Rattle.giop_end.specs.Pumping.{between};
 ghost use Rattle.giop_calls.specs.ServerTable.{is_closed};
 ghost use Rattle.giop_commands.specs.Acts.{outbox};
-ghost use Rattle.giop_commands.specs.Dump.{ended};
+ghost use Rattle.giop_show.specs.Dump.{ended};
 ghost use Rattle.giop_commands.specs.Endings.{Ends, ServesEnd};
 ghost use Rattle.giop_commands.specs.Serving.{AnswersAll, AnswersOne, Converses, desk, served_of, session};
 ghost use Rattle.giop_commands.specs.Sessions.{Serves, connection_in, serve_status, session_text, wire};
@@ -25,17 +25,18 @@ pub mod shown;
 pub mod streaming;
 pub mod table;
 
-use crate::failure::Failure;
-use crate::form::{LineForm, write_line};
 use crate::serve::answering::{Due, due_to, reply_to};
 use crate::serve::given::Serving;
 use crate::serve::in_turn::Passed;
+use crate::session::broken::broken_status;
 use crate::session::ending::{Ending, ending_of};
 use crate::session::sending::send_all;
 use crate::session::{TURNS, goes_on, told, told_of, write_session};
-use crate::status::Status;
+use giop_end::{ServerEnd, SessionFault};
 use giop_lines::{ConnectionJson, ConnectionLine};
-use giop_session::{ServerEnd, SessionFault};
+use giop_show::failure::Failure;
+use giop_show::form::{LineForm, write_line};
+use giop_show::status::Status;
 use giop_types::{Interface, NumberForm};
 use std::alloc::Global;
 use std::io::{Read, Write};
@@ -161,7 +162,7 @@ fn serve_status(fault: Option<SessionFault>) -> Status
 {
     match fault {
         Some(SessionFault::Closed) | None => Status::Done,
-        Some(fault) => Status::broken_by(fault),
+        Some(fault) => broken_status(fault),
     }
 }
 

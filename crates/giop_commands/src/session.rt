@@ -3,19 +3,19 @@
 //! specs/Sessions.antt: change both.
 ghost use Rattle.std.specs.Prelude.{◌≡◌, ◌≢◌, ◌⊎◌, [], false, Some, None, Ok, Err, IfOk, IfErr, OnOk};
 ghost use Rattle.std.specs.Io.KnownBytes.{Appends};
-ghost use Rattle.giop_session.specs.declared.session_fault.SessionFault.TheVariants.{NoMemory};
-ghost use Rattle.giop_session.specs.Hearing.Heard.{hears_by};
-ghost use Rattle.giop_session.specs.Pumping.{Writes, between};
-ghost use Rattle.giop_session.specs.Calls.SessionFaults.{error_message_of};
-ghost use Rattle.giop_commands.specs.declared.failure.Failure.TheVariants.{Memory};
+ghost use Rattle.giop_end.specs.declared.session_fault.SessionFault.TheVariants.{NoMemory};
+ghost use Rattle.giop_end.specs.Hearing.Heard.{hears_by};
+ghost use Rattle.giop_end.specs.Pumping.{Writes, between};
+ghost use Rattle.giop_end.specs.Ends.SessionFaults.{error_message_of};
+ghost use Rattle.giop_show.specs.declared.failure.Failure.TheVariants.{Memory};
 ghost use Rattle.giop_commands.specs.Check.{answer_of};
-ghost use Rattle.giop_commands.specs.Dump.{ended};
+ghost use Rattle.giop_show.specs.Dump.{ended};
 ghost use Rattle.giop_commands.specs.SessionLines.{session_fault_in};
 ghost use Rattle.giop_commands.specs.Sessions.{fault_text, session_text, told};
 ghost use Rattle.giop_commands.specs.Turns.{GoesOn, IsOfConnection, peer_octets};
 
 pub mod ahead;
-pub mod bodies;
+pub mod broken;
 pub mod ending;
 pub mod fault_json;
 pub mod fault_line;
@@ -26,12 +26,12 @@ pub mod table;
 pub mod target;
 pub mod untold;
 
-use crate::failure::Failure;
-use crate::form::{LineForm, write_line};
 use crate::session::fault_json::SessionFaultJson;
 use crate::session::fault_line::SessionFaultLine;
 use crate::session::table::{Tabled, write_table};
-use giop_session::{End, Hearing, PumpFault, SessionFault, turn, write_out};
+use giop_end::{End, Hearing, PumpFault, SessionFault, turn, write_out};
+use giop_show::failure::Failure;
+use giop_show::form::{LineForm, write_line};
 use giop_types::Interface;
 use std::alloc::Global;
 use std::io::{Read, Write};
@@ -47,7 +47,7 @@ pub fn goes_on<R: Hearing, I: Read, W: Write>(
     writer: &mut W,
 ) -> Result<bool, Failure>
     ensures goes { GoesOn (hears_by R.next R.closed R.gathering R.in_call R.breaks
-        (R.befalls end.old.interface.now))
+        (R.act_by end.old.interface.now))
         (between (I.remaining reader.old) (W.contents writer.old) end.old.outgoing end.old.framer
         end.old.calls end.old.fault)
         result

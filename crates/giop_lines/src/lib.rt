@@ -6,6 +6,7 @@
 #![tactic(auto)]
 
 mod answered;
+mod appending;
 mod body;
 mod cdr_fault;
 mod client_entry;
@@ -23,6 +24,7 @@ mod target;
 mod traced;
 
 pub use answered::{AnsweredLine, ConnectionLine, UnsentLine};
+pub use appending::{append_escaped, append_hex, append_id, append_target};
 pub use body::{InsLine, JoinedLine, UndecodedLine, UnjoinedLine};
 pub use cdr_fault::CdrFaultText;
 pub use client_entry::{ClientEntryLine, CompletionText, ReplyText};

@@ -5,6 +5,7 @@ pub mod FramerLemmas
 pub mod SplitLemmas
 pub mod ReadPiecesLemmas
 pub mod JoinedLemmas
+pub mod HeadLemmas
 pub mod TableLemmas
 pub mod BackLemmas
 pub mod CutLemmas

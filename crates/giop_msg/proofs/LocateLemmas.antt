@@ -4,7 +4,6 @@ use Rattle.std.specs.Int.{w32}
 use Rattle.giop_cdr.specs.declared.order.Order.{Order}
 use Rattle.giop_cdr.specs.Layout.{IsLawful, AreOctets, field, gives}
 use Rattle.giop_cdr.proofs.LayoutLemmas.{number_is, such_is, field_is, gives_is, unspelled}
-use Rattle.giop_msg.specs.declared.locate_reply_head.LocateReplyHead.{LocateReplyHead}
 use Rattle.giop_msg.specs.declared.version.Version.{Version}
 use Rattle.giop_msg.specs.declared.version.Version.TheVariants.{V10, V11, V12}
 use Rattle.giop_msg.specs.Locate.{AnyLocateRequest, located, locate_request, locate_status, locate_reply_head}
@@ -38,7 +37,3 @@ locate_reply_head_is version =
 pub request_unspelled : (version : Version) (request : AnyLocateRequest) → (locate_request version).fits request ≡ false
     → (order : Order) (at : ℕ) (octets : List ℕ) → AreOctets octets → (locate_request version).spells order at request octets → ⊥
 request_unspelled version = unspelled (locate_request_is version)
-
-pub reply_unspelled : (version : Version) (head : LocateReplyHead) → (locate_reply_head version).fits head ≡ false
-    → (order : Order) (at : ℕ) (octets : List ℕ) → AreOctets octets → (locate_reply_head version).spells order at head octets → ⊥
-reply_unspelled version = unspelled (locate_reply_head_is version)

@@ -1,13 +1,12 @@
 -- The tables of a Reply's head are lawful.
-use Rattle.std.proofs.Common.{◌≡◌, ℕ, false, List, refl}
+use Rattle.std.proofs.Common.{refl}
 use Rattle.std.specs.Int.{w32}
-use Rattle.giop_cdr.specs.declared.order.Order.{Order}
-use Rattle.giop_cdr.specs.Layout.{IsLawful, AreOctets, field, gives}
-use Rattle.giop_cdr.proofs.LayoutLemmas.{number_is, such_is, field_is, gives_is, unspelled}
+use Rattle.giop_cdr.specs.Layout.{IsLawful, field, gives}
+use Rattle.giop_cdr.proofs.LayoutLemmas.{number_is, such_is, field_is, gives_is}
 use Rattle.giop_ior.proofs.ServiceContextLemmas.{service_contexts_are}
 use Rattle.giop_msg.specs.declared.version.Version.{Version}
 use Rattle.giop_msg.specs.declared.version.Version.TheVariants.{V10, V11, V12}
-use Rattle.giop_msg.specs.ReplyHead.{AnyReplyHead, reply_status, reply_head_1_2, early_reply_head, reply_head}
+use Rattle.giop_msg.specs.ReplyHead.{reply_status, reply_head_1_2, early_reply_head, reply_head}
 
 reply_status_is : (version : Version) → IsLawful (reply_status version)
 unfolding reply_status
@@ -34,8 +33,3 @@ unfolding reply_head
 reply_head_is V10 = early_reply_head_is V10
 reply_head_is V11 = early_reply_head_is V11
 reply_head_is V12 = reply_head_1_2_is
-
--- a head that doesn't fit is spelled by no octets
-pub reply_unspelled : (version : Version) (head : AnyReplyHead) → (reply_head version).fits head ≡ false → (order : Order) (at : ℕ) (octets : List ℕ)
-    → AreOctets octets → (reply_head version).spells order at head octets → ⊥
-reply_unspelled version = unspelled (reply_head_is version)

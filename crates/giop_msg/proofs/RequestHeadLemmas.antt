@@ -2,9 +2,8 @@
 use Rattle.std.proofs.Common.{◌≡◌, ℕ, ◌==◌, ◌||◌, Bool, true, false, List, [], ◌<◌, ◌^◌, refl, sym, ap, subst, arith}
 use Rattle.std.proofs.lemmas.Bool.{eqb-true}
 use Rattle.std.specs.Int.{w8, w32}
-use Rattle.giop_cdr.specs.declared.order.Order.{Order}
-use Rattle.giop_cdr.specs.Layout.{IsLawful, AreOctets, number, boolean, octets, text, such, field, gives, reserved}
-use Rattle.giop_cdr.proofs.LayoutLemmas.{number_is, boolean_is, octets_is, text_is, such_is, field_is, gives_is, reserved_is, unspelled}
+use Rattle.giop_cdr.specs.Layout.{IsLawful, number, boolean, octets, text, such, field, gives, reserved}
+use Rattle.giop_cdr.proofs.LayoutLemmas.{number_is, boolean_is, octets_is, text_is, such_is, field_is, gives_is, reserved_is}
 use Rattle.giop_ior.specs.declared.references.service_context.ServiceContext.{ServiceContext}
 use Rattle.giop_ior.specs.ServiceContext.{service_contexts}
 use Rattle.giop_ior.proofs.ServiceContextLemmas.{service_contexts_are}
@@ -102,11 +101,6 @@ unfolding request_head
 request_head_is V10 = early_request_head_is V10
 request_head_is V11 = early_request_head_is V11
 request_head_is V12 = request_head_1_2_is
-
--- a head that doesn't fit is spelled by no octets
-pub head_unspelled : (version : Version) (head : Head) → (request_head version).fits head ≡ false → (order : Order) (at : ℕ) (octets : List ℕ)
-    → AreOctets octets → (request_head version).spells order at head octets → ⊥
-head_unspelled version = unspelled (request_head_is version)
 
 -- ---- the parts of a head hold, so it does
 

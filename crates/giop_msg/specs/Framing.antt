@@ -1,11 +1,12 @@
 -- What a framer holds of its unread octets: a large message that comes in parts, by itself, and
 -- the octets behind it (CORBA 3.3 Part 2, 9.4.1).
-use Rattle.std.specs.Prelude.{◌≡◌, ℕ, ◌<◌, ◌≤◌, ◌^◌, List, [], ◌++◌, Option, None, Some, length}
+use Rattle.std.specs.Prelude.{◌≡◌, ℕ, ◌<◌, ◌≤◌, ◌^◌, List, [], ◌++◌, Option, None, Some, Result, Err, IfOk, IfErr, IfSome, IfNone, OnErr, length}
+use Rattle.giop_msg.specs.declared.fault.WireFault.{WireFault}
 use Rattle.giop_msg.specs.declared.framer.begun.Begun.{Begun}
 use Rattle.giop_msg.specs.declared.header.Header.{Header}
 use Rattle.giop_msg.specs.declared.msg.Msg.{Msg}
 use Rattle.giop_msg.specs.Header.{header_octets, header_fault}
-use Rattle.giop_msg.specs.Stream.{Unread}
+use Rattle.giop_msg.specs.Stream.{BeginsWithFault, IsRefusal, TakesMessage, Unread, Waits}
 
 -- the octets of the payload that came so far
 abbrev pub payload_so_far : Begun → List ℕ
@@ -42,3 +43,14 @@ with_begun (Some b) behind = record behind { octets = begun_octets b ++ behind.o
 abbrev pub CanStand : Option Begun → Unread → Type 0
 CanStand None behind = Unit {0}
 CanStand (Some b) behind = IsBefore b behind
+
+-- a call takes the first message off unread octets, or leaves them as they are
+pub record TakesFirst (old : Unread) (result : Result (Option Msg) WireFault)
+    (new : Unread) : Type 0 where
+  -- what is returned was at the front; None leaves what is no message yet
+  pub found : IfOk result (λ o. IfSome o (λ m. TakesMessage old m new))
+  pub waits : IfOk result (λ o. IfNone o (Waits old × (new ≡ old)))
+  -- a fault at the front is returned, and only such a one, or out of memory for a message
+  pub exact : (e : WireFault) → BeginsWithFault old.limit old.octets e → result ≡ Err e
+  pub err : IfErr result (IsRefusal old)
+  pub kept : OnErr result (new ≡ old)

@@ -3,6 +3,8 @@ pub mod Version
 pub mod Fault
 pub mod Header
 pub mod Joined
+pub mod Heads
+pub mod Status
 pub mod Meaning
 pub mod Target
 pub mod RequestId

@@ -1,13 +1,13 @@
 -- LocateRequest and LocateReply (CORBA 3.3 Part 2, 9.4.5 and 9.4.6), which begin at offset 12: the
 -- tables of their fields.
-use Rattle.std.specs.Prelude.{ℕ, nat_le}
+use Rattle.std.specs.Prelude.{ℕ}
 use Rattle.std.specs.Int.{w32}
-use Rattle.giop_cdr.specs.declared.fault.CdrKind.TheVariants.{BadLabel}
-use Rattle.giop_cdr.specs.Layout.{Layout, number, such, field, gives}
+use Rattle.giop_cdr.specs.Layout.{Layout, number, field, gives}
 use Rattle.giop_msg.specs.declared.locate_reply_head.LocateReplyHead.{LocateReplyHead}
 use Rattle.giop_msg.specs.declared.locate_request.LocateRequest.{LocateRequest}
 use Rattle.giop_msg.specs.declared.version.Version.{Version}
 use Rattle.giop_msg.specs.declared.version.Version.TheVariants.{V10, V11, V12}
+use Rattle.giop_msg.specs.Status.{status_up_to}
 use Rattle.giop_msg.specs.Target.{AnyTarget, target_layout, object_key}
 
 -- a LocateRequest as contracts see it, wherever its octets lie
@@ -35,8 +35,7 @@ last_locate_status V12 = 5
 
 -- an unsigned long that is a locate status
 unfoldable pub locate_status : Version → Layout ℕ
-locate_status version = such
-    (λ status. nat_le status (last_locate_status version)) 4 BadLabel (number w32)
+locate_status version = status_up_to (last_locate_status version)
 
 -- the fields of a LocateReply before its body, in their order
 unfoldable pub locate_reply_head : Version → Layout LocateReplyHead

@@ -1,11 +1,11 @@
 //! The joined octets of a message: its octets from offset 12 on, and those of its Fragments behind
 //! their request ids (9.4.9). Here is where they begin, and where a body in them does.
 ghost use Rattle.std.specs.Prelude.{◌≡◌, IfOk};
-ghost use Rattle.giop_msg.specs.Joined.{body_place};
+ghost use Rattle.giop_msg.specs.Joined.{body_place, no_memory};
 ghost use Rattle.giop_msg.specs.Messages.Outcome.{joined_into};
 
 use crate::version::Version;
-use giop_cdr::{CdrIn, CdrOut, Octets, Order};
+use giop_cdr::{CdrFault, CdrIn, CdrKind, CdrOut, Octets, Order};
 use std::alloc::{AllocError, Global};
 
 // As many octets as most messages have, so that they are written without growing.
@@ -26,5 +26,15 @@ pub(crate) fn body_place<S: Octets>(version: Version, input: &CdrIn<S>) -> usize
     match version {
         Version::V10 | Version::V11 => input.position(),
         Version::V12 => input.place::<8>(),
+    }
+}
+
+/// Out of memory, reported of a message as a whole: at offset 12, where its joined octets begin.
+pub(crate) fn no_memory() -> CdrFault
+    ensures { result ≡ no_memory }
+{
+    CdrFault {
+        at: 12,
+        kind: CdrKind::NoMemory,
     }
 }

@@ -2,17 +2,17 @@
 //! order of the fields: change them together.
 #![tactic(auto, unfolding(crate::specs::Locate::locate_reply_head, crate::specs::Locate::locate_status, giop_cdr::specs::Layout::field, giop_cdr::specs::Layout::such, giop_cdr::specs::Layout::number, giop_cdr::specs::Layout::gives, giop_cdr::specs::Reading::Values::such_at))]
 
-ghost use Rattle.std.specs.Prelude.{◌≡◌, ◌≤◌, ◌^◌, ◌↔◌, length, false, true, ℕ, List, Ok, IfOk, IsErrOf, OnOk};
-ghost use Rattle.giop_cdr.specs.declared.order.Order.{Order};
-ghost use Rattle.giop_cdr.specs.Layout.{AreOctets};
+ghost use Rattle.std.specs.Prelude.{◌≡◌, ◌≤◌, ◌^◌, length};
 ghost use Rattle.giop_cdr.specs.Reading.Outcome.{Exactly};
-ghost use Rattle.giop_cdr.specs.RoundTrip.{IsReadBack};
-ghost use Rattle.giop_cdr.specs.Writing.Outcome.{Writes, Appends};
-ghost use Rattle.giop_msg.specs.Joined.{BeginsWith, head_of_joined, right_behind};
-ghost use Rattle.giop_msg.specs.Locate.{last_locate_status, locate_reply_head, locate_status};
+ghost use Rattle.giop_msg.specs.Heads.{ViewsHead, WritesBy};
+ghost use Rattle.giop_msg.specs.Joined.{right_behind};
+ghost use Rattle.giop_msg.specs.Locate.{last_locate_status, locate_reply_head};
 
+use crate::laid_out;
+use crate::laid_out::LaidOut;
+use crate::status::read_status;
 use crate::version::Version;
-use giop_cdr::{CdrFault, CdrIn, CdrKind, CdrOut, EncodeFault, Octets, Order};
+use giop_cdr::{CdrFault, CdrIn, CdrOut, EncodeFault, Octets, Order};
 use std::alloc::AllocError;
 
 /// What a LocateReply says before the octets behind its status (9.4.6).
@@ -39,18 +39,8 @@ impl LocateReplyHead {
         order: Order,
     ) -> Result<(LocateReplyHead, usize), CdrFault>
         requires { length (S.octets octets.now) ≤ 2 ^ 62 }
-        // What is returned is what the octets begin with, and what they begin with is returned.
-        ensures found { IfOk result (λ x.
-            BeginsWith (locate_reply_head version) right_behind order
-            (S.octets octets.now) x.0 x.1) }
-        ensures only { (head : _) (behind : _)
-            → BeginsWith (locate_reply_head version) right_behind order
-            (S.octets octets.now) head behind
-            → result ≡ Ok (head, behind) }
-
-        // Which refusal it is.
-        ensures exact { result
-            ≡ head_of_joined (locate_reply_head version) right_behind order (S.octets octets.now) }
+        ensures { ViewsHead (locate_reply_head version) right_behind order
+            (S.octets octets.now) result }
     {
         let mut input = CdrIn::new(octets, order, 12);
         let head = read_head(version, &mut input)?;
@@ -61,39 +51,17 @@ impl LocateReplyHead {
     pub fn is_writable(&self) -> bool
         ensures { result ≡ (locate_reply_head self.now.version).fits self.now }
     {
-        self.status <= last_locate_status(self.version)
+        self.fits()
     }
 
     /// Writes the head: the fields in their order.
     ///
     /// Refused as Unfit where `is_writable` is false, and then no octets spell the head; else as
     /// NoMemory when out of memory. The output is then as it was.
-    #[tactic(auto, using(crate::proofs::LocateLemmas::reply_unspelled))]
     pub fn write(&self, out: &mut CdrOut) -> Result<(), EncodeFault>
-        ensures value { Writes out.old result out.new
-            ((locate_reply_head self.now.version).written self.now out.old) }
-        ensures err { IsErrOf result EncodeFault.Unfit
-            ↔ ((locate_reply_head self.now.version).fits self.now ≡ false) }
-        ensures unfit { IsErrOf result EncodeFault.Unfit
-            → (order : Order) (at : ℕ) (octets : List ℕ)
-            → AreOctets octets
-            → (locate_reply_head self.now.version).spells order at self.now octets → ⊥ }
-
-        // What was appended is in the ranges of its types, spells the head, and is read as it
-        // again, whatever octets follow.
-        ensures held { OnOk result ((locate_reply_head self.now.version).holds self.now) }
-        ensures back { OnOk result (IsReadBack (locate_reply_head self.now.version).spells
-            (locate_reply_head self.now.version).read self.now out.old out.new) }
+        ensures { WritesBy (locate_reply_head self.now.version) self.now out.old result out.new }
     {
-        if !self.is_writable() {
-            return Err(EncodeFault::Unfit);
-        }
-        let point = out.checkpoint();
-        if append_head(self, out).is_err() {
-            out.back_to(point);
-            return Err(EncodeFault::NoMemory);
-        }
-        Ok(())
+        laid_out::write(self, out)
     }
 }
 
@@ -107,21 +75,6 @@ fn last_locate_status(version: Version) -> u32
     }
 }
 
-// Reads a locate status, which the version must have.
-fn read_status<S: Octets>(version: Version, input: &mut CdrIn<S>) -> Result<u32, CdrFault>
-    ensures { Exactly result input.new ((locate_status version).read input.old) }
-{
-    let at = input.place::<4>();
-    let status = input.read_ulong()?;
-    if status > last_locate_status(version) {
-        return Err(CdrFault {
-            at,
-            kind: CdrKind::BadLabel,
-        });
-    }
-    Ok(status)
-}
-
 // Reads the fields in their order.
 pub(crate) fn read_head<S: Octets>(
     version: Version,
@@ -130,7 +83,7 @@ pub(crate) fn read_head<S: Octets>(
     ensures { Exactly result input.new ((locate_reply_head version).read input.old) }
 {
     let id = input.read_ulong()?;
-    let status = read_status(version, input)?;
+    let status = read_status(last_locate_status(version), input)?;
     Ok(LocateReplyHead {
         version,
         id,
@@ -138,15 +91,19 @@ pub(crate) fn read_head<S: Octets>(
     })
 }
 
-// Appends the fields in their order. Out of memory, a part of them is left.
-#[tactic(auto, unfolding(crate::specs::Locate::locate_reply_head, crate::specs::Locate::locate_status, giop_cdr::specs::Layout::field, giop_cdr::specs::Layout::such, giop_cdr::specs::Layout::number, giop_cdr::specs::Layout::gives), using(giop_cdr::proofs::Writing::WriterLemmas::grows_then, giop_cdr::proofs::Writing::WriterLemmas::grows_not))]
-pub(crate) fn append_head(head: &LocateReplyHead, out: &mut CdrOut) -> Result<(), AllocError>
-    requires { (locate_reply_head head.now.version).fits head.now ≡ true }
-    ensures written { Appends out.old result out.new
-        ((locate_reply_head head.now.version).written head.now out.old) }
-    ensures held { OnOk result ((locate_reply_head head.now.version).holds head.now) }
-{
-    out.write_ulong(head.id)?;
-    out.write_ulong(head.status)?;
-    Ok(())
+impl LaidOut for LocateReplyHead {
+    ghost use Rattle.giop_msg.specs.Locate.{locate_reply_head};
+
+    ghost layout = { λ head. locate_reply_head head.version };
+
+    fn fits(&self) -> bool {
+        self.status <= last_locate_status(self.version)
+    }
+
+    #[tactic(auto, unfolding(crate::specs::Locate::locate_reply_head, crate::specs::Locate::locate_status, giop_cdr::specs::Layout::field, giop_cdr::specs::Layout::such, giop_cdr::specs::Layout::number, giop_cdr::specs::Layout::gives), using(giop_cdr::proofs::Writing::WriterLemmas::grows_then, giop_cdr::proofs::Writing::WriterLemmas::grows_not))]
+    fn append(&self, out: &mut CdrOut) -> Result<(), AllocError> {
+        out.write_ulong(self.id)?;
+        out.write_ulong(self.status)?;
+        Ok(())
+    }
 }

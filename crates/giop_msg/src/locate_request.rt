@@ -2,17 +2,18 @@
 //! the order of the fields: change them together.
 #![tactic(auto, unfolding(crate::specs::Locate::locate_request, crate::specs::Locate::located, giop_cdr::specs::Layout::field, giop_cdr::specs::Layout::number, giop_cdr::specs::Layout::gives))]
 
-ghost use Rattle.std.specs.Prelude.{◌≡◌, ◌≤◌, ◌^◌, ◌⊎◌, ◌↔◌, length, false, true, ℕ, List, Ok, Err, IfOk, IfErr, IsOk, IsErrOf, OnOk};
-ghost use Rattle.giop_cdr.specs.declared.order.Order.{Order};
-ghost use Rattle.giop_cdr.specs.Layout.{AreOctets};
+ghost use Rattle.std.specs.Prelude.{◌≡◌, ◌≤◌, ◌^◌, ◌⊎◌, length, true, Ok, Err, IfOk, IfErr, IsOk, OnOk};
+ghost use Rattle.giop_cdr.specs.Ending.{ended};
 ghost use Rattle.giop_cdr.specs.Reading.Outcome.{Exactly};
-ghost use Rattle.giop_cdr.specs.RoundTrip.{IsReadBack};
-ghost use Rattle.giop_cdr.specs.Writing.Outcome.{Writes, Appends};
+ghost use Rattle.giop_cdr.specs.Writing.Outcome.{Appends};
+ghost use Rattle.giop_msg.specs.Heads.{WritesBy};
 ghost use Rattle.giop_msg.specs.Joined.{AreWhole, no_memory, whole_of_joined};
 ghost use Rattle.giop_msg.specs.Locate.{located, locate_request};
-ghost use Rattle.giop_msg.specs.Messages.Outcome.{IsTold, joined_into};
+ghost use Rattle.giop_msg.specs.Messages.Outcome.{EncodesMessage, IsTold};
 
-use crate::joined::joined_output;
+use crate::joined::{joined_output, no_memory};
+use crate::laid_out;
+use crate::laid_out::LaidOut;
 use crate::target::{Target, TargetAt};
 use crate::target_reading::{view_object_key, view_target};
 use crate::target_writing::{append_key, append_target, is_writable_key, is_writable_target};
@@ -95,10 +96,7 @@ impl LocateRequest {
     {
         let request = LocateRequest::view(octets, version, order)?;
         let Ok(request) = request.to_owned(alloc) else {
-            return Err(CdrFault {
-                at: 12,
-                kind: CdrKind::NoMemory,
-            });
+            return Err(no_memory());
         };
         Ok(request)
     }
@@ -109,62 +107,29 @@ impl LocateRequest {
     pub fn is_writable(&self) -> bool
         ensures { result ≡ (locate_request self.now.version).fits self.now }
     {
-        match self.version {
-            Version::V10 | Version::V11 => is_writable_key(&self.target),
-            Version::V12 => is_writable_target(&self.target),
-        }
+        self.fits()
     }
 
     /// Writes the LocateRequest: the fields in their order.
     ///
     /// Refused as Unfit where `is_writable` is false, and then no octets spell it; else as NoMemory
     /// when out of memory. The output is then as it was.
-    #[tactic(auto, using(crate::proofs::LocateLemmas::request_unspelled))]
     pub fn write(&self, out: &mut CdrOut) -> Result<(), EncodeFault>
-        ensures value { Writes out.old result out.new
-            ((locate_request self.now.version).written self.now out.old) }
-        ensures err { IsErrOf result EncodeFault.Unfit
-            ↔ ((locate_request self.now.version).fits self.now ≡ false) }
-        ensures unfit { IsErrOf result EncodeFault.Unfit
-            → (order : Order) (at : ℕ) (octets : List ℕ)
-            → AreOctets octets
-            → (locate_request self.now.version).spells order at self.now octets → ⊥ }
-
-        // What was appended is in the ranges of its types, spells the LocateRequest, and is
-        // read as it again, whatever octets follow.
-        ensures held { OnOk result ((locate_request self.now.version).holds self.now) }
-        ensures back { OnOk result (IsReadBack (locate_request self.now.version).spells
-            (locate_request self.now.version).read self.now out.old out.new) }
+        ensures { WritesBy (locate_request self.now.version) self.now out.old result out.new }
     {
-        if !self.is_writable() {
-            return Err(EncodeFault::Unfit);
-        }
-        let point = out.checkpoint();
-        if append_request(self, out).is_err() {
-            out.back_to(point);
-            return Err(EncodeFault::NoMemory);
-        }
-        Ok(())
+        laid_out::write(self, out)
     }
 
     /// The joined octets of the LocateRequest, in a byte order: the fields in their order.
     ///
     /// Refused as Unfit where `is_writable` is false, and then no octets spell it; else as NoMemory
     /// when out of memory.
-    #[tactic(auto, using(crate::proofs::LocateLemmas::request_unspelled))]
+    #[tactic(auto, unfolding(giop_cdr::specs::Ending::ended), using(crate::proofs::LocateLemmas::request_unspelled))]
     pub fn encode(&self, alloc: Global, order: Order) -> Result<Vec<u8>, EncodeFault>
-        ensures value { IfOk result (λ octets. octets.items
-            ≡ ((locate_request self.now.version).written self.now (joined_into order)).octets) }
-        ensures err { IsErrOf result EncodeFault.Unfit
-            ↔ ((locate_request self.now.version).fits self.now ≡ false) }
-        ensures unfit { IsErrOf result EncodeFault.Unfit
-            → (order : Order) (at : ℕ) (octets : List ℕ)
-            → AreOctets octets
-            → (locate_request self.now.version).spells order at self.now octets → ⊥ }
+        ensures encoded { EncodesMessage (ended (locate_request self.now.version)) self.now order
+            result }
 
-        // What was written is in the ranges of its types, and is read as the LocateRequest again.
-        ensures held { IfOk result (λ octets.
-            (locate_request self.now.version).holds self.now) }
+        // What was written is read as the LocateRequest again.
         ensures back { IfOk result (λ octets.
             whole_of_joined (locate_request self.now.version) order octets.items ≡ Ok self.now) }
     {
@@ -174,7 +139,7 @@ impl LocateRequest {
         let Ok(mut out) = joined_output(alloc, order) else {
             return Err(EncodeFault::NoMemory);
         };
-        if append_request(self, &mut out).is_err() {
+        if self.append(&mut out).is_err() {
             return Err(EncodeFault::NoMemory);
         }
         Ok(out.into_bytes())
@@ -236,15 +201,22 @@ fn append_located(version: Version, target: &Target, out: &mut CdrOut) -> Result
     Ok(())
 }
 
-// Appends the fields in their order. Out of memory, a part of them is left.
-#[tactic(auto, unfolding(crate::specs::Locate::locate_request, giop_cdr::specs::Layout::field, giop_cdr::specs::Layout::number, giop_cdr::specs::Layout::gives), using(giop_cdr::proofs::Writing::WriterLemmas::grows_then, giop_cdr::proofs::Writing::WriterLemmas::grows_not))]
-fn append_request(request: &LocateRequest, out: &mut CdrOut) -> Result<(), AllocError>
-    requires { (locate_request request.now.version).fits request.now ≡ true }
-    ensures written { Appends out.old result out.new
-        ((locate_request request.now.version).written request.now out.old) }
-    ensures held { OnOk result ((locate_request request.now.version).holds request.now) }
-{
-    out.write_ulong(request.id)?;
-    append_located(request.version, &request.target, out)?;
-    Ok(())
+impl LaidOut for LocateRequest {
+    ghost use Rattle.giop_msg.specs.Locate.{locate_request};
+
+    ghost layout = { λ request. locate_request request.version };
+
+    fn fits(&self) -> bool {
+        match self.version {
+            Version::V10 | Version::V11 => is_writable_key(&self.target),
+            Version::V12 => is_writable_target(&self.target),
+        }
+    }
+
+    #[tactic(auto, unfolding(crate::specs::Locate::locate_request, giop_cdr::specs::Layout::field, giop_cdr::specs::Layout::number, giop_cdr::specs::Layout::gives), using(giop_cdr::proofs::Writing::WriterLemmas::grows_then, giop_cdr::proofs::Writing::WriterLemmas::grows_not))]
+    fn append(&self, out: &mut CdrOut) -> Result<(), AllocError> {
+        out.write_ulong(self.id)?;
+        append_located(self.version, &self.target, out)?;
+        Ok(())
+    }
 }

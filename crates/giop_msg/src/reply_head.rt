@@ -2,15 +2,17 @@
 //! reply_head_writing.rt writes it, in the order of the fields: change them together.
 #![tactic(auto, unfolding(crate::specs::ReplyHead::reply_head, crate::specs::ReplyHead::reply_head_1_2, crate::specs::ReplyHead::early_reply_head, crate::specs::ReplyHead::reply_status, giop_ior::specs::ServiceContext::service_contexts, giop_ior::specs::ServiceContext::service_context, giop_cdr::specs::Layout::field, giop_cdr::specs::Layout::such, giop_cdr::specs::Layout::number, giop_cdr::specs::Layout::octets, giop_cdr::specs::Layout::gives, giop_cdr::specs::Layout::sequence, giop_cdr::specs::Layout::tagged, giop_cdr::specs::Reading::Values::such_at, giop_cdr::specs::Reading::View::tagged_at))]
 
-ghost use Rattle.std.specs.Prelude.{◌≡◌, ◌≤◌, ◌^◌, ◌⊎◌, length, Ok, Err, IfOk, IfErr, IsOk};
+ghost use Rattle.std.specs.Prelude.{◌≡◌, ◌≤◌, ◌^◌, length, IfOk};
 ghost use Rattle.giop_cdr.specs.Reading.Outcome.{Exactly};
-ghost use Rattle.giop_msg.specs.Joined.{BeginsWith, body_place, head_of_joined, IsAnswered, no_memory};
-ghost use Rattle.giop_msg.specs.ReplyHead.{early_reply_head, last_reply_status, reply_head, reply_head_1_2, reply_status};
+ghost use Rattle.giop_msg.specs.Heads.{DecodesHead, ViewsHead};
+ghost use Rattle.giop_msg.specs.Joined.{body_place};
+ghost use Rattle.giop_msg.specs.ReplyHead.{early_reply_head, last_reply_status, reply_head, reply_head_1_2};
 
-use crate::joined::body_place;
+use crate::joined::{body_place, no_memory};
 use crate::service_contexts::{ServiceContexts, ServiceContextsAt};
+use crate::status::read_status;
 use crate::version::Version;
-use giop_cdr::{CdrFault, CdrIn, CdrKind, Octets, Order};
+use giop_cdr::{CdrFault, CdrIn, Octets, Order};
 use std::alloc::{AllocError, Global};
 
 /// What a Reply says before its body (9.4.3): with its contexts on their own, or, as a
@@ -45,18 +47,8 @@ impl ReplyHead {
         order: Order,
     ) -> Result<(ReplyHeadAt<'a, S>, usize), CdrFault>
         requires { length (S.octets octets.now) ≤ 2 ^ 62 }
-        // What is returned is what the octets begin with, and what they begin with is returned.
-        ensures found { IfOk result (λ x.
-            BeginsWith (reply_head version) (body_place version) order
-            (S.octets octets.now) x.0 x.1) }
-        ensures only { (head : _) (body : _)
-            → BeginsWith (reply_head version) (body_place version) order
-            (S.octets octets.now) head body
-            → result ≡ Ok (head, body) }
-
-        // Which refusal it is.
-        ensures exact { result
-            ≡ head_of_joined (reply_head version) (body_place version) order (S.octets octets.now) }
+        ensures { ViewsHead (reply_head version) (body_place version) order
+            (S.octets octets.now) result }
     {
         let mut input = CdrIn::new(octets, order, 12);
         let head = view_head(version, &mut input)?;
@@ -66,6 +58,7 @@ impl ReplyHead {
     /// The head that joined octets begin with, on its own, and the offset of the body behind it.
     /// Refused as `view` refuses. It is NoMemory at 12 when out of memory, and only for octets that
     /// no field refuses.
+    #[tactic(auto, using(crate::proofs::HeadLemmas::head_wanted))]
     pub fn decode<S: Octets>(
         alloc: Global,
         octets: &S,
@@ -73,34 +66,14 @@ impl ReplyHead {
         order: Order,
     ) -> Result<(ReplyHead, usize), CdrFault>
         requires { length (S.octets octets.now) ≤ 2 ^ 62 }
-        // What is returned is what the octets begin with, and what they begin with is returned.
-        ensures found { IfOk result (λ x.
-            BeginsWith (reply_head version) (body_place version) order
-            (S.octets octets.now) x.0 x.1) }
-        ensures only { (head : _) (body : _)
-            → BeginsWith (reply_head version) (body_place version) order
-            (S.octets octets.now) head body
-            → IsAnswered result head body }
-
-        // Which refusal it is.
-        ensures exact { IfOk result
-            (λ x. head_of_joined (reply_head version) (body_place version) order
-            (S.octets octets.now) ≡ Ok (x.0, x.1)) }
-        ensures err { IfErr result (λ e.
-            (head_of_joined (reply_head version) (body_place version) order
-            (S.octets octets.now) ≡ Err e)
-            ⊎ ((e ≡ no_memory)
-            × IsOk (head_of_joined (reply_head version) (body_place version) order
-            (S.octets octets.now)))) }
+        ensures { DecodesHead (reply_head version) (body_place version) order
+            (S.octets octets.now) result }
     {
         let (head, body) = ReplyHead::view(octets, version, order)?;
-        let Ok(head) = head.to_owned(alloc) else {
-            return Err(CdrFault {
-                at: 12,
-                kind: CdrKind::NoMemory,
-            });
-        };
-        Ok((head, body))
+        match head.to_owned(alloc) {
+            Ok(head) => Ok((head, body)),
+            Err(_) => Err(no_memory()),
+        }
     }
 }
 
@@ -128,27 +101,12 @@ pub(crate) fn last_reply_status(version: Version) -> u32
     }
 }
 
-// Reads a reply status, which the version must have.
-fn read_status<S: Octets>(version: Version, input: &mut CdrIn<S>) -> Result<u32, CdrFault>
-    ensures { Exactly result input.new ((reply_status version).read input.old) }
-{
-    let at = input.place::<4>();
-    let status = input.read_ulong()?;
-    if status > last_reply_status(version) {
-        return Err(CdrFault {
-            at,
-            kind: CdrKind::BadLabel,
-        });
-    }
-    Ok(status)
-}
-
 // Reads the fields of a head of 1.2 in their order.
 fn view_head_1_2<'a, S: Octets>(input: &mut CdrIn<'a, S>) -> Result<ReplyHeadAt<'a, S>, CdrFault>
     ensures { Exactly result input.new (reply_head_1_2.read input.old) }
 {
     let id = input.read_ulong()?;
-    let status = read_status(Version::V12, input)?;
+    let status = read_status(last_reply_status(Version::V12), input)?;
     let contexts = input.view_tagged_list()?;
     Ok(ReplyHead {
         version: Version::V12,
@@ -167,7 +125,7 @@ fn view_early_head<'a, S: Octets>(
 {
     let contexts = input.view_tagged_list()?;
     let id = input.read_ulong()?;
-    let status = read_status(version, input)?;
+    let status = read_status(last_reply_status(version), input)?;
     Ok(ReplyHead {
         version,
         id,

@@ -2,14 +2,14 @@
 //! it, in the order of the fields: change them together.
 #![tactic(auto, unfolding(crate::specs::ReplyHead::reply_head, crate::specs::ReplyHead::reply_head_1_2, crate::specs::ReplyHead::early_reply_head, crate::specs::ReplyHead::reply_status, giop_cdr::specs::Layout::field, giop_cdr::specs::Layout::such, giop_cdr::specs::Layout::number, giop_cdr::specs::Layout::gives), using(giop_cdr::proofs::Writing::WriterLemmas::grows_then, giop_cdr::proofs::Writing::WriterLemmas::grows_not))]
 
-ghost use Rattle.std.specs.Prelude.{◌≡◌, ◌↔◌, false, true, ℕ, List, IsErrOf, OnOk};
-ghost use Rattle.giop_cdr.specs.declared.order.Order.{Order};
-ghost use Rattle.giop_cdr.specs.RoundTrip.{IsReadBack};
-ghost use Rattle.giop_cdr.specs.Writing.Outcome.{Writes, Appends};
-ghost use Rattle.giop_cdr.specs.Layout.{AreOctets};
+ghost use Rattle.std.specs.Prelude.{◌≡◌, true, ℕ, OnOk};
+ghost use Rattle.giop_cdr.specs.Writing.Outcome.{Appends};
 ghost use Rattle.giop_msg.specs.declared.version.Version.TheVariants.{V12};
-ghost use Rattle.giop_msg.specs.ReplyHead.{early_reply_head, reply_head, reply_head_1_2};
+ghost use Rattle.giop_msg.specs.Heads.{WritesBy};
+ghost use Rattle.giop_msg.specs.ReplyHead.{early_reply_head, head_of, reply_head, reply_head_1_2};
 
+use crate::laid_out;
+use crate::laid_out::LaidOut;
 use crate::reply_head::{ReplyHead, last_reply_status};
 use crate::version::Version;
 use giop_cdr::{CdrOut, EncodeFault};
@@ -22,7 +22,7 @@ impl ReplyHead {
     pub fn is_writable(&self) -> bool
         ensures { result ≡ (reply_head self.now.version).fits self.now }
     {
-        are_writable_parts(self.version, self.status, self.contexts.as_slice())
+        self.fits()
     }
 
     /// Writes the head: the fields in their order. In 1.2 the body is aligned to 8 behind it,
@@ -30,42 +30,36 @@ impl ReplyHead {
     ///
     /// Refused as Unfit where `is_writable` is false, and then no octets spell the head; else as
     /// NoMemory when out of memory. The output is then as it was.
-    #[tactic(auto, using(crate::proofs::ReplyHeadLemmas::reply_unspelled))]
     pub fn write(&self, out: &mut CdrOut) -> Result<(), EncodeFault>
-        ensures value { Writes out.old result out.new
-            ((reply_head self.now.version).written self.now out.old) }
-        ensures err { IsErrOf result EncodeFault.Unfit
-            ↔ ((reply_head self.now.version).fits self.now ≡ false) }
-        ensures unfit { IsErrOf result EncodeFault.Unfit
-            → (order : Order) (at : ℕ) (octets : List ℕ)
-            → AreOctets octets → (reply_head self.now.version).spells order at self.now octets → ⊥ }
-
-        // What was appended is in the ranges of its types, spells the head, and is read as it
-        // again, whatever octets follow.
-        ensures held { OnOk result ((reply_head self.now.version).holds self.now) }
-        ensures back { OnOk result (IsReadBack (reply_head self.now.version).spells
-            (reply_head self.now.version).read self.now out.old out.new) }
+        ensures { WritesBy (reply_head self.now.version) self.now out.old result out.new }
     {
-        if !self.is_writable() {
-            return Err(EncodeFault::Unfit);
-        }
-        let point = out.checkpoint();
-        if append_head(self, out).is_err() {
-            out.back_to(point);
-            return Err(EncodeFault::NoMemory);
-        }
-        Ok(())
+        laid_out::write(self, out)
+    }
+}
+
+impl LaidOut for ReplyHead {
+    ghost use Rattle.giop_msg.specs.ReplyHead.{reply_head};
+
+    ghost layout = { λ head. reply_head head.version };
+
+    fn fits(&self) -> bool {
+        are_writable_parts(self.version, self.status, self.contexts.as_slice())
+    }
+
+    fn append(&self, out: &mut CdrOut) -> Result<(), AllocError> {
+        append_parts(
+            self.version,
+            self.id,
+            self.status,
+            self.contexts.as_slice(),
+            out,
+        )
     }
 }
 
 /// Whether octets spell a head of a version that has these parts, whatever its id.
 pub(crate) fn are_writable_parts(version: Version, status: u32, contexts: &[ServiceContext]) -> bool
-    ensures { (id : ℕ) → result ≡ (reply_head version).fits (record {
-      version = version;
-      id = id;
-      status = status;
-      contexts = contexts.now;
-    }) }
+    ensures { (id : ℕ) → result ≡ (reply_head version).fits (head_of version id status contexts.now) }
 {
     match version {
         Version::V10 => are_writable_early(Version::V10, status, contexts),
@@ -75,23 +69,13 @@ pub(crate) fn are_writable_parts(version: Version, status: u32, contexts: &[Serv
 }
 
 fn are_writable_1_2(status: u32, contexts: &[ServiceContext]) -> bool
-    ensures { (id : ℕ) → result ≡ reply_head_1_2.fits (record {
-      version = V12;
-      id = id;
-      status = status;
-      contexts = contexts.now;
-    }) }
+    ensures { (id : ℕ) → result ≡ reply_head_1_2.fits (head_of V12 id status contexts.now) }
 {
     status <= last_reply_status(Version::V12) && are_writable_contexts(contexts)
 }
 
 fn are_writable_early(version: Version, status: u32, contexts: &[ServiceContext]) -> bool
-    ensures { (id : ℕ) → result ≡ (early_reply_head version).fits (record {
-      version = version;
-      id = id;
-      status = status;
-      contexts = contexts.now;
-    }) }
+    ensures { (id : ℕ) → result ≡ (early_reply_head version).fits (head_of version id status contexts.now) }
 {
     are_writable_contexts(contexts) && status <= last_reply_status(version)
 }
@@ -103,24 +87,9 @@ fn append_parts_1_2(
     contexts: &[ServiceContext],
     out: &mut CdrOut,
 ) -> Result<(), AllocError>
-    requires { reply_head_1_2.fits (record {
-      version = V12;
-      id = id;
-      status = status;
-      contexts = contexts.now;
-    }) ≡ true }
-    ensures written { Appends out.old result out.new (reply_head_1_2.written (record {
-      version = V12;
-      id = id;
-      status = status;
-      contexts = contexts.now;
-    }) out.old) }
-    ensures held { OnOk result (reply_head_1_2.holds (record {
-      version = V12;
-      id = id;
-      status = status;
-      contexts = contexts.now;
-    })) }
+    requires { reply_head_1_2.fits (head_of V12 id status contexts.now) ≡ true }
+    ensures written { Appends out.old result out.new (reply_head_1_2.written (head_of V12 id status contexts.now) out.old) }
+    ensures held { OnOk result (reply_head_1_2.holds (head_of V12 id status contexts.now)) }
 {
     out.write_ulong(id)?;
     out.write_ulong(status)?;
@@ -136,24 +105,9 @@ fn append_early_parts(
     contexts: &[ServiceContext],
     out: &mut CdrOut,
 ) -> Result<(), AllocError>
-    requires { (early_reply_head version).fits (record {
-      version = version;
-      id = id;
-      status = status;
-      contexts = contexts.now;
-    }) ≡ true }
-    ensures written { Appends out.old result out.new ((early_reply_head version).written (record {
-      version = version;
-      id = id;
-      status = status;
-      contexts = contexts.now;
-    }) out.old) }
-    ensures held { OnOk result ((early_reply_head version).holds (record {
-      version = version;
-      id = id;
-      status = status;
-      contexts = contexts.now;
-    })) }
+    requires { (early_reply_head version).fits (head_of version id status contexts.now) ≡ true }
+    ensures written { Appends out.old result out.new ((early_reply_head version).written (head_of version id status contexts.now) out.old) }
+    ensures held { OnOk result ((early_reply_head version).holds (head_of version id status contexts.now)) }
 {
     append_contexts(contexts, out)?;
     out.write_ulong(id)?;
@@ -169,38 +123,13 @@ pub(crate) fn append_parts(
     contexts: &[ServiceContext],
     out: &mut CdrOut,
 ) -> Result<(), AllocError>
-    requires { (reply_head version).fits (record {
-      version = version;
-      id = id;
-      status = status;
-      contexts = contexts.now;
-    }) ≡ true }
-    ensures written { Appends out.old result out.new ((reply_head version).written (record {
-      version = version;
-      id = id;
-      status = status;
-      contexts = contexts.now;
-    }) out.old) }
-    ensures held { OnOk result ((reply_head version).holds (record {
-      version = version;
-      id = id;
-      status = status;
-      contexts = contexts.now;
-    })) }
+    requires { (reply_head version).fits (head_of version id status contexts.now) ≡ true }
+    ensures written { Appends out.old result out.new ((reply_head version).written (head_of version id status contexts.now) out.old) }
+    ensures held { OnOk result ((reply_head version).holds (head_of version id status contexts.now)) }
 {
     match version {
         Version::V10 => append_early_parts(Version::V10, id, status, contexts, out),
         Version::V11 => append_early_parts(Version::V11, id, status, contexts, out),
         Version::V12 => append_parts_1_2(id, status, contexts, out),
     }
-}
-
-fn append_head(head: &ReplyHead, out: &mut CdrOut) -> Result<(), AllocError>
-    requires { (reply_head head.now.version).fits head.now ≡ true }
-    ensures written { Appends out.old result out.new
-        ((reply_head head.now.version).written head.now out.old) }
-    ensures held { OnOk result ((reply_head head.now.version).holds head.now) }
-{
-    let contexts = head.contexts.as_slice();
-    append_parts(head.version, head.id, head.status, contexts, out)
 }

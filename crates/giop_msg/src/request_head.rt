@@ -2,13 +2,14 @@
 //! request_head_writing.rt writes it, in the order of the fields: change them together.
 #![tactic(auto, unfolding(crate::specs::RequestHead::request_head, crate::specs::RequestHead::request_head_1_2, crate::specs::RequestHead::early_request_head, crate::specs::RequestHead::response_flags, crate::specs::RequestHead::response_expected, crate::specs::RequestHead::reserved_of, crate::specs::RequestHead::reserved_octets, crate::specs::RequestHead::reserved_octet, crate::specs::RequestHead::principal, crate::specs::Meaning::meaning, giop_ior::specs::ServiceContext::service_contexts, giop_ior::specs::ServiceContext::service_context, giop_cdr::specs::Layout::field, giop_cdr::specs::Layout::such, giop_cdr::specs::Layout::number, giop_cdr::specs::Layout::boolean, giop_cdr::specs::Layout::octets, giop_cdr::specs::Layout::text, giop_cdr::specs::Layout::reserved, giop_cdr::specs::Layout::gives, giop_cdr::specs::Layout::sequence, giop_cdr::specs::Layout::tagged, giop_cdr::specs::Reading::Values::such_at, giop_cdr::specs::Reading::View::tagged_at))]
 
-ghost use Rattle.std.specs.Prelude.{◌≡◌, ◌≤◌, ◌^◌, ◌⊎◌, length, option_copied, Ok, Err, IfOk, IfErr, IsOk};
+ghost use Rattle.std.specs.Prelude.{◌≡◌, ◌≤◌, ◌^◌, length, option_copied, IfOk};
 ghost use Rattle.giop_cdr.specs.Reading.Outcome.{Reads, Exactly, Skips};
-ghost use Rattle.giop_msg.specs.Joined.{BeginsWith, body_place, head_of_joined, IsAnswered, no_memory};
+ghost use Rattle.giop_msg.specs.Heads.{DecodesHead, ViewsHead};
+ghost use Rattle.giop_msg.specs.Joined.{body_place};
 ghost use Rattle.giop_msg.specs.Messages.Request.{operation_asked};
 ghost use Rattle.giop_msg.specs.RequestHead.{response_expected, response_flags, reserved_of, reserved_octets, early_request_head, request_head, request_head_1_2};
 
-use crate::joined::body_place;
+use crate::joined::{body_place, no_memory};
 use crate::service_contexts::{ServiceContexts, ServiceContextsAt};
 use crate::target::{Target, TargetAt};
 use crate::target_reading::{view_object_key, view_target};
@@ -71,18 +72,8 @@ impl RequestHead {
         order: Order,
     ) -> Result<(RequestHeadAt<'a, S>, usize), CdrFault>
         requires { length (S.octets octets.now) ≤ 2 ^ 62 }
-        // What is returned is what the octets begin with, and what they begin with is returned.
-        ensures found { IfOk result (λ x.
-            BeginsWith (request_head version) (body_place version) order
-            (S.octets octets.now) x.0 x.1) }
-        ensures only { (head : _) (body : _)
-            → BeginsWith (request_head version) (body_place version) order
-            (S.octets octets.now) head body
-            → result ≡ Ok (head, body) }
-
-        // Which refusal it is.
-        ensures exact { result ≡ head_of_joined (request_head version) (body_place version) order
-            (S.octets octets.now) }
+        ensures { ViewsHead (request_head version) (body_place version) order
+            (S.octets octets.now) result }
     {
         let mut input = CdrIn::new(octets, order, 12);
         let head = view_head(version, &mut input)?;
@@ -92,6 +83,7 @@ impl RequestHead {
     /// The head that joined octets begin with, on its own, and the offset of the body behind it.
     /// Refused as `view` refuses. It is NoMemory at 12 when out of memory, and only for octets that
     /// no field refuses.
+    #[tactic(auto, using(crate::proofs::HeadLemmas::head_wanted))]
     pub fn decode<S: Octets>(
         alloc: Global,
         octets: &S,
@@ -99,34 +91,14 @@ impl RequestHead {
         order: Order,
     ) -> Result<(RequestHead, usize), CdrFault>
         requires { length (S.octets octets.now) ≤ 2 ^ 62 }
-        // What is returned is what the octets begin with, and what they begin with is returned.
-        ensures found { IfOk result (λ x.
-            BeginsWith (request_head version) (body_place version) order
-            (S.octets octets.now) x.0 x.1) }
-        ensures only { (head : _) (body : _)
-            → BeginsWith (request_head version) (body_place version) order
-            (S.octets octets.now) head body
-            → IsAnswered result head body }
-
-        // Which refusal it is.
-        ensures exact { IfOk result (λ x.
-            head_of_joined (request_head version) (body_place version) order
-            (S.octets octets.now) ≡ Ok (x.0, x.1)) }
-        ensures err { IfErr result (λ e.
-            (head_of_joined (request_head version) (body_place version) order
-            (S.octets octets.now) ≡ Err e)
-            ⊎ ((e ≡ no_memory)
-            × IsOk (head_of_joined (request_head version) (body_place version) order
-            (S.octets octets.now)))) }
+        ensures { DecodesHead (request_head version) (body_place version) order
+            (S.octets octets.now) result }
     {
         let (head, body) = RequestHead::view(octets, version, order)?;
-        let Ok(head) = head.to_owned(alloc) else {
-            return Err(CdrFault {
-                at: 12,
-                kind: CdrKind::NoMemory,
-            });
-        };
-        Ok((head, body))
+        match head.to_owned(alloc) {
+            Ok(head) => Ok((head, body)),
+            Err(_) => Err(no_memory()),
+        }
     }
 }
 

@@ -2,14 +2,15 @@
 //! reads it, in the order of the fields: change them together.
 #![tactic(auto, unfolding(crate::specs::RequestHead::request_head, crate::specs::RequestHead::request_head_1_2, crate::specs::RequestHead::early_request_head, crate::specs::RequestHead::response_flags, crate::specs::RequestHead::response_expected, crate::specs::RequestHead::reserved_of, crate::specs::RequestHead::reserved_octets, crate::specs::RequestHead::reserved_octet, crate::specs::RequestHead::principal, crate::specs::Meaning::meaning, giop_cdr::specs::Layout::field, giop_cdr::specs::Layout::such, giop_cdr::specs::Layout::number, giop_cdr::specs::Layout::boolean, giop_cdr::specs::Layout::octets, giop_cdr::specs::Layout::text, giop_cdr::specs::Layout::reserved, giop_cdr::specs::Layout::gives), using(giop_cdr::proofs::Writing::WriterLemmas::grows_then, giop_cdr::proofs::Writing::WriterLemmas::grows_not))]
 
-ghost use Rattle.std.specs.Prelude.{◌≡◌, ◌↔◌, false, true, ℕ, List, IsErrOf, OnOk};
-ghost use Rattle.giop_cdr.specs.declared.order.Order.{Order};
-ghost use Rattle.giop_cdr.specs.RoundTrip.{IsReadBack};
-ghost use Rattle.giop_cdr.specs.Writing.Outcome.{Writes, Appends};
-ghost use Rattle.giop_cdr.specs.Layout.{is_spellable, AreOctets};
+ghost use Rattle.std.specs.Prelude.{◌≡◌, true, OnOk};
+ghost use Rattle.giop_cdr.specs.Writing.Outcome.{Appends};
+ghost use Rattle.giop_cdr.specs.Layout.{is_spellable};
 ghost use Rattle.giop_msg.specs.declared.version.Version.TheVariants.{V12};
-ghost use Rattle.giop_msg.specs.RequestHead.{early_request_head, reserved_octets, reserved_of, request_head, request_head_1_2, response_expected};
+ghost use Rattle.giop_msg.specs.Heads.{WritesBy};
+ghost use Rattle.giop_msg.specs.RequestHead.{early_request_head, reserved_octets, reserved_of, request_head, request_head_1_2};
 
+use crate::laid_out;
+use crate::laid_out::LaidOut;
 use crate::request_head::RequestHead;
 use crate::target_writing::{append_key, append_target, is_writable_key, is_writable_target};
 use crate::version::Version;
@@ -24,11 +25,7 @@ impl RequestHead {
     pub fn is_writable(&self) -> bool
         ensures { result ≡ (request_head self.now.version).fits self.now }
     {
-        match self.version {
-            Version::V10 => is_writable_early(Version::V10, self),
-            Version::V11 => is_writable_early(Version::V11, self),
-            Version::V12 => is_writable_1_2(self),
-        }
+        self.fits()
     }
 
     /// Writes the head: the fields in their order, reserved octets as zeros and the principal as
@@ -36,32 +33,10 @@ impl RequestHead {
     ///
     /// Refused as Unfit where `is_writable` is false, and then no octets spell the head; else as
     /// NoMemory when out of memory. The output is then as it was.
-    #[tactic(auto, using(crate::proofs::RequestHeadLemmas::head_unspelled))]
     pub fn write(&self, out: &mut CdrOut) -> Result<(), EncodeFault>
-        ensures value { Writes out.old result out.new
-            ((request_head self.now.version).written self.now out.old) }
-        ensures err { IsErrOf result EncodeFault.Unfit
-            ↔ ((request_head self.now.version).fits self.now ≡ false) }
-        ensures unfit { IsErrOf result EncodeFault.Unfit
-            → (order : Order) (at : ℕ) (octets : List ℕ)
-            → AreOctets octets
-            → (request_head self.now.version).spells order at self.now octets → ⊥ }
-
-        // What was appended is in the ranges of its types, spells the head, and is read as it
-        // again, whatever octets follow.
-        ensures held { OnOk result ((request_head self.now.version).holds self.now) }
-        ensures back { OnOk result (IsReadBack (request_head self.now.version).spells
-            (request_head self.now.version).read self.now out.old out.new) }
+        ensures { WritesBy (request_head self.now.version) self.now out.old result out.new }
     {
-        if !self.is_writable() {
-            return Err(EncodeFault::Unfit);
-        }
-        let point = out.checkpoint();
-        if append_head(self, out).is_err() {
-            out.back_to(point);
-            return Err(EncodeFault::NoMemory);
-        }
-        Ok(())
+        laid_out::write(self, out)
     }
 }
 
@@ -149,15 +124,24 @@ fn append_early_head(
     Ok(())
 }
 
-pub(crate) fn append_head(head: &RequestHead, out: &mut CdrOut) -> Result<(), AllocError>
-    requires { (request_head head.now.version).fits head.now ≡ true }
-    ensures written { Appends out.old result out.new
-        ((request_head head.now.version).written head.now out.old) }
-    ensures held { OnOk result ((request_head head.now.version).holds head.now) }
-{
-    match head.version {
-        Version::V10 => append_early_head(Version::V10, head, out),
-        Version::V11 => append_early_head(Version::V11, head, out),
-        Version::V12 => append_head_1_2(head, out),
+impl LaidOut for RequestHead {
+    ghost use Rattle.giop_msg.specs.RequestHead.{request_head};
+
+    ghost layout = { λ head. request_head head.version };
+
+    fn fits(&self) -> bool {
+        match self.version {
+            Version::V10 => is_writable_early(Version::V10, self),
+            Version::V11 => is_writable_early(Version::V11, self),
+            Version::V12 => is_writable_1_2(self),
+        }
+    }
+
+    fn append(&self, out: &mut CdrOut) -> Result<(), AllocError> {
+        match self.version {
+            Version::V10 => append_early_head(Version::V10, self, out),
+            Version::V11 => append_early_head(Version::V11, self, out),
+            Version::V12 => append_head_1_2(self, out),
+        }
     }
 }

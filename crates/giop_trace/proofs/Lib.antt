@@ -3,3 +3,4 @@ pub mod ContinuedLemmas
 pub mod OnewayLemmas
 pub mod StrayLemmas
 pub mod TableLemmas
+pub mod UsualLemmas

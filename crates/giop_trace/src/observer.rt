@@ -1,14 +1,15 @@
 //! An observer of a connection: it hears the messages of both directions, and tells which calls are
 //! over. Its meaning is specs/Observing.antt: change both.
-ghost use Rattle.std.specs.Prelude.{◌≡◌, ◌≤◌, ◌^◌, length, IfOk, OnOk, option_copied};
+ghost use Rattle.std.specs.Prelude.{◌≡◌, ◌≤◌, ◌^◌, length, None, Ok, Some, IfOk, OnOk, option_copied, true};
 ghost use Rattle.std.specs.FinMap as finite;
 ghost use Rattle.giop_ids.specs.ById.{put};
 ghost use Rattle.giop_msg.specs.RequestId.{request_id_of};
 ghost use Rattle.giop_trace.specs.Flows.{is_answer, is_waiting};
 ghost use Rattle.giop_trace.specs.Effects.{is_stray};
 ghost use Rattle.giop_trace.specs.Observing.{heard, is_early, is_early_by, kept_on, left, told_apart};
+ghost use Rattle.giop_trace.specs.Usual.{HasNoAnswer, IsAnswered, IsAsked, told_answered};
 
-use crate::steps::{continues_in, has_place, is_whole, lone, step};
+use crate::steps::{asked_by, asks_for_reply, continues_in, has_place, is_whole, lone, step};
 use crate::{Direction, Flow, Heard, Keep};
 use giop_msg::{Kind, Msg};
 use giop_mux::Mux;
@@ -55,7 +56,7 @@ impl Observer {
     ///
     /// It is refused only where it is out of memory, where joined octets would be more than 2^62,
     /// or for the 2^32nd open call. The call of the id may be lost then.
-    #[tactic(auto, using(crate::proofs::TableLemmas::put_back, crate::proofs::StrayLemmas::stray_effect))]
+    #[tactic(auto, using(crate::proofs::UsualLemmas::asked_told, crate::proofs::UsualLemmas::asked_left, crate::proofs::UsualLemmas::answered_told, crate::proofs::UsualLemmas::answered_left))]
     pub fn hear(&mut self, direction: Direction, message: Msg) -> Result<Heard, AllocError>
         requires { length message.payload ≤ 2 ^ 62 }
         ensures value { IfOk result (λ told.
@@ -67,6 +68,28 @@ impl Observer {
         let Some(Ok(id)) = message.request_id() else {
             return Ok(apart(None, direction, message));
         };
+        if self.is_asked(id, direction, &message) {
+            self.keep(id, asked_by(message))?;
+            return Ok(nothing(id));
+        }
+        if self.is_answered(id, direction, &message) {
+            return Ok(self.answered(id, message));
+        }
+        self.hear_any(id, direction, message)
+    }
+
+    // Hears any message that names an id.
+    #[inline(never)]
+    #[tactic(auto, using(crate::proofs::TableLemmas::put_back, crate::proofs::StrayLemmas::stray_effect))]
+    fn hear_any(&mut self, id: u32, direction: Direction, message: Msg) -> Result<Heard, AllocError>
+        requires size { length message.payload ≤ 2 ^ 62 }
+        requires named { request_id_of message ≡ Some (Ok id) }
+        ensures value { IfOk result (λ told.
+            told ≡ heard self.old.alone self.old.calls.entries direction message) }
+        ensures ok { OnOk result (self.new.calls.entries
+            ≡ left self.old.alone self.old.calls.entries direction message) }
+        ensures same { OnOk result (self.new.alone ≡ self.old.alone) }
+    {
         if self.is_stray(id, direction, &message) {
             return Ok(apart(Some(id), direction, message));
         }
@@ -79,6 +102,61 @@ impl Observer {
             self.keep_on(id, &mut told)?;
         }
         Ok(told)
+    }
+
+    // Whether a message is a Request that asks for a reply, where the id has no call.
+    #[inline(always)]
+    fn is_asked(&self, id: u32, direction: Direction, message: &Msg) -> bool
+        requires { length message.now.payload ≤ 2 ^ 62 }
+        ensures { result ≡ true → IsAsked self.now.alone self.now.calls.entries id direction
+            message.now }
+    {
+        direction == Direction::Client
+            && message.kind == Kind::Request
+            && !self.alone
+            && asks_for_reply(message)
+            && self.flow(id).is_none()
+    }
+
+    // Whether a message is a whole Reply, where the id has a call without an answer.
+    #[inline(always)]
+    fn is_answered(&self, id: u32, direction: Direction, message: &Msg) -> bool
+        ensures { result ≡ true → IsAnswered self.now.calls.entries id direction message.now }
+    {
+        direction == Direction::Server
+            && message.kind == Kind::Reply
+            && !message.more
+            && self.has_no_answer(id)
+    }
+
+    // Whether the id has a call without an answer.
+    #[inline(always)]
+    fn has_no_answer(&self, id: u32) -> bool
+        ensures { result ≡ true → HasNoAnswer (finite.get self.now.calls.entries id) }
+    {
+        match self.flow(id) {
+            Some(flow) => flow.answer.is_none(),
+            None => false,
+        }
+    }
+
+    // What is told of a whole Reply to a call without an answer: that is over.
+    #[inline(always)]
+    fn answered(&mut self, id: u32, message: Msg) -> Heard
+        requires { HasNoAnswer (finite.get self.old.calls.entries id) }
+        ensures value { result ≡ told_answered id (finite.get self.old.calls.entries id) message }
+        ensures ok { self.new.calls.entries ≡ finite.remove self.old.calls.entries id }
+        ensures same { self.new.alone ≡ self.old.alone }
+    {
+        let mut over = self.taken(id);
+        if let Some(flow) = &mut over {
+            flow.answer = Some(message);
+        }
+        Heard {
+            id: Some(id),
+            earlier: None,
+            over,
+        }
     }
 
     /// Whether a message of the server is a Reply or a LocateReply to a call whose request isn't
@@ -181,7 +259,20 @@ impl Observer {
     }
 }
 
+// Nothing is over by a message of this id.
+#[inline(always)]
+fn nothing(id: u32) -> Heard
+    ensures { result ≡ record { id = Some id; earlier = None; over = None } }
+{
+    Heard {
+        id: Some(id),
+        earlier: None,
+        over: None,
+    }
+}
+
 // A message by itself.
+#[inline(never)]
 fn apart(id: Option<u32>, direction: Direction, message: Msg) -> Heard
     ensures { result ≡ told_apart id direction message }
 {

@@ -114,8 +114,9 @@ fn answers(alone: bool, told: &mut Heard, message: Msg) -> Result<bool, AllocErr
     }
 }
 
+/// A call of which a message of the client came alone.
 #[inline(always)]
-fn asked_by(message: Msg) -> Flow
+pub fn asked_by(message: Msg) -> Flow
     ensures { result ≡ asked_by message }
 {
     Flow {
@@ -301,10 +302,10 @@ fn is_oneway_request(message: &Msg) -> bool
     !asks_for_reply(message) && is_oneway_by_head(message)
 }
 
-// Whether the flags of a Request of 1.2 ask for a reply. They lie behind its id, so most Requests
-// are known to be no oneway without the rest of their heads.
+/// Whether the flags of a Request of 1.2 ask for a reply. They lie behind its id, so most Requests
+/// are known to be no oneway without the rest of their heads.
 #[inline(always)]
-fn asks_for_reply(message: &Msg) -> bool
+pub fn asks_for_reply(message: &Msg) -> bool
     requires { length message.now.payload ≤ 2 ^ 62 }
     ensures { result ≡ true → is_oneway Kind.Request message.now ≡ false }
 {

@@ -21,7 +21,7 @@ mod reference;
 mod texts;
 mod to_json;
 
-pub use appending::values_to_text;
+pub use appending::{append_values, values_to_text};
 pub use desc_json::desc_from_json;
 pub use from_json::value_from_json;
 pub use parse::parse as parse_json;

@@ -29,8 +29,8 @@ pub use json::number_form::NumberForm;
 pub use json::offer::Offer;
 pub use json::parameters::{Parameter, Parameters};
 pub use json::{
-    desc_from_json, parse_json, reference_desc, value_from_json, value_to_json, value_to_json_in,
-    values_to_text,
+    append_values, desc_from_json, parse_json, reference_desc, value_from_json, value_to_json,
+    value_to_json_in, values_to_text,
 };
 pub use value::Value;
 pub use value_list::ValueList;

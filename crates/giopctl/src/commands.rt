@@ -1,5 +1,6 @@
-//! A folder for each command: its words and help, and the files, connections and standard output
-//! that it runs over. What it prints is giop_commands', over any reader and writer.
+//! A file and a folder for each command: the files, connections and standard output that it runs
+//! over. Its words are giop_words', and what it prints is that of giop_show or giop_commands, over any
+//! reader and writer.
 
 pub mod call;
 pub mod check;

@@ -4,8 +4,8 @@ ghost use Rattle.std.specs.Prelude.{◌≡◌, OnOk, IfOk};
 ghost use Rattle.giop_commands.specs.CallLines.{ReadsOn, ReadsPiece, feed, none_taken, so_far};
 
 use crate::call::lines::CallLines;
-use crate::failure::Failure;
-use crate::pieces::PieceBuffer;
+use giop_show::failure::Failure;
+use giop_show::pieces::PieceBuffer;
 use giop_types::Interface;
 use std::alloc::{AllocError, Global};
 use std::io::Read;

@@ -2,19 +2,19 @@
 //! session of its own (CORBA 3.3 Part 2, 9.4.6). Its meaning is specs/LocateFollowing.antt: change
 //! both.
 ghost use Rattle.std.specs.Prelude.{◌≡◌, ◌≤◌, ◌^◌, [], IfOk, length, option_copied};
-ghost use Rattle.giop_session.specs.Pumping.{between};
+ghost use Rattle.giop_end.specs.Pumping.{between};
 ghost use Rattle.giop_commands.specs.Calling.{asked_of, entry_at};
 ghost use Rattle.giop_commands.specs.LocateFollowing.{LocatesAt, is_elsewhere, located_place, place_behind, place_by};
 
 use crate::call::given::Calling;
 use crate::call::locating::{ID, locate_all};
 use crate::call::talk;
-use crate::failure::Failure;
 use crate::session::target::{Endpoint, place_in};
 use giop_calls::ClientEntry;
 use giop_cdr::{CdrIn, CdrKind, Order, SliceOctets};
+use giop_end::{ClientEnd, SessionFault};
 use giop_ior::read_ior;
-use giop_session::{ClientEnd, SessionFault};
+use giop_show::failure::Failure;
 use std::alloc::Global;
 use std::io::{Read, Write};
 

@@ -4,8 +4,8 @@ ghost use Rattle.std.specs.Prelude.{◌≡◌, ◌&&◌, ◌==◌, None, Some, O
 ghost use Rattle.std.specs.FinMap as finite;
 ghost use Rattle.std.specs.List.{list_all};
 ghost use Rattle.std.specs.Io.KnownBytes.{Appends};
-ghost use Rattle.giop_session.specs.Acts.Form.{IsForm};
-ghost use Rattle.giop_session.specs.Pumping.{between};
+ghost use Rattle.giop_end.specs.Acts.Form.{IsForm};
+ghost use Rattle.giop_end.specs.Pumping.{between};
 ghost use Rattle.giop_calls.specs.ClientTable.{is_closed};
 ghost use Rattle.giop_commands.specs.Acts.{outbox};
 ghost use Rattle.giop_commands.specs.CallStreaming.{CallsNext, Makes, Streams, TakesNext, Turns, all_done, all_over_well, course, has_room, is_done, is_over_well, left_text, next_has_room, still_open, stream_status, unsent_text};
@@ -20,17 +20,18 @@ pub mod feeding;
 use crate::call::calls::CallLine;
 use crate::call::given::Calling;
 use crate::call::{all_well, are_over, call_one, is_well_at};
-use crate::failure::Failure;
-use crate::form::{LineForm, write_line};
+use crate::session::broken::broken_status;
 use crate::session::ending::{Ending, ending_of};
 use crate::session::sending::send_all;
 use crate::session::streaming::{Streamed, tell_left, tell_over};
 use crate::session::table::Tabled;
 use crate::session::{TURNS, goes_on, told, write_all_out, write_fault};
-use crate::status::Status;
 use giop_calls::{ClientEntry, ClientRule};
+use giop_end::{ClientEnd, Limits, SessionFault};
 use giop_lines::{UnsentJson, UnsentLine};
-use giop_session::{ClientEnd, Limits, SessionFault};
+use giop_show::failure::Failure;
+use giop_show::form::{LineForm, write_line};
+use giop_show::status::Status;
 use giop_types::Interface;
 use std::alloc::{AllocError, Global};
 use std::collections::VecDeque;
@@ -420,9 +421,9 @@ pub fn stream_status(
     ensures { result ≡ stream_status refused fault done }
 {
     match (refused, fault) {
-        (Some(why), _) => Status::broken_by(why),
+        (Some(why), _) => broken_status(why),
         (None, _) if done => Status::Done,
-        (None, Some(why)) => Status::broken_by(why),
+        (None, Some(why)) => broken_status(why),
         (None, None) => Status::Refused,
     }
 }

@@ -3,9 +3,9 @@
 ghost use Rattle.std.specs.Prelude.{◌≡◌, ◌++◌, IfOk, None, OnOk, length};
 ghost use Rattle.std.specs.Io.KnownBytes.{Appends};
 ghost use Rattle.std.specs.String.{string_bytes};
-ghost use Rattle.giop_session.specs.Pumping.{between};
+ghost use Rattle.giop_end.specs.Pumping.{between};
 ghost use Rattle.giop_calls.specs.ServerTable.{is_closed};
-ghost use Rattle.giop_commands.specs.Dump.{ended};
+ghost use Rattle.giop_show.specs.Dump.{ended};
 ghost use Rattle.giop_commands.specs.Endings.{Ends, ServesStreamEnd};
 ghost use Rattle.giop_commands.specs.Serving.{served_of, session};
 ghost use Rattle.giop_commands.specs.SessionLines.{last_in};
@@ -14,22 +14,21 @@ ghost use Rattle.giop_commands.specs.StreamLines.{answered_in, question_brought,
 ghost use Rattle.giop_commands.specs.Streaming.{Streams, shown};
 ghost use Rattle.giop_commands.specs.Table.{table_text};
 
-use crate::call::table::brought_by;
-use crate::failure::Failure;
-use crate::form::{LineForm, line_text, write_line};
 use crate::serve::given::Serving;
 use crate::serve::in_turn::Passed;
 use crate::serve::shown::{AnsweredObject, AnsweredShownLine, question_shown};
-use crate::serve::table::request_ins;
 use crate::serve::{answer_all, serve_status, write_connection};
 use crate::session::ending::{Ending, ending_of};
 use crate::session::streaming::{Streamed, tell_left, tell_over};
 use crate::session::table::Tabled;
 use crate::session::{TURNS, goes_on, told, write_session_fault};
 use giop_calls::{Question, ServerEntry, ServerRule};
+use giop_end::{ServerEnd, SessionFault};
 use giop_lines::{AnsweredJson, AnsweredLine, RestJson, RestLine};
 use giop_msg::ReplyBody;
-use giop_session::{ServerEnd, SessionFault};
+use giop_show::bodies::{brought_by, request_ins};
+use giop_show::failure::Failure;
+use giop_show::form::{LineForm, line_text, write_line};
 use giop_types::{Interface, NumberForm};
 use std::alloc::{AllocError, Global};
 use std::io::{Read, Write};

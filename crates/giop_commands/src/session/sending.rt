@@ -3,11 +3,11 @@
 ghost use Rattle.std.specs.Prelude.{◌≡◌, map, max, IfOk};
 ghost use Rattle.giop_commands.specs.Acts.{SendsAll, SendsNext, SendsRound, left_at, most, outbox};
 
-use crate::failure::Failure;
 use crate::session::told_of;
 use giop_calls::{ClientEntry, ClientRule, ServerEntry, ServerRule};
-use giop_mux::CallRule;
-use giop_session::{End, Hearing, SessionFault, Side};
+use giop_end::{End, Hearing, SessionFault};
+use giop_mux::{CallRule, Side};
+use giop_show::failure::Failure;
 use std::alloc::Global;
 
 /// A side of a connection whose program puts out messages in pieces.

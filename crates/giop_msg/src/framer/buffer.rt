@@ -31,7 +31,7 @@ impl Model for Buffer {
 }
 
 impl Buffer {
-    ghost use Rattle.giop_msg.specs.Framing.{CanStand, with_begun};
+    ghost use Rattle.giop_msg.specs.Framing.{CanStand, TakesFirst, with_begun};
     ghost use Rattle.giop_msg.specs.Stream.{AppendsTaken, TakesMessage};
 
     /// No octets. It takes no memory.
@@ -104,12 +104,7 @@ impl Buffer {
     /// Takes the first message off, as `Framer::next` does.
     #[inline(always)]
     pub fn next(&mut self) -> Result<Option<Msg>, WireFault>
-        ensures found { IfOk result (λ o. IfSome o (λ m. TakesMessage self.old m self.new)) }
-        ensures waits { IfOk result (λ o. IfNone o (Waits self.old × (self.new ≡ self.old))) }
-        ensures exact { (e : WireFault) → BeginsWithFault self.old.limit self.old.octets e →
-            result ≡ Err e }
-        ensures err { IfErr result (IsRefusal self.old) }
-        ensures kept { OnErr result (self.new ≡ self.old) }
+        ensures { TakesFirst self.old result self.new }
     {
         let found = first_message(&mut self.spare, self.octets.as_slice(), self.limit)?;
         if let Some(message) = &found {

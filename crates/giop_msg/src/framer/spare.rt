@@ -1,5 +1,5 @@
 //! The memory of a message that the caller no longer needs, which serves the next one.
-ghost use Rattle.std.specs.Prelude.{◌≡◌, IfOk};
+ghost use Rattle.std.specs.Prelude.{◌≡◌, ◌≤◌, ◌<◌, IfOk, [], vec_capacity};
 
 use std::alloc::{AllocError, Global};
 use std::mem;
@@ -16,7 +16,9 @@ pub struct Spare {
 
 impl Spare {
     /// No memory.
-    pub fn new(alloc: Global) -> Spare {
+    pub fn new(alloc: Global) -> Spare
+        ensures { result.list.items ≡ [] }
+    {
         Spare {
             list: Vec::new(alloc),
             alloc,
@@ -37,7 +39,10 @@ impl Spare {
     }
 
     /// Keeps the memory of a list for a later one, unless it is large. It takes no memory.
-    pub fn keep(&mut self, list: Vec<u8>) {
+    pub fn keep(&mut self, list: Vec<u8>)
+        ensures kept { vec_capacity list ≤ 65_536 → self.new ≡ record self.old { list = list } }
+        ensures large { 65_536 < vec_capacity list → self.new ≡ self.old }
+    {
         if list.capacity() <= MOST_SPARE {
             self.list = list;
         }

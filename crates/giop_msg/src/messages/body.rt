@@ -5,24 +5,14 @@ ghost use Rattle.std.specs.Prelude.{◌≡◌};
 ghost use Rattle.giop_cdr.specs.Ending.{ended};
 ghost use Rattle.giop_cdr.specs.Reading.Outcome.{Follows};
 ghost use Rattle.giop_types.specs.Coding.Decoding.{fields_at};
-ghost use Rattle.giop_msg.specs.Joined.{no_memory};
 ghost use Rattle.giop_msg.specs.Messages.Body.{body_cursor, body_of, fields_in, values};
 ghost use Rattle.giop_msg.specs.Messages.Outcome.{FollowsToEnd};
 
+use crate::joined::no_memory;
 use crate::version::Version;
 use giop_cdr::{CdrFault, CdrIn, CdrKind, Octets};
 use giop_types::{Parameter, ValueList, decode};
 use std::alloc::Global;
-
-/// Out of memory, reported of a message as a whole: at offset 12, where its joined octets begin.
-pub fn no_memory() -> CdrFault
-    ensures { result ≡ no_memory }
-{
-    CdrFault {
-        at: 12,
-        kind: CdrKind::NoMemory,
-    }
-}
 
 /// Moves a reader from the end of a head to the place where its version has the body.
 #[inline(always)]

@@ -2,18 +2,17 @@
 //! specs/Messages/LocateReply.antt, above that of its head (locate_reply_head.rt).
 #![tactic(auto, unfolding(crate::specs::Messages::LocateReply::locate_reply, giop_cdr::specs::Ending::leads, giop_cdr::specs::Ending::made_of, giop_cdr::specs::Ending::remainder))]
 
-ghost use Rattle.std.specs.Prelude.{◌≡◌, ◌≤◌, ◌^◌, ◌↔◌, length, false, true, ℕ, List, Ok, IfOk, IsErrOf, OnOk};
-ghost use Rattle.giop_cdr.specs.declared.order.Order.{Order};
-ghost use Rattle.giop_cdr.specs.Layout.{AreOctets};
+ghost use Rattle.std.specs.Prelude.{◌≡◌, ◌≤◌, ◌^◌, length, true, Ok, IfOk, OnOk};
 ghost use Rattle.giop_cdr.specs.Writing.Outcome.{Appends};
 ghost use Rattle.giop_msg.specs.Joined.{joined_from};
 ghost use Rattle.giop_msg.specs.Messages.LocateReply.{locate_reply};
-ghost use Rattle.giop_msg.specs.Messages.Outcome.{Decodes, IsTold, joined_into};
+ghost use Rattle.giop_msg.specs.Messages.Outcome.{Decodes, DecodesMessage, EncodesMessage};
 
-use crate::joined::joined_output;
-use crate::locate_reply_head::{LocateReplyHead, append_head, read_head};
+use crate::joined::{joined_output, no_memory};
+use crate::laid_out::LaidOut;
+use crate::locate_reply_head::{LocateReplyHead, read_head};
 use crate::version::Version;
-use giop_cdr::{CdrFault, CdrIn, CdrKind, CdrOut, EncodeFault, OctetList, Octets, Order};
+use giop_cdr::{CdrFault, CdrIn, CdrOut, EncodeFault, OctetList, Octets, Order};
 use std::alloc::{AllocError, Global};
 
 /// A LocateReply (CORBA 3.3 Part 2, 9.4.6): its head, and the octets behind it as they came.
@@ -39,16 +38,7 @@ impl LocateReply {
         order: Order,
     ) -> Result<LocateReply, CdrFault>
         requires { length (S.octets octets.now) ≤ 2 ^ 62 }
-        // What is returned is what the octets spell, and what they spell is returned.
-        ensures found { IfOk result (λ reply.
-            (locate_reply version).spells order 12 reply (S.octets octets.now)) }
-        ensures only { (reply : _)
-            → (locate_reply version).spells order 12 reply (S.octets octets.now)
-            → IsTold result reply }
-
-        // Which refusal it is.
-        ensures exact { Decodes result
-            ((locate_reply version).read (joined_from order (S.octets octets.now))) }
+        ensures { DecodesMessage (locate_reply version) order (S.octets octets.now) result }
     {
         read_reply(alloc, octets, version, order)
     }
@@ -68,18 +58,9 @@ impl LocateReply {
     /// when out of memory.
     #[tactic(auto, using(crate::proofs::WholeMessages::LocateReplyLemmas::locate_reply_unspelled))]
     pub fn encode(&self, alloc: Global, order: Order) -> Result<Vec<u8>, EncodeFault>
-        ensures value { IfOk result (λ octets. octets.items
-            ≡ ((locate_reply self.now.head.version).written self.now (joined_into order)).octets) }
-        ensures err { IsErrOf result EncodeFault.Unfit
-            ↔ ((locate_reply self.now.head.version).fits self.now ≡ false) }
-        ensures unfit { IsErrOf result EncodeFault.Unfit
-            → (order : Order) (at : ℕ) (octets : List ℕ)
-            → AreOctets octets
-            → (locate_reply self.now.head.version).spells order at self.now octets → ⊥ }
+        ensures encoded { EncodesMessage (locate_reply self.now.head.version) self.now order result }
 
-        // What was written is in the ranges of its types, and is read as the LocateReply again.
-        ensures held { IfOk result (λ octets.
-            (locate_reply self.now.head.version).holds self.now) }
+        // What was written is read as the LocateReply again.
         ensures back { IfOk result (λ octets.
             (locate_reply self.now.head.version).read (joined_from order octets.items)
             ≡ Ok self.now) }
@@ -114,10 +95,7 @@ fn read_reply<S: Octets>(
     };
     match input.view_remainder().to_list(alloc) {
         Ok(rest) => Ok(LocateReply { head, rest }),
-        Err(_) => Err(CdrFault {
-            at: 12,
-            kind: CdrKind::NoMemory,
-        }),
+        Err(_) => Err(no_memory()),
     }
 }
 
@@ -129,7 +107,7 @@ fn append_reply(reply: &LocateReply, out: &mut CdrOut) -> Result<(), AllocError>
         ((locate_reply reply.now.head.version).written reply.now out.old) }
     ensures held { OnOk result ((locate_reply reply.now.head.version).holds reply.now) }
 {
-    append_head(&reply.head, out)?;
+    reply.head.append(out)?;
     out.append_octets(reply.rest.as_slice())?;
     Ok(())
 }

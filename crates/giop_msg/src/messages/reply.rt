@@ -3,13 +3,13 @@
 //! that a refusal doesn't depend on memory.
 #![tactic(auto, unfolding(crate::specs::Messages::Reply::reply, crate::specs::Messages::Reply::allowed, giop_cdr::specs::Ending::nothing, giop_cdr::specs::Ending::leads, giop_cdr::specs::Ending::made_of))]
 
-ghost use Rattle.std.specs.Prelude.{◌≡◌, ◌≤◌, ◌^◌, length, IfOk};
+ghost use Rattle.std.specs.Prelude.{◌≡◌, ◌≤◌, ◌^◌, false, length, IfErr};
 ghost use Rattle.std.specs.Option.{option_copied};
 ghost use Rattle.giop_msg.specs.Joined.{joined_from};
-ghost use Rattle.giop_msg.specs.Messages.Outcome.{Checks, Decodes, FollowsToEnd, IsTold};
+ghost use Rattle.giop_msg.specs.Messages.Outcome.{Checks, Decodes, DecodesMessage, FollowsToEnd};
 ghost use Rattle.giop_msg.specs.Messages.Reply.{reply};
 
-use crate::messages::body::no_memory;
+use crate::joined::no_memory;
 use crate::messages::reply_body::ReplyBody;
 use crate::messages::reply_checking::check_reply_body;
 use crate::messages::reply_reading::{may_answer, offer_for, outs_for, read_reply_body};
@@ -60,19 +60,8 @@ impl Reply {
         order: Order,
     ) -> Result<Reply, CdrFault>
         requires { length (S.octets octets.now) ≤ 2 ^ 62 }
-        // What is returned is what the octets spell, and what they spell is returned.
-        ensures found { IfOk result (λ r.
-            (reply interface.now (option_copied request.entry) version).spells order 12 r
-            (S.octets octets.now)) }
-        ensures only { (r : _)
-            → (reply interface.now (option_copied request.entry) version).spells order 12 r
-            (S.octets octets.now)
-            → IsTold result r }
-
-        // Which refusal it is.
-        ensures exact { Decodes result
-            ((reply interface.now (option_copied request.entry) version).read
-            (joined_from order (S.octets octets.now))) }
+        ensures { DecodesMessage (reply interface.now (option_copied request.entry) version) order
+            (S.octets octets.now) result }
     {
         decode_reply(alloc, interface, request, octets, version, order)
     }
@@ -93,16 +82,22 @@ fn decode_reply<S: Octets>(
         ((reply interface.now (option_copied request.entry) version).read
         (joined_from order (S.octets octets.now))) }
 {
-    let fault = match read_reply(alloc, interface, request, octets, version, order) {
-        Ok(reply) => return Ok(reply),
-        Err(fault) => fault,
-    };
-    match fault.kind {
-        CdrKind::NoMemory => {
-            check_reply(interface, request, octets, version, order)?;
-            Err(no_memory())
-        }
-        _ => Err(fault),
+    let read = read_reply(alloc, interface, request, octets, version, order);
+    // Returned as it lies: to move a Reply takes a part of the time of its reading.
+    if !is_want(&read) {
+        return read;
+    }
+    check_reply(interface, request, octets, version, order)?;
+    Err(no_memory())
+}
+
+// Whether it was out of memory.
+fn is_want(read: &Result<Reply, CdrFault>) -> bool
+    ensures { result ≡ false → IfErr read.now (λ fault. fault.kind ≡ CdrKind.NoMemory → ⊥) }
+{
+    match read {
+        Ok(_) => false,
+        Err(fault) => fault.kind == CdrKind::NoMemory,
     }
 }
 

@@ -13,7 +13,8 @@ ghost use Rattle.giop_msg.specs.Messages.Outcome.{FollowsToEnd};
 ghost use Rattle.giop_msg.specs.Messages.Reply.{completion, exception_in, forward, is_known, listed, may_answer, needs_addressing, no_exception, offer_for, outs_for, reply_body, system_exception, user_exception};
 ghost use Rattle.giop_msg.specs.declared.messages.reply_body.ReplyBody.TheVariants.{Forward, ForwardPerm};
 
-use crate::messages::body::{align_body, no_memory, read_values};
+use crate::joined::no_memory;
+use crate::messages::body::{align_body, read_values};
 use crate::messages::completion::Completion;
 use crate::messages::reply_body::ReplyBody;
 use crate::messages::request::Request;

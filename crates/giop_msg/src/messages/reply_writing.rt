@@ -1,12 +1,10 @@
 //! Writing a whole Reply (9.4.3). The layout is specs/Messages/Reply.antt, and reply.rt reads it:
 //! change them together.
-ghost use Rattle.std.specs.Prelude.{◌≡◌, ◌↔◌, false, true, ℕ, List, Ok, IfOk, IsErrOf, OnOk};
+ghost use Rattle.std.specs.Prelude.{◌≡◌, true, Ok, IfOk, OnOk};
 ghost use Rattle.std.specs.Option.{option_copied};
-ghost use Rattle.giop_cdr.specs.declared.order.Order.{Order};
-ghost use Rattle.giop_cdr.specs.Layout.{AreOctets};
 ghost use Rattle.giop_cdr.specs.Writing.Outcome.{Appends};
 ghost use Rattle.giop_msg.specs.Joined.{joined_from};
-ghost use Rattle.giop_msg.specs.Messages.Outcome.{joined_into};
+ghost use Rattle.giop_msg.specs.Messages.Outcome.{EncodesMessage};
 ghost use Rattle.giop_msg.specs.Messages.Reply.{outs_for, reply};
 
 use crate::joined::joined_output;
@@ -68,21 +66,11 @@ impl Reply {
         request: Option<&Request>,
         order: Order,
     ) -> Result<Vec<u8>, EncodeFault>
-        ensures value { IfOk result (λ octets. octets.items
-            ≡ ((reply interface.now (option_copied request.entry) self.now.version).written
-            self.now (joined_into order)).octets) }
-        ensures err { IsErrOf result EncodeFault.Unfit
-            ↔ ((reply interface.now (option_copied request.entry) self.now.version).fits self.now
-            ≡ false) }
-        ensures unfit { IsErrOf result EncodeFault.Unfit
-            → (order : Order) (at : ℕ) (octets : List ℕ)
-            → AreOctets octets
-            → (reply interface.now (option_copied request.entry) self.now.version).spells
-            order at self.now octets → ⊥ }
+        ensures encoded { EncodesMessage
+            (reply interface.now (option_copied request.entry) self.now.version) self.now order
+            result }
 
-        // What was written is in the ranges of its types, and is read as the Reply again.
-        ensures held { IfOk result (λ octets.
-            (reply interface.now (option_copied request.entry) self.now.version).holds self.now) }
+        // What was written is read as the Reply again.
         ensures back { IfOk result (λ octets.
             (reply interface.now (option_copied request.entry) self.now.version).read
             (joined_from order octets.items) ≡ Ok self.now) }

@@ -1,12 +1,13 @@
 //! Reading a whole Request (9.4.2): its head, and its body by its operation. The layout is
 //! specs/Messages/Request.antt. When out of memory a second pass without memory looks for a fault,
 //! so that a refusal doesn't depend on memory.
-ghost use Rattle.std.specs.Prelude.{◌≡◌, ◌≤◌, ◌^◌, length, option_copied, IfOk, IfNone, IfSome};
+ghost use Rattle.std.specs.Prelude.{◌≡◌, ◌≤◌, ◌^◌, length, option_copied, IfOk, IfErr, IfNone, IfSome};
 ghost use Rattle.giop_msg.specs.Messages.Outcome.{Checks};
 ghost use Rattle.giop_msg.specs.Messages.Request.{operation_asked, request};
 ghost use Rattle.giop_msg.specs.Messages.RequestAnswer.{DecodesRequest, FollowsRequest, IsRequestTold, IsWant, IsWholeWant, request_of_joined};
 
-use crate::messages::body::{no_memory, read_body};
+use crate::joined::no_memory;
+use crate::messages::body::read_body;
 use crate::messages::body_checking::check_body;
 use crate::messages::request_fault::RequestFault;
 use crate::request_head::{RequestHead, RequestHeadAt, view_head};
@@ -75,15 +76,24 @@ fn decode_request<S: Octets>(
     ensures { DecodesRequest result
         (request_of_joined interface.now version order (S.octets octets.now)) }
 {
-    let fault = match read_request(alloc, interface, octets, version, order) {
-        Ok(request) => return Ok(request),
-        Err(fault) => fault,
-    };
-    let Some(want) = want_of(fault) else {
-        return Err(fault);
+    let read = read_request(alloc, interface, octets, version, order);
+    // Returned as it lies: to move a Request takes a part of the time of its reading.
+    let Some(want) = want_in(&read) else {
+        return read;
     };
     check_request(interface, octets, version, order)?;
     Err(want)
+}
+
+// Out of memory as it is reported, where it is what was read; else None.
+fn want_in(read: &Result<Request, RequestFault>) -> Option<RequestFault>
+    ensures some { IfSome result IsWholeWant }
+    ensures none { IfNone result (IfErr read.now (λ fault. IsWant fault → ⊥)) }
+{
+    match read {
+        Ok(_) => None,
+        Err(fault) => want_of(*fault),
+    }
 }
 
 // Out of memory as it is reported, at offset 12, where a fault is that; else None.

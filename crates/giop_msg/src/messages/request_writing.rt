@@ -1,17 +1,15 @@
 //! Writing a whole Request (9.4.2). The layout is specs/Messages/Request.antt, and request.rt reads
 //! it: change them together.
-ghost use Rattle.std.specs.Prelude.{◌≡◌, ◌↔◌, false, true, ℕ, List, Ok, IfOk, IsErrOf, OnOk};
-ghost use Rattle.giop_cdr.specs.declared.order.Order.{Order};
-ghost use Rattle.giop_cdr.specs.Layout.{AreOctets};
+ghost use Rattle.std.specs.Prelude.{◌≡◌, true, Ok, IfOk, OnOk};
 ghost use Rattle.giop_cdr.specs.Writing.Outcome.{Appends};
-ghost use Rattle.giop_msg.specs.Messages.Outcome.{joined_into};
+ghost use Rattle.giop_msg.specs.Messages.Outcome.{EncodesMessage};
 ghost use Rattle.giop_msg.specs.Messages.Request.{request};
 ghost use Rattle.giop_msg.specs.Messages.RequestAnswer.{request_of_joined};
 
 use crate::joined::joined_output;
+use crate::laid_out::LaidOut;
 use crate::messages::body_writing::{append_body, are_fitting};
 use crate::messages::request::Request;
-use crate::request_head_writing::append_head;
 use giop_cdr::{CdrOut, EncodeFault, Order};
 use giop_types::Interface;
 use std::alloc::{AllocError, Global};
@@ -41,19 +39,10 @@ impl Request {
         interface: &Interface,
         order: Order,
     ) -> Result<Vec<u8>, EncodeFault>
-        ensures value { IfOk result (λ octets. octets.items
-            ≡ ((request interface.now self.now.head.version).written self.now
-            (joined_into order)).octets) }
-        ensures err { IsErrOf result EncodeFault.Unfit
-            ↔ ((request interface.now self.now.head.version).fits self.now ≡ false) }
-        ensures unfit { IsErrOf result EncodeFault.Unfit
-            → (order : Order) (at : ℕ) (octets : List ℕ)
-            → AreOctets octets
-            → (request interface.now self.now.head.version).spells order at self.now octets → ⊥ }
+        ensures encoded { EncodesMessage (request interface.now self.now.head.version) self.now order
+            result }
 
-        // What was written is in the ranges of its types, and is read as the Request again.
-        ensures held { IfOk result (λ octets.
-            (request interface.now self.now.head.version).holds self.now) }
+        // What was written is read as the Request again.
         ensures back { IfOk result (λ octets.
             request_of_joined interface.now self.now.head.version order octets.items
             ≡ Ok self.now) }
@@ -79,7 +68,7 @@ fn append_request(q: &Request, interface: &Interface, out: &mut CdrOut) -> Resul
         ((request interface.now q.now.head.version).written q.now out.old) }
     ensures held { OnOk result ((request interface.now q.now.head.version).holds q.now) }
 {
-    append_head(&q.head, out)?;
+    q.head.append(out)?;
     let Some(operation) = q.head.operation_asked(interface) else {
         return Ok(());
     };

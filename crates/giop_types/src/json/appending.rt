@@ -22,9 +22,7 @@ use crate::value::Value;
 use itoa::Buffer;
 use std::alloc::{AllocError, Global};
 
-/// Values as a JSON list without blanks, each by the description of its parameter, their whole
-/// numbers in a form. A value that is none of its description is null, and so many stand in the list
-/// as both have.
+/// Values as a JSON list, as `append_values` appends them.
 pub fn values_to_text(
     alloc: Global,
     numbers: NumberForm,
@@ -35,15 +33,32 @@ pub fn values_to_text(
         ≡ values_text numbers parameters.now (map value_view values.now)) }
 {
     let mut text = String::with_capacity(alloc, 64)?;
+    append_values(&mut text, alloc, numbers, parameters, values)?;
+    Ok(text)
+}
+
+/// Appends values as a JSON list without blanks, each by the description of its parameter, their
+/// whole numbers in a form. A value that is none of its description is null, and so many stand in
+/// the list as both have.
+pub fn append_values(
+    text: &mut String,
+    alloc: Global,
+    numbers: NumberForm,
+    parameters: &[Parameter],
+    values: &[Value],
+) -> Result<(), AllocError>
+    ensures { OnOk result (string_bytes text.new ≡ string_bytes text.old
+        ++ values_text numbers parameters.now (map value_view values.now)) }
+{
     text.push_str("[")?;
     for i in 0..parameters.len().min(values.len()) {
         if i > 0 {
             text.push_str(",")?;
         }
-        append_checked(&mut text, alloc, numbers, &values[i], &parameters[i].desc)?;
+        append_checked(text, alloc, numbers, &values[i], &parameters[i].desc)?;
     }
     text.push_str("]")?;
-    Ok(text)
+    Ok(())
 }
 
 // Appends a value of a description; null where it is none.

@@ -2,7 +2,7 @@
 //! is taken for the open calls and for what one read gave. Its meaning is specs/CallFeeding.antt:
 //! change both.
 ghost use Rattle.std.specs.Prelude.{◌≡◌, ◌&&◌, [], None, IfOk, OnOk};
-ghost use Rattle.giop_session.specs.Pumping.{between};
+ghost use Rattle.giop_end.specs.Pumping.{between};
 ghost use Rattle.giop_commands.specs.CallFeeding.{FedEnd, FedStreams, Feeds, fed};
 ghost use Rattle.giop_commands.specs.CallLines.{feed, so_far};
 ghost use Rattle.giop_commands.specs.Calling.{asked_of};
@@ -12,11 +12,11 @@ use crate::call::feed::LineFeed;
 use crate::call::given::Calling;
 use crate::call::lines::CallLines;
 use crate::call::streaming::{call_next, is_done, take_turn, tell_end, tell_open, tell_turn};
-use crate::failure::Failure;
-use crate::form::LineForm;
 use crate::session::TURNS;
 use crate::session::ending::Ending;
-use giop_session::{ClientEnd, SessionFault};
+use giop_end::{ClientEnd, SessionFault};
+use giop_show::failure::Failure;
+use giop_show::form::LineForm;
 use giop_types::Interface;
 use std::alloc::Global;
 use std::io::{Read, Write};

@@ -8,6 +8,6 @@ returns-clause-back c =
     let request = c.args.self.now in
     let layout = locate_request request.version in
     whole_back (locate_request_is request.version) c.args.order request c.into_bytes.result.items (cc)
-    (held_where_ok c.append_request.result (layout.holds request) (cc) c.append_request.ensures.held)
-    (joined_written c.append_request.result (layout.written request) c.args.order c.in-Ok.out c.append_request.new.out
-    c.into_bytes.result.items (cc) c.append_request.ensures.written c.in-Ok.ensures c.into_bytes.ensures)
+    (held_where_ok c.append.result (layout.holds request) (cc) c.append.ensures.held)
+    (joined_written c.append.result (layout.written request) c.args.order c.in-Ok.out c.append.new.out
+    c.into_bytes.result.items (cc) c.append.ensures.written c.in-Ok.ensures c.into_bytes.ensures)

@@ -1,15 +1,11 @@
-use Rattle.std.proofs.Common.{IsOk, refl, subst, inr}
-use Rattle.giop_msg.proofs.JoinedLemmas.{copy_is}
+use Rattle.std.proofs.lemmas.Result.{err_from_is_err_and}
+use Rattle.giop_msg.proofs.HeadLemmas.{fault_copied, head_copied}
 use Rattle.giop_msg.proofs.reply_head.ReplyHead.decode.Goals as goal
 
-pub returns-in_err-head-clause-only : goal.returns-in_err-head-clause-only
-returns-in_err-head-clause-only g c = λ head body is.
-    let read = c.in_err-head.ensures.only head body is in
-    absurd cc
+pub returns-in_err-head : goal.returns-in_err-head
+returns-in_err-head g c =
+    let p = err_from_is_err_and c.from_residual.result c.from_residual.ensures.1 in
+    rw (p.1, p.2) (fault_copied _ c.in_err-head.ensures)
 
-pub returns-clause-only : goal.returns-clause-only
-returns-clause-only g c = λ head body is.
-    copy_is c.in-Ok.head c.in_ok-head.head head c.in_ok-head.body body c.in-Ok.ensures (c.in_ok-head.ensures.only head body is)
-
-pub returns-in_default-clause-err : goal.returns-in_default-clause-err
-returns-in_default-clause-err g c = inr (refl, subst (λ r. IsOk r) c.in_ok-head.ensures.exact refl)
+pub returns-in-Ok : goal.returns-in-Ok
+returns-in-Ok g c = head_copied c.in-Ok.head c.in_ok-head.head c.in_ok-head.body c.in-Ok.ensures c.in_ok-head.ensures

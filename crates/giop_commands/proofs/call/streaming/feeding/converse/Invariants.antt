@@ -1,5 +1,5 @@
 use Rattle.std.proofs.Common.{◌≡◌, [], None}
-use Rattle.giop_session.specs.Pumping.{between}
+use Rattle.giop_end.specs.Pumping.{between}
 use Rattle.giop_commands.specs.CallFeeding.{FedTurn, fed}
 use Rattle.giop_commands.specs.CallLines.{feed, so_far}
 use Rattle.giop_commands.specs.Calling.{asked_of}

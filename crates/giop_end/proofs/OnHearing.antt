@@ -1,0 +1,6 @@
+-- What hearing a message rests on.
+pub mod ServerLemmas
+pub mod FeedingLemmas
+pub mod HeardLemmas
+pub mod PieceLemmas
+pub mod ClientLemmas
