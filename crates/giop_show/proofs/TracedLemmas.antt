@@ -1,11 +1,6 @@
 -- Texts of the lines of `trace`.
-use Rattle.std.proofs.Common.{◌≡◌, ℕ, Bool, false, List, ◌++◌, Option, Some, Ok, codes, refl}
-use Rattle.std.specs.Io.KnownBytes.{Appends}
-use Rattle.giop_trace.specs.declared.heard.Heard.{Heard}
-use Rattle.giop_show.specs.declared.form.LineForm.{LineForm}
+use Rattle.std.proofs.Common.{◌≡◌, ℕ, false, List, Option, Some, Ok, refl}
 use Rattle.giop_show.specs.declared.trace.call_line.Unanswered.{Unanswered}
-use Rattle.giop_show.specs.TracedText.{flow_line, heard_lines, over_as, still_open}
-use Rattle.giop_show.proofs.DumpLemmas.{Appends-append}
 use Rattle.giop_types.specs.declared.json.interface.Interface.{Interface}
 use Rattle.giop_types.specs.declared.json.number_form.NumberForm.{NumberForm}
 use Rattle.giop_msg.specs.declared.messages.completion.Completion.{Completion}
@@ -19,10 +14,8 @@ use Rattle.giop_msg.specs.declared.kind.Kind.TheVariants as kind
 use Rattle.giop_msg.specs.Joined.{joined_from}
 use Rattle.giop_msg.specs.Messages.Reply.{reply}
 use Rattle.giop_msg.specs.Messages.RequestAnswer.{request_of_joined}
-use Rattle.giop_show.specs.Bodies.{brought_by}
 use Rattle.giop_show.specs.declared.trace.answered.Answered.TheVariants as answered
 use Rattle.giop_show.specs.declared.trace.asked.Asked.TheVariants as asked
-use Rattle.giop_lines.specs.TraceLines.{call_id_text}
 use Rattle.giop_msg.specs.declared.messages.reply.Reply.{Reply}
 use Rattle.giop_msg.specs.declared.msg.Msg.{Msg}
 use Rattle.giop_trace.specs.declared.flow.Flow.{Flow}
@@ -38,15 +31,6 @@ body_brought numbers interface request (SystemException id minor completed) othe
 body_brought numbers interface request (Forward ior) other = refl
 body_brought numbers interface request (ForwardPerm ior) other = refl
 body_brought numbers interface request (NeedsAddressing disposition) other = refl
-
--- the lines of the calls that are over by a message, one behind the other
-pub told_lines : (form : LineForm) (interface : Interface) (alone : Bool) (told : Heard) (waits over : Unanswered) (a b c : Option (List ℕ))
-    → waits ≡ still_open alone → over ≡ over_as alone told.id
-    → Appends a b (flow_line form interface told.id waits told.earlier) → Appends b c (flow_line form interface told.id over told.over)
-    → Appends a c (heard_lines form interface alone told)
-told_lines form interface alone told waits over a b c still end first second =
-    Appends-append a b c (flow_line form interface told.id (still_open alone) told.earlier) (flow_line form interface told.id (over_as alone told.id) told.over)
-    (rw still at first) (rw end at second)
 
 -- a call that brought its outs
 pub result_parts : (numbers : NumberForm) (interface : Interface) (id : Option ℕ) (flow : Flow) (unanswered : Unanswered) (request : Request) (m : Msg)

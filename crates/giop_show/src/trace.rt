@@ -330,14 +330,19 @@ fn tell<W: Write>(
         brought.message))) }
 {
     let (form, alone) = (tracing.form, tracing.observer.alone);
-    let mut told = tracing.observer.hear(direction, brought.message)?;
-    let open = still_open(alone);
-    write_flow(alloc, interface, form, told.id, open, &told.earlier, writer)?;
-    let over = over_as(alone, told.id);
-    write_flow(alloc, interface, form, told.id, over, &told.over, writer)?;
-    tracing.give_back(&mut told.earlier);
-    tracing.give_back(&mut told.over);
-    Ok(())
+    // Told where it lies: to move it takes as long as to hear it.
+    match &mut tracing.observer.hear(direction, brought.message) {
+        Ok(told) => {
+            let open = still_open(alone);
+            write_flow(alloc, interface, form, told.id, open, &told.earlier, writer)?;
+            let over = over_as(alone, told.id);
+            write_flow(alloc, interface, form, told.id, over, &told.over, writer)?;
+            tracing.give_back(&mut told.earlier);
+            tracing.give_back(&mut told.over);
+            Ok(())
+        }
+        Err(_) => Err(Failure::Memory),
+    }
 }
 
 // Writes the line of a call, if there is one.
