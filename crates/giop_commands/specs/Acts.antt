@@ -4,6 +4,7 @@ use Rattle.std.specs.Prelude.{◌≡◌, ◌≢◌, ◌⊎◌, ℕ, ◌<◌, max
 use Rattle.std.specs.FinMap as finite
 use Rattle.giop_ids.specs.Runs.{Rules}
 use Rattle.giop_mux.specs.declared.step.Step.{Step}
+use Rattle.giop_session.specs.declared.end.End.{End}
 use Rattle.giop_session.specs.declared.calls.plan.Plan.TheVariants.{Next}
 use Rattle.giop_session.specs.declared.calls.plan.Planned.{Planned}
 use Rattle.giop_session.specs.declared.session_fault.SessionFault.{SessionFault}
@@ -24,6 +25,10 @@ pub record Outbox (S : Type 0) : Type 0 where
 -- what an act changes, from its parts
 abbrev pub outbox : {S : Type 0} → S → List ℕ → Outbox S
 outbox calls outgoing = record { calls = calls; outgoing = outgoing }
+
+-- what it changes, at an end
+abbrev pub outbox_of : {R E V A F : Type 0} → End R E V A F → Outbox (Held R E)
+outbox_of end = outbox end.calls end.outgoing
 
 module _ {R E V A F : Type 0} (rules : Rules (Held R E) (Call E) (Act V) (Reply E A) (TableFault F))
     (of_rule : ℕ → F → SessionFault) where

@@ -2,7 +2,7 @@
 ghost use Rattle.std.specs.Prelude.{◌≡◌, ◌≢◌, [], IfOk, OnOk, Some, None, length};
 ghost use Rattle.std.specs.Io.KnownBytes.{Appends, IsAtEnd};
 ghost use Rattle.giop_session.specs.declared.session_fault.SessionFault.TheVariants.{NoMemory};
-ghost use Rattle.giop_session.specs.Hearing.Heard.{hears_by};
+ghost use Rattle.giop_session.specs.Hearing.Heard.{hears_in};
 ghost use Rattle.giop_commands.specs.Check.{AreLimits, Checks, ChecksKnown, HeardKnown, default_limits, fault_status, last_status};
 ghost use Rattle.giop_commands.specs.Dump.{ended};
 ghost use Rattle.giop_commands.specs.SessionLines.{last_in, session_fault_in};
@@ -92,8 +92,7 @@ fn hear<S: Hearing, R: Read>(
 ) -> Result<(), Failure>
     requires begins { end.old.framer.octets ≡ [] }
     requires sound { end.old.fault ≡ None }
-    ensures heard { OnOk result (HeardKnown (hears_by S.next S.closed S.gathering S.in_call
-        S.breaks (S.befalls end.old.interface.now)) (R.remaining reader.old)
+    ensures heard { OnOk result (HeardKnown (hears_in S.Hearing end.old.interface.now) (R.remaining reader.old)
         end.old.framer end.old.calls end.new.fault end.new.framer end.new.calls) }
     ensures memory { OnOk result (end.new.fault ≢ Some NoMemory) }
     ensures end { OnOk result (behind ≡ BehindFault.Read → IsAtEnd (R.remaining reader.new)) }
