@@ -9,7 +9,7 @@ mod both_ends;
 mod row;
 mod server_alone;
 
-use giop_session::Limits;
+use giop_end::Limits;
 use giop_types::Interface;
 
 const J: &[u8] =

@@ -5,8 +5,8 @@ ghost use Rattle.std.specs.Prelude.{◌<◌, ◌≤◌};
 
 use giop_calls::{ClientEntry, ServerEntry};
 use giop_cdr::OctetList;
+use giop_end::{ClientEnd, End, Form, Hearing, Limits, ServerEnd, turn, write_out};
 use giop_msg::{Reply, ReplyBody, Request, RequestHead, ServiceContexts, Target, Version};
-use giop_session::{ClientEnd, End, Form, Hearing, Limits, ServerEnd, turn, write_out};
 use giop_types::{Interface, Value, ValueList};
 use std::alloc::{AllocError, Global};
 use std::net::{Ipv4Addr, TcpListener, TcpStream};

@@ -4,7 +4,7 @@
 ghost use Rattle.std.specs.Prelude.{◌≤◌};
 
 use crate::loopback::{J, LIMITS, REPLY, call_all, hear, reply_to, take_all};
-use giop_session::{ClientEnd, Form, ServerEnd, turn};
+use giop_end::{ClientEnd, Form, ServerEnd, turn};
 use giop_types::Interface;
 use std::alloc::Global;
 use std::net::{Ipv4Addr, TcpListener, TcpStream};

@@ -2,7 +2,7 @@
 //! over a million ids, each answered at once; and 10 GB on one connection, in Requests of `put` of
 //! 16 KB, fed by 4,096 octets. `bench/session/twin.rs` does the same in plain Rust.
 use crate::session::{CALLS, IDS, J, LIMITS, calls, mixed, pieces, serve, set_id};
-use giop_session::{Limits, ServerEnd};
+use giop_end::{Limits, ServerEnd};
 use giop_types::Interface;
 use std::alloc::Global;
 

@@ -6,11 +6,11 @@ ghost use Rattle.std.specs.Prelude.{◌≡◌, ◌<◌, ◌≤◌, ◌^◌, leng
 
 use giop_calls::ServerEntry;
 use giop_cdr::{OctetList, Order};
+use giop_end::{Form, Limits, ServerEnd};
 use giop_msg::{
     Kind, Msg, Reply, ReplyBody, Request, RequestHead, ServiceContexts, Target, Version, can_cut,
     cut,
 };
-use giop_session::{Form, Limits, ServerEnd};
 use giop_types::{Interface, Value, ValueList};
 use std::alloc::{AllocError, Global};
 

@@ -14,11 +14,11 @@ use Rattle.giop_types.specs.JsonForms.FormFault.{form_fault_number}
 use Rattle.giop_types.specs.Values.Tree.{Tree}
 use Rattle.giop_ior.specs.Ior.{Reference, ior_layout}
 use Rattle.giop_msg.specs.Messages.Alone.{values_alone}
-use Rattle.giop_session.specs.declared.acts.form.Form.{Form}
-use Rattle.giop_session.specs.declared.limits.Limits.{Limits}
-use Rattle.giop_session.specs.declared.session_fault.SessionFault.{SessionFault}
-use Rattle.giop_session.specs.declared.session_fault.SessionFault.TheVariants as session
-use Rattle.giop_session.specs.Acts.Form.{IsForm}
+use Rattle.giop_end.specs.declared.acts.form.Form.{Form}
+use Rattle.giop_end.specs.declared.limits.Limits.{Limits}
+use Rattle.giop_end.specs.declared.session_fault.SessionFault.{SessionFault}
+use Rattle.giop_end.specs.declared.session_fault.SessionFault.TheVariants as session
+use Rattle.giop_end.specs.Acts.Form.{IsForm}
 use Rattle.giop_c.specs.declared.act_fault.ActFault.{ActFault}
 use Rattle.giop_c.specs.declared.act_fault.ActFault.TheVariants as refused
 use Rattle.giop_c.specs.declared.end_records.EndFault.{EndFault}

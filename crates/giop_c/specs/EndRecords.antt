@@ -8,9 +8,9 @@ use Rattle.giop_msg.specs.declared.messages.reply.Reply.{Reply}
 use Rattle.giop_calls.specs.declared.outcome.Outcome.{Outcome}
 use Rattle.giop_calls.specs.declared.outcome.Outcome.TheVariants as ended
 use Rattle.giop_calls.specs.Faults.{fault_number}
-use Rattle.giop_session.specs.declared.session_fault.SessionFault.{SessionFault}
-use Rattle.giop_session.specs.declared.session_fault.SessionFault.TheVariants as session
-use Rattle.giop_session.specs.Calls.SessionFaults.{session_fault_number}
+use Rattle.giop_end.specs.declared.session_fault.SessionFault.{SessionFault}
+use Rattle.giop_end.specs.declared.session_fault.SessionFault.TheVariants as session
+use Rattle.giop_end.specs.Ends.SessionFaults.{session_fault_number}
 use Rattle.giop_c.specs.declared.end_records.EndFault.{EndFault}
 use Rattle.giop_c.specs.Calls.{no_memory, fault}
 

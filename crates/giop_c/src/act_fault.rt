@@ -5,7 +5,7 @@ ghost use Rattle.giop_c.specs.Acts.{IsToldAct, act_status, c_act_fault, c_json_f
 use crate::end_records::EndFault;
 use crate::status::{FAULT, NO_MEMORY, OK};
 use giop_cdr::{CdrFault, CdrKind};
-use giop_session::SessionFault;
+use giop_end::SessionFault;
 use giop_types::{FormFault, IorTextFault};
 
 /// Why an answer or a call isn't sent.

@@ -5,7 +5,7 @@ ghost use Rattle.giop_c.specs.Acts.{IsTold, form_of};
 
 use crate::status::{FAULT, NO_MEMORY, OK};
 use giop_cdr::Order;
-use giop_session::{Form, SessionFault};
+use giop_end::{Form, SessionFault};
 
 /// What an end may hold at most, as C says it: `giop_limits`.
 #[repr(C)]

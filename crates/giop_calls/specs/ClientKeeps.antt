@@ -9,7 +9,7 @@ use Rattle.giop_calls.specs.declared.client.entry.ClientEntry.{ClientEntry}
 use Rattle.giop_calls.specs.declared.client.entry.ClientEntry.TheVariants.{Sending, Waiting, Gathering, Done, LocateDone, Undecoded, OnewaySent, Cancelled}
 use Rattle.giop_calls.specs.declared.client.event.ClientEvent.{ClientEvent}
 use Rattle.giop_calls.specs.declared.client.event.ClientEvent.TheVariants as event
-use Rattle.giop_calls.specs.ClientTable.{ClientStep, becomes, refused, is_free, send, cancel, answers, settles, first, whole, more, last, client_step}
+use Rattle.giop_calls.specs.ClientTable.{ClientStep, becomes, refused, is_free, send, cancel, answers, settles, first, whole, more, last, client_step, is_gathering, is_closed}
 
 -- a step leaves the entry where it is refused
 abbrev pub Keeps : Option ClientEntry → ClientStep → Type 0
@@ -124,3 +124,15 @@ fault_keeps entry (event.First k version) err = first_keeps entry k version err
 fault_keeps entry (event.Whole k version reply) err = whole_keeps entry k version reply err
 fault_keeps entry (event.More in_order) err = more_keeps entry in_order err
 fault_keeps entry (event.Last in_order reply) err = last_keeps entry in_order reply err
+
+-- a call whose pieces are gathered is not over
+pub gathering_is_open : (entry : ClientEntry) → is_gathering entry ≡ true
+    → is_closed entry ≡ false
+gathering_is_open (Gathering call) here = refl
+gathering_is_open (Sending call left) here = absurd cc
+gathering_is_open (Waiting call) here = absurd cc
+gathering_is_open (Done request reply) here = absurd cc
+gathering_is_open (LocateDone request reply) here = absurd cc
+gathering_is_open (Undecoded call fault) here = absurd cc
+gathering_is_open (OnewaySent request) here = absurd cc
+gathering_is_open (Cancelled late) here = absurd cc

@@ -8,7 +8,7 @@ use Rattle.giop_calls.specs.declared.server.entry.ServerEntry.TheVariants.{Gathe
 use Rattle.giop_calls.specs.declared.server.event.ServerEvent.{ServerEvent}
 use Rattle.giop_calls.specs.declared.server.event.ServerEvent.TheVariants as event
 use Rattle.giop_calls.specs.Messages.{is_same_version, is_system_exception}
-use Rattle.giop_calls.specs.ServerTable.{ServerStep, becomes, refused, is_free, more, last, cancel, answer, answer_undecoded, answer_locate, answer_locate_undecoded, send, server_step}
+use Rattle.giop_calls.specs.ServerTable.{ServerStep, becomes, refused, is_free, more, last, cancel, answer, answer_undecoded, answer_locate, answer_locate_undecoded, send, server_step, is_gathering, is_closed}
 use Rattle.std.specs.Prelude.{◌&&◌, if◌then◌else◌}
 
 -- a step leaves the entry where it is refused
@@ -123,3 +123,15 @@ fault_keeps entry event.Cancel err = cancel_keeps entry err
 fault_keeps entry (event.Answer reply pieces) err = answer_keeps entry reply pieces err
 fault_keeps entry (event.AnswerLocate here) err = locate_keeps entry here err
 fault_keeps entry event.Send err = send_keeps entry err
+
+-- a call whose pieces are gathered is not over
+pub gathering_is_open : (entry : ServerEntry) → is_gathering entry ≡ true
+    → is_closed entry ≡ false
+gathering_is_open (Gathering kind) here = refl
+gathering_is_open (Asked request) here = absurd cc
+gathering_is_open (Undecoded call) here = absurd cc
+gathering_is_open (LocateAsked request) here = absurd cc
+gathering_is_open (Answered asked reply left) here = absurd cc
+gathering_is_open (LocateAnswered target here') here = absurd cc
+gathering_is_open (Delivered request) here = absurd cc
+gathering_is_open (Cancelled answered left) here = absurd cc

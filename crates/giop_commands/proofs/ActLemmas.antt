@@ -1,14 +1,14 @@
 -- What the programs do at their ends.
 use Rattle.std.proofs.Common.{◌≡◌, ◌≢◌, ℕ, max, List, [], ◌∷◌, ◌++◌, Option, Some, None, Result, Ok, Err, IfOk, sym, ap, subst, ◌∙◌, arith}
 use Rattle.giop_ids.specs.Runs.{Rules}
-use Rattle.giop_session.specs.declared.end.End.{End}
-use Rattle.giop_session.specs.declared.calls.plan.Planned.{Planned}
-use Rattle.giop_session.specs.declared.session_fault.SessionFault.{SessionFault}
-use Rattle.giop_session.specs.declared.session_fault.SessionFault.TheVariants.{NoMemory}
-use Rattle.giop_session.specs.declared.calls.table_fault.TableFault.{TableFault}
-use Rattle.giop_session.specs.Calls.CallTable.{Act, Call, Held, Reply}
-use Rattle.giop_session.specs.Acts.Putting.{Puts}
-use Rattle.giop_commands.specs.declared.failure.Failure.{Failure}
+use Rattle.giop_end.specs.declared.end.End.{End}
+use Rattle.giop_table.specs.declared.plan.Planned.{Planned}
+use Rattle.giop_end.specs.declared.session_fault.SessionFault.{SessionFault}
+use Rattle.giop_end.specs.declared.session_fault.SessionFault.TheVariants.{NoMemory}
+use Rattle.giop_table.specs.declared.table_fault.TableFault.{TableFault}
+use Rattle.giop_table.specs.CallTable.{Act, Call, Held, Reply}
+use Rattle.giop_end.specs.Acts.Putting.{Puts}
+use Rattle.giop_show.specs.declared.failure.Failure.{Failure}
 use Rattle.giop_commands.specs.Check.{answer_of}
 use Rattle.giop_commands.specs.Acts.{Acts, ActsOrTells, Outbox, most}
 

@@ -3,11 +3,11 @@ use Rattle.std.proofs.Common.{◌≡◌, ℕ, ◌<◌, ◌&&◌, Bool, true, Lis
 use Rattle.std.specs.Io.KnownBytes.{Appends}
 use Rattle.giop_calls.specs.ClientTable.{is_closed}
 use Rattle.giop_msg.specs.Stream.{Unread}
-use Rattle.giop_session.specs.declared.session_fault.SessionFault.{SessionFault}
-use Rattle.giop_session.specs.Pumping.{Between, between}
+use Rattle.giop_end.specs.declared.session_fault.SessionFault.{SessionFault}
+use Rattle.giop_end.specs.Pumping.{Between, between}
 use Rattle.giop_commands.specs.declared.call.calls.CallLine.{CallLine}
-use Rattle.giop_commands.specs.declared.failure.Failure.{Failure}
-use Rattle.giop_commands.specs.declared.form.LineForm.{LineForm}
+use Rattle.giop_show.specs.declared.failure.Failure.{Failure}
+use Rattle.giop_show.specs.declared.form.LineForm.{LineForm}
 use Rattle.giop_commands.specs.declared.session.ending.Ending.{Ending}
 use Rattle.giop_commands.specs.CallFeeding.{Fed, FedEnd, FedEnds, FedStreams, FedTurn, Feeds, fed, with_calls}
 use Rattle.giop_commands.specs.CallLines.{Feed}

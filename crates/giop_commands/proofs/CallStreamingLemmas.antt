@@ -9,13 +9,13 @@ use Rattle.giop_calls.specs.declared.client.rule.ClientRule.{ClientRule}
 use Rattle.giop_calls.specs.declared.fault.CallFault.{CallFault}
 use Rattle.giop_calls.specs.ClientTable.{is_closed}
 use Rattle.giop_types.specs.declared.json.interface.Interface.{Interface}
-use Rattle.giop_session.specs.declared.end.End.{End}
-use Rattle.giop_session.specs.declared.session_fault.SessionFault.{SessionFault}
-use Rattle.giop_session.specs.Calls.CallTable.{Held}
-use Rattle.giop_session.specs.Pumping.{Between, between}
+use Rattle.giop_end.specs.declared.end.End.{End}
+use Rattle.giop_end.specs.declared.session_fault.SessionFault.{SessionFault}
+use Rattle.giop_table.specs.CallTable.{Held}
+use Rattle.giop_end.specs.Pumping.{Between, between}
 use Rattle.giop_commands.specs.declared.call.calls.CallLine.{CallLine}
-use Rattle.giop_commands.specs.declared.failure.Failure.{Failure}
-use Rattle.giop_commands.specs.declared.form.LineForm.{LineForm}
+use Rattle.giop_show.specs.declared.failure.Failure.{Failure}
+use Rattle.giop_show.specs.declared.form.LineForm.{LineForm}
 use Rattle.giop_commands.specs.declared.session.ending.Ending.{Ending}
 use Rattle.giop_commands.specs.Acts.{Outbox}
 use Rattle.giop_commands.specs.Calling.{Asked, ClientCalls}
@@ -25,7 +25,7 @@ use Rattle.giop_commands.specs.Sessions.{Wire, told}
 use Rattle.giop_commands.specs.Streaming.{over_text}
 use Rattle.giop_commands.specs.Table.{client_entry_in}
 use Rattle.giop_commands.specs.Turns.{most_turns}
-use Rattle.giop_commands.proofs.DumpLemmas.{Appends-append}
+use Rattle.giop_show.proofs.DumpLemmas.{Appends-append}
 use Rattle.giop_commands.proofs.StepLemmas.{Before, Counted}
 use Rattle.giop_commands.proofs.StreamingLemmas.{unfailed}
 

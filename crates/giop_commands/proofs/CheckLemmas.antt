@@ -8,25 +8,25 @@ use Rattle.giop_msg.specs.Msg.{message_octets}
 use Rattle.giop_msg.specs.Stream.{TakesMessage, Unread, Waits}
 use Rattle.giop_msg.proofs.StreamLemmas.{fault_stands, length-message_octets}
 use Rattle.giop_types.specs.declared.json.interface.Interface.{Interface}
-use Rattle.giop_session.specs.declared.limits.Limits.{Limits}
-use Rattle.giop_session.specs.declared.session_fault.SessionFault.{SessionFault}
-use Rattle.giop_session.specs.Hearing.Feeding.{Fed, Stops, with_octets}
-use Rattle.giop_session.proofs.OnHearing.FeedingLemmas.{fed_in_turn}
+use Rattle.giop_end.specs.declared.limits.Limits.{Limits}
+use Rattle.giop_end.specs.declared.session_fault.SessionFault.{SessionFault}
+use Rattle.giop_end.specs.Hearing.Feeding.{Fed, Stops, with_octets}
+use Rattle.giop_end.proofs.OnHearing.FeedingLemmas.{fed_in_turn}
 use Rattle.giop_calls.specs.declared.server.entry.ServerEntry.{ServerEntry}
 use Rattle.giop_calls.specs.declared.server.rule.ServerRule.{ServerRule}
-use Rattle.giop_session.specs.Calls.Begun.{no_calls}
-use Rattle.giop_session.specs.Calls.CallTable.{Held}
-use Rattle.giop_commands.specs.declared.failure.Failure.{Failure}
-use Rattle.giop_commands.specs.declared.status.Status.{Status}
-use Rattle.giop_commands.specs.declared.status.Status.TheVariants.{Done, Refused, LimitPassed, Usage, InputOutput, Memory}
+use Rattle.giop_end.specs.Ends.Begun.{no_calls}
+use Rattle.giop_table.specs.CallTable.{Held}
+use Rattle.giop_show.specs.declared.failure.Failure.{Failure}
+use Rattle.giop_show.specs.declared.status.Status.{Status}
+use Rattle.giop_show.specs.declared.status.Status.TheVariants.{Done, Refused, LimitPassed, Usage, InputOutput, Memory}
 use Rattle.giop_types.specs.declared.json.number_form.NumberForm.TheVariants.{Plain}
-use Rattle.giop_commands.specs.declared.form.LineForm.{LineForm}
-use Rattle.giop_commands.specs.declared.form.LineForm.TheVariants.{Text}
+use Rattle.giop_show.specs.declared.form.LineForm.{LineForm}
+use Rattle.giop_show.specs.declared.form.LineForm.TheVariants.{Text}
 use Rattle.giop_commands.specs.Check.{Checks, ChecksKnown, HeardKnown, Hears, IsChecked, last_status, nothing_read, server_hears, strict_status}
 use Rattle.giop_commands.specs.SessionLines.{last_in}
-use Rattle.giop_commands.specs.Dump.{ended}
+use Rattle.giop_show.specs.Dump.{ended}
 use Rattle.giop_commands.specs.Table.{server_entry_in, table_text}
-use Rattle.giop_commands.proofs.DumpLemmas.{Appends-append, nothing_left}
+use Rattle.giop_show.proofs.DumpLemmas.{Appends-append, nothing_left}
 
 -- where nothing is unread, no message stands at the front, and no fault
 pub nothing_waits : (unread : Unread) → unread.octets ≡ [] → Waits unread

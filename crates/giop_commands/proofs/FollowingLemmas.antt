@@ -1,7 +1,7 @@
 -- Calls that are made again where they are forwarded to.
 use Rattle.std.proofs.Common.{Option}
-use Rattle.giop_session.specs.declared.session_fault.SessionFault.{SessionFault}
-use Rattle.giop_session.specs.Pumping.{Between}
+use Rattle.giop_end.specs.declared.session_fault.SessionFault.{SessionFault}
+use Rattle.giop_end.specs.Pumping.{Between}
 use Rattle.giop_commands.specs.Acts.{Outbox}
 use Rattle.giop_commands.specs.CallStreaming.{box_of, with_box}
 use Rattle.giop_commands.specs.Calling.{Asked, CallsAll, ClientCalls, Talks}

@@ -1,11 +1,3 @@
-pub mod DumpLemmas
-pub mod IncomingLemmas
-pub mod TraceLemmas
-pub mod TracedLemmas
-pub mod JoiningLemmas
-pub mod PiecesLemmas
-pub mod ConvertLemmas
-pub mod BodiesLemmas
 pub mod CheckLemmas
 pub mod StepLemmas
 pub mod ActLemmas

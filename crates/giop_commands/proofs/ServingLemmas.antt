@@ -2,13 +2,13 @@
 use Rattle.std.proofs.Common.{◌≡◌, ℕ, true, List, Option, Some, None, Result, Ok, Err, IfOk, refl, sym, subst}
 use Rattle.std.specs.FinMap as finite
 use Rattle.giop_calls.specs.declared.server.entry.ServerEntry.{ServerEntry}
-use Rattle.giop_session.specs.declared.limits.Limits.{Limits}
-use Rattle.giop_session.specs.declared.session_fault.SessionFault.{SessionFault}
-use Rattle.giop_session.specs.Pumping.{Between}
-use Rattle.giop_session.specs.Calls.Sending.{entry_of}
+use Rattle.giop_end.specs.declared.limits.Limits.{Limits}
+use Rattle.giop_end.specs.declared.session_fault.SessionFault.{SessionFault}
+use Rattle.giop_end.specs.Pumping.{Between}
+use Rattle.giop_table.specs.Sending.{entry_of}
 use Rattle.giop_commands.specs.declared.serve.in_turn.AnswerName.{AnswerName}
 use Rattle.giop_commands.specs.declared.serve.answering.Due.{Due}
-use Rattle.giop_commands.specs.declared.failure.Failure.{Failure}
+use Rattle.giop_show.specs.declared.failure.Failure.{Failure}
 use Rattle.giop_commands.specs.Answering.{due_to}
 use Rattle.giop_commands.specs.Check.{server_hears}
 use Rattle.giop_commands.specs.Serving.{Answers, AnswersAll, AnswersOne, Converses, Desk, SendsDue, ServeEnds, Served, ServerCalls, Session, TurnAnswers, desk_of, session, with_desk}

@@ -5,20 +5,20 @@ use Rattle.std.specs.Io.KnownBytes.{Appends}
 use Rattle.giop_calls.specs.ClientTable as client
 use Rattle.giop_calls.specs.ServerTable as server
 use Rattle.giop_msg.specs.Stream.{Unread}
-use Rattle.giop_session.specs.declared.session_fault.SessionFault.{SessionFault}
-use Rattle.giop_session.specs.Pumping.{Between, between}
+use Rattle.giop_end.specs.declared.session_fault.SessionFault.{SessionFault}
+use Rattle.giop_end.specs.Pumping.{Between, between}
 use Rattle.giop_types.specs.declared.json.interface.Interface.{Interface}
 use Rattle.giop_commands.specs.declared.serve.in_turn.AnswerName.{AnswerName}
-use Rattle.giop_commands.specs.declared.failure.Failure.{Failure}
+use Rattle.giop_show.specs.declared.failure.Failure.{Failure}
 use Rattle.giop_types.specs.declared.json.number_form.NumberForm.TheVariants.{Plain}
-use Rattle.giop_commands.specs.declared.form.LineForm.{LineForm}
-use Rattle.giop_commands.specs.declared.form.LineForm.TheVariants.{Text}
+use Rattle.giop_show.specs.declared.form.LineForm.{LineForm}
+use Rattle.giop_show.specs.declared.form.LineForm.TheVariants.{Text}
 use Rattle.giop_commands.specs.declared.session.ending.Ending.{Ending}
-use Rattle.giop_commands.specs.declared.status.Status.{Status}
-use Rattle.giop_commands.specs.declared.status.Status.TheVariants.{Done, Refused, LimitPassed, Usage, InputOutput, Memory}
+use Rattle.giop_show.specs.declared.status.Status.{Status}
+use Rattle.giop_show.specs.declared.status.Status.TheVariants.{Done, Refused, LimitPassed, Usage, InputOutput, Memory}
 use Rattle.giop_commands.specs.Acts.{Outbox}
 use Rattle.giop_commands.specs.Calling.{Asked, CallsAll, ClientCalls, Converses, ConversesIf, Talks, are_over, begun, client_hears, new_box}
-use Rattle.giop_commands.specs.Dump.{ended}
+use Rattle.giop_show.specs.Dump.{ended}
 use Rattle.giop_commands.specs.Endings.{CallsEnd, Ends, ServesEnd}
 use Rattle.giop_commands.specs.Sessions.{Calls, IsCalled, IsServed, Serves, Wire, call_status, connection_in, serve_status, session_text, told}
 use Rattle.giop_commands.specs.Serving as serving

@@ -13,11 +13,11 @@ use Rattle.std.specs.List.{AllByRecursion, IsDistinct, flat_map}
 use Rattle.std.specs.Io.KnownBytes.{Appends}
 use Rattle.giop_ids.specs.ById.{ById, put}
 use Rattle.giop_ids.proofs.Puts.{get-put_tied}
-use Rattle.giop_session.specs.declared.calls.slot.Slot.{Slot}
-use Rattle.giop_session.specs.Calls.Sending.{entry_of}
+use Rattle.giop_table.specs.declared.slot.Slot.{Slot}
+use Rattle.giop_table.specs.Sending.{entry_of}
 use Rattle.giop_commands.specs.Streaming.{ended_at, has_ended, over_at, without_ended, without_over}
 use Rattle.giop_commands.specs.Table.{entry_text}
-use Rattle.giop_commands.proofs.DumpLemmas.{Appends-append}
+use Rattle.giop_show.proofs.DumpLemmas.{Appends-append}
 
 -- ---- the ids of a table are apart
 

@@ -1,14 +1,14 @@
 -- Turns of the sessions of `call` and `serve`.
 use Rattle.std.proofs.Common.{◌≡◌, ◌≢◌, ◌⊎◌, ℕ, Bool, false, List, Option, None, Result, Ok, Err, IfOk, IfErr, refl, sym, subst, inl, inr}
 use Rattle.std.specs.Io.KnownBytes.{Appends}
-use Rattle.giop_session.specs.declared.session_fault.SessionFault.TheVariants.{NoMemory}
-use Rattle.giop_session.specs.Calls.SessionFaults.{error_message_of}
+use Rattle.giop_end.specs.declared.session_fault.SessionFault.TheVariants.{NoMemory}
+use Rattle.giop_end.specs.Ends.SessionFaults.{error_message_of}
 use Rattle.giop_msg.specs.declared.msg.Msg.{Msg}
-use Rattle.giop_session.specs.declared.pump_fault.PumpFault.TheVariants as turn
-use Rattle.giop_session.specs.declared.session_fault.SessionFault.{SessionFault}
-use Rattle.giop_session.specs.Pumping.{Between, Turned}
-use Rattle.giop_commands.specs.declared.failure.Failure.{Failure}
-use Rattle.giop_commands.specs.declared.failure.Failure.TheVariants.{Memory}
+use Rattle.giop_end.specs.declared.pump_fault.PumpFault.TheVariants as turn
+use Rattle.giop_end.specs.declared.session_fault.SessionFault.{SessionFault}
+use Rattle.giop_end.specs.Pumping.{Between, Turned}
+use Rattle.giop_show.specs.declared.failure.Failure.{Failure}
+use Rattle.giop_show.specs.declared.failure.Failure.TheVariants.{Memory}
 use Rattle.giop_commands.specs.Turns.{GoesOn, IsOfConnection, WaitEnds, Waits, WaitsOn, peer_octets, with_output}
 use Rattle.giop_commands.proofs.StepLemmas.{Counted}
 

@@ -9,29 +9,29 @@ use Rattle.giop_msg.specs.Stream.{Unread}
 use Rattle.giop_calls.specs.declared.client.entry.ClientEntry.{ClientEntry}
 use Rattle.giop_calls.specs.ClientTable.{is_closed}
 use Rattle.giop_types.specs.declared.json.interface.Interface.{Interface}
-use Rattle.giop_session.specs.declared.calls.slot.Slot.{Slot}
-use Rattle.giop_session.specs.declared.limits.Limits.{Limits}
-use Rattle.giop_session.specs.declared.session_fault.SessionFault.{SessionFault}
-use Rattle.giop_session.specs.Calls.Begun.{no_calls}
-use Rattle.giop_session.specs.Calls.Sending.{entry_of}
-use Rattle.giop_session.specs.Ends.View.{end_between}
-use Rattle.giop_session.specs.Pumping.{Between, between}
+use Rattle.giop_table.specs.declared.slot.Slot.{Slot}
+use Rattle.giop_end.specs.declared.limits.Limits.{Limits}
+use Rattle.giop_end.specs.declared.session_fault.SessionFault.{SessionFault}
+use Rattle.giop_end.specs.Ends.Begun.{no_calls}
+use Rattle.giop_table.specs.Sending.{entry_of}
+use Rattle.giop_end.specs.Ends.View.{end_between}
+use Rattle.giop_end.specs.Pumping.{Between, between}
 use Rattle.giop_lines.specs.SessionJson.{unsent_json}
 use Rattle.giop_lines.specs.TableLines.{unsent_line}
 use Rattle.giop_commands.specs.declared.call.calls.CallLine.{CallLine}
 use Rattle.giop_commands.specs.declared.call.streaming.turns.CallTurn.{CallTurn}
 use Rattle.giop_commands.specs.declared.call.streaming.turns.CallTurn.TheVariants.{Ends, GoesOn as goes_on}
-use Rattle.giop_commands.specs.declared.failure.Failure.{Failure}
-use Rattle.giop_commands.specs.declared.form.LineForm.{LineForm}
-use Rattle.giop_commands.specs.declared.status.Status.{Status}
-use Rattle.giop_commands.specs.declared.status.Status.TheVariants.{Done}
+use Rattle.giop_show.specs.declared.failure.Failure.{Failure}
+use Rattle.giop_show.specs.declared.form.LineForm.{LineForm}
+use Rattle.giop_show.specs.declared.status.Status.{Status}
+use Rattle.giop_show.specs.declared.status.Status.TheVariants.{Done}
 use Rattle.giop_commands.specs.Acts.{Outbox, outbox}
 use Rattle.giop_commands.specs.Calling.{Asked, CallsOne, CallsSent, ClientCalls, ClientSide, are_over, client_hears, entry_at}
 use Rattle.giop_commands.specs.Check.{nothing_read}
-use Rattle.giop_commands.specs.Dump.{ended}
-use Rattle.giop_commands.specs.Forms.{line_in}
+use Rattle.giop_show.specs.Dump.{ended}
+use Rattle.giop_show.specs.Forms.{line_in}
 use Rattle.giop_commands.specs.Sessions.{Wire, all_well, fault_text, is_well, told, unwell_status}
-use Rattle.giop_commands.specs.Status.{broken_status}
+use Rattle.giop_commands.specs.BrokenStatus.{broken_status}
 use Rattle.giop_commands.specs.Steps.{AndThen, Each}
 use Rattle.giop_commands.specs.Streaming.{has_ended, over_text, without_over}
 use Rattle.giop_commands.specs.Table.{client_entry_in, table_text}

@@ -14,21 +14,21 @@ use Rattle.giop_calls.specs.declared.client.event.ClientEvent.TheVariants as eve
 use Rattle.giop_calls.specs.declared.client.rule.ClientRule.{ClientRule}
 use Rattle.giop_calls.specs.declared.fault.CallFault.{CallFault}
 use Rattle.giop_calls.specs.ClientTable.{client_step, is_closed, is_gathering, left_of}
-use Rattle.giop_session.specs.declared.acts.form.Form.{Form}
-use Rattle.giop_session.specs.declared.end.End.{End}
-use Rattle.giop_session.specs.declared.limits.Limits.{Limits}
-use Rattle.giop_session.specs.declared.session_fault.SessionFault.{SessionFault}
-use Rattle.giop_session.specs.Calls.Begun.{no_calls}
-use Rattle.giop_session.specs.Calls.CallTable.{Held, rules_of}
-use Rattle.giop_session.specs.Acts.ClientCalls.{IsCall, call_fault}
-use Rattle.giop_session.specs.Hearing.ClientHears.{client_befalls, client_breaks}
-use Rattle.giop_session.specs.Hearing.Heard.{hears_by, in_call}
-use Rattle.giop_session.specs.Ends.View.{end_between}
-use Rattle.giop_session.specs.Pumping.{Between, between}
-use Rattle.giop_session.specs.Calls.Sending.{entry_of}
+use Rattle.giop_end.specs.declared.acts.form.Form.{Form}
+use Rattle.giop_end.specs.declared.end.End.{End}
+use Rattle.giop_end.specs.declared.limits.Limits.{Limits}
+use Rattle.giop_end.specs.declared.session_fault.SessionFault.{SessionFault}
+use Rattle.giop_end.specs.Ends.Begun.{no_calls}
+use Rattle.giop_table.specs.CallTable.{Held, rules_of}
+use Rattle.giop_end.specs.Acts.ClientCalls.{IsCall, call_fault}
+use Rattle.giop_end.specs.Hearing.ClientHears.{client_act, client_breaks}
+use Rattle.giop_end.specs.Hearing.Heard.{hears_by, in_call}
+use Rattle.giop_end.specs.Ends.View.{end_between}
+use Rattle.giop_end.specs.Pumping.{Between, between}
+use Rattle.giop_table.specs.Sending.{entry_of}
 use Rattle.giop_commands.specs.declared.call.calls.CallLine.{CallLine}
 use Rattle.giop_commands.specs.declared.call.given.Calling.{Calling}
-use Rattle.giop_commands.specs.declared.failure.Failure.{Failure}
+use Rattle.giop_show.specs.declared.failure.Failure.{Failure}
 use Rattle.giop_commands.specs.Acts.{ActsOrTells, Outbox, SendsAll, outbox}
 use Rattle.giop_commands.specs.Check.{nothing_read}
 use Rattle.giop_commands.specs.Steps.{AndThen, Upto}
@@ -114,7 +114,7 @@ abbrev pub client_hears : Interface → Msg → ClientCalls → Result (Unit {0}
     → ClientCalls → Type 0
 client_hears interface =
     hears_by (λ rule. client_step) (λ rule. is_closed) is_gathering in_call client_breaks
-    (client_befalls interface)
+    (client_act interface)
 
 -- turns are taken until the calls of these ids are over
 abbrev pub WaitsFor : Interface → List ℕ → (input output : Option (List ℕ)) → ClientSide

@@ -14,26 +14,26 @@ use Rattle.giop_calls.specs.declared.server.entry.ServerEntry.{ServerEntry}
 use Rattle.giop_calls.specs.declared.server.entry.ServerEntry.TheVariants.{Undecoded}
 use Rattle.giop_calls.specs.declared.server.rule.ServerRule.{ServerRule}
 use Rattle.giop_calls.specs.ServerTable.{server_step, is_closed, is_gathering}
-use Rattle.giop_session.specs.declared.limits.Limits.{Limits}
-use Rattle.giop_session.specs.declared.session_fault.SessionFault.{SessionFault}
-use Rattle.giop_session.specs.declared.session_fault.SessionFault.TheVariants.{Closed}
-use Rattle.giop_session.specs.declared.calls.slot.Slot.{Slot}
-use Rattle.giop_session.specs.Calls.Begun.{no_calls}
-use Rattle.giop_session.specs.Calls.CallTable.{Held}
-use Rattle.giop_session.specs.Calls.Sending.{entry_of}
-use Rattle.giop_session.specs.Hearing.Feeding.{Fed, with_octets}
-use Rattle.giop_session.specs.Hearing.Heard.{hears_by, in_call}
-use Rattle.giop_session.specs.Hearing.ServerHears.{server_befalls, server_breaks}
-use Rattle.giop_commands.specs.declared.status.Status.{Status}
-use Rattle.giop_commands.specs.declared.status.Status.TheVariants.{Done, Refused, InputOutput, Memory}
+use Rattle.giop_end.specs.declared.limits.Limits.{Limits}
+use Rattle.giop_end.specs.declared.session_fault.SessionFault.{SessionFault}
+use Rattle.giop_end.specs.declared.session_fault.SessionFault.TheVariants.{Closed}
+use Rattle.giop_table.specs.declared.slot.Slot.{Slot}
+use Rattle.giop_end.specs.Ends.Begun.{no_calls}
+use Rattle.giop_table.specs.CallTable.{Held}
+use Rattle.giop_table.specs.Sending.{entry_of}
+use Rattle.giop_end.specs.Hearing.Feeding.{Fed, with_octets}
+use Rattle.giop_end.specs.Hearing.Heard.{hears_by, in_call}
+use Rattle.giop_end.specs.Hearing.ServerHears.{server_act, server_breaks}
+use Rattle.giop_show.specs.declared.status.Status.{Status}
+use Rattle.giop_show.specs.declared.status.Status.TheVariants.{Done, Refused, InputOutput, Memory}
 use Rattle.giop_lines.specs.declared.refusal.RefusalLine.TheVariants.{Form}
-use Rattle.giop_commands.specs.declared.form.LineForm.{LineForm}
+use Rattle.giop_show.specs.declared.form.LineForm.{LineForm}
 use Rattle.giop_types.specs.declared.json.number_form.NumberForm.TheVariants.{Plain}
-use Rattle.giop_commands.specs.declared.form.LineForm.TheVariants.{Text}
-use Rattle.giop_commands.specs.Dump.{ended}
-use Rattle.giop_commands.specs.Forms.{refused_in}
+use Rattle.giop_show.specs.declared.form.LineForm.TheVariants.{Text}
+use Rattle.giop_show.specs.Dump.{ended}
+use Rattle.giop_show.specs.Forms.{refused_in}
 use Rattle.giop_commands.specs.SessionLines.{last_in}
-use Rattle.giop_commands.specs.Status.{broken_status}
+use Rattle.giop_commands.specs.BrokenStatus.{broken_status}
 use Rattle.giop_commands.specs.Table.{server_entry_in, table_text}
 
 -- the status of a session that ended with a fault: an orderly end is none of its own
@@ -87,7 +87,7 @@ abbrev pub server_hears : Interface → Msg → Held ServerRule ServerEntry
     → Result (Unit {0}) SessionFault → Held ServerRule ServerEntry → Type 0
 server_hears interface =
     hears_by (λ rule. server_step) (λ rule. is_closed) is_gathering in_call server_breaks
-    (server_befalls interface)
+    (server_act interface)
 
 -- limits that an end can be given: what it gathers is counted in 62 bits
 abbrev pub AreLimits : Limits → Type 0

@@ -7,22 +7,22 @@ use Rattle.giop_ids.specs.ById.{ById}
 use Rattle.giop_calls.specs.ClientTable as client
 use Rattle.giop_calls.specs.ServerTable as server
 use Rattle.giop_msg.specs.Stream.{Unread}
-use Rattle.giop_session.specs.declared.calls.slot.Slot.{Slot}
-use Rattle.giop_session.specs.declared.session_fault.SessionFault.{SessionFault}
+use Rattle.giop_table.specs.declared.slot.Slot.{Slot}
+use Rattle.giop_end.specs.declared.session_fault.SessionFault.{SessionFault}
 use Rattle.giop_commands.specs.declared.call.calls.CallLine.{CallLine}
 use Rattle.giop_commands.specs.declared.call.given.Calling.{Calling}
 use Rattle.giop_commands.specs.declared.serve.given.Serving.{Serving}
 use Rattle.giop_commands.specs.declared.serve.in_turn.AnswerName.{AnswerName}
 use Rattle.giop_commands.specs.declared.serve.in_turn.Passed.{Passed}
-use Rattle.giop_commands.specs.declared.failure.Failure.{Failure}
-use Rattle.giop_commands.specs.declared.form.LineForm.{LineForm}
+use Rattle.giop_show.specs.declared.failure.Failure.{Failure}
+use Rattle.giop_show.specs.declared.form.LineForm.{LineForm}
 use Rattle.giop_commands.specs.declared.session.ending.Ending.{Ending}
-use Rattle.giop_commands.specs.declared.status.Status.{Status}
+use Rattle.giop_show.specs.declared.status.Status.{Status}
 use Rattle.giop_commands.specs.CallStreaming as calling
 use Rattle.giop_commands.specs.Calling.{Asked, asked_of}
 use Rattle.giop_commands.specs.Serving.{Served, served_of}
 use Rattle.giop_commands.specs.Sessions.{Change, IsCalled, IsServed, Wire, told, wire}
-use Rattle.giop_commands.specs.Status.{failure_status}
+use Rattle.giop_show.specs.Status.{failure_status}
 use Rattle.giop_commands.specs.Streaming as serving
 use Rattle.giop_commands.specs.Streaming.{ended_at}
 

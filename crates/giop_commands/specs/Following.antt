@@ -9,13 +9,13 @@ use Rattle.giop_calls.specs.declared.client.entry.ClientEntry.TheVariants.{Done 
 use Rattle.giop_msg.specs.declared.messages.reply_body.ReplyBody.{ReplyBody}
 use Rattle.giop_msg.specs.declared.messages.reply_body.ReplyBody.TheVariants.{Forward as forward, ForwardPerm}
 use Rattle.giop_types.specs.declared.json.interface.Interface.{Interface}
-use Rattle.giop_session.specs.declared.session_fault.SessionFault.{SessionFault}
-use Rattle.giop_session.specs.Ends.View.{end_between}
-use Rattle.giop_session.specs.Pumping.{Between}
+use Rattle.giop_end.specs.declared.session_fault.SessionFault.{SessionFault}
+use Rattle.giop_end.specs.Ends.View.{end_between}
+use Rattle.giop_end.specs.Pumping.{Between}
 use Rattle.giop_commands.specs.declared.call.calls.CallLine.{CallLine}
 use Rattle.giop_commands.specs.declared.call.following.Forward.{Forward}
 use Rattle.giop_commands.specs.declared.call.given.Calling.{Calling}
-use Rattle.giop_commands.specs.declared.form.LineForm.{LineForm}
+use Rattle.giop_show.specs.declared.form.LineForm.{LineForm}
 use Rattle.giop_commands.specs.declared.session.target.Endpoint.{Endpoint}
 use Rattle.giop_commands.specs.Acts.{Outbox}
 use Rattle.giop_commands.specs.CallStreaming.{box_of, with_box}

@@ -7,7 +7,7 @@ use Rattle.giop_msg.specs.declared.messages.request.Request.{Request}
 use Rattle.giop_msg.specs.declared.target.Target.TheVariants.{Profile}
 use Rattle.giop_msg.specs.declared.version.Version.{Version}
 use Rattle.giop_msg.specs.declared.version.Version.TheVariants.{V10, V11, V12}
-use Rattle.giop_session.specs.Acts.ServerAnswers.{is_reply_sendable}
+use Rattle.giop_end.specs.Acts.ServerAnswers.{is_reply_sendable}
 use Rattle.giop_commands.specs.declared.serve.answers.AnswerGiven.{AnswerGiven}
 use Rattle.giop_commands.specs.declared.serve.given.Sending.{Sending}
 use Rattle.giop_commands.specs.Answering.{given_body}

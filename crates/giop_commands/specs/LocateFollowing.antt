@@ -9,9 +9,9 @@ use Rattle.giop_cdr.specs.Reading.Values.{Reading}
 use Rattle.giop_ior.specs.Ior.{Reference, ior_layout}
 use Rattle.giop_calls.specs.declared.client.entry.ClientEntry.{ClientEntry}
 use Rattle.giop_calls.specs.declared.client.entry.ClientEntry.TheVariants.{LocateDone}
-use Rattle.giop_session.specs.declared.session_fault.SessionFault.{SessionFault}
-use Rattle.giop_session.specs.Ends.View.{end_between}
-use Rattle.giop_session.specs.Pumping.{Between}
+use Rattle.giop_end.specs.declared.session_fault.SessionFault.{SessionFault}
+use Rattle.giop_end.specs.Ends.View.{end_between}
+use Rattle.giop_end.specs.Pumping.{Between}
 use Rattle.giop_commands.specs.declared.call.given.Calling.{Calling}
 use Rattle.giop_commands.specs.declared.session.target.Endpoint.{Endpoint}
 use Rattle.giop_commands.specs.Acts.{Outbox}

@@ -11,23 +11,23 @@ use Rattle.giop_msg.specs.Stream.{Unread}
 use Rattle.giop_calls.specs.declared.client.entry.ClientEntry.{ClientEntry}
 use Rattle.giop_calls.specs.declared.client.entry.ClientEntry.TheVariants.{LocateDone}
 use Rattle.giop_calls.specs.ClientTable.{client_step, is_closed, is_gathering}
-use Rattle.giop_session.specs.declared.calls.slot.Slot.{Slot}
-use Rattle.giop_session.specs.declared.session_fault.SessionFault.{SessionFault}
-use Rattle.giop_session.specs.Acts.ClientCalls.{IsLocate, locate_fault}
-use Rattle.giop_session.specs.Calls.CallTable.{rules_of}
-use Rattle.giop_session.specs.Calls.Sending.{entry_of}
-use Rattle.giop_session.specs.Hearing.Heard.{in_call}
-use Rattle.giop_session.specs.Pumping.{between}
+use Rattle.giop_table.specs.declared.slot.Slot.{Slot}
+use Rattle.giop_end.specs.declared.session_fault.SessionFault.{SessionFault}
+use Rattle.giop_end.specs.Acts.ClientCalls.{IsLocate, locate_fault}
+use Rattle.giop_table.specs.CallTable.{rules_of}
+use Rattle.giop_table.specs.Sending.{entry_of}
+use Rattle.giop_end.specs.Hearing.Heard.{in_call}
+use Rattle.giop_end.specs.Pumping.{between}
 use Rattle.giop_commands.specs.declared.call.given.Calling.{Calling}
-use Rattle.giop_commands.specs.declared.form.LineForm.{LineForm}
+use Rattle.giop_show.specs.declared.form.LineForm.{LineForm}
 use Rattle.giop_commands.specs.declared.session.ending.Ending.{Ending}
-use Rattle.giop_commands.specs.declared.status.Status.{Status}
-use Rattle.giop_commands.specs.declared.status.Status.TheVariants.{Done}
+use Rattle.giop_show.specs.declared.status.Status.{Status}
+use Rattle.giop_show.specs.declared.status.Status.TheVariants.{Done}
 use Rattle.giop_commands.specs.Acts.{ActsOrTells, Outbox}
 use Rattle.giop_commands.specs.Calling.{Asked, CallsSent, ClientCalls, Talks, asked_of, begun, entry_at, new_box}
 use Rattle.giop_commands.specs.Endings.{Ends}
 use Rattle.giop_commands.specs.Sessions.{Change, Wire, session_text, told, unwell_status, wire}
-use Rattle.giop_commands.specs.Status.{broken_status}
+use Rattle.giop_commands.specs.BrokenStatus.{broken_status}
 use Rattle.giop_commands.specs.Steps.{AndThen}
 use Rattle.giop_commands.specs.Table.{client_entry_in}
 

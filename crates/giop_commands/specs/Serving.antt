@@ -10,17 +10,17 @@ use Rattle.giop_calls.specs.declared.server.event.ServerEvent.{ServerEvent}
 use Rattle.giop_calls.specs.declared.server.event.ServerEvent.TheVariants as event
 use Rattle.giop_calls.specs.declared.server.rule.ServerRule.{ServerRule}
 use Rattle.giop_calls.specs.ServerTable.{server_step, is_closed, is_gathering, left_of}
-use Rattle.giop_session.specs.declared.acts.form.Form.{Form}
-use Rattle.giop_session.specs.declared.end.End.{End}
-use Rattle.giop_session.specs.declared.limits.Limits.{Limits}
-use Rattle.giop_session.specs.declared.session_fault.SessionFault.{SessionFault}
-use Rattle.giop_session.specs.Calls.Begun.{no_calls}
-use Rattle.giop_session.specs.Calls.CallTable.{Held, rules_of}
-use Rattle.giop_session.specs.Hearing.Heard.{in_call}
-use Rattle.giop_session.specs.Ends.View.{end_between}
-use Rattle.giop_session.specs.Pumping.{Between, between}
-use Rattle.giop_session.specs.Calls.Sending.{entry_of}
-use Rattle.giop_session.specs.Acts.ServerAnswers.{IsAnswer, IsLocateAnswer, answer_fault, locate_in, question_in}
+use Rattle.giop_end.specs.declared.acts.form.Form.{Form}
+use Rattle.giop_end.specs.declared.end.End.{End}
+use Rattle.giop_end.specs.declared.limits.Limits.{Limits}
+use Rattle.giop_end.specs.declared.session_fault.SessionFault.{SessionFault}
+use Rattle.giop_end.specs.Ends.Begun.{no_calls}
+use Rattle.giop_table.specs.CallTable.{Held, rules_of}
+use Rattle.giop_end.specs.Hearing.Heard.{in_call}
+use Rattle.giop_end.specs.Ends.View.{end_between}
+use Rattle.giop_end.specs.Pumping.{Between, between}
+use Rattle.giop_table.specs.Sending.{entry_of}
+use Rattle.giop_end.specs.Acts.ServerAnswers.{IsAnswer, IsLocateAnswer, answer_fault, locate_in, question_in}
 use Rattle.giop_commands.specs.declared.serve.answering.Due.{Due}
 use Rattle.giop_commands.specs.declared.serve.answering.Due.TheVariants.{Nothing, Locate, Reply}
 use Rattle.giop_commands.specs.declared.serve.given.Serving.{Serving}

@@ -3,13 +3,13 @@ use Rattle.std.specs.Prelude.{ℕ, List, ◌++◌, Option, Some, None, codes}
 use Rattle.std.specs.Fmt.{decimal}
 use Rattle.giop_msg.specs.Fault.{wire_kind_number, wire_fault_text}
 use Rattle.giop_calls.specs.Faults.{fault_number, fault_name}
-use Rattle.giop_session.specs.declared.session_fault.SessionFault.{SessionFault}
-use Rattle.giop_session.specs.declared.session_fault.SessionFault.TheVariants.{Wire, Call, WrongDirection, TooManyCalls, GatherFull, PeerError, Closed, NoMemory, StillOpen, NoId}
+use Rattle.giop_end.specs.declared.session_fault.SessionFault.{SessionFault}
+use Rattle.giop_end.specs.declared.session_fault.SessionFault.TheVariants.{Wire, Call, WrongDirection, TooManyCalls, GatherFull, PeerError, Closed, NoMemory, StillOpen, NoId}
 use Rattle.giop_lines.specs.Lines.{cdr_fault_text}
-use Rattle.giop_commands.specs.declared.form.LineForm.{LineForm}
+use Rattle.giop_show.specs.declared.form.LineForm.{LineForm}
 use Rattle.giop_commands.specs.CheckJson.{session_fault_json}
-use Rattle.giop_commands.specs.DumpHeads.{rest_in}
-use Rattle.giop_commands.specs.Forms.{line_in}
+use Rattle.giop_show.specs.DumpHeads.{rest_in}
+use Rattle.giop_show.specs.Forms.{line_in}
 
 -- why an end failed: fault NUMBER NAME, behind which the fault of a header, of a call or
 -- of a request id stands with its own number and name

@@ -10,10 +10,10 @@ use Rattle.giop_types.specs.declared.json.interface.Interface.{Interface}
 use Rattle.giop_calls.specs.declared.client.entry.ClientEntry.{ClientEntry}
 use Rattle.giop_calls.specs.declared.client.entry.ClientEntry.TheVariants.{Done as done, OnewaySent}
 use Rattle.giop_calls.specs.declared.server.entry.ServerEntry.{ServerEntry}
-use Rattle.giop_session.specs.declared.session_fault.SessionFault.{SessionFault}
-use Rattle.giop_session.specs.declared.calls.slot.Slot.{Slot}
-use Rattle.giop_session.specs.Pumping.{between}
-use Rattle.giop_session.specs.Calls.Sending.{entry_of}
+use Rattle.giop_end.specs.declared.session_fault.SessionFault.{SessionFault}
+use Rattle.giop_table.specs.declared.slot.Slot.{Slot}
+use Rattle.giop_end.specs.Pumping.{between}
+use Rattle.giop_table.specs.Sending.{entry_of}
 use Rattle.giop_lines.specs.SessionJson.{connection_json}
 use Rattle.giop_lines.specs.TableLines.{connection_line}
 use Rattle.giop_commands.specs.declared.call.calls.CallLine.{CallLine}
@@ -21,20 +21,20 @@ use Rattle.giop_commands.specs.declared.call.given.Calling.{Calling}
 use Rattle.giop_commands.specs.declared.serve.given.Serving.{Serving}
 use Rattle.giop_commands.specs.declared.serve.in_turn.AnswerName.{AnswerName}
 use Rattle.giop_commands.specs.declared.serve.in_turn.Passed.{Passed}
-use Rattle.giop_commands.specs.declared.form.LineForm.{LineForm}
+use Rattle.giop_show.specs.declared.form.LineForm.{LineForm}
 use Rattle.giop_types.specs.declared.json.number_form.NumberForm.TheVariants.{Plain}
-use Rattle.giop_commands.specs.declared.form.LineForm.TheVariants.{Text}
-use Rattle.giop_commands.specs.declared.status.Status.{Status}
-use Rattle.giop_commands.specs.declared.status.Status.TheVariants.{Done, Refused, InputOutput, Memory}
+use Rattle.giop_show.specs.declared.form.LineForm.TheVariants.{Text}
+use Rattle.giop_show.specs.declared.status.Status.{Status}
+use Rattle.giop_show.specs.declared.status.Status.TheVariants.{Done, Refused, InputOutput, Memory}
 use Rattle.giop_commands.specs.Acts.{Outbox}
 use Rattle.giop_commands.specs.Calling.{Asked, CallsAll, ClientCalls, Talks, asked_of, begun, new_box}
 use Rattle.giop_commands.specs.Check.{fault_status}
-use Rattle.giop_commands.specs.Dump.{ended}
-use Rattle.giop_commands.specs.Forms.{line_in}
+use Rattle.giop_show.specs.Dump.{ended}
+use Rattle.giop_show.specs.Forms.{line_in}
 use Rattle.giop_commands.specs.Serving as serving
 use Rattle.giop_commands.specs.Serving.{Served, ServerCalls, new_server, served_of, session}
 use Rattle.giop_commands.specs.SessionLines.{session_fault_in}
-use Rattle.giop_commands.specs.Status.{broken_status}
+use Rattle.giop_commands.specs.BrokenStatus.{broken_status}
 use Rattle.giop_commands.specs.Table.{client_entry_in, server_entry_in, table_text}
 
 -- ---- what is printed

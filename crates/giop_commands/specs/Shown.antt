@@ -14,8 +14,8 @@ use Rattle.giop_lines.specs.JsonLines.{target_json}
 use Rattle.giop_lines.specs.Lines.{target_text}
 use Rattle.giop_lines.specs.SessionJson.{answer_json}
 use Rattle.giop_lines.specs.TableJson.{entry_json}
-use Rattle.giop_commands.specs.declared.form.LineForm.{LineForm}
-use Rattle.giop_commands.specs.Forms.{line_in}
+use Rattle.giop_show.specs.declared.form.LineForm.{LineForm}
+use Rattle.giop_show.specs.Forms.{line_in}
 
 -- whether an object offers something of its own, so that objects are told apart
 abbrev pub are_told_apart : Interface → Bool

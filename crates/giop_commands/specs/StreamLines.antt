@@ -8,9 +8,9 @@ use Rattle.giop_calls.specs.declared.server.entry.ServerEntry.TheVariants as ser
 use Rattle.giop_calls.specs.declared.server.question.Question.{Question}
 use Rattle.giop_calls.specs.declared.server.question.Question.TheVariants as question
 use Rattle.giop_lines.specs.TableLines.{answered_line}
-use Rattle.giop_commands.specs.declared.form.LineForm.{LineForm}
-use Rattle.giop_commands.specs.Bodies.{brought_by, request_ins}
-use Rattle.giop_commands.specs.Forms.{line_in, numbers_of}
+use Rattle.giop_show.specs.declared.form.LineForm.{LineForm}
+use Rattle.giop_show.specs.Bodies.{brought_by, request_ins}
+use Rattle.giop_show.specs.Forms.{line_in, numbers_of}
 use Rattle.giop_commands.specs.Shown.{answered_object, question_shown}
 use Rattle.giop_commands.specs.Table.{server_entry_in}
 

@@ -6,16 +6,16 @@ use Rattle.std.specs.List.{flat_map}
 use Rattle.std.specs.Io.KnownBytes.{Appends}
 use Rattle.giop_ids.specs.ById.{ById, put}
 use Rattle.giop_msg.specs.Stream.{Unread}
-use Rattle.giop_session.specs.declared.calls.slot.Slot.{Slot}
-use Rattle.giop_session.specs.declared.limits.Limits.{Limits}
-use Rattle.giop_session.specs.declared.session_fault.SessionFault.{SessionFault}
-use Rattle.giop_session.specs.Calls.Sending.{entry_of}
-use Rattle.giop_session.specs.Pumping.{Between, between}
+use Rattle.giop_table.specs.declared.slot.Slot.{Slot}
+use Rattle.giop_end.specs.declared.limits.Limits.{Limits}
+use Rattle.giop_end.specs.declared.session_fault.SessionFault.{SessionFault}
+use Rattle.giop_table.specs.Sending.{entry_of}
+use Rattle.giop_end.specs.Pumping.{Between, between}
 use Rattle.giop_calls.specs.ServerTable.{is_closed}
 use Rattle.giop_commands.specs.declared.serve.in_turn.AnswerName.{AnswerName}
-use Rattle.giop_commands.specs.declared.form.LineForm.{LineForm}
-use Rattle.giop_commands.specs.declared.status.Status.{Status}
-use Rattle.giop_commands.specs.Dump.{ended}
+use Rattle.giop_show.specs.declared.form.LineForm.{LineForm}
+use Rattle.giop_show.specs.declared.status.Status.{Status}
+use Rattle.giop_show.specs.Dump.{ended}
 use Rattle.giop_commands.specs.SessionLines.{last_in}
 use Rattle.giop_commands.specs.Serving.{ServeEnds, Served, ServerCalls, Session, TurnAnswers, new_server, session}
 use Rattle.giop_commands.specs.Sessions.{Wire, connection_in, serve_status, told}

@@ -6,12 +6,12 @@ use Rattle.giop_ids.specs.ById.{ById}
 use Rattle.giop_types.specs.declared.json.interface.Interface.{Interface}
 use Rattle.giop_calls.specs.declared.server.entry.ServerEntry.{ServerEntry}
 use Rattle.giop_calls.specs.declared.client.entry.ClientEntry.{ClientEntry}
-use Rattle.giop_session.specs.declared.calls.slot.Slot.{Slot}
-use Rattle.giop_session.specs.Calls.Sending.{entry_of}
-use Rattle.giop_commands.specs.Bodies.{brought_text, ins_text}
-use Rattle.giop_commands.specs.declared.form.LineForm.{LineForm}
-use Rattle.giop_commands.specs.Dump.{ended}
-use Rattle.giop_commands.specs.Forms.{line_in, numbers_of}
+use Rattle.giop_table.specs.declared.slot.Slot.{Slot}
+use Rattle.giop_table.specs.Sending.{entry_of}
+use Rattle.giop_commands.specs.EntryBodies.{brought_text, ins_text}
+use Rattle.giop_show.specs.declared.form.LineForm.{LineForm}
+use Rattle.giop_show.specs.Dump.{ended}
+use Rattle.giop_show.specs.Forms.{line_in, numbers_of}
 use Rattle.giop_commands.specs.Shown.{entry_object, entry_shown}
 use Rattle.giop_lines.specs.SessionJson.{client_json}
 use Rattle.giop_lines.specs.TableLines.{client_line, server_line}

@@ -6,16 +6,16 @@ use Rattle.std.specs.declared.io.Error.{Error}
 use Rattle.std.specs.declared.io.ErrorKind.TheVariants.{OutOfMemory}
 use Rattle.std.specs.Io.KnownBytes.{Appends}
 use Rattle.giop_msg.specs.declared.msg.Msg.{Msg}
-use Rattle.giop_session.specs.declared.end.End.{End}
-use Rattle.giop_session.specs.declared.pump_fault.PumpFault.TheVariants as turn
-use Rattle.giop_session.specs.declared.session_fault.SessionFault.{SessionFault}
-use Rattle.giop_session.specs.declared.session_fault.SessionFault.TheVariants.{NoMemory}
-use Rattle.giop_session.specs.Calls.CallTable.{Held}
-use Rattle.giop_session.specs.Ends.View.{end_between}
-use Rattle.giop_session.specs.Pumping.{Between, Turned, Writes}
-use Rattle.giop_session.specs.Calls.SessionFaults.{error_message_of}
-use Rattle.giop_commands.specs.declared.failure.Failure.{Failure}
-use Rattle.giop_commands.specs.declared.failure.Failure.TheVariants.{Memory, Connection, TurnsSpent}
+use Rattle.giop_end.specs.declared.end.End.{End}
+use Rattle.giop_end.specs.declared.pump_fault.PumpFault.TheVariants as turn
+use Rattle.giop_end.specs.declared.session_fault.SessionFault.{SessionFault}
+use Rattle.giop_end.specs.declared.session_fault.SessionFault.TheVariants.{NoMemory}
+use Rattle.giop_table.specs.CallTable.{Held}
+use Rattle.giop_end.specs.Ends.View.{end_between}
+use Rattle.giop_end.specs.Pumping.{Between, Turned, Writes}
+use Rattle.giop_end.specs.Ends.SessionFaults.{error_message_of}
+use Rattle.giop_show.specs.declared.failure.Failure.{Failure}
+use Rattle.giop_show.specs.declared.failure.Failure.TheVariants.{Memory, Connection, TurnsSpent}
 use Rattle.giop_commands.specs.Steps.{Each}
 
 -- a session has so many turns at most

@@ -2,8 +2,8 @@
 //! specs/Sessions.antt for what is printed: change both.
 ghost use Rattle.std.specs.Prelude.{◌≡◌, [], ◌∷◌, IfOk, None, OnOk};
 ghost use Rattle.std.specs.Io.KnownBytes.{Appends};
-ghost use Rattle.giop_session.specs.Pumping.{between};
-ghost use Rattle.giop_session.specs.Ends.View.{IsActedOn, IsTurned};
+ghost use Rattle.giop_end.specs.Pumping.{between};
+ghost use Rattle.giop_end.specs.Ends.View.{IsActedOn, IsTurned};
 ghost use Rattle.giop_commands.specs.Acts.{outbox_of};
 ghost use Rattle.giop_calls.specs.ClientTable.{is_closed};
 ghost use Rattle.giop_commands.specs.Calling.{CallsAll, CallsOne, ConversesAt, TalksAt, WaitsFor, asked_of, request_of};
@@ -27,15 +27,16 @@ pub mod words;
 use crate::call::calls::CallLine;
 use crate::call::given::Calling;
 use crate::call::well::{all_well, are_over};
-use crate::failure::Failure;
-use crate::form::LineForm;
+use crate::session::broken::broken_status;
 use crate::session::ending::{Ending, ending_of};
 use crate::session::sending::send_all;
 use crate::session::{TURNS, goes_on, told, told_of, write_all_out, write_session};
-use crate::status::Status;
 use giop_cdr::OctetList;
+use giop_end::{ClientEnd, ClientEnd, Form, SessionFault, SessionFault};
 use giop_msg::{Request, RequestHead, ServiceContexts, Target, Version};
-use giop_session::{ClientEnd, SessionFault};
+use giop_show::failure::Failure;
+use giop_show::form::LineForm;
+use giop_show::status::Status;
 use giop_types::{Interface, NumberForm};
 use std::alloc::{AllocError, Global};
 use std::io::{Read, Write};
@@ -62,7 +63,8 @@ pub fn call_session<R: Read, W: Write, O: Write>(
     writer: &mut W,
     out: &mut O,
 ) -> Status
-    ensures { CallsOver calling.entry calls.items (change R.remaining reader.old reader.new) (change W.contents writer.old writer.new) (change O.contents out.old out.new) result }
+    ensures { CallsOver calling.entry calls.items (change R.remaining reader.old reader.new)
+        (change W.contents writer.old writer.new) (change O.contents out.old out.new) result }
 {
     let lines = LineForm::Text(NumberForm::Plain);
     match call_over(alloc, calling, calls, lines, reader, writer, out) {
@@ -83,7 +85,9 @@ pub fn call_over<R: Read, W: Write, O: Write>(
     writer: &mut W,
     out: &mut O,
 ) -> Result<Ending, Failure>
-    ensures { IfOk result (CallsEndOver calling.entry calls.items lines (change R.remaining reader.old reader.new) (change W.contents writer.old writer.new) (change O.contents out.old out.new)) }
+    ensures { IfOk result (CallsEndOver calling.entry calls.items lines
+        (change R.remaining reader.old reader.new) (change W.contents writer.old writer.new)
+        (change O.contents out.old out.new)) }
 {
     let mut end = ClientEnd::new(alloc, calling.interface, calling.limits);
     let refused = call_all(alloc, &mut end, calling, calls)?;
@@ -132,8 +136,7 @@ fn call_all(
     requires interface { end.old.interface.now ≡ calling.interface.now }
     requires limits { end.old.limits ≡ calling.limits }
     ensures calls { IfOk result (λ refused. CallsAll (asked_of calling.entry calls.items)
-        end.old.fault (outbox_of end.old) refused
-        (outbox_of end.new)) }
+        end.old.fault (outbox_of end.old) refused (outbox_of end.new)) }
     ensures others { IsActedOn end.old end.new }
 {
     if let Some(fault) = call_each(alloc, end, calling, calls)? {
@@ -152,8 +155,7 @@ fn call_each(
     requires interface { end.old.interface.now ≡ calling.interface.now }
     requires limits { end.old.limits ≡ calling.limits }
     ensures calls { IfOk result (λ refused. Upto (CallsOne (asked_of calling.entry calls.items)
-        end.old.fault) calls.items (outbox_of end.old) refused
-        (outbox_of end.new)) }
+        end.old.fault) calls.items (outbox_of end.old) refused (outbox_of end.new)) }
     ensures others { IsActedOn end.old end.new }
 {
     'calls: for call in calls {
@@ -174,8 +176,7 @@ fn call_one(
     requires interface { end.old.interface.now ≡ calling.interface.now }
     requires limits { end.old.limits ≡ calling.limits }
     ensures calls { IfOk result (λ refused. CallsOne (asked_of calling.entry (call ∷ []))
-        end.old.fault call (outbox_of end.old) refused
-        (outbox_of end.new)) }
+        end.old.fault call (outbox_of end.old) refused (outbox_of end.new)) }
     ensures others { IsActedOn end.old end.new }
 {
     let request = request_of(alloc, call, calling.key, calling.version)?;
@@ -212,7 +213,8 @@ fn talk<R: Read, W: Write>(
     reader: &mut R,
     writer: &mut W,
 ) -> Result<(), Failure>
-    ensures talks { OnOk result (TalksAt end.old.interface.now refused (R.remaining reader.old) (W.contents writer.old) end.old (R.remaining reader.new) (W.contents writer.new) end.new) }
+    ensures talks { OnOk result (TalksAt end.old.interface.now refused (R.remaining reader.old)
+        (W.contents writer.old) end.old (R.remaining reader.new) (W.contents writer.new) end.new) }
     ensures others { IsTurned end.old end.new }
 {
     match refused {
@@ -229,7 +231,8 @@ fn converse<R: Read, W: Write>(
     reader: &mut R,
     writer: &mut W,
 ) -> Result<(), Failure>
-    ensures converses { OnOk result (ConversesAt end.old.interface.now (R.remaining reader.old) (W.contents writer.old) end.old (R.remaining reader.new) (W.contents writer.new) end.new) }
+    ensures converses { OnOk result (ConversesAt end.old.interface.now (R.remaining reader.old)
+        (W.contents writer.old) end.old (R.remaining reader.new) (W.contents writer.new) end.new) }
     ensures others { IsTurned end.old end.new }
 {
     let ids = end.ids(alloc)?;
@@ -246,8 +249,9 @@ fn wait<R: Read, W: Write>(
     reader: &mut R,
     writer: &mut W,
 ) -> Result<(), Failure>
-    ensures waits { WaitsFor end.old.interface.now ids.now (R.remaining reader.old) (W.contents writer.old) end.old result
-        (R.remaining reader.new) (W.contents writer.new) end.new }
+    ensures waits { WaitsFor end.old.interface.now ids.now (R.remaining reader.old)
+        (W.contents writer.old) end.old result (R.remaining reader.new) (W.contents writer.new)
+        end.new }
     ensures others { IsTurned end.old end.new }
 {
     'turns: for done in 0..TURNS {
@@ -271,7 +275,7 @@ fn call_status(
         ≡ call_status refused end.now.fault end.now.calls.table) }
 {
     match refused {
-        Some(fault) => Ok(Status::broken_by(fault)),
+        Some(fault) => Ok(broken_status(fault)),
         None => own_status(alloc, end),
     }
 }
@@ -284,7 +288,7 @@ fn own_status(alloc: Global, end: &ClientEnd<'_>) -> Result<Status, Failure>
         return Ok(Status::Done);
     }
     Ok(match end.fault() {
-        Some(fault) => Status::broken_by(fault),
+        Some(fault) => broken_status(fault),
         None => Status::Refused,
     })
 }

@@ -1,25 +1,26 @@
 //! `check`: a server's end that hears a file. Its meaning is specs/Check.antt: change both.
 ghost use Rattle.std.specs.Prelude.{◌≡◌, ◌≢◌, [], IfOk, OnOk, Some, None, length};
 ghost use Rattle.std.specs.Io.KnownBytes.{Appends, IsAtEnd};
-ghost use Rattle.giop_session.specs.declared.session_fault.SessionFault.TheVariants.{NoMemory};
-ghost use Rattle.giop_session.specs.Hearing.Heard.{hears_in};
+ghost use Rattle.giop_end.specs.declared.session_fault.SessionFault.TheVariants.{NoMemory};
+ghost use Rattle.giop_end.specs.Hearing.Heard.{hears_in};
 ghost use Rattle.giop_commands.specs.Check.{AreLimits, Checks, ChecksKnown, HeardKnown, default_limits, fault_status, last_status};
-ghost use Rattle.giop_commands.specs.Dump.{ended};
+ghost use Rattle.giop_show.specs.Dump.{ended};
 ghost use Rattle.giop_commands.specs.SessionLines.{last_in, session_fault_in};
 
 pub mod strict;
 pub mod text;
 
 use crate::check::strict::strictly;
-use crate::dump::BehindFault;
-use crate::dump::messages::write_rest;
-use crate::failure::Failure;
-use crate::form::LineForm;
-use crate::pieces::{PieceBuffer, drain};
+use crate::session::broken::broken_status;
 use crate::session::table::write_table;
 use crate::session::write_session_fault;
-use crate::status::Status;
-use giop_session::{End, Hearing, Limits, ServerEnd, SessionFault};
+use giop_end::{End, Hearing, Limits, ServerEnd, SessionFault};
+use giop_show::dump::BehindFault;
+use giop_show::dump::messages::write_rest;
+use giop_show::failure::Failure;
+use giop_show::form::LineForm;
+use giop_show::pieces::{PieceBuffer, drain};
+use giop_show::status::Status;
 use giop_types::{Interface, NumberForm};
 use std::alloc::Global;
 use std::io;
@@ -38,7 +39,8 @@ pub fn check_octets<W: Write>(
     octets: &[u8],
     writer: &mut W,
 ) -> Status
-    ensures { Checks interface.now default_limits octets.now (W.contents writer.old) (W.contents writer.new)
+    ensures { Checks interface.now default_limits octets.now (W.contents writer.old) (W.contents
+        writer.new)
         result }
 {
     let mut left = octets;
@@ -92,8 +94,9 @@ fn hear<S: Hearing, R: Read>(
 ) -> Result<(), Failure>
     requires begins { end.old.framer.octets ≡ [] }
     requires sound { end.old.fault ≡ None }
-    ensures heard { OnOk result (HeardKnown (hears_in S.Hearing end.old.interface.now) (R.remaining reader.old)
-        end.old.framer end.old.calls end.new.fault end.new.framer end.new.calls) }
+    ensures heard { OnOk result (HeardKnown (hears_in S.Hearing end.old.interface.now)
+        (R.remaining reader.old) end.old.framer end.old.calls end.new.fault end.new.framer
+        end.new.calls) }
     ensures memory { OnOk result (end.new.fault ≢ Some NoMemory) }
     ensures end { OnOk result (behind ≡ BehindFault.Read → IsAtEnd (R.remaining reader.new)) }
 {
@@ -147,6 +150,6 @@ fn write_fault<W: Write>(
     write_session_fault(form, fault, writer)?;
     Ok(match fault {
         SessionFault::Closed => Status::Done,
-        fault => Status::broken_by(fault),
+        fault => broken_status(fault),
     })
 }

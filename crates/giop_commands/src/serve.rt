@@ -2,10 +2,10 @@
 //! specs/Sessions.antt for what is printed: change both.
 ghost use Rattle.std.specs.Prelude.{◌≡◌, ◌++◌, IfOk, OnOk};
 ghost use Rattle.std.specs.Io.KnownBytes.{Appends};
-ghost use Rattle.giop_session.specs.Pumping.{between};
-ghost use Rattle.giop_session.specs.Ends.View.{IsActedOn, IsTurned};
+ghost use Rattle.giop_end.specs.Pumping.{between};
+ghost use Rattle.giop_end.specs.Ends.View.{IsActedOn, IsTurned};
 ghost use Rattle.giop_calls.specs.ServerTable.{is_closed};
-ghost use Rattle.giop_commands.specs.Dump.{ended};
+ghost use Rattle.giop_show.specs.Dump.{ended};
 ghost use Rattle.giop_commands.specs.Endings.{Ends, ServesEndOver};
 ghost use Rattle.giop_commands.specs.Serving.{AnswersAll, AnswersOne, Converses, desk_at, served_of, session, session_at};
 ghost use Rattle.giop_commands.specs.Sessions.{change, connection_in, serve_status, Serves, ServesOver, session_text};
@@ -25,17 +25,18 @@ pub mod shown;
 pub mod streaming;
 pub mod table;
 
-use crate::failure::Failure;
-use crate::form::{LineForm, write_line};
 use crate::serve::answering::{Due, due_to, reply_to};
 use crate::serve::given::Serving;
 use crate::serve::in_turn::Passed;
+use crate::session::broken::broken_status;
 use crate::session::ending::{Ending, ending_of};
 use crate::session::sending::send_all;
 use crate::session::{TURNS, goes_on, told, told_of, write_session};
-use crate::status::Status;
+use giop_end::{ServerEnd, SessionFault};
 use giop_lines::{ConnectionJson, ConnectionLine};
-use giop_session::{ServerEnd, SessionFault};
+use giop_show::failure::Failure;
+use giop_show::form::{LineForm, write_line};
+use giop_show::status::Status;
 use giop_types::{Interface, NumberForm};
 use std::alloc::Global;
 use std::io::{Read, Write};
@@ -68,7 +69,9 @@ pub fn serve_session<R: Read, W: Write, O: Write>(
     writer: &mut W,
     out: &mut O,
 ) -> Status
-    ensures { ServesOver number serving.entry (change R.remaining reader.old reader.new) (change W.contents writer.old writer.new) passed.old passed.new (change O.contents out.old out.new) result }
+    ensures { ServesOver number serving.entry (change R.remaining reader.old reader.new)
+        (change W.contents writer.old writer.new) passed.old passed.new
+        (change O.contents out.old out.new) result }
 {
     let lines = LineForm::Text(NumberForm::Plain);
     match serve_over(alloc, number, serving, passed, lines, reader, writer, out) {
@@ -91,7 +94,9 @@ pub fn serve_over<R: Read, W: Write, O: Write>(
     writer: &mut W,
     out: &mut O,
 ) -> Result<Ending, Failure>
-    ensures { IfOk result (ServesEndOver number serving.entry lines (change R.remaining reader.old reader.new) (change W.contents writer.old writer.new) passed.old passed.new (change O.contents out.old out.new)) }
+    ensures { IfOk result (ServesEndOver number serving.entry lines
+        (change R.remaining reader.old reader.new) (change W.contents writer.old writer.new)
+        passed.old passed.new (change O.contents out.old out.new)) }
 {
     let interface = serving.interface;
     let mut end = ServerEnd::new(alloc, interface, serving.limits);
@@ -153,7 +158,7 @@ fn serve_status(fault: Option<SessionFault>) -> Status
 {
     match fault {
         Some(SessionFault::Closed) | None => Status::Done,
-        Some(fault) => Status::broken_by(fault),
+        Some(fault) => broken_status(fault),
     }
 }
 
@@ -169,8 +174,7 @@ fn converse<R: Read, W: Write>(
 ) -> Result<Option<SessionFault>, Failure>
     requires { end.old.interface.now ≡ serving.interface.now }
     ensures converses { IfOk result (λ refused. Converses (served_of serving.entry) end.old.limits
-        (session_at (R.remaining reader.old) (W.contents writer.old) end.old passed.old)
-        refused
+        (session_at (R.remaining reader.old) (W.contents writer.old) end.old passed.old) refused
         (session_at (R.remaining reader.new) (W.contents writer.new) end.new passed.new)) }
     ensures others { IsTurned end.old end.new }
 {
@@ -195,8 +199,7 @@ fn answer_all(
 ) -> Result<Option<SessionFault>, Failure>
     requires { end.old.interface.now ≡ serving.interface.now }
     ensures answers { IfOk result (λ refused. AnswersAll (served_of serving.entry) end.old.limits
-        end.old.fault (desk_at end.old passed.old) refused
-        (desk_at end.new passed.new)) }
+        end.old.fault (desk_at end.old passed.old) refused (desk_at end.new passed.new)) }
     ensures others { IsActedOn end.old end.new }
 {
     let ids = end.ids(alloc)?;
@@ -216,8 +219,8 @@ fn answer_each(
     ids: &[u32],
 ) -> Result<Option<SessionFault>, Failure>
     requires { end.old.interface.now ≡ serving.interface.now }
-    ensures answers { IfOk result (λ refused. Upto (AnswersOne (served_of serving.entry) end.old.limits
-        end.old.fault) ids.now (desk_at end.old passed.old) refused
+    ensures answers { IfOk result (λ refused. Upto (AnswersOne (served_of serving.entry)
+        end.old.limits end.old.fault) ids.now (desk_at end.old passed.old) refused
         (desk_at end.new passed.new)) }
     ensures others { IsActedOn end.old end.new }
 {
@@ -240,8 +243,7 @@ fn answer(
 ) -> Result<Option<SessionFault>, Failure>
     requires { end.old.interface.now ≡ serving.interface.now }
     ensures answers { IfOk result (λ refused. AnswersOne (served_of serving.entry) end.old.limits
-        end.old.fault id (desk_at end.old passed.old) refused
-        (desk_at end.new passed.new)) }
+        end.old.fault id (desk_at end.old passed.old) refused (desk_at end.new passed.new)) }
     ensures others { IsActedOn end.old end.new }
 {
     let Some(entry) = end.entry(id) else {

@@ -3,20 +3,20 @@
 //! specs/Sessions.antt: change both.
 ghost use Rattle.std.specs.Prelude.{◌≡◌, ◌≢◌, ◌⊎◌, [], false, Some, None, Ok, Err, IfOk, IfErr, OnOk};
 ghost use Rattle.std.specs.Io.KnownBytes.{Appends};
-ghost use Rattle.giop_session.specs.declared.session_fault.SessionFault.TheVariants.{NoMemory};
-ghost use Rattle.giop_session.specs.Pumping.{Writes};
-ghost use Rattle.giop_session.specs.Calls.SessionFaults.{error_message_of};
-ghost use Rattle.giop_session.specs.Hearing.Heard.{hears_in};
-ghost use Rattle.giop_session.specs.Ends.View.{IsTurned};
-ghost use Rattle.giop_commands.specs.declared.failure.Failure.TheVariants.{Memory};
+ghost use Rattle.giop_end.specs.declared.session_fault.SessionFault.TheVariants.{NoMemory};
+ghost use Rattle.giop_end.specs.Pumping.{Writes};
+ghost use Rattle.giop_end.specs.Ends.SessionFaults.{error_message_of};
+ghost use Rattle.giop_end.specs.Hearing.Heard.{hears_in};
+ghost use Rattle.giop_end.specs.Ends.View.{IsTurned};
+ghost use Rattle.giop_show.specs.declared.failure.Failure.TheVariants.{Memory};
 ghost use Rattle.giop_commands.specs.Check.{answer_of};
-ghost use Rattle.giop_commands.specs.Dump.{ended};
+ghost use Rattle.giop_show.specs.Dump.{ended};
 ghost use Rattle.giop_commands.specs.SessionLines.{session_fault_in};
 ghost use Rattle.giop_commands.specs.Sessions.{fault_text, session_text, told};
 ghost use Rattle.giop_commands.specs.Turns.{GoesOnAt, IsOfConnection, peer_octets};
 
 pub mod ahead;
-pub mod bodies;
+pub mod broken;
 pub mod ending;
 pub mod fault_json;
 pub mod fault_line;
@@ -27,12 +27,12 @@ pub mod table;
 pub mod target;
 pub mod untold;
 
-use crate::failure::Failure;
-use crate::form::{LineForm, write_line};
 use crate::session::fault_json::SessionFaultJson;
 use crate::session::fault_line::SessionFaultLine;
 use crate::session::table::{Tabled, write_table};
-use giop_session::{End, Hearing, PumpFault, SessionFault, turn, write_out};
+use giop_end::{End, Hearing, PumpFault, SessionFault, turn, write_out};
+use giop_show::failure::Failure;
+use giop_show::form::{LineForm, write_line};
 use giop_types::Interface;
 use std::alloc::Global;
 use std::io::{Read, Write};
@@ -47,8 +47,9 @@ pub fn goes_on<R: Hearing, I: Read, W: Write>(
     reader: &mut I,
     writer: &mut W,
 ) -> Result<bool, Failure>
-    ensures goes { GoesOnAt (hears_in R.Hearing end.old.interface.now) (I.remaining reader.old) (W.contents writer.old) end.old result
-        (I.remaining reader.new) (W.contents writer.new) end.new }
+    ensures goes { GoesOnAt (hears_in R.Hearing end.old.interface.now) (I.remaining reader.old)
+        (W.contents writer.old) end.old result (I.remaining reader.new) (W.contents writer.new)
+        end.new }
     ensures others { IsTurned end.old end.new }
 {
     match turn(end, reader, writer) {

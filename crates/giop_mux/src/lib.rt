@@ -7,6 +7,7 @@ pub mod laws;
 mod mux;
 mod refusal;
 mod rule;
+mod side;
 mod slots;
 mod step;
 
@@ -14,4 +15,5 @@ pub use giop_ids::Addressed;
 pub use mux::Mux;
 pub use refusal::{Refusal, StillOpen};
 pub use rule::CallRule;
+pub use side::Side;
 pub use step::Step;

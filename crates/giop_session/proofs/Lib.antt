@@ -1,4 +1,3 @@
-pub mod OnCalls
 pub mod OnHearing
 pub mod OnRuns
 pub mod OnItems
@@ -6,5 +5,4 @@ pub mod OnLanes
 pub mod OnActs
 pub mod OnLimits
 pub mod OnSides
-mod PumpingLemmas
 pub mod OnWorlds

@@ -2,9 +2,6 @@
 pub mod SentLemmas
 pub mod IdLemmas
 pub mod ActingLemmas
-pub mod LastLemmas
-pub mod LocalLemmas
-pub mod LocatedLemmas
 pub mod PutOutLemmas
 pub mod SidesPutOut
 pub mod WrittenLemmas

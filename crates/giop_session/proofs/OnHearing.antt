@@ -1,8 +1,4 @@
 -- What hearing a message rests on.
-pub mod ServerLemmas
-pub mod FeedingLemmas
-pub mod HeardLemmas
 pub mod ReadsLemmas
 pub mod ClientCancelLemmas
 pub mod ClientReplyLemmas
-pub mod ClientLemmas

@@ -1,5 +1,4 @@
 -- What the laws of limits in any order rest on.
-pub mod QuietLemmas
 pub mod LimitLemmas
 pub mod FewLemmas
 pub mod ServerLimitLemmas

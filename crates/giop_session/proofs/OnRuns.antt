@@ -4,6 +4,7 @@ pub mod InputLemmas
 pub mod LeftLemmas
 pub mod FollowedLemmas
 pub mod HistoryLemmas
+pub mod HeardAlone
 pub mod ClientLeftLemmas
 pub mod DrivenLemmas
 pub mod AheadLemmas

@@ -1,10 +1,6 @@
--- The calls of one end: the entry of each id, the messages that are still to be sent for it, the
--- pieces that are gathered, and the faults of all this.
-pub mod Begun
-pub mod CallTable
-pub mod Codes
-pub mod Refused
-pub mod Sending
-pub mod SessionFaults
-pub mod Sides
-pub mod Unsent
+-- The calls of one end: the entry of each id, the messages that are still to be sent for it, and
+-- the pieces that are gathered.
+pub use Rattle.giop_table.specs.CallTable
+pub use Rattle.giop_table.specs.Codes
+pub use Rattle.giop_table.specs.Sending
+pub use Rattle.giop_table.specs.Unsent

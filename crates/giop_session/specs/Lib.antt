@@ -1,8 +1,8 @@
 pub mod Acts
-pub mod Ends
 pub mod Worlds
 pub mod Runs
 pub mod Calls
 pub mod Items
-pub mod Hearing
-pub mod Pumping
+pub use Rattle.giop_end.specs.Ends
+pub use Rattle.giop_end.specs.Hearing
+pub use Rattle.giop_end.specs.Pumping

@@ -6,9 +6,9 @@
 ghost use Rattle.std.specs.Prelude.{◌≡◌};
 ghost use Rattle.giop_ids.specs.Runs.{own, alone, told_alone, Runs};
 ghost use Rattle.giop_session.specs.Runs.Alone.{SameCalls, SameOfEach, RunsFreely, SameActs, answers_of, MeetsNone, IsHeardAlone};
-ghost use Rattle.giop_session.specs.Hearing.Feeding.{FedInTurn, Through};
-ghost use Rattle.giop_session.specs.Hearing.Heard.{hears_in};
-ghost use Rattle.giop_session.specs.Calls.CallTable.{at, rules_by, turn_by};
+ghost use Rattle.giop_end.specs.Hearing.Feeding.{FedInTurn, Through};
+ghost use Rattle.giop_end.specs.Hearing.Heard.{hears_in};
+ghost use Rattle.giop_table.specs.CallTable.{at, rules_by, turn_by};
 
 mod inputs;
 mod one_end;
@@ -61,7 +61,7 @@ pub fn any_interleaving<R: Side>(rule: &R)
 /// before. Messages that name other ids may lie between them anywhere.
 pub fn own_messages_alone<R: Hearing>(rule: &R)
     ensures { (interface h k messages id : _) → Through (hears_in R.Hearing interface) h messages k
-        → IsHeardAlone (turn_by R.Side h.rule) (R.befalls interface) h messages k id }
+        → IsHeardAlone (turn_by R.Side h.rule) (R.act_by interface) h messages k id }
 {}
 
 /// Two ends that heard the same messages of each id, in the same order, hold the same calls,

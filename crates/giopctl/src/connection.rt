@@ -7,7 +7,7 @@ pub mod target;
 
 use crate::connection::link::Link;
 use giop_commands::Endpoint;
-use giop_commands::failure::Failure;
+use giop_show::failure::Failure;
 use std::io::ErrorKind;
 use std::net::{TcpStream, ToSocketAddrs};
 use std::time::Duration;

@@ -6,28 +6,16 @@ pub mod interfaces;
 
 use crate::files::interface_text::InterfaceText;
 use crate::report;
-use giop_commands::BehindFault;
-use giop_commands::failure::Failure;
-use giop_commands::pieces::PieceBuffer;
-use giop_commands::status::Status;
+use giop_show::BehindFault;
+use giop_show::failure::Failure;
+use giop_show::pieces::PieceBuffer;
+use giop_show::status::Status;
 use std::alloc::{AllocError, Global};
 use std::io::Read;
 use std::{fs, io};
 
 /// The size of the buffer that output is written through, in octets.
 pub const OUTPUT_BUFFER: usize = 65_536;
-
-/// Refuses two files that are both the standard input, which is read once. It says why.
-pub fn apart(one: &str, other: &str) -> Result<(), &'static str>
-    ensures ok { OnOk result (one.now ≡ codes "-" → other.now ≢ codes "-") }
-    ensures err { IfErr result (λ _. (one.now ≡ codes "-") × (other.now ≡ codes "-")) }
-{
-    if one == "-" && other == "-" {
-        Err("- is the standard input, and stands for one file alone")
-    } else {
-        Ok(())
-    }
-}
 
 /// The octets of a file, or of the standard input where it is `-`.
 pub(crate) fn read(rt: &HostRuntime, file: &str) -> Result<Vec<u8>, Failure> {

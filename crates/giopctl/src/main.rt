@@ -2,16 +2,15 @@
 //! references and values in another form, and calls and serves objects.
 #![tactic(auto)]
 
-mod cli;
 mod commands;
 mod connection;
 mod files;
 mod places;
 mod report;
 
-use cli::Task;
 use commands::{call, check, convert, dump, locate, ping, serve, trace};
-use giop_commands::status::Status;
+use giop_show::status::Status;
+use giop_words::{Task, task_of};
 use std::process::ExitCode;
 use std::{env, io};
 
@@ -24,7 +23,7 @@ fn run(rt: &HostRuntime) -> Status {
         Ok(words) => words,
         Err(error) => return report::command_line_status(rt, &error),
     };
-    match cli::task_of(rt.alloc(), words.as_slice()) {
+    match task_of(rt.alloc(), words.as_slice()) {
         Ok(Some(Task::Dump(words))) => dump::dump(rt, words),
         Ok(Some(Task::Check(words))) => check::check(rt, &words),
         Ok(Some(Task::Trace(words))) => trace::trace(rt, &words),

@@ -3,7 +3,7 @@ ghost use Rattle.std.specs.Prelude.{◌≡◌, ◌≢◌, ◌⊎◌, true};
 ghost use Rattle.std.specs.IoError.{error_kind};
 ghost use Rattle.clap.specs.Words.{kind_of};
 ghost use Rattle.giop_commands.specs.Endings.{ending_status};
-ghost use Rattle.giop_commands.specs.Status.{answered_status, failure_status};
+ghost use Rattle.giop_show.specs.Status.{answered_status, failure_status};
 ghost use Rattle.giopctl.specs.Report.{usage_status};
 
 mod counted;
@@ -16,8 +16,8 @@ use crate::report::counted::Counted;
 use crate::report::open_calls::OpenCalls;
 use clap::error::ErrorKind as UsageKind;
 use giop_commands::Ending;
-use giop_commands::failure::Failure;
-use giop_commands::status::{Limit, Status};
+use giop_show::failure::Failure;
+use giop_show::status::{Limit, Status};
 use std::io;
 use std::io::ErrorKind;
 

@@ -11,13 +11,13 @@ use Rattle.giop_calls.specs.declared.fault.CallFault.TheVariants.{NotOpen}
 use Rattle.giop_session.specs.declared.laws.inputs.Answered.{Answered}
 use Rattle.giop_session.specs.declared.laws.inputs.Answered.TheVariants as answer
 use Rattle.giop_session.specs.declared.laws.inputs.ClientInput.TheVariants as client_input
-use Rattle.giop_session.specs.declared.session_fault.SessionFault.TheVariants.{Call as InCall, NoMemory}
-use Rattle.giop_session.specs.declared.calls.slot.Slot.{Slot}
-use Rattle.giop_session.specs.Calls.CallTable.{rules_of}
+use Rattle.giop_session.specs.declared.SessionFault.TheVariants.{Call as InCall, NoMemory}
+use Rattle.giop_session.specs.declared.Slot.{Slot}
+use Rattle.giop_session.specs.Calls.CallTable.{rules_of, entry_at}
 use Rattle.giop_session.specs.Acts.ClientCalls.{IsCancel, cancel_fault, open_version}
-use Rattle.giop_session.specs.Runs.ClientRuns.{client_entry, client_run}
+use Rattle.giop_session.specs.Runs.ClientRuns.{client_run}
 use Rattle.giop_session.specs.Runs.SideRuns.{SideIsGiven}
-use Rattle.giop_session.specs.Runs.Driven.{new_end}
+use Rattle.giop_session.specs.Ends.Begun.{new_end}
 use Rattle.giop_session.specs.Hearing.Heard.{in_call}
 use Rattle.giop_session.specs.Acts.Putting.{Puts}
 use Rattle.giop_session.specs.Calls.Sending.{entry_of}
@@ -27,15 +27,15 @@ use Rattle.laws_in_use.specs.Locating.{limits}
 use Rattle.laws_in_use.specs.Worlds.{unasked}
 
 -- a cancel of no call is refused
-no_fault_else : cancel_fault (open_version (client_entry (new_client limits) 9)) ≡ Some NotOpen
+no_fault_else : cancel_fault (open_version (entry_at (new_client limits) 9)) ≡ Some NotOpen
 no_fault_else = ap (λ (slot : Option (Slot ClientEntry)). cancel_fault (open_version (entry_of slot))) (finite.get-empty nat_cmp 9)
 
 refused : Puts (rules_of client.client_step client.is_closed client.is_gathering) in_call 9
-    (cancel_fault (open_version (client_entry (new_client limits) 9)))
-    (IsCancel 9 Big (open_version (client_entry (new_client limits) 9))) (new_client limits) [] (Err (InCall 9 NotOpen)) (new_client limits) []
+    (cancel_fault (open_version (entry_at (new_client limits) 9)))
+    (IsCancel 9 Big (open_version (entry_at (new_client limits) 9))) (new_client limits) [] (Err (InCall 9 NotOpen)) (new_client limits) []
 refused = subst
     (λ (fault : Option CallFault). Puts (rules_of client.client_step client.is_closed client.is_gathering) in_call 9 fault
-    (IsCancel 9 Big (open_version (client_entry (new_client limits) 9))) (new_client limits) [] (Err (InCall 9 NotOpen)) (new_client limits) [])
+    (IsCancel 9 Big (open_version (entry_at (new_client limits) 9))) (new_client limits) [] (Err (InCall 9 NotOpen)) (new_client limits) [])
     (sym no_fault_else)
     (inr (refl, refl, refl))
 

@@ -19,9 +19,9 @@ use Rattle.giop_calls.specs.declared.client.heard.HeardReply.TheVariants as hear
 use Rattle.giop_calls.specs.declared.kind.CallKind.TheVariants as kind
 use Rattle.giop_session.specs.Items.Carries.{Carries, CarriesItem, Got, behind_all, done_by}
 use Rattle.giop_session.specs.Items.ClientCarries.{ClientItem, Known, SpellsReply, client_telling, unknown}
-use Rattle.giop_session.specs.Runs.Events.{Comes, Event, own_events}
-use Rattle.giop_session.specs.Runs.Events.{Does as DoesTo}
-use Rattle.giop_session.specs.Runs.Inputs.{AreEvents, Holds, Input, nothing_unread}
+use Rattle.giop_session.specs.Runs.Events.{Comes, Event, own_events, Does as DoesTo}
+use Rattle.giop_session.specs.Runs.Inputs.{AreEvents, Holds, Input}
+use Rattle.giop_session.specs.Hearing.Feeding.{nothing_unread}
 use Rattle.laws_in_use.specs.Asking.{Acts, asking, asking_key, cancelling, here, here_begins, here_ends, one_way, one_way_by, other_way, own_acts, sending, short, short_octets, told, told_of_nine, told_of_seven, unknown_big, unknown_key, unknown_little}
 use Rattle.laws_in_use.specs.Locating.{cancel_big, door, here_little, key, key_big, key_little, limits, tight_limits}
 use Rattle.laws_in_use.proofs.AskingMessages as message

@@ -20,16 +20,16 @@ use Rattle.giop_calls.specs.declared.client.rule.ClientRule.{ClientRule}
 use Rattle.giop_calls.specs.declared.kind.CallKind.TheVariants as kind
 use Rattle.giop_calls.specs.ClientTable.{client_step, is_closed, is_gathering}
 use Rattle.giop_ids.specs.Runs.{Does}
-use Rattle.giop_session.specs.Calls.Begun.{no_calls}
+use Rattle.giop_session.specs.Ends.Begun.{no_calls}
 use Rattle.giop_session.specs.Calls.CallTable.{Act, Answers, Call, First, Hears, Held, More, Nothing, at, put_call, rules_of}
-use Rattle.giop_session.specs.Hearing.ClientHears.{client_befalls, client_breaks, client_side}
+use Rattle.giop_session.specs.Hearing.ClientHears.{client_act, client_breaks, client_side}
 use Rattle.giop_session.specs.Runs.ClientRuns.{client_run}
 use Rattle.giop_session.specs.Runs.SideRuns.{SideTakes}
-use Rattle.giop_session.specs.Hearing.Heard.{kept, hears as hears_at}
-use Rattle.giop_session.specs.Runs.Inputs.{nothing_unread}
-use Rattle.giop_session.specs.declared.limits.Limits.{Limits}
-use Rattle.giop_session.specs.declared.calls.plan.Plan.TheVariants.{Next, Put}
-use Rattle.giop_session.specs.declared.calls.plan.Planned.{Planned}
+use Rattle.giop_session.specs.Hearing.Heard.{silently, hears as hears_at}
+use Rattle.giop_session.specs.Hearing.Feeding.{nothing_unread}
+use Rattle.giop_session.specs.declared.Limits.{Limits}
+use Rattle.giop_session.specs.declared.Plan.TheVariants.{Next, Put}
+use Rattle.giop_session.specs.declared.Planned.{Planned}
 use Rattle.laws_in_use.specs.Asking.{here, here_begins, here_ends, one_way, other_way, short, unknown_big, unknown_little}
 use Rattle.laws_in_use.specs.Locating.{cancel_big, cancel_little, door, door_begins, door_ends, here_little, key, key_big, key_little, limits, tight_limits}
 use Rattle.laws_in_use.proofs.AskingMessages.{decoded, named}
@@ -87,12 +87,12 @@ none_at given id i = record { slot = finite.get-empty nat_cmp id i; pieces = fin
 
 -- a whole message that comes to this
 whole : {told known : HeardReply} → told ≡ known
-    → ◌≡◌ {A = Act ClientEvent} (Hears (kept (event.Whole kind.Locate V12 told)) Nothing) (Hears (kept (event.Whole kind.Locate V12 known)) Nothing)
-whole is = ap (λ told. Hears (kept (event.Whole kind.Locate V12 told)) Nothing) is
+    → ◌≡◌ {A = Act ClientEvent} (Hears (silently (event.Whole kind.Locate V12 told)) Nothing) (Hears (silently (event.Whole kind.Locate V12 known)) Nothing)
+whole is = ap (λ told. Hears (silently (event.Whole kind.Locate V12 told)) Nothing) is
 
 pub whole_old : {told known : HeardReply} → told ≡ known
-    → ◌≡◌ {A = Act ClientEvent} (Hears (kept (event.Whole kind.Locate V10 told)) Nothing) (Hears (kept (event.Whole kind.Locate V10 known)) Nothing)
-whole_old is = ap (λ told. Hears (kept (event.Whole kind.Locate V10 told)) Nothing) is
+    → ◌≡◌ {A = Act ClientEvent} (Hears (silently (event.Whole kind.Locate V10 told)) Nothing) (Hears (silently (event.Whole kind.Locate V10 known)) Nothing)
+whole_old is = ap (λ told. Hears (silently (event.Whole kind.Locate V10 told)) Nothing) is
 
 module _ (interface : Interface) where
   abbrev pub one_1 : End
@@ -218,27 +218,27 @@ module _ (interface : Interface) where
 
   pub one_begins : Hears_it here_begins one_4 one_5
   one_begins =
-      hears client_step is_closed is_gathering client_breaks (client_befalls interface) one_4 limits ids 0 here_begins 7
-      (kept (event.First kind.Locate V12)) (First Big here_begins.payload) waiting gathering refl named.here_begins one_s_4 (omega arith)
+      hears client_step is_closed is_gathering client_breaks (client_act interface) one_4 limits ids 0 here_begins 7
+      (silently (event.First kind.Locate V12)) (First Big here_begins.payload) waiting gathering refl named.here_begins one_s_4 (omega arith)
       (omega arith) one_at_4 refl refl
 
   pub one_late : Hears_it unknown_little one_5 one_6
   one_late =
-      hears client_step is_closed is_gathering client_breaks (client_befalls interface) one_5 limits ids 4 unknown_little 9
-      (kept (event.Whole kind.Locate V10 heard.Unread)) Nothing cancelled seen refl named.unknown_little one_s_5 (omega arith) (omega arith)
+      hears client_step is_closed is_gathering client_breaks (client_act interface) one_5 limits ids 4 unknown_little 9
+      (silently (event.Whole kind.Locate V10 heard.Unread)) Nothing cancelled seen refl named.unknown_little one_s_5 (omega arith) (omega arith)
       one_at_5 refl refl
 
   pub one_ends : Hears_it here_ends one_7 one_8
   one_ends =
-      hears client_step is_closed is_gathering client_breaks (client_befalls interface) one_7 limits ids 4 here_ends 7
-      (kept (event.Last true (heard.Locate here))) (More (drop 4 here_ends.payload)) gathering located refl named.here_ends one_s_7 (omega arith)
-      (omega arith) one_at_7 (ap (λ told. Hears (kept (event.Last true told)) (More (drop 4 here_ends.payload))) (decoded interface).here_joined)
+      hears client_step is_closed is_gathering client_breaks (client_act interface) one_7 limits ids 4 here_ends 7
+      (silently (event.Last true (heard.Locate here))) (More (drop 4 here_ends.payload)) gathering located refl named.here_ends one_s_7 (omega arith)
+      (omega arith) one_at_7 (ap (λ told. Hears (silently (event.Last true told)) (More (drop 4 here_ends.payload))) (decoded interface).here_joined)
       refl
 
   pub one_bad : Hears_it short one_8 one_9
   one_bad =
-      hears client_step is_closed is_gathering client_breaks (client_befalls interface) one_8 limits ids 0 short 9
-      (kept (event.Whole kind.Locate V10 (heard.Undecoded (record { at = 16; kind = Short })))) Nothing key_waiting undecoded refl named.short
+      hears client_step is_closed is_gathering client_breaks (client_act interface) one_8 limits ids 0 short 9
+      (silently (event.Whole kind.Locate V10 (heard.Undecoded (record { at = 16; kind = Short })))) Nothing key_waiting undecoded refl named.short
       one_s_8 (omega arith) (omega arith) one_at_8 (whole_old (decoded interface).short) refl
 
   pub one_taken : SideTakes (client_run interface) limits one_way (nothing_unread limits.message) one_9
@@ -356,8 +356,8 @@ module _ (interface : Interface) where
       let cancels = done client_step is_closed is_gathering other_1 tight_limits ids 0 9
       (record { event = event.Cancel; plan = Put (cancel_big ∷ []) }) Nothing key_waiting cancelled
       (record { answer = tt; message = Some cancel_big }) other_s_1 (omega arith) (omega arith) other_at_1 refl in
-      let late = hears client_step is_closed is_gathering client_breaks (client_befalls interface) other_2 tight_limits ids 0 unknown_big 9
-      (kept (event.Whole kind.Locate V10 heard.Unread)) Nothing cancelled seen refl named.unknown_big other_s_2 (omega arith) (omega arith)
+      let late = hears client_step is_closed is_gathering client_breaks (client_act interface) other_2 tight_limits ids 0 unknown_big 9
+      (silently (event.Whole kind.Locate V10 heard.Unread)) Nothing cancelled seen refl named.unknown_big other_s_2 (omega arith) (omega arith)
       other_at_2 refl refl in
       let again = done client_step is_closed is_gathering other_3 tight_limits ids 0 9
       (record { event = event.Call (asked.Locate key) 1; plan = Put (key_little ∷ []) }) Nothing seen key_waiting
@@ -367,11 +367,11 @@ module _ (interface : Interface) where
       (record { answer = tt; message = Some door_begins }) other_s_4 (omega arith) (omega arith) other_at_4 refl in
       let sends = done client_step is_closed is_gathering other_5 tight_limits ids 0 7 (record { event = event.Send; plan = Next }) Nothing sending
       waiting (record { answer = tt; message = Some door_ends }) other_s_5 (omega arith) (omega arith) other_at_5 refl in
-      let bad = hears client_step is_closed is_gathering client_breaks (client_befalls interface) other_6 tight_limits ids 0 short 9
-      (kept (event.Whole kind.Locate V10 (heard.Undecoded (record { at = 16; kind = Short })))) Nothing key_waiting undecoded refl named.short
+      let bad = hears client_step is_closed is_gathering client_breaks (client_act interface) other_6 tight_limits ids 0 short 9
+      (silently (event.Whole kind.Locate V10 (heard.Undecoded (record { at = 16; kind = Short })))) Nothing key_waiting undecoded refl named.short
       other_s_6 (omega arith) (omega arith) other_at_6 (whole_old (decoded interface).short) refl in
-      let came = hears client_step is_closed is_gathering client_breaks (client_befalls interface) other_7 tight_limits ids 0 here_little 7
-      (kept (event.Whole kind.Locate V12 (heard.Locate here))) Nothing waiting located refl named.here_little other_s_7 (omega arith)
+      let came = hears client_step is_closed is_gathering client_breaks (client_act interface) other_7 tight_limits ids 0 here_little 7
+      (silently (event.Whole kind.Locate V12 (heard.Locate here))) Nothing waiting located refl named.here_little other_s_7 (omega arith)
       (omega arith) other_at_7 (whole (decoded interface).here_little) refl in (
         other_1,
         (Answers (record { answer = tt; message = Some key_big }), asks_key),

@@ -22,22 +22,22 @@ use Rattle.giop_calls.specs.declared.client.entry.ClientEntry.TheVariants.{Cance
 use Rattle.giop_calls.specs.declared.client.event.ClientEvent.{ClientEvent}
 use Rattle.giop_calls.specs.declared.client.rule.ClientRule.{ClientRule}
 use Rattle.giop_calls.specs.ClientTable.{client_step, is_closed, is_gathering}
-use Rattle.giop_session.specs.declared.acts.form.Form.{Form}
+use Rattle.giop_session.specs.declared.Form.{Form}
 use Rattle.giop_session.specs.declared.laws.inputs.Answered.{Answered}
 use Rattle.giop_session.specs.declared.laws.inputs.ClientInput.{ClientInput}
-use Rattle.giop_session.specs.declared.calls.plan.Plan.TheVariants.{Put}
+use Rattle.giop_session.specs.declared.Plan.TheVariants.{Put}
 use Rattle.giop_session.specs.Acts.ClientCalls.{IsCancel, cancel_fault, locate_fault, open_version}
 use Rattle.giop_session.specs.Acts.Sent.{sends_one}
-use Rattle.giop_session.specs.Calls.CallTable.{Call, Gives, Held, IsTaken, Nothing, at, put_call, rules_of, turn}
+use Rattle.giop_session.specs.Calls.CallTable.{Call, Gives, Held, IsTaken, Nothing, at, put_call, rules_of, turn, entry_at}
 use Rattle.giop_session.specs.Calls.Sending.{entry_of}
-use Rattle.giop_session.specs.Hearing.ClientHears.{client_befalls, client_breaks, client_side}
-use Rattle.giop_session.specs.Hearing.Heard.{kept, hears as hears_at}
+use Rattle.giop_session.specs.Hearing.ClientHears.{client_act, client_breaks, client_side}
+use Rattle.giop_session.specs.Hearing.Heard.{silently, hears as hears_at}
 use Rattle.giop_session.specs.Items.Carries.{Carries, Did}
 use Rattle.giop_session.specs.Items.ClientCarries.{ClientItem, client_telling, unknown}
-use Rattle.giop_session.specs.Runs.ClientRuns.{at_client, client_entry, client_run}
+use Rattle.giop_session.specs.Runs.ClientRuns.{at_client, client_run}
 use Rattle.giop_session.specs.Runs.Fits.{only}
 use Rattle.giop_session.specs.Runs.SideRuns.{SideRuns, SideTakesAs}
-use Rattle.giop_session.specs.Runs.Driven.{EndState, end_state}
+use Rattle.giop_session.specs.Ends.Begun.{EndState, end_state}
 use Rattle.giop_session.specs.Runs.Events.{Event, own_events, Comes as Came, Does as DoesTo}
 use Rattle.giop_session.specs.Runs.Inputs.{Input, Reads, Does as DoesIt}
 use Rattle.giop_session.specs.Runs.Met.{Comes, Does, Met, given_as}
@@ -92,7 +92,7 @@ module _ (interface : Interface) (forms : Forms) where
   stands_0 : Stands (new limits) limits (7 ∷ 9 ∷ []) 0
   stands_0 = stands_none (record {}) limits (7 ∷ 9 ∷ [])
 
-  entry_0 : (id : ℕ) → client_entry (new limits) id ≡ None
+  entry_0 : (id : ℕ) → entry_at (new limits) id ≡ None
   entry_0 id = ap (λ (call : Call ClientEntry). entry_of call.slot) (none_at limits id)
 
   abbrev nine_1 : End
@@ -153,8 +153,8 @@ module _ (interface : Interface) (forms : Forms) where
 
   comes_late : Hears_it unknown_little nine_2 nine_3
   comes_late =
-      hears client_step is_closed is_gathering client_breaks (client_befalls interface) nine_2 limits (7 ∷ 9 ∷ []) 0 unknown_little 9
-      (kept (event.Whole kind.Locate V10 heard.Unread)) Nothing cancelled seen refl named.unknown_little nine_stands_2 (omega arith) (omega arith)
+      hears client_step is_closed is_gathering client_breaks (client_act interface) nine_2 limits (7 ∷ 9 ∷ []) 0 unknown_little 9
+      (silently (event.Whole kind.Locate V10 heard.Unread)) Nothing cancelled seen refl named.unknown_little nine_stands_2 (omega arith) (omega arith)
       nine_at_2 refl refl
 
   asks_again : Does_it 9 (record { event = event.Call (asked.Locate key) 1; plan = Put (key_big ∷ []) }) key_big nine_3 nine_4
@@ -165,8 +165,8 @@ module _ (interface : Interface) (forms : Forms) where
 
   comes_bad : Hears_it short nine_4 nine_5
   comes_bad =
-      hears client_step is_closed is_gathering client_breaks (client_befalls interface) nine_4 limits (7 ∷ 9 ∷ []) 0 short 9
-      (kept (event.Whole kind.Locate V10 (heard.Undecoded (record { at = 16; kind = Short })))) Nothing key_waiting undecoded refl named.short
+      hears client_step is_closed is_gathering client_breaks (client_act interface) nine_4 limits (7 ∷ 9 ∷ []) 0 short 9
+      (silently (event.Whole kind.Locate V10 (heard.Undecoded (record { at = 16; kind = Short })))) Nothing key_waiting undecoded refl named.short
       nine_stands_4 (omega arith) (omega arith) nine_at_4 (whole_old (decoded interface).short) refl
 
   taken_out : DoesAct (rules_of client_step is_closed is_gathering) nine_5 (record { id = 9; what = IsTaken }) (Ok (Gives undecoded.slot)) nine_end
@@ -175,30 +175,30 @@ module _ (interface : Interface) (forms : Forms) where
       (record { now = none; answer = Gives undecoded.slot })
       (ap (λ (call : Call ClientEntry). turn client_step is_closed is_gathering call IsTaken) nine_at_5) refl
 
-  entry_1 : client_entry nine_1 9 ≡ Some (Waiting (asked.Locate key))
+  entry_1 : entry_at nine_1 9 ≡ Some (Waiting (asked.Locate key))
   entry_1 = ap (λ (call : Call ClientEntry). entry_of call.slot) nine_at_1
 
-  entry_3 : client_entry nine_3 9 ≡ Some (Cancelled late.Seen)
+  entry_3 : entry_at nine_3 9 ≡ Some (Cancelled late.Seen)
   entry_3 = ap (λ (call : Call ClientEntry). entry_of call.slot) nine_at_3
 
-  entry_5 : client_entry nine_5 9 ≡ Some (Undecoded (asked.Locate key) (record { at = 16; kind = Short }))
+  entry_5 : entry_at nine_5 9 ≡ Some (Undecoded (asked.Locate key) (record { at = 16; kind = Short }))
   entry_5 = ap (λ (call : Call ClientEntry). entry_of call.slot) nine_at_5
 
-  key_unrefused : locate_fault limits (client_entry (new limits) 9) key forms.little.form ≡ None
+  key_unrefused : locate_fault limits (entry_at (new limits) 9) key forms.little.form ≡ None
   key_unrefused =
       ap (λ entry. locate_fault limits entry key forms.little.form) (entry_0 9)
       ∙ ap (λ (form : Form). locate_fault limits None key form) forms.little_is ∙ key_free
 
-  cancel_unrefused : cancel_fault (open_version (client_entry nine_1 9)) ≡ None
+  cancel_unrefused : cancel_fault (open_version (entry_at nine_1 9)) ≡ None
   cancel_unrefused = ap (λ entry. cancel_fault (open_version entry)) entry_1
 
-  again_unrefused : locate_fault limits (client_entry nine_3 9) key forms.big.form ≡ None
+  again_unrefused : locate_fault limits (entry_at nine_3 9) key forms.big.form ≡ None
   again_unrefused =
       ap (λ entry. locate_fault limits entry key forms.big.form) entry_3
       ∙ ap (λ (form : Form). locate_fault limits (Some (Cancelled late.Seen)) key form) forms.big_is ∙ key_free_again
 
   -- what cancels is planned for the LocateRequest that waits
-  plans : IsCancel 9 Little (open_version (client_entry nine_1 9)) (sends_one event.Cancel cancel_little)
+  plans : IsCancel 9 Little (open_version (entry_at nine_1 9)) (sends_one event.Cancel cancel_little)
   plans =
       subst (λ version. IsCancel 9 Little version (sends_one event.Cancel cancel_little)) (sym (ap open_version entry_1))
       (omega arith, ap (sends_one event.Cancel) (sym cancel_is))
@@ -224,7 +224,7 @@ module _ (interface : Interface) (forms : Forms) where
     (
       λ same. cc,
       (
-        puts_so 9 (locate_fault limits (client_entry (new limits) 9) key forms.little.form) _ (new limits) nine_1 []
+        puts_so 9 (locate_fault limits (entry_at (new limits) 9) key forms.little.form) _ (new limits) nine_1 []
             (record { event = event.Call (asked.Locate key) 1; plan = Put (key_little ∷ []) }) key_little key_unrefused
             (key_is_sent forms.little.form forms.little_is) asks_key,
         refl,
@@ -235,7 +235,7 @@ module _ (interface : Interface) (forms : Forms) where
       (
         λ same. cc,
         (
-          puts_so 9 (cancel_fault (open_version (client_entry nine_1 9))) _ nine_1 nine_2 out_1 (sends_one event.Cancel cancel_little) cancel_little
+          puts_so 9 (cancel_fault (open_version (entry_at nine_1 9))) _ nine_1 nine_2 out_1 (sends_one event.Cancel cancel_little) cancel_little
               cancel_unrefused plans cancels,
           refl,
         ),
@@ -248,7 +248,7 @@ module _ (interface : Interface) (forms : Forms) where
           (
             λ same. cc,
             (
-              puts_so 9 (locate_fault limits (client_entry nine_3 9) key forms.big.form) _ nine_3 nine_4 out_2
+              puts_so 9 (locate_fault limits (entry_at nine_3 9) key forms.big.form) _ nine_3 nine_4 out_2
                   (record { event = event.Call (asked.Locate key) 1; plan = Put (key_big ∷ []) }) key_big again_unrefused
                   (key_is_sent_again forms.big.form forms.big_is) asks_again,
               refl,

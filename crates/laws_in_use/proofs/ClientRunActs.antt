@@ -22,17 +22,17 @@ use Rattle.giop_calls.specs.declared.client.entry.ClientEntry.{ClientEntry}
 use Rattle.giop_calls.specs.declared.client.event.ClientEvent.{ClientEvent}
 use Rattle.giop_calls.specs.declared.client.event.ClientEvent.TheVariants as event
 use Rattle.giop_calls.specs.declared.client.rule.ClientRule.{ClientRule}
-use Rattle.giop_session.specs.declared.acts.form.Form.{Form}
+use Rattle.giop_session.specs.declared.Form.{Form}
 use Rattle.giop_session.specs.declared.laws.inputs.Answered.{Answered}
 use Rattle.giop_session.specs.declared.laws.inputs.ClientInput.{ClientInput}
 use Rattle.giop_session.specs.declared.laws.inputs.ClientInput.TheVariants as input
-use Rattle.giop_session.specs.declared.limits.Limits.{Limits}
-use Rattle.giop_session.specs.declared.calls.plan.Plan.TheVariants.{Put}
-use Rattle.giop_session.specs.declared.calls.plan.Planned.{Planned}
-use Rattle.giop_session.specs.Calls.CallTable.{Held}
+use Rattle.giop_session.specs.declared.Limits.{Limits}
+use Rattle.giop_session.specs.declared.Plan.TheVariants.{Put}
+use Rattle.giop_session.specs.declared.Planned.{Planned}
+use Rattle.giop_session.specs.Calls.CallTable.{Held, entry_at}
 use Rattle.giop_session.specs.Acts.ClientCalls.{IsCancel, IsLocate, locate_octets, open_version}
 use Rattle.giop_session.specs.Hearing.ClientHears.{client_side}
-use Rattle.giop_session.specs.Runs.ClientRuns.{client_deed, client_entry}
+use Rattle.giop_session.specs.Runs.ClientRuns.{client_deed}
 use Rattle.giop_session.specs.Runs.Driven.{IsAct, TakesAs}
 use Rattle.giop_session.specs.Runs.Inputs.{Does, Input, Reads}
 use Rattle.laws_in_use.specs.Asking.{Acts, one_way_by}
@@ -66,7 +66,7 @@ module _ (interface : Interface) (limits : Limits) where
   is_acted h (input.Feed octets) act is = is
   is_acted h (input.Call q form) act is = tt
   is_acted h (input.Locate q form) act is = is
-  is_acted h (input.Cancel id order) act is = (is.0, cancel_is id order (open_version (client_entry h id)) is.0 is.1, is.2)
+  is_acted h (input.Cancel id order) act is = (is.0, cancel_is id order (open_version (entry_at h id)) is.0 is.1, is.2)
   is_acted h (input.Send id) act is = (is.0, ap (λ (p : Planned ClientEvent). p.event) is.1, is.2)
   is_acted h (input.Take id) act is = is
   is_acted h input.Close act is = tt

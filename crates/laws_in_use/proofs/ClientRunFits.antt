@@ -13,11 +13,11 @@ use Rattle.giop_calls.specs.declared.client.event.ClientEvent.{ClientEvent}
 use Rattle.giop_session.specs.declared.laws.inputs.ClientInput.{ClientInput}
 use Rattle.giop_session.specs.Items.Carries.{Carries}
 use Rattle.giop_session.specs.Items.ClientCarries.{ClientItem, client_telling, unknown}
-use Rattle.giop_session.specs.Runs.Driven.{new_end}
+use Rattle.giop_session.specs.Ends.Begun.{new_end}
 use Rattle.giop_session.specs.Runs.Events.{Event}
 use Rattle.giop_session.specs.Runs.ClientRuns.{at_client, client_run}
 use Rattle.giop_session.specs.Runs.Fits.{Fits, SaysAlone}
-use Rattle.giop_session.specs.Runs.Inputs.{nothing_unread}
+use Rattle.giop_session.specs.Hearing.Feeding.{nothing_unread}
 use Rattle.giop_session.specs.Runs.Met.{AreMet, Comes, Does, Met, own_met}
 use Rattle.laws_in_use.specs.Asking.{here_begins, here_ends, short, told_of_seven, unknown_little}
 use Rattle.laws_in_use.specs.Locating.{door, key, limits}

@@ -15,17 +15,17 @@ use Rattle.giop_calls.specs.ClientTable.{client_step, is_closed, is_gathering}
 use Rattle.giop_calls.specs.declared.client.rule.ClientRule.{ClientRule}
 use Rattle.giop_session.specs.declared.laws.inputs.Answered.{Answered}
 use Rattle.giop_session.specs.declared.laws.inputs.ClientInput.{ClientInput}
-use Rattle.giop_session.specs.Calls.Begun.{no_calls}
+use Rattle.giop_session.specs.Ends.Begun.{no_calls}
 use Rattle.giop_session.specs.Calls.CallTable.{Held, turn}
-use Rattle.giop_session.specs.Hearing.ClientHears.{client_befalls}
+use Rattle.giop_session.specs.Hearing.ClientHears.{client_act}
 use Rattle.giop_session.specs.Items.Carries.{Did}
 use Rattle.giop_session.specs.Items.ClientCarries.{client_telling, unknown}
 use Rattle.giop_session.specs.Runs.ClientRuns.{client_run}
 use Rattle.giop_session.specs.Runs.Fits.{history_of}
 use Rattle.giop_session.specs.Runs.SideRuns.{SideHolds, SideTakesAs}
-use Rattle.giop_session.specs.Runs.Events.{Event, history, no_call, own_events}
-use Rattle.giop_session.specs.Runs.Events.{Does as DoesTo}
-use Rattle.giop_session.specs.Runs.Inputs.{Does, Holds, Input, nothing_unread}
+use Rattle.giop_session.specs.Runs.Events.{Event, history, no_call, own_events, Does as DoesTo}
+use Rattle.giop_session.specs.Runs.Inputs.{Does, Holds, Input}
+use Rattle.giop_session.specs.Hearing.Feeding.{nothing_unread}
 use Rattle.laws_in_use.specs.Asking.{Acts, own_acts, told_of_seven}
 use Rattle.laws_in_use.specs.Locating.{door, limits}
 use Rattle.laws_in_use.specs.Runs.{Forms, client_given, client_told, history_of_asking, told_and_taken}
@@ -55,7 +55,7 @@ module _ (interface : Interface) (old : IsWhole (locate_reply V10)) (table : IsW
   pub asking_told : history_of (client_run interface) 7 (run_holds own_acts own_told).0 ≡ history_of_asking
   unfolding run_holds
   asking_told =
-      ap (history (turn client_step is_closed is_gathering) (client_befalls interface) no_call) (one_own own_acts takes 7)
+      ap (history (turn client_step is_closed is_gathering) (client_act interface) no_call) (one_own own_acts takes 7)
       ∙ ap (λ reply. Hears (Call (asked.Locate door) 2) ∷ Hears Send ∷ Hears (First kind.Locate V12) ∷ Hears (Last true reply) ∷ [])
       (decoded interface).here_joined
 

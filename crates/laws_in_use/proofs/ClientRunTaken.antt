@@ -12,11 +12,11 @@ use Rattle.giop_calls.specs.declared.client.entry.ClientEntry.TheVariants.{Undec
 use Rattle.giop_calls.specs.declared.client.event.ClientEvent.TheVariants as event
 use Rattle.giop_calls.specs.ClientTable.{client_step, is_closed, is_gathering}
 use Rattle.giop_session.specs.declared.laws.inputs.Answered.TheVariants as answer
-use Rattle.giop_session.specs.Calls.CallTable.{Call, Gives, IsTaken, at, put_call, rules_of, turn}
+use Rattle.giop_session.specs.Calls.CallTable.{Call, Gives, IsTaken, at, put_call, rules_of, turn, entry_at}
 use Rattle.giop_session.specs.Acts.ClientCalls.{IsCancel, open_version}
-use Rattle.giop_session.specs.Runs.ClientRuns.{client_entry, client_run}
+use Rattle.giop_session.specs.Runs.ClientRuns.{client_run}
 use Rattle.giop_session.specs.Runs.SideRuns.{SideTakesAs}
-use Rattle.giop_session.specs.Runs.Inputs.{nothing_unread}
+use Rattle.giop_session.specs.Hearing.Feeding.{nothing_unread}
 use Rattle.giop_session.specs.Calls.Sending.{entry_of}
 use Rattle.giop_session.specs.Acts.Sent.{cancel_request, sends_one}
 use Rattle.laws_in_use.specs.Asking.{here_begins, here_ends, own_acts}
@@ -41,7 +41,7 @@ module _ (interface : Interface) where
   at_end : at (one_9 interface) 9 ≡ undecoded
   at_end = at-put (one_8 interface) 9 undecoded 9
 
-  entry_at_end : client_entry (one_9 interface) 9 ≡ Some (Undecoded (asked.Locate key) (record { at = 16; kind = Short }))
+  entry_at_end : entry_at (one_9 interface) 9 ≡ Some (Undecoded (asked.Locate key) (record { at = 16; kind = Short }))
   entry_at_end = ap (λ (call : Call ClientEntry). entry_of call.slot) at_end
 
   takes_out : Does (rules_of client_step is_closed is_gathering) (one_9 interface) (record { id = 9; what = IsTaken })
@@ -52,9 +52,9 @@ module _ (interface : Interface) where
       (ap (λ (call : Call ClientEntry). turn client_step is_closed is_gathering call IsTaken) at_end) refl
 
   -- what cancels is planned for the LocateRequest that waits
-  plans : IsCancel 9 Little (open_version (client_entry (one_2 interface) 9)) (sends_one event.Cancel cancel_little)
+  plans : IsCancel 9 Little (open_version (entry_at (one_2 interface) 9)) (sends_one event.Cancel cancel_little)
   plans =
-      let waits : client_entry (one_2 interface) 9 ≡ Some (Waiting (asked.Locate key)) =
+      let waits : entry_at (one_2 interface) 9 ≡ Some (Waiting (asked.Locate key)) =
       ap (λ (call : Call ClientEntry). entry_of call.slot) (one_at_2 interface) in
       subst (λ version. IsCancel 9 Little version (sends_one event.Cancel cancel_little)) (sym (ap open_version waits))
       (omega arith, ap (sends_one event.Cancel) (sym cancel_is))

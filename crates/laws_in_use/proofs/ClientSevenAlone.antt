@@ -18,21 +18,21 @@ use Rattle.giop_calls.specs.declared.client.entry.ClientEntry.{ClientEntry}
 use Rattle.giop_calls.specs.declared.client.event.ClientEvent.{ClientEvent}
 use Rattle.giop_calls.specs.declared.client.rule.ClientRule.{ClientRule}
 use Rattle.giop_calls.specs.ClientTable.{client_step, is_closed, is_gathering}
-use Rattle.giop_session.specs.declared.acts.form.Form.{Form}
+use Rattle.giop_session.specs.declared.Form.{Form}
 use Rattle.giop_session.specs.declared.laws.inputs.Answered.{Answered}
 use Rattle.giop_session.specs.declared.laws.inputs.ClientInput.{ClientInput}
-use Rattle.giop_session.specs.declared.calls.plan.Plan.TheVariants.{Next, Put}
+use Rattle.giop_session.specs.declared.Plan.TheVariants.{Next, Put}
 use Rattle.giop_session.specs.Acts.ClientCalls.{locate_fault}
-use Rattle.giop_session.specs.Calls.CallTable.{Call, First, Held, Hears, More, Nothing, at, put_call}
+use Rattle.giop_session.specs.Calls.CallTable.{Call, First, Held, Hears, More, Nothing, at, put_call, entry_at}
 use Rattle.giop_session.specs.Calls.Sending.{entry_of}
-use Rattle.giop_session.specs.Hearing.ClientHears.{client_befalls, client_breaks, client_side}
-use Rattle.giop_session.specs.Hearing.Heard.{kept, hears as hears_at}
+use Rattle.giop_session.specs.Hearing.ClientHears.{client_act, client_breaks, client_side}
+use Rattle.giop_session.specs.Hearing.Heard.{silently, hears as hears_at}
 use Rattle.giop_session.specs.Items.Carries.{Carries}
 use Rattle.giop_session.specs.Items.ClientCarries.{ClientItem, client_telling, unknown}
-use Rattle.giop_session.specs.Runs.ClientRuns.{at_client, client_entry, client_run}
+use Rattle.giop_session.specs.Runs.ClientRuns.{at_client, client_run}
 use Rattle.giop_session.specs.Runs.Fits.{only}
 use Rattle.giop_session.specs.Runs.SideRuns.{SideRuns, SideTakesAs}
-use Rattle.giop_session.specs.Runs.Driven.{EndState, end_state}
+use Rattle.giop_session.specs.Ends.Begun.{EndState, end_state}
 use Rattle.giop_session.specs.Runs.Events.{Event, own_events, Comes as Came, Does as DoesTo}
 use Rattle.giop_session.specs.Runs.Inputs.{Input, Reads, Does as DoesIt}
 use Rattle.giop_session.specs.Runs.Met.{Comes, Does, Met, given_as}
@@ -110,21 +110,21 @@ module _ (interface : Interface) (forms : Forms) where
 
   begins : Hears_it here_begins seven_2 seven_3
   begins =
-      hears client_step is_closed is_gathering client_breaks (client_befalls interface) seven_2 limits (7 ∷ 9 ∷ []) 0 here_begins 7
-      (kept (event.First kind.Locate V12)) (First Big here_begins.payload) waiting gathering refl named.here_begins stands_2 (omega arith)
+      hears client_step is_closed is_gathering client_breaks (client_act interface) seven_2 limits (7 ∷ 9 ∷ []) 0 here_begins 7
+      (silently (event.First kind.Locate V12)) (First Big here_begins.payload) waiting gathering refl named.here_begins stands_2 (omega arith)
       (omega arith) at_2 refl refl
 
   ends : Hears_it here_ends seven_3 seven_end
   ends =
-      hears client_step is_closed is_gathering client_breaks (client_befalls interface) seven_3 limits (7 ∷ 9 ∷ []) 4 here_ends 7
-      (kept (event.Last true (heard.Locate here))) (More (drop 4 here_ends.payload)) gathering door_located refl named.here_ends stands_3 (omega arith)
-      (omega arith) at_3 (ap (λ told. Hears (kept (event.Last true told)) (More (drop 4 here_ends.payload))) (decoded interface).here_joined)
+      hears client_step is_closed is_gathering client_breaks (client_act interface) seven_3 limits (7 ∷ 9 ∷ []) 4 here_ends 7
+      (silently (event.Last true (heard.Locate here))) (More (drop 4 here_ends.payload)) gathering door_located refl named.here_ends stands_3 (omega arith)
+      (omega arith) at_3 (ap (λ told. Hears (silently (event.Last true told)) (More (drop 4 here_ends.payload))) (decoded interface).here_joined)
       refl
 
-  entry_0 : (id : ℕ) → client_entry (new limits) id ≡ None
+  entry_0 : (id : ℕ) → entry_at (new limits) id ≡ None
   entry_0 id = ap (λ (call : Call ClientEntry). entry_of call.slot) (none_at limits id)
 
-  door_unrefused : locate_fault limits (client_entry (new limits) 7) door forms.cut.form ≡ None
+  door_unrefused : locate_fault limits (entry_at (new limits) 7) door forms.cut.form ≡ None
   door_unrefused =
       ap (λ entry. locate_fault limits entry door forms.cut.form) (entry_0 7) ∙ ap (λ (form : Form). locate_fault limits None door form) forms.cut_is
       ∙ door_free
@@ -144,7 +144,7 @@ module _ (interface : Interface) (forms : Forms) where
     (
       λ same. cc,
       (
-        puts_so 7 (locate_fault limits (client_entry (new limits) 7) door forms.cut.form) _ (new limits) (one_1 interface) []
+        puts_so 7 (locate_fault limits (entry_at (new limits) 7) door forms.cut.form) _ (new limits) (one_1 interface) []
             (record { event = event.Call (asked.Locate door) 2; plan = Put (door_begins ∷ door_ends ∷ []) }) door_begins door_unrefused
             (door_is_sent forms.cut.form forms.cut_is) (one_asks interface),
         refl,

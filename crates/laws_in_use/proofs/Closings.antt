@@ -13,13 +13,13 @@ use Rattle.giop_session.specs.declared.laws.inputs.ClientInput.{ClientInput}
 use Rattle.giop_session.specs.declared.laws.inputs.ClientInput.TheVariants as client
 use Rattle.giop_session.specs.declared.laws.inputs.ServerInput.{ServerInput}
 use Rattle.giop_session.specs.declared.laws.inputs.ServerInput.TheVariants as server
-use Rattle.giop_session.specs.declared.limits.Limits.{Limits}
-use Rattle.giop_session.specs.declared.session_fault.SessionFault.TheVariants.{Closed}
+use Rattle.giop_session.specs.declared.Limits.{Limits}
+use Rattle.giop_session.specs.declared.SessionFault.TheVariants.{Closed}
 use Rattle.giop_session.specs.Calls.CallTable.{Held}
 use Rattle.giop_session.specs.Runs.ClientRuns.{client_run}
 use Rattle.giop_session.specs.Runs.ServerRuns.{server_run}
 use Rattle.giop_session.specs.Runs.SideRuns.{SideRuns}
-use Rattle.giop_session.specs.Runs.Driven.{EndState}
+use Rattle.giop_session.specs.Ends.Begun.{EndState}
 use Rattle.giop_session.specs.Acts.Sent.{close_connection}
 
 -- an end has answered so, and is closed

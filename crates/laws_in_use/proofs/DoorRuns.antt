@@ -107,35 +107,35 @@ last = (
 )
 
 -- the same with takes
-befell : (m : ById Door) (id : ℕ) {before : Option Door} (what : Happening Push) → finite.get m id ≡ before
+on_call : (m : ById Door) (id : ℕ) {before : Option Door} (what : Happening Push) → finite.get m id ≡ before
     → turn step_of is_closed (finite.get m id) what ≡ turn step_of is_closed before what
-befell m id what was = ap (λ door. turn step_of is_closed door what) was
+on_call m id what was = ap (λ door. turn step_of is_closed door what) was
 
 pub take_run : Runs (call_rules step_of is_closed 2) doors takes take_results taken
 take_run = (
   one_open,
   accepts (call_rules step_of is_closed 2) doors (under 7 (Hears Opens)) (record { now = Some Open; answer = Answers tt })
-      (befell _ _ (Hears Opens) (none_at 7)) (ap (option_map Refuses) (has_room doors 7 Opens None 0 (none_at 7) len_none refl)),
+      (on_call _ _ (Hears Opens) (none_at 7)) (ap (option_map Refuses) (has_room doors 7 Opens None 0 (none_at 7) len_none refl)),
   (
     open_doors,
     accepts (call_rules step_of is_closed 2) one_open (under 9 (Hears Opens)) (record { now = Some Open; answer = Answers tt })
-        (befell _ _ (Hears Opens) nine_is_new) (ap (option_map Refuses) (has_room one_open 9 Opens None 1 nine_is_new len_one refl)),
+        (on_call _ _ (Hears Opens) nine_is_new) (ap (option_map Refuses) (has_room one_open 9 Opens None 1 nine_is_new len_one refl)),
     (
       open_doors,
-      refuses (call_rules step_of is_closed 2) open_doors (under 7 IsTaken) IsOpen (befell _ _ IsTaken seven_open),
+      refuses (call_rules step_of is_closed 2) open_doors (under 7 IsTaken) IsOpen (on_call _ _ IsTaken seven_open),
       (
         open_doors,
         limits (call_rules step_of is_closed 2) open_doors (under 5 (Hears Opens)) (record { now = Some Open; answer = Answers tt })
-            (Refuses TooManyCalls) (befell _ _ (Hears Opens) five_is_new)
+            (Refuses TooManyCalls) (on_call _ _ (Hears Opens) five_is_new)
             (ap (option_map Refuses) (has_none open_doors 5 Opens None 2 five_is_new len_two refl)),
         (
           one_shut,
           accepts (call_rules step_of is_closed 2) open_doors (under 7 (Hears Shuts)) (record { now = Some Shut; answer = Answers tt })
-              (befell _ _ (Hears Shuts) seven_open) (ap (option_map Refuses) (has_room open_doors 7 Shuts (Some Open) 2 seven_open len_two refl)),
+              (on_call _ _ (Hears Shuts) seven_open) (ap (option_map Refuses) (has_room open_doors 7 Shuts (Some Open) 2 seven_open len_two refl)),
           (
             taken,
             accepts (call_rules step_of is_closed 2) one_shut (under 7 IsTaken) (record { now = None; answer = Gives (Some Shut) })
-                (befell _ _ IsTaken seven_is_shut) refl,
+                (on_call _ _ IsTaken seven_is_shut) refl,
             refl,
           ),
         ),

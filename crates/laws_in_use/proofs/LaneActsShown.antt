@@ -25,12 +25,12 @@ use Rattle.giop_calls.specs.declared.client.heard.HeardReply.TheVariants as repl
 use Rattle.giop_calls.specs.declared.kind.CallKind.TheVariants as kind
 use Rattle.giop_calls.specs.declared.server.entry.ServerEntry.{ServerEntry}
 use Rattle.giop_calls.specs.declared.server.entry.ServerEntry.TheVariants.{Gathering}
-use Rattle.giop_session.specs.declared.session_fault.SessionFault.{SessionFault}
-use Rattle.giop_session.specs.declared.session_fault.SessionFault.TheVariants.{NoMemory}
+use Rattle.giop_session.specs.declared.SessionFault.{SessionFault}
+use Rattle.giop_session.specs.declared.SessionFault.TheVariants.{NoMemory}
 use Rattle.giop_session.specs.Calls.CallTable.{Call, Hears, Nothing, at, put_call}
-use Rattle.giop_session.specs.Hearing.ClientHears.{client_befalls, client_breaks, client_side}
+use Rattle.giop_session.specs.Hearing.ClientHears.{client_act, client_breaks, client_side}
 use Rattle.giop_session.specs.Worlds.Coding.{coding}
-use Rattle.giop_session.specs.Hearing.Heard.{kept, hears as hears_at}
+use Rattle.giop_session.specs.Hearing.Heard.{silently, hears as hears_at}
 use Rattle.giop_session.specs.Worlds.LaneAtEnds.{IsOfLimit}
 use Rattle.giop_session.specs.Worlds.Tracks.{ClientShows, IsToClient, IsToServer, ServerShows}
 use Rattle.laws_in_use.specs.Asking.{here}
@@ -117,17 +117,17 @@ none_at i = record { slot = finite.get-empty nat_cmp 7 i; pieces = finite.get-em
 stands : Stands awaiting limits ids 0
 stands = stands_more (new_client limits) limits ids 0 0 7 asking.none waits (stands_none (record {}) limits ids) refl none_at refl
 
-befalls : (interface : Interface) → client_befalls interface here_big waits ≡ Hears (kept (event.Whole kind.Locate V12 (reply.Locate here))) Nothing
+act_by : (interface : Interface) → client_act interface here_big waits ≡ Hears (silently (event.Whole kind.Locate V12 (reply.Locate here))) Nothing
 unfolding locate_reply locate_reply_head locate_status leads made_of remainder number such field gives field_at number_at such_at
-befalls interface = refl
+act_by interface = refl
 
 pub heard_answer : (interface : Interface)
     → hears_at (client_side interface)
     here_big awaiting (Ok tt) (put_call awaiting 7 (asking.located))
 heard_answer interface =
-    hears client.client_step client.is_closed client.is_gathering client_breaks (client_befalls interface) awaiting limits ids 0 here_big 7
-    (kept (event.Whole kind.Locate V12 (reply.Locate here))) Nothing waits asking.located refl next_answered.names stands (omega arith)
-    (omega arith) waits_at (befalls interface) refl
+    hears client.client_step client.is_closed client.is_gathering client_breaks (client_act interface) awaiting limits ids 0 here_big 7
+    (silently (event.Whole kind.Locate V12 (reply.Locate here))) Nothing waits asking.located refl next_answered.names stands (omega arith)
+    (omega arith) waits_at (act_by interface) refl
 
 pub answered_then : (interface : Interface) (after : Lane) → step (coding interface) answered_lane ToClient ≡ Some after
     → after.client.entry ≡ Some (LocateDone door here)

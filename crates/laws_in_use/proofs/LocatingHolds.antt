@@ -15,9 +15,9 @@ use Rattle.giop_calls.specs.declared.server.event.ServerEvent.{ServerEvent}
 use Rattle.giop_calls.specs.declared.server.event.ServerEvent.TheVariants.{AnswerLocate}
 use Rattle.giop_calls.specs.declared.server.heard.HeardCall.TheVariants as heard
 use Rattle.giop_session.specs.Items.Carries.{Carries, CarriesItem, Got, behind_all, done_by}
-use Rattle.giop_session.specs.Runs.Events.{Comes, Event, Local, own_events}
-use Rattle.giop_session.specs.Runs.Events.{Does as DoesTo}
-use Rattle.giop_session.specs.Runs.Inputs.{AreEvents, Holds, Input, nothing_unread}
+use Rattle.giop_session.specs.Runs.Events.{Comes, Event, Local, own_events, Does as DoesTo}
+use Rattle.giop_session.specs.Runs.Inputs.{AreEvents, Holds, Input}
+use Rattle.giop_session.specs.Hearing.Feeding.{nothing_unread}
 use Rattle.giop_session.specs.Items.ServerCarries.{ServerItem, server_telling}
 use Rattle.laws_in_use.specs.Locating.{answering, bad, cancel_big, cancel_little, door, door_begins, door_ends, door_whole, here_big, here_little, key_big, key_little, limits, one_way, one_way_by, other_way, said, said_of_nine, said_of_seven, tight_limits}
 use Rattle.laws_in_use.proofs.ByIds.{by_id, if_is}

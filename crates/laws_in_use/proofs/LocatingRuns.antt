@@ -16,20 +16,19 @@ use Rattle.giop_calls.specs.declared.server.heard.HeardCall.{HeardCall}
 use Rattle.giop_calls.specs.declared.server.heard.HeardCall.TheVariants as heard
 use Rattle.giop_calls.specs.declared.server.rule.ServerRule.{ServerRule}
 use Rattle.giop_calls.specs.ServerTable.{arrived, is_closed, is_gathering, server_step}
-use Rattle.giop_session.specs.Calls.Begun.{no_calls}
+use Rattle.giop_session.specs.Ends.Begun.{no_calls}
 use Rattle.giop_ids.specs.Runs.{Does}
 use Rattle.giop_session.specs.Calls.CallTable.{Act, Answers, Call, First, Hears, Held, More, Nothing, Reply, at, put_call, rules_of}
 use Rattle.giop_session.specs.Runs.ServerRuns.{server_run}
 use Rattle.giop_session.specs.Runs.SideRuns.{SideTakes}
-use Rattle.giop_session.specs.Hearing.Feeding.{Fed, Through}
-use Rattle.giop_session.specs.Hearing.Heard.{kept, silent, hears as hears_at}
-use Rattle.giop_session.specs.Runs.Inputs.{nothing_unread}
-use Rattle.giop_session.specs.Hearing.ServerHears.{server_befalls, server_breaks, server_side}
-use Rattle.giop_session.specs.declared.session_fault.SessionFault.{SessionFault}
-use Rattle.giop_session.specs.declared.limits.Limits.{Limits}
+use Rattle.giop_session.specs.Hearing.Feeding.{Fed, Through, nothing_unread}
+use Rattle.giop_session.specs.Hearing.Heard.{silently, silent, hears as hears_at}
+use Rattle.giop_session.specs.Hearing.ServerHears.{server_act, server_breaks, server_side}
+use Rattle.giop_session.specs.declared.SessionFault.{SessionFault}
+use Rattle.giop_session.specs.declared.Limits.{Limits}
 use Rattle.laws_in_use.specs.Locating.{bad, cancel_big, cancel_little, door, door_begins, door_ends, door_whole, here_big, here_little, key, key_big, key_little, limits, one_way, other_way, tight_limits}
 use Rattle.laws_in_use.proofs.LocatingMessages.{decoded, messages, named, undecoded}
-use Rattle.giop_session.specs.declared.calls.plan.Plan.TheVariants.{Put}
+use Rattle.giop_session.specs.declared.Plan.TheVariants.{Put}
 use Rattle.laws_in_use.proofs.LocatingReads.{Brings, first, last, only, second, third, tight, wide}
 use Rattle.laws_in_use.proofs.Taking.{Stands, at-put, done, hears, stands_more, stands_none}
 
@@ -75,9 +74,9 @@ pub none_at : (given : Limits) (id : ℕ) → at (new given) id ≡ none
 none_at given id i = record { slot = finite.get-empty nat_cmp id i; pieces = finite.get-empty nat_cmp id i }
 
 -- a whole message that comes to this
-pub whole : {call known : HeardCall} → call ≡ known → ◌≡◌ {A = Act ServerEvent} (Hears (kept (event.Whole call)) Nothing)
-    (Hears (kept (event.Whole known)) Nothing)
-whole is = ap (λ call. Hears (kept (event.Whole call)) Nothing) is
+pub whole : {call known : HeardCall} → call ≡ known → ◌≡◌ {A = Act ServerEvent} (Hears (silently (event.Whole call)) Nothing)
+    (Hears (silently (event.Whole known)) Nothing)
+whole is = ap (λ call. Hears (silently (event.Whole call)) Nothing) is
 
 -- what a read brings is heard
 pub fed : {H : Type 0} {Hears : Msg → H → Result (Unit {0}) SessionFault → H → Type 0} {h k : H} {unread left : Unread} {messages : List Msg}
@@ -147,42 +146,42 @@ module _ (interface : Interface) where
   Hears_it m h k = hears_at (server_side interface) m h (Ok tt) k
 
   pub begun : Hears_it door_begins (new limits) one_1
-  begun = hears server_step is_closed is_gathering server_breaks (server_befalls interface) (new limits) limits ids 0 door_begins 7
-      (kept (event.First kind.Locate))
+  begun = hears server_step is_closed is_gathering server_breaks (server_act interface) (new limits) limits ids 0 door_begins 7
+      (silently (event.First kind.Locate))
       (First Big door_begins.payload) none gathering refl named.door_begins s_0 (omega arith) (omega arith) (none_at limits 7) refl refl
 
   pub asked : Hears_it key_little one_1 one_2
-  asked = hears server_step is_closed is_gathering server_breaks (server_befalls interface) one_1 limits ids 12 key_little 9
-      (kept (event.Whole (heard.Locate key))) Nothing none
+  asked = hears server_step is_closed is_gathering server_breaks (server_act interface) one_1 limits ids 12 key_little 9
+      (silently (event.Whole (heard.Locate key))) Nothing none
       key_asked refl named.key_little s_1 (omega arith) (omega arith) at_1 (whole (decoded interface).key_little) refl
 
   -- both as acts on calls by id
   abbrev Acts_on : ℕ → Act ServerEvent → End → End → Type 0
   Acts_on id what h k = Does (rules_of server_step is_closed is_gathering) h (record { id = id; what = what }) (Ok (Answers silent)) k
 
-  pub begun_act : Acts_on 7 (Hears (kept (event.First kind.Locate)) (First Big door_begins.payload)) (new limits) one_1
+  pub begun_act : Acts_on 7 (Hears (silently (event.First kind.Locate)) (First Big door_begins.payload)) (new limits) one_1
   begun_act =
-      done server_step is_closed is_gathering (new limits) limits ids 0 7 (kept (event.First kind.Locate)) (First Big door_begins.payload)
+      done server_step is_closed is_gathering (new limits) limits ids 0 7 (silently (event.First kind.Locate)) (First Big door_begins.payload)
       none gathering silent s_0 (omega arith) (omega arith) (none_at limits 7) refl
 
-  pub asked_act : Acts_on 9 (Hears (kept (event.Whole (heard.Locate key))) Nothing) one_1 one_2
+  pub asked_act : Acts_on 9 (Hears (silently (event.Whole (heard.Locate key))) Nothing) one_1 one_2
   asked_act =
-      done server_step is_closed is_gathering one_1 limits ids 12 9 (kept (event.Whole (heard.Locate key))) Nothing none key_asked silent s_1
+      done server_step is_closed is_gathering one_1 limits ids 12 9 (silently (event.Whole (heard.Locate key))) Nothing none key_asked silent s_1
       (omega arith) (omega arith) at_1 refl
 
   pub ended : Hears_it door_ends one_2 one_3
-  ended = hears server_step is_closed is_gathering server_breaks (server_befalls interface) one_2 limits ids 12 door_ends 7
-      (kept (event.Last true (heard.Locate door)))
+  ended = hears server_step is_closed is_gathering server_breaks (server_act interface) one_2 limits ids 12 door_ends 7
+      (silently (event.Last true (heard.Locate door)))
       (More (drop 4 door_ends.payload)) gathering door_asked refl named.door_ends s_2 (omega arith) (omega arith) at_2
-      (ap (λ call. Hears (kept (event.Last true call)) (More (drop 4 door_ends.payload))) (decoded interface).door_joined) refl
+      (ap (λ call. Hears (silently (event.Last true call)) (More (drop 4 door_ends.payload))) (decoded interface).door_joined) refl
 
   pub stopped : Hears_it cancel_big one_3 one_4
-  stopped = hears server_step is_closed is_gathering server_breaks (server_befalls interface) one_3 limits ids 0 cancel_big 9 (kept event.Cancel)
+  stopped = hears server_step is_closed is_gathering server_breaks (server_act interface) one_3 limits ids 0 cancel_big 9 (silently event.Cancel)
       Nothing key_asked cancelled refl
       named.cancel_big s_3 (omega arith) (omega arith) at_3 refl refl
 
   pub used : Hears_it bad one_5 one_end
-  used = hears server_step is_closed is_gathering server_breaks (server_befalls interface) one_5 limits ids 0 bad 9 (kept (event.Whole undecoded))
+  used = hears server_step is_closed is_gathering server_breaks (server_act interface) one_5 limits ids 0 bad 9 (silently (event.Whole undecoded))
       Nothing cancelled again refl
       named.bad s_5 (omega arith) (omega arith) at_5 (whole (decoded interface).bad) refl
 
@@ -255,18 +254,18 @@ module _ (interface : Interface) where
 
   pub other_taken : SideTakes (server_run interface) tight_limits other_way (nothing_unread tight_limits.message) other_end
   other_taken =
-      let asked = hears server_step is_closed is_gathering server_breaks (server_befalls interface) (new tight_limits) tight_limits ids 0 key_big 9
-      (kept (event.Whole (heard.Locate key))) Nothing none key_asked
+      let asked = hears server_step is_closed is_gathering server_breaks (server_act interface) (new tight_limits) tight_limits ids 0 key_big 9
+      (silently (event.Whole (heard.Locate key))) Nothing none key_asked
       refl named.key_big (stands_none (record {}) tight_limits ids) (omega arith) (omega arith) (none_at tight_limits 9)
       (whole (decoded interface).key_big) refl in
-      let stopped = hears server_step is_closed is_gathering server_breaks (server_befalls interface) other_1 tight_limits ids 0 cancel_little 9
-      (kept event.Cancel) Nothing key_asked cancelled
+      let stopped = hears server_step is_closed is_gathering server_breaks (server_act interface) other_1 tight_limits ids 0 cancel_little 9
+      (silently event.Cancel) Nothing key_asked cancelled
       refl named.cancel_little t_1 (omega arith) (omega arith) on_1 refl refl in
-      let used = hears server_step is_closed is_gathering server_breaks (server_befalls interface) other_2 tight_limits ids 0 bad 9
-      (kept (event.Whole undecoded)) Nothing cancelled again
+      let used = hears server_step is_closed is_gathering server_breaks (server_act interface) other_2 tight_limits ids 0 bad 9
+      (silently (event.Whole undecoded)) Nothing cancelled again
       refl named.bad t_2 (omega arith) (omega arith) on_2 (whole (decoded interface).bad) refl in
-      let came = hears server_step is_closed is_gathering server_breaks (server_befalls interface) other_3 tight_limits ids 0 door_whole 7
-      (kept (event.Whole (heard.Locate door))) Nothing none door_asked
+      let came = hears server_step is_closed is_gathering server_breaks (server_act interface) other_3 tight_limits ids 0 door_whole 7
+      (silently (event.Whole (heard.Locate door))) Nothing none door_asked
       refl named.door_whole t_3 (omega arith) (omega arith) on_3 (whole (decoded interface).door_whole) refl in
       let answered = done server_step is_closed is_gathering other_4 tight_limits ids 0 7
       (record { event = event.AnswerLocate true; plan = Put (here_little ∷ []) }) Nothing

@@ -32,13 +32,13 @@ use Rattle.giop_calls.specs.declared.client.heard.HeardReply.TheVariants as told
 use Rattle.giop_calls.specs.declared.fault.CallFault.TheVariants.{UnknownOperation}
 use Rattle.giop_calls.specs.declared.server.event.ServerEvent.{ServerEvent}
 use Rattle.giop_calls.specs.declared.server.event.ServerEvent.TheVariants as at_server
-use Rattle.giop_session.specs.declared.calls.plan.Planned.{Planned}
+use Rattle.giop_session.specs.declared.Planned.{Planned}
 use Rattle.giop_session.specs.Items.Carries.{IsWrittenAs}
 use Rattle.giop_session.specs.Acts.ClientCalls.{call_fault, is_request_sendable, request_octets}
 use Rattle.giop_session.specs.Acts.Form.{is_sendable}
 use Rattle.giop_session.specs.Worlds.OwnLane.{PlansCall, PlansReply, alone, sends_cut}
-use Rattle.giop_session.specs.Calls.Refused.{unfit_unless}
-use Rattle.giop_session.specs.declared.acts.form.Form.{Form}
+use Rattle.giop_session.specs.Acts.Refused.{unfit_unless}
+use Rattle.giop_session.specs.declared.Form.{Form}
 use Rattle.laws_in_use.specs.Exchange.{ping, pong}
 use Rattle.laws_in_use.specs.Framed.{refusing}
 use Rattle.laws_in_use.specs.Pinged.{HasPing, ping_back, ping_begins, ping_cut, ping_ends, ping_front, ping_whole, refusal_begins, refusal_cut, refusal_ends, refusal_whole, room}

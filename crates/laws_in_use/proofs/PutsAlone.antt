@@ -6,7 +6,7 @@ use Rattle.giop_msg.specs.declared.msg.Msg.{Msg}
 use Rattle.giop_calls.specs.declared.client.event.ClientEvent.{ClientEvent}
 use Rattle.giop_calls.specs.declared.fault.CallFault.{CallFault}
 use Rattle.giop_calls.specs.ClientTable.{client_step, is_closed, is_gathering}
-use Rattle.giop_session.specs.declared.calls.plan.Planned.{Planned}
+use Rattle.giop_session.specs.declared.Planned.{Planned}
 use Rattle.giop_session.specs.Acts.Putting.{Puts}
 use Rattle.giop_session.specs.Calls.CallTable.{Answers, Hears, Nothing, rules_of}
 use Rattle.giop_session.specs.Hearing.Heard.{in_call}
@@ -26,4 +26,4 @@ pub puts_so : (id : ℕ) (refusal : Option CallFault) (Plans : Planned ClientEve
     → refusal ≡ None → Plans planned → Does_it id planned m h k → PutsSo id refusal Plans h out k (out ++ message_octets m)
 puts_so id refusal Plans h k out planned m none_so plans does =
     subst (λ r. PutsSo id r Plans h out k (out ++ message_octets m)) (sym none_so)
-    (inr (planned, plans, record { answered = Ok (record { answer = tt; message = Some m }); does = does; told = refl; puts = refl }))
+    (inr (planned, plans, record { answered = Ok (record { answer = tt; message = Some m }); does = does; returned = refl; puts = refl }))

@@ -16,7 +16,7 @@ use Rattle.giop_calls.specs.declared.client.call.Call.{Call}
 use Rattle.giop_calls.specs.declared.client.call.Call.TheVariants as asked
 use Rattle.giop_calls.specs.declared.client.event.ClientEvent.{ClientEvent}
 use Rattle.giop_calls.specs.declared.client.event.ClientEvent.TheVariants as at_client
-use Rattle.giop_session.specs.declared.calls.plan.Planned.{Planned}
+use Rattle.giop_session.specs.declared.Planned.{Planned}
 use Rattle.giop_session.specs.Acts.ClientCalls.{IsCancel}
 use Rattle.giop_session.specs.Worlds.OwnLane.{PlansCall, PlansLocated, sends_cut}
 use Rattle.giop_session.specs.Acts.ServerAnswers.{IsLocateAnswer}

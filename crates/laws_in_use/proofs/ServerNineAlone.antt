@@ -15,11 +15,11 @@ use Rattle.giop_calls.specs.ServerTable.{is_closed, is_gathering, server_step}
 use Rattle.giop_session.specs.declared.laws.inputs.Answered.{Answered}
 use Rattle.giop_session.specs.declared.laws.inputs.ServerInput.{ServerInput}
 use Rattle.giop_session.specs.Calls.CallTable.{Held, Nothing, at, put_call}
-use Rattle.giop_session.specs.Hearing.Heard.{kept}
-use Rattle.giop_session.specs.Hearing.ServerHears.{server_befalls, server_breaks}
+use Rattle.giop_session.specs.Hearing.Heard.{silently}
+use Rattle.giop_session.specs.Hearing.ServerHears.{server_act, server_breaks}
 use Rattle.giop_session.specs.Items.Carries.{Carries, CarriesItem, Got}
 use Rattle.giop_session.specs.Items.ServerCarries.{ServerItem, server_telling}
-use Rattle.giop_session.specs.Runs.Driven.{EndState, end_state}
+use Rattle.giop_session.specs.Ends.Begun.{EndState, end_state}
 use Rattle.giop_session.specs.Runs.Events.{Event, own_events, Comes as Came}
 use Rattle.giop_session.specs.Runs.Fits.{only}
 use Rattle.giop_session.specs.Runs.ServerRuns.{at_server, server_run}
@@ -71,17 +71,17 @@ module _ (interface : Interface) where
   stands_cancelled = stands_more nine_1 limits (7 ∷ 9 ∷ []) 0 0 9 key_asked cancelled stands_asked refl asked_at refl
 
   asked : Hears_it interface key_little (new limits) nine_1
-  asked = hears server_step is_closed is_gathering server_breaks (server_befalls interface) (new limits) limits (7 ∷ 9 ∷ []) 0 key_little 9
-      (kept (event.Whole (heard.Locate key))) Nothing none key_asked refl named.key_little stands_none_yet (omega arith) (omega arith) (none_at limits 9)
+  asked = hears server_step is_closed is_gathering server_breaks (server_act interface) (new limits) limits (7 ∷ 9 ∷ []) 0 key_little 9
+      (silently (event.Whole (heard.Locate key))) Nothing none key_asked refl named.key_little stands_none_yet (omega arith) (omega arith) (none_at limits 9)
       (whole (decoded interface).key_little) refl
 
   stopped : Hears_it interface cancel_big nine_1 nine_2
-  stopped = hears server_step is_closed is_gathering server_breaks (server_befalls interface) nine_1 limits (7 ∷ 9 ∷ []) 0 cancel_big 9
-      (kept event.Cancel) Nothing key_asked cancelled refl named.cancel_big stands_asked (omega arith) (omega arith) asked_at refl refl
+  stopped = hears server_step is_closed is_gathering server_breaks (server_act interface) nine_1 limits (7 ∷ 9 ∷ []) 0 cancel_big 9
+      (silently event.Cancel) Nothing key_asked cancelled refl named.cancel_big stands_asked (omega arith) (omega arith) asked_at refl refl
 
   used : Hears_it interface bad nine_2 nine_end
-  used = hears server_step is_closed is_gathering server_breaks (server_befalls interface) nine_2 limits (7 ∷ 9 ∷ []) 0 bad 9
-      (kept (event.Whole undecoded)) Nothing cancelled again refl named.bad stands_cancelled (omega arith) (omega arith) cancelled_at
+  used = hears server_step is_closed is_gathering server_breaks (server_act interface) nine_2 limits (7 ∷ 9 ∷ []) 0 bad 9
+      (silently (event.Whole undecoded)) Nothing cancelled again refl named.bad stands_cancelled (omega arith) (omega arith) cancelled_at
       (whole (decoded interface).bad) refl
 
   abbrev nine_answers : List (Answered ServerEntry)

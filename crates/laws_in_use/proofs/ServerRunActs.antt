@@ -12,16 +12,16 @@ use Rattle.giop_calls.specs.declared.server.rule.ServerRule.{ServerRule}
 use Rattle.giop_session.specs.declared.laws.inputs.Answered.{Answered}
 use Rattle.giop_session.specs.declared.laws.inputs.ServerInput.{ServerInput}
 use Rattle.giop_session.specs.declared.laws.inputs.ServerInput.TheVariants as input
-use Rattle.giop_session.specs.declared.limits.Limits.{Limits}
-use Rattle.giop_session.specs.declared.calls.plan.Planned.{Planned}
-use Rattle.giop_session.specs.Calls.CallTable.{Held}
+use Rattle.giop_session.specs.declared.Limits.{Limits}
+use Rattle.giop_session.specs.declared.Planned.{Planned}
+use Rattle.giop_session.specs.Calls.CallTable.{Held, entry_at}
 use Rattle.giop_session.specs.Items.Carries.{done_by}
 use Rattle.giop_session.specs.Runs.Driven.{IsAct, TakesAs}
 use Rattle.giop_session.specs.Runs.Events.{Local}
 use Rattle.giop_session.specs.Runs.Inputs.{Does, Input, Reads}
 use Rattle.giop_session.specs.Acts.ServerAnswers.{IsLocateAnswer, locate_of}
 use Rattle.giop_session.specs.Hearing.ServerHears.{server_side}
-use Rattle.giop_session.specs.Runs.ServerRuns.{server_deed, server_entry}
+use Rattle.giop_session.specs.Runs.ServerRuns.{server_deed}
 use Rattle.laws_in_use.specs.Locating.{one_way_by}
 use Rattle.laws_in_use.specs.Runs.{server_given}
 
@@ -49,7 +49,7 @@ module _ (interface : Interface) (limits : Limits) where
       → IsActed given act
   is_acted h (input.Feed octets) act is = is
   is_acted h (input.AnswerLocate id here order) act is =
-      (is.0, event_is id here order (locate_of here (server_entry h id)) is.0 is.1, is.2)
+      (is.0, event_is id here order (locate_of here (entry_at h id)) is.0 is.1, is.2)
   is_acted h (input.Take id) act is = is
   is_acted h (input.Answer reply form) act is = tt
   is_acted h (input.Send id) act is = tt

@@ -13,11 +13,11 @@ use Rattle.giop_calls.specs.declared.server.event.ServerEvent.{ServerEvent}
 use Rattle.giop_session.specs.declared.laws.inputs.ServerInput.{ServerInput}
 use Rattle.giop_session.specs.Items.Carries.{Carries, CarriesItem, Got}
 use Rattle.giop_session.specs.Items.ServerCarries.{ServerItem, server_telling}
-use Rattle.giop_session.specs.Runs.Driven.{new_end}
+use Rattle.giop_session.specs.Ends.Begun.{new_end}
 use Rattle.giop_session.specs.Runs.Events.{Event, Comes as Came}
 use Rattle.giop_session.specs.Runs.Fits.{Fits, SaysAlone}
 use Rattle.giop_session.specs.Runs.ServerRuns.{at_server, server_run}
-use Rattle.giop_session.specs.Runs.Inputs.{nothing_unread}
+use Rattle.giop_session.specs.Hearing.Feeding.{nothing_unread}
 use Rattle.giop_session.specs.Runs.Met.{AreMet, Comes, Does, Met, own_met}
 use Rattle.laws_in_use.specs.Locating.{bad, cancel_big, door, door_begins, door_ends, key_little, limits, said_of_nine}
 use Rattle.laws_in_use.specs.Runs.{said_and_taken, server_given, server_given_otherwise, server_said}

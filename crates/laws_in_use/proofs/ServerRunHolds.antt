@@ -15,16 +15,16 @@ use Rattle.giop_calls.specs.declared.server.heard.HeardCall.TheVariants as heard
 use Rattle.giop_calls.specs.declared.server.rule.ServerRule.{ServerRule}
 use Rattle.giop_session.specs.declared.laws.inputs.Answered.{Answered}
 use Rattle.giop_session.specs.declared.laws.inputs.ServerInput.{ServerInput}
-use Rattle.giop_session.specs.Calls.Begun.{no_calls}
+use Rattle.giop_session.specs.Ends.Begun.{no_calls}
 use Rattle.giop_session.specs.Calls.CallTable.{Held, turn}
-use Rattle.giop_session.specs.Hearing.ServerHears.{server_befalls}
+use Rattle.giop_session.specs.Hearing.ServerHears.{server_act}
 use Rattle.giop_session.specs.Items.Carries.{CarriesItem, Did, Got, done_by}
-use Rattle.giop_session.specs.Runs.Events.{Comes, Event, Local, history, no_call, own_events}
+use Rattle.giop_session.specs.Runs.Events.{Comes, Event, Local, history, no_call, own_events, Does as DoesTo}
 use Rattle.giop_session.specs.Runs.Fits.{history_of}
 use Rattle.giop_session.specs.Runs.ServerRuns.{server_run}
 use Rattle.giop_session.specs.Runs.SideRuns.{SideHolds, SideTakesAs}
-use Rattle.giop_session.specs.Runs.Events.{Does as DoesTo}
-use Rattle.giop_session.specs.Runs.Inputs.{Does, Holds, Input, nothing_unread}
+use Rattle.giop_session.specs.Runs.Inputs.{Does, Holds, Input}
+use Rattle.giop_session.specs.Hearing.Feeding.{nothing_unread}
 use Rattle.giop_session.specs.Items.ServerCarries.{server_telling}
 use Rattle.laws_in_use.specs.Locating.{answering, door, door_begins, door_ends, here_big, limits, said_of_nine}
 use Rattle.laws_in_use.specs.Runs.{history_of_door, said_and_taken, server_given, server_said}
@@ -55,7 +55,7 @@ module _ (interface : Interface) (old : IsTable (locate_request V10)) (table : I
   pub door_told : history_of (server_run interface) 7 (run_holds (answering here_big) refl).0 ≡ history_of_door
   unfolding run_holds
   door_told =
-      ap (history (turn server_step is_closed is_gathering) (server_befalls interface) no_call) (one_own (answering here_big) takes 7)
+      ap (history (turn server_step is_closed is_gathering) (server_act interface) no_call) (one_own (answering here_big) takes 7)
       ∙ ap (λ call. Hears (First kind.Locate) ∷ Hears (Last true call) ∷ Hears (AnswerLocate true) ∷ IsTaken ∷ []) (decoded interface).door_joined
 
   -- so do the acts as which any end takes that

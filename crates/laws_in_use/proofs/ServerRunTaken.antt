@@ -15,12 +15,12 @@ use Rattle.giop_calls.specs.declared.server.entry.ServerEntry.TheVariants.{Locat
 use Rattle.giop_calls.specs.declared.server.event.ServerEvent.TheVariants.{AnswerLocate}
 use Rattle.giop_calls.specs.ServerTable.{is_closed, is_gathering, server_step}
 use Rattle.giop_session.specs.declared.laws.inputs.Answered.TheVariants as answer
-use Rattle.giop_session.specs.Calls.CallTable.{Call, Gives, IsTaken, at, put_call, rules_of, turn}
-use Rattle.giop_session.specs.Runs.Inputs.{nothing_unread}
+use Rattle.giop_session.specs.Calls.CallTable.{Call, Gives, IsTaken, at, put_call, rules_of, turn, entry_at}
+use Rattle.giop_session.specs.Hearing.Feeding.{nothing_unread}
 use Rattle.giop_session.specs.Calls.Sending.{entry_of}
 use Rattle.giop_session.specs.Acts.Sent.{sends_one}
 use Rattle.giop_session.specs.Acts.ServerAnswers.{IsLocateAnswer, locate_of, located}
-use Rattle.giop_session.specs.Runs.ServerRuns.{server_entry, server_run}
+use Rattle.giop_session.specs.Runs.ServerRuns.{server_run}
 use Rattle.giop_session.specs.Runs.SideRuns.{SideTakesAs}
 use Rattle.laws_in_use.specs.Locating.{answering, door, door_begins, door_ends, here_big, limits}
 use Rattle.laws_in_use.specs.Runs.{server_answers, server_given}
@@ -43,7 +43,7 @@ module _ (interface : Interface) where
   at_end : at (one_end interface) 7 ≡ door_answered
   at_end = at-put (one_5 interface) 9 again 7 ∙ at-put (one_4 interface) 7 door_answered 7
 
-  entry_at_end : server_entry (one_end interface) 7 ≡ Some (LocateAnswered (Some door.target) true)
+  entry_at_end : entry_at (one_end interface) 7 ≡ Some (LocateAnswered (Some door.target) true)
   entry_at_end = ap (λ (call : Call ServerEntry). entry_of call.slot) at_end
 
   takes_out : DoesAct (rules_of server_step is_closed is_gathering) (one_end interface) (record { id = 7; what = IsTaken })
@@ -54,10 +54,10 @@ module _ (interface : Interface) where
       (ap (λ (call : Call ServerEntry). turn server_step is_closed is_gathering call IsTaken) at_end) refl
 
   -- what answers is planned for the LocateRequest that waits
-  plans : IsLocateAnswer 7 true Big (locate_of true (server_entry (one_4 interface) 7))
+  plans : IsLocateAnswer 7 true Big (locate_of true (entry_at (one_4 interface) 7))
       (sends_one (AnswerLocate true) here_big)
   plans =
-      let waits : server_entry (one_4 interface) 7 ≡ Some (LocateAsked door) = ap (λ (call : Call ServerEntry). entry_of call.slot) (at_4 interface) in
+      let waits : entry_at (one_4 interface) 7 ≡ Some (LocateAsked door) = ap (λ (call : Call ServerEntry). entry_of call.slot) (at_4 interface) in
       subst (λ version. IsLocateAnswer 7 true Big version (sends_one (AnswerLocate true) here_big)) (sym (ap (locate_of true) waits))
       (omega arith, ap (sends_one (AnswerLocate true)) (sym here_is))
 

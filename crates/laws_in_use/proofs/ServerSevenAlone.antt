@@ -20,16 +20,16 @@ use Rattle.giop_session.specs.declared.laws.inputs.Answered.{Answered}
 use Rattle.giop_session.specs.declared.laws.inputs.ServerInput.{ServerInput}
 use Rattle.giop_session.specs.Acts.Sent.{sends_one}
 use Rattle.giop_session.specs.Acts.ServerAnswers.{IsLocateAnswer, locate_of}
-use Rattle.giop_session.specs.Calls.CallTable.{Call, Gives, Held, Hears, IsTaken, More, Nothing, at, put_call, rules_of, turn}
+use Rattle.giop_session.specs.Calls.CallTable.{Call, Gives, Held, Hears, IsTaken, More, Nothing, at, put_call, rules_of, turn, entry_at}
 use Rattle.giop_session.specs.Calls.Sending.{entry_of}
-use Rattle.giop_session.specs.Hearing.Heard.{kept}
-use Rattle.giop_session.specs.Hearing.ServerHears.{server_befalls, server_breaks}
+use Rattle.giop_session.specs.Hearing.Heard.{silently}
+use Rattle.giop_session.specs.Hearing.ServerHears.{server_act, server_breaks}
 use Rattle.giop_session.specs.Items.Carries.{Carries, CarriesItem, Did, Got}
 use Rattle.giop_session.specs.Items.ServerCarries.{ServerItem, server_telling}
-use Rattle.giop_session.specs.Runs.Driven.{EndState, end_state}
+use Rattle.giop_session.specs.Ends.Begun.{EndState, end_state}
 use Rattle.giop_session.specs.Runs.Events.{Event, own_events, Comes as Came, Does as DoesTo}
 use Rattle.giop_session.specs.Runs.Fits.{only}
-use Rattle.giop_session.specs.Runs.ServerRuns.{at_server, server_entry, server_run}
+use Rattle.giop_session.specs.Runs.ServerRuns.{at_server, server_run}
 use Rattle.giop_session.specs.Runs.SideRuns.{SideRuns, SideTakesAs}
 use Rattle.giop_session.specs.Runs.Inputs.{Input, Reads, Does as DoesIt}
 use Rattle.giop_session.specs.Runs.Met.{Comes, Does, Met, given_as}
@@ -82,10 +82,10 @@ module _ (interface : Interface) where
   at_3 = at-put seven_2 7 door_answered 7
 
   ended : Hears_it interface door_ends (one_1 interface) seven_2
-  ended = hears server_step is_closed is_gathering server_breaks (server_befalls interface) (one_1 interface) limits (7 ∷ 9 ∷ []) 12 door_ends 7
-      (kept (event.Last true (heard.Locate door)))
+  ended = hears server_step is_closed is_gathering server_breaks (server_act interface) (one_1 interface) limits (7 ∷ 9 ∷ []) 12 door_ends 7
+      (silently (event.Last true (heard.Locate door)))
       (More (drop 4 door_ends.payload)) gathering door_asked refl named.door_ends stands_1 (omega arith) (omega arith) at_1
-      (ap (λ call. Hears (kept (event.Last true call)) (More (drop 4 door_ends.payload))) (decoded interface).door_joined) refl
+      (ap (λ call. Hears (silently (event.Last true call)) (More (drop 4 door_ends.payload))) (decoded interface).door_joined) refl
 
   answered : DoesAct (rules_of server_step is_closed is_gathering) seven_2
       (record { id = 7; what = Hears (sends_one (event.AnswerLocate true) here_big) Nothing }) (Ok (sent_here interface)) seven_3
@@ -99,13 +99,13 @@ module _ (interface : Interface) where
       (ap (λ (call : Call ServerEntry). turn server_step is_closed is_gathering call IsTaken) at_3) refl
 
   -- what answers is planned for the LocateRequest that waits
-  plans : IsLocateAnswer 7 true Big (locate_of true (server_entry seven_2 7)) (sends_one (event.AnswerLocate true) here_big)
+  plans : IsLocateAnswer 7 true Big (locate_of true (entry_at seven_2 7)) (sends_one (event.AnswerLocate true) here_big)
   plans =
-      let waits : server_entry seven_2 7 ≡ Some (LocateAsked door) = ap (λ (call : Call ServerEntry). entry_of call.slot) at_2 in
+      let waits : entry_at seven_2 7 ≡ Some (LocateAsked door) = ap (λ (call : Call ServerEntry). entry_of call.slot) at_2 in
       subst (λ version. IsLocateAnswer 7 true Big version (sends_one (event.AnswerLocate true) here_big)) (sym (ap (locate_of true) waits))
       (omega arith, ap (sends_one (event.AnswerLocate true)) (sym here_is))
 
-  entry_at_end : server_entry seven_3 7 ≡ Some (LocateAnswered (Some door.target) true)
+  entry_at_end : entry_at seven_3 7 ≡ Some (LocateAnswered (Some door.target) true)
   entry_at_end = ap (λ (call : Call ServerEntry). entry_of call.slot) at_3
 
   abbrev seven_answers : List (Answered ServerEntry)
@@ -129,7 +129,7 @@ module _ (interface : Interface) where
             inr (
               sends_one (event.AnswerLocate true) here_big,
               plans,
-              record { answered = Ok (record { answer = tt; message = Some here_big }); does = answered; told = refl; puts = refl },
+              record { answered = Ok (record { answer = tt; message = Some here_big }); does = answered; returned = refl; puts = refl },
             ),
             refl,
           ),

@@ -11,7 +11,8 @@ use Rattle.giop_session.specs.declared.laws.inputs.Answered.{Answered}
 use Rattle.giop_session.specs.declared.laws.inputs.ServerInput.{ServerInput}
 use Rattle.giop_session.specs.Calls.CallTable.{Held}
 use Rattle.giop_session.specs.Items.ServerCarries.{ServerItem}
-use Rattle.giop_session.specs.Runs.Driven.{EndState, NoneRefused}
+use Rattle.giop_session.specs.Runs.Driven.{NoneRefused}
+use Rattle.giop_session.specs.Ends.Begun.{EndState}
 use Rattle.giop_session.specs.Runs.ClientRuns.{at_client, client_run}
 use Rattle.giop_session.specs.Runs.Fits.{only}
 use Rattle.giop_session.specs.Runs.ServerRuns.{at_server, server_run}

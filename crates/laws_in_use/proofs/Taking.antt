@@ -12,16 +12,16 @@ use Rattle.giop_mux.specs.declared.step.Step.{Step}
 use Rattle.giop_msg.specs.declared.msg.Msg.{Msg}
 use Rattle.giop_msg.specs.RequestId.{request_id_of}
 use Rattle.giop_calls.specs.declared.fault.CallFault.{CallFault}
-use Rattle.giop_session.specs.declared.limits.Limits.{Limits}
-use Rattle.giop_session.specs.declared.calls.plan.Planned.{Planned}
-use Rattle.giop_session.specs.declared.calls.sending.Sends.{Sends}
-use Rattle.giop_session.specs.declared.session_fault.SessionFault.{SessionFault}
-use Rattle.giop_session.specs.declared.calls.slot.Slot.{Slot}
-use Rattle.giop_session.specs.declared.calls.table_fault.TableFault.{TableFault}
-use Rattle.giop_session.specs.declared.calls.table_fault.TableFault.TheVariants.{TooManyCalls, GatherFull}
-use Rattle.giop_session.specs.Calls.Begun.{no_calls}
+use Rattle.giop_session.specs.declared.Limits.{Limits}
+use Rattle.giop_session.specs.declared.Planned.{Planned}
+use Rattle.giop_session.specs.declared.Sends.{Sends}
+use Rattle.giop_session.specs.declared.SessionFault.{SessionFault}
+use Rattle.giop_session.specs.declared.Slot.{Slot}
+use Rattle.giop_session.specs.declared.TableFault.{TableFault}
+use Rattle.giop_session.specs.declared.TableFault.TheVariants.{TooManyCalls, GatherFull}
+use Rattle.giop_session.specs.Ends.Begun.{no_calls}
 use Rattle.giop_session.specs.Calls.CallTable.{Act, Answers, Brings, Call, First, Hears, Held, More, Nothing, at, calls_fault, gathers, octets_fault, put_call, room_fault, rules_of, step_of, turn}
-use Rattle.giop_session.specs.Hearing.Heard.{Befalls, IsHeardAs, heard_of, hears_by, in_call, silent}
+use Rattle.giop_session.specs.Hearing.Heard.{ActsOn, IsHeardAs, heard_of, hears_by, in_call, silent}
 
 -- what is known of the calls of an end: how many there may be, and only these ids have any; how many
 -- octets there may be, and how many there are
@@ -106,24 +106,24 @@ module _ {R E V : Type 0} (next : Option E → V → Step E (Unit {0}) CallFault
       let octets = small_brings h id entry brings (omega (arith, stands.total, stands.room, within)) in
       record { answer = rw calls (rw octets (rw turned refl)); refusal = tt; leaves = rw turned refl }
 
-  module _ (breaks : Msg → Option SessionFault) (befalls : Msg → Call E → Act V) where
+  module _ (breaks : Msg → Option SessionFault) (act_by : Msg → Call E → Act V) where
     -- a message that a call accepts is heard
     pub heard : (h k : Held R E) (m : Msg) (id : ℕ) (planned : Planned V) (brings : Brings) (before : Call E) (sends : Sends (Unit {0}))
-        → breaks m ≡ None → request_id_of m ≡ Some (Ok id) → at h id ≡ before → befalls m before ≡ Hears planned brings
+        → breaks m ≡ None → request_id_of m ≡ Some (Ok id) → at h id ≡ before → act_by m before ≡ Hears planned brings
         → Does (rules_of next closed gathering) h (record { id = id; what = Hears planned brings }) (Ok (Answers sends)) k
-        → hears_by (λ rule. next) (λ rule. closed) gathering in_call breaks befalls m h (Ok tt) k
-    heard h k m id planned brings before sends unbroken named was befalls_so does =
-        let is : heard_of breaks befalls h m ≡ Befalls id (Hears planned brings) =
-        rw unbroken (rw named (ap (Befalls id) (ap (befalls m) was ∙ befalls_so))) in
+        → hears_by (λ rule. next) (λ rule. closed) gathering in_call breaks act_by m h (Ok tt) k
+    heard h k m id planned brings before sends unbroken named was acts_so does =
+        let is : heard_of breaks act_by h m ≡ ActsOn id (Hears planned brings) =
+        rw unbroken (rw named (ap (ActsOn id) (ap (act_by m) was ∙ acts_so))) in
         inr (subst (λ what. IsHeardAs (rules_of next closed gathering) in_call what h (Ok tt) k) (sym is) (Ok sends, does, refl))
 
     -- and so is one that has room
     pub hears : (h : Held R E) (limits : Limits) (ids : List ℕ) (total : ℕ) (m : Msg) (id : ℕ) (planned : Planned V) (brings : Brings)
         (before now : Call E)
         → breaks m ≡ None → request_id_of m ≡ Some (Ok id) → Stands h limits ids total → length ids < limits.calls
-        → total + brings_of brings ≤ limits.gathered → at h id ≡ before → befalls m before ≡ Hears planned brings
+        → total + brings_of brings ≤ limits.gathered → at h id ≡ before → act_by m before ≡ Hears planned brings
         → turn next closed gathering before (Hears planned brings) ≡ Ok (record { now = now; answer = Answers silent })
-        → hears_by (λ rule. next) (λ rule. closed) gathering in_call breaks befalls m h (Ok tt) (put_call h id now)
-    hears h limits ids total m id planned brings before now unbroken named stands few within was befalls_so is =
-        heard h (put_call h id now) m id planned brings before silent unbroken named was befalls_so
+        → hears_by (λ rule. next) (λ rule. closed) gathering in_call breaks act_by m h (Ok tt) (put_call h id now)
+    hears h limits ids total m id planned brings before now unbroken named stands few within was acts_so is =
+        heard h (put_call h id now) m id planned brings before silent unbroken named was acts_so
         (done h limits ids total id planned brings before now silent stands few within was is)

@@ -35,29 +35,30 @@ use Rattle.giop_calls.specs.ClientTable as client
 use Rattle.giop_calls.specs.ServerTable as server
 use Rattle.giop_session.specs.declared.laws.inputs.Answered.{Answered}
 use Rattle.giop_session.specs.declared.laws.inputs.Answered.TheVariants as answer
-use Rattle.giop_session.specs.declared.acts.form.Form.{Form}
+use Rattle.giop_session.specs.declared.Form.{Form}
 use Rattle.giop_session.specs.declared.laws.inputs.WorldEvent.{WorldEvent}
 use Rattle.giop_session.specs.declared.laws.inputs.ClientInput.TheVariants as client_input
 use Rattle.giop_session.specs.declared.laws.inputs.ServerInput.TheVariants as server_input
-use Rattle.giop_session.specs.declared.calls.plan.Planned.{Planned}
-use Rattle.giop_session.specs.declared.session_fault.SessionFault.{SessionFault}
-use Rattle.giop_session.specs.declared.session_fault.SessionFault.TheVariants.{Call as InCall, NoMemory}
-use Rattle.giop_session.specs.declared.calls.slot.Slot.{Slot}
-use Rattle.giop_session.specs.declared.calls.table_fault.TableFault.{TableFault}
+use Rattle.giop_session.specs.declared.Planned.{Planned}
+use Rattle.giop_session.specs.declared.SessionFault.{SessionFault}
+use Rattle.giop_session.specs.declared.SessionFault.TheVariants.{Call as InCall, NoMemory}
+use Rattle.giop_session.specs.declared.Slot.{Slot}
+use Rattle.giop_session.specs.declared.TableFault.{TableFault}
 use Rattle.giop_session.specs.Acts.Acting.{IsAccepted}
 use Rattle.giop_session.specs.Runs.Alone.{alone_heard, own_messages}
-use Rattle.giop_session.specs.Calls.CallTable.{Act, Call, Hears, Held, Nothing, Reply, at, rules_of, turn}
+use Rattle.giop_session.specs.Calls.CallTable.{Act, Call, Hears, Held, Nothing, Reply, at, rules_of, turn, entry_at}
 use Rattle.giop_session.specs.Acts.ClientCalls.{IsLocate, cancel_fault, locate_fault, locate_octets, open_version}
-use Rattle.giop_session.specs.Runs.ClientRuns.{client_entry, client_run}
-use Rattle.giop_session.specs.Runs.ServerRuns.{server_entry, server_run}
+use Rattle.giop_session.specs.Runs.ClientRuns.{client_run}
+use Rattle.giop_session.specs.Runs.ServerRuns.{server_run}
 use Rattle.giop_session.specs.Runs.SideRuns.{SideIsGiven}
-use Rattle.giop_session.specs.Runs.Driven.{EndState, Says, new_end}
+use Rattle.giop_session.specs.Runs.Driven.{Says}
+use Rattle.giop_session.specs.Ends.Begun.{EndState, new_end}
 use Rattle.giop_session.specs.Hearing.Feeding.{Fed, Through}
-use Rattle.giop_session.specs.Hearing.Heard.{in_call, kept, hears}
-use Rattle.giop_session.specs.Acts.Putting.{Befell, Puts, octets_of}
+use Rattle.giop_session.specs.Hearing.Heard.{in_call, silently, hears}
+use Rattle.giop_session.specs.Acts.Putting.{ActsOnCall, Puts, octets_of}
 use Rattle.giop_session.specs.Calls.Sending.{entry_of, message_of, unsent_of}
 use Rattle.giop_session.specs.Calls.Unsent.{first_of}
-use Rattle.giop_session.specs.Hearing.ServerHears.{server_befalls, server_side}
+use Rattle.giop_session.specs.Hearing.ServerHears.{server_act, server_side}
 use Rattle.giop_session.specs.Worlds.World.{Returned, WorldRuns, WorldState, returned_for}
 use Rattle.laws_in_use.specs.Left.{new_client}
 use Rattle.laws_in_use.specs.Limited.{new_server}
@@ -69,7 +70,7 @@ use Rattle.laws_in_use.proofs.LocatingReads.{wide}
 use Rattle.laws_in_use.proofs.LocatingRuns.{none, none_at}
 
 -- an end without calls has no entry
-no_client_entry : (id : ℕ) → client_entry (new_client limits) id ≡ None
+no_client_entry : (id : ℕ) → entry_at (new_client limits) id ≡ None
 no_client_entry id = ap (λ (slot : Option (Slot ClientEntry)). entry_of slot) (finite.get-empty nat_cmp id)
 
 -- what a refusal that is found comes to
@@ -83,7 +84,7 @@ module _ {R E V A F : Type 0} (rules : Rules (Held R E) (Call E) (Act V) (Reply 
 
   -- and what an event that is planned does
   planned_so : (fault : Option F) → fault ≡ None → Puts rules of_rule id fault Plans h out (Ok tt) k out'
-      → (planned : Planned V) × Plans planned × Befell rules of_rule id planned h out (Ok tt) k out'
+      → (planned : Planned V) × Plans planned × ActsOnCall rules of_rule id planned h out (Ok tt) k out'
   planned_so None is (inl none) = let want = none.0 in absurd cc
   planned_so None is (inr done) = done
   planned_so (Some why) is puts = absurd cc
@@ -114,7 +115,7 @@ cancel_refused : (interface : Interface) (answered : Answered ClientEntry) (t : 
 cancel_refused interface answered t (fine, given) =
     refused_as _ answered (InCall 9 NotOpen) fine
     (λ result is. found (rules_of client.client_step client.is_closed client.is_gathering) in_call 9 _ _ _ _ _
-    (cancel_fault (open_version (client_entry (new_client limits) 9))) NotOpen result
+    (cancel_fault (open_version (entry_at (new_client limits) 9))) NotOpen result
     (ap (λ entry. cancel_fault (open_version entry)) (no_client_entry 9)) is.0)
     given
 
@@ -138,28 +139,28 @@ unrefused = refl
 
 module _ (interface : Interface)
     (leaves : (planned : Planned ClientEvent) (k : Held ClientRule ClientEntry) (out' : List ℕ)
-    → Befell (rules_of client.client_step client.is_closed client.is_gathering) in_call 9 planned (new_client limits) [] (Ok tt) k out'
+    → ActsOnCall (rules_of client.client_step client.is_closed client.is_gathering) in_call 9 planned (new_client limits) [] (Ok tt) k out'
     → IsAccepted client.client_step 9 planned (new_client limits) [] k out')
     (split : OneSplit)
     (own : (k : Held ServerRule ServerEntry)
     → Through (hears (server_side interface))
     (new_server limits) (key_little ∷ []) k
     → at k 9
-    ≡ alone_heard (turn server.server_step server.is_closed server.is_gathering) (server_befalls interface) (at (new_server limits) 9)
+    ≡ alone_heard (turn server.server_step server.is_closed server.is_gathering) (server_act interface) (at (new_server limits) 9)
     (own_messages 9 (key_little ∷ []))) where
   -- its octets are outgoing then
   outgoing_by : (form : Form) (t : EndState (Held ClientRule ClientEntry)) → form ≡ record { order = Little; piece = 64 }
       → Puts (rules_of client.client_step client.is_closed client.is_gathering) in_call 9
-      (locate_fault limits (client_entry (new_client limits) 9) key form) (IsLocate key form) (new_client limits) [] (Ok tt) t.calls t.outgoing
+      (locate_fault limits (entry_at (new_client limits) 9) key form) (IsLocate key form) (new_client limits) [] (Ok tt) t.calls t.outgoing
       → t.outgoing ≡ message_octets key_little
   outgoing_by form t is puts =
-      let (planned, sends, befell) =
+      let (planned, sends, on_call) =
       planned_so (rules_of client.client_step client.is_closed client.is_gathering) in_call 9 (IsLocate key form) (new_client limits) t.calls []
-      t.outgoing (locate_fault limits (client_entry (new_client limits) 9) key form)
+      t.outgoing (locate_fault limits (entry_at (new_client limits) 9) key form)
       (ap (λ entry. locate_fault limits entry key form) (no_client_entry 9) ∙ ap (λ (form : Form). locate_fault limits None key form) is ∙ unrefused) puts in
       let (messages, cut, plans) = sends.sent in
       let one = sent_by messages (subst (λ (form : Form). IsCut V10 LocateRequest form.order (locate_octets key form.order) form.piece messages) is cut) in
-      (leaves planned t.calls t.outgoing befell).puts
+      (leaves planned t.calls t.outgoing on_call).puts
       ∙ ap (λ (p : Planned ClientEvent). octets_of (message_of p.plan (unsent_of (finite.get (new_client limits).table 9)))) plans
       ∙ ap (λ (messages : List Msg). octets_of (first_of messages)) one
 
@@ -190,16 +191,16 @@ module _ (interface : Interface)
   stands : (k : Held ServerRule ServerEntry)
       → Through (hears (server_side interface))
       (new_server limits) (key_little ∷ []) k
-      → server_entry k 9 ≡ Some (LocateAsked key)
+      → entry_at k 9 ≡ Some (LocateAsked key)
   stands k through =
       ap (λ (call : Call ServerEntry). entry_of call.slot)
       (own k through
-      ∙ ap (λ messages. alone_heard (turn server.server_step server.is_closed server.is_gathering) (server_befalls interface) (at (new_server limits) 9)
+      ∙ ap (λ messages. alone_heard (turn server.server_step server.is_closed server.is_gathering) (server_act interface) (at (new_server limits) 9)
       messages) own_is
-      ∙ ap (λ call. alone_heard (turn server.server_step server.is_closed server.is_gathering) (server_befalls interface) call (key_little ∷ []))
+      ∙ ap (λ call. alone_heard (turn server.server_step server.is_closed server.is_gathering) (server_act interface) call (key_little ∷ []))
       (none_at limits 9)
       ∙ ap (λ (read : HeardCall). left none (turn server.server_step server.is_closed server.is_gathering none
-      (Hears (kept (at_server.Whole read)) Nothing))) (decoded interface).key_little)
+      (Hears (silently (at_server.Whole read)) Nothing))) (decoded interface).key_little)
 
   given_done : {E : Type 0} (P : Result (Unit {0}) SessionFault → Type 0) (answered : Answered E) → Ok tt ≡ returned_for answered
       → Says answered P → P (Ok tt)
@@ -210,7 +211,7 @@ module _ (interface : Interface)
   arrived : (mid : WorldState) (last : EndState (Held ServerRule ServerEntry)) (answered : Answered ServerEntry)
       → Ok tt ≡ returned_for answered → mid.server ≡ new_end (record {}) limits → mid.client.outgoing ≡ message_octets key_little
       → SideIsGiven (server_run interface) limits mid.server (server_input.Feed (take 100 mid.client.outgoing)) answered last
-      → server_entry last.calls 9 ≡ Some (LocateAsked key)
+      → entry_at last.calls 9 ≡ Some (LocateAsked key)
   unfolding header_octets
   arrived mid last answered done new out given =
       let at_new = subst (λ (s : EndState (Held ServerRule ServerEntry)). SideIsGiven (server_run interface) limits s
@@ -221,20 +222,20 @@ module _ (interface : Interface)
       stands last.calls (heard_alone _ (new_server limits) last.calls last.unread is.0)
 
   asked_stands : (forms : Forms) (told : List Returned) (w : WorldState) → WorldRuns interface limits limits (asked_for forms) told w
-      → told ≡ Ok tt ∷ Ok tt ∷ [] → server_entry w.server.calls 9 ≡ Some (LocateAsked key)
+      → told ≡ Ok tt ∷ Ok tt ∷ [] → entry_at w.server.calls 9 ≡ Some (LocateAsked key)
   asked_stands forms [] w run is = absurd run
   asked_stands forms (one ∷ []) w run is = absurd run.2
   asked_stands forms (one ∷ other ∷ []) w (mid, (first, sends, first_is, same), (last, (second, comes, second_is, rest), end)) is =
       let one_is : Ok tt ≡ returned_for first = cc in
       let other_is : Ok tt ≡ returned_for second = cc in
       let puts = given_done _ first one_is sends.1 in
-      ap (λ (w : WorldState). server_entry w.server.calls 9) end
+      ap (λ (w : WorldState). entry_at w.server.calls 9) end
       ∙ arrived mid last.server second other_is same (outgoing_by forms.little.form mid.client forms.little_is puts.0) comes
   asked_stands forms (one ∷ other ∷ third ∷ told) w run is = absurd run.2.2
 
   pub asked_stands_by : (forms : Forms) (schedule : List WorldEvent) (told : List Returned) (w : WorldState)
       → WorldRuns interface limits limits schedule told w → schedule ≡ asked_for forms → told ≡ Ok tt ∷ Ok tt ∷ []
-      → server_entry w.server.calls 9 ≡ Some (LocateAsked key)
+      → entry_at w.server.calls 9 ≡ Some (LocateAsked key)
   asked_stands_by forms schedule told w run given is =
       asked_stands forms told w (subst (λ (schedule : List WorldEvent). WorldRuns interface limits limits schedule told w) given run) is
 

@@ -15,7 +15,7 @@ use Rattle.giop_calls.specs.declared.client.event.ClientEvent.{ClientEvent}
 use Rattle.giop_calls.specs.declared.client.event.ClientEvent.TheVariants as event
 use Rattle.giop_calls.specs.declared.client.heard.HeardReply.TheVariants as heard
 use Rattle.giop_calls.specs.declared.kind.CallKind.TheVariants as kind
-use Rattle.giop_session.specs.declared.calls.plan.Plan.TheVariants.{Next, Put}
+use Rattle.giop_session.specs.declared.Plan.TheVariants.{Next, Put}
 use Rattle.giop_session.specs.Items.Carries.{Bad, Did, Got}
 use Rattle.giop_session.specs.Items.ClientCarries.{ClientItem}
 use Rattle.giop_session.specs.Runs.Events.{Local}

@@ -3,7 +3,7 @@ use Rattle.std.specs.Prelude.{ℕ, List, [], ◌∷◌, Option}
 use Rattle.giop_msg.specs.declared.fault.WireFault.{WireFault}
 use Rattle.giop_msg.specs.declared.fault.WireKind.TheVariants.{BadMagic}
 use Rattle.giop_msg.specs.Fault.{fault}
-use Rattle.giop_session.specs.declared.session_fault.SessionFault.{SessionFault}
+use Rattle.giop_session.specs.declared.SessionFault.{SessionFault}
 use Rattle.giop_session.specs.Pumping.{State}
 
 -- these octets are unread, of messages of 64 octets at most; these are the calls, and this fault

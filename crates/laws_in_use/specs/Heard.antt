@@ -12,9 +12,9 @@ use Rattle.giop_calls.specs.declared.server.entry.ServerEntry.TheVariants.{Gathe
 use Rattle.giop_calls.specs.declared.server.event.ServerEvent.{ServerEvent}
 use Rattle.giop_calls.specs.declared.server.event.ServerEvent.TheVariants as event
 use Rattle.giop_calls.specs.declared.server.heard.HeardCall.TheVariants as heard
-use Rattle.giop_session.specs.declared.calls.table_fault.TableFault.{TableFault}
+use Rattle.giop_session.specs.declared.TableFault.{TableFault}
 use Rattle.giop_session.specs.Calls.CallTable.{Act, Answers, Call, First, Hears, Nothing, Reply}
-use Rattle.giop_session.specs.Hearing.Heard.{kept, silent}
+use Rattle.giop_session.specs.Hearing.Heard.{silently, silent}
 use Rattle.laws_in_use.specs.Locating.{door_begins, door_ends, key, key_little}
 
 -- the first piece of 7 and all of 9
@@ -48,12 +48,12 @@ unread = record { limit = 64; octets = take 7 (message_octets door_ends) }
 abbrev pub begins : Addressed (Act ServerEvent)
 begins = record {
   id = 7;
-  what = Hears (kept (event.First kind.Locate)) (First Big door_begins.payload);
+  what = Hears (silently (event.First kind.Locate)) (First Big door_begins.payload);
 }
 
 -- the whole other one
 abbrev pub asks : Addressed (Act ServerEvent)
-asks = record { id = 9; what = Hears (kept (event.Whole (heard.Locate key))) Nothing }
+asks = record { id = 9; what = Hears (silently (event.Whole (heard.Locate key))) Nothing }
 
 -- what either returns
 abbrev pub silence : Result (Reply ServerEntry (Unit {0})) (TableFault CallFault)

@@ -15,8 +15,8 @@ use Rattle.giop_calls.specs.declared.kind.CallKind.TheVariants as kind
 use Rattle.giop_calls.specs.declared.server.event.ServerEvent.{ServerEvent}
 use Rattle.giop_calls.specs.declared.server.event.ServerEvent.TheVariants.{AnswerLocate}
 use Rattle.giop_calls.specs.declared.server.heard.HeardCall.TheVariants as heard
-use Rattle.giop_session.specs.declared.limits.Limits.{Limits}
-use Rattle.giop_session.specs.declared.calls.plan.Plan.TheVariants.{Put}
+use Rattle.giop_session.specs.declared.Limits.{Limits}
+use Rattle.giop_session.specs.declared.Plan.TheVariants.{Put}
 use Rattle.giop_session.specs.Items.Carries.{Bad, Cancel, Did, Got}
 use Rattle.giop_session.specs.Runs.Events.{Local}
 use Rattle.giop_session.specs.Runs.Inputs.{Does, Input, Reads}

@@ -11,7 +11,7 @@ use Rattle.giop_msg.specs.declared.kind.Kind.TheVariants.{Fragment, Reply, Reque
 use Rattle.giop_msg.specs.declared.msg.Msg.{Msg}
 use Rattle.giop_msg.specs.declared.version.Version.TheVariants.{V12}
 use Rattle.giop_calls.specs.Lane.{Cut}
-use Rattle.giop_session.specs.declared.limits.Limits.{Limits}
+use Rattle.giop_session.specs.declared.Limits.{Limits}
 
 -- the object `k` of an interface has the operation `ping`, and no in is sent to it
 pub record HasPing (interface : Interface) : Type 0 where

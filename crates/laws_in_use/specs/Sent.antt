@@ -6,7 +6,7 @@ use Rattle.giop_calls.specs.declared.client.event.ClientEvent.{ClientEvent}
 use Rattle.giop_calls.specs.declared.client.event.ClientEvent.TheVariants as at_client
 use Rattle.giop_calls.specs.declared.server.event.ServerEvent.{ServerEvent}
 use Rattle.giop_calls.specs.declared.server.event.ServerEvent.TheVariants as at_server
-use Rattle.giop_session.specs.declared.calls.plan.Planned.{Planned}
+use Rattle.giop_session.specs.declared.Planned.{Planned}
 use Rattle.giop_session.specs.Worlds.OwnLane.{alone, sends_cut}
 use Rattle.giop_session.specs.Acts.Sent.{sends_one}
 use Rattle.laws_in_use.specs.Asking.{unknown_big}

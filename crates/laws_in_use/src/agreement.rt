@@ -14,9 +14,8 @@ ghost use Rattle.giop_calls.specs.declared.server.entry.ServerEntry.TheVariants.
 ghost use Rattle.giop_calls.specs.declared.server.question.Question.TheVariants as question;
 ghost use Rattle.giop_calls.specs.ClientTable as client_table;
 ghost use Rattle.giop_session.specs.declared.laws.inputs.WorldEvent.{WorldEvent};
-ghost use Rattle.giop_session.specs.declared.session_fault.SessionFault.TheVariants.{Call as InCall, TooManyCalls, Wire};
-ghost use Rattle.giop_session.specs.Runs.ClientRuns.{client_entry};
-ghost use Rattle.giop_session.specs.Runs.ServerRuns.{server_entry};
+ghost use Rattle.giop_session.specs.declared.SessionFault.TheVariants.{Call as InCall, TooManyCalls, Wire};
+ghost use Rattle.giop_session.specs.Calls.CallTable.{entry_at};
 ghost use Rattle.giop_session.specs.Worlds.World.{new_world, WorldRuns, WorldState};
 ghost use Rattle.laws_in_use.specs.Asking.{here};
 ghost use Rattle.laws_in_use.specs.Exchange.{ping};
@@ -38,24 +37,24 @@ pub fn what_two_ends_agree_on()
     ensures located { (interface : Interface) (schedule : List WorldEvent) (told : _)
         (w : WorldState) → WorldRuns interface limits limits schedule told w
         → w.client.fault ≡ None → w.server.fault ≡ None
-        → client_entry w.client.calls 7 ≡ Some (LocateDone door here)
-        → server_entry w.server.calls 7 ≡ Some (LocateAnswered (Some door.target) true) }
+        → entry_at w.client.calls 7 ≡ Some (LocateDone door here)
+        → entry_at w.server.calls 7 ≡ Some (LocateAnswered (Some door.target) true) }
     ensures bare { (interface : Interface) (schedule : List WorldEvent) (told : _)
         (w : WorldState) → WorldRuns interface limits limits schedule told w
-        → w.client.fault ≡ None → w.server.fault ≡ None → client_entry w.client.calls 7
+        → w.client.fault ≡ None → w.server.fault ≡ None → entry_at w.client.calls 7
         ≢ Some (LocateDone door (record here { rest = 9 ∷ [] })) }
     ensures replied { (interface : Interface) (schedule : List WorldEvent) (told : _)
         (w : WorldState) → WorldRuns interface limits limits schedule told w
         → w.client.fault ≡ None → w.server.fault ≡ None
-        → client_entry w.client.calls 7 ≡ Some (Done (ping V12) refusing)
-        → server_entry w.server.calls 7
+        → entry_at w.client.calls 7 ≡ Some (Done (ping V12) refusing)
+        → entry_at w.server.calls 7
         ≡ Some (Answered (question.Request (ping V12)) refusing 0) }
     ensures pending { (interface : Interface) (forms : Forms) (told : _) (w : WorldState)
         → WorldRuns interface limits limits (asked_for forms) told w
         → w.client.fault ≡ None → w.server.fault ≡ None
         → w.client.outgoing ≡ [] → w.server.outgoing ≡ []
-        → server_entry w.server.calls 9 ≡ Some (LocateAsked key)
-        → option_map client_table.outcome (client_entry w.client.calls 9) ≡ Some Pending }
+        → entry_at w.server.calls 9 ≡ Some (LocateAsked key)
+        → option_map client_table.outcome (entry_at w.client.calls 9) ≡ Some Pending }
     ensures kept { (interface : Interface) (told : _) (w : WorldState)
         → WorldRuns interface limits limits unasked told w
         → w.client.fault ≢ Some (InCall 9 NotOpen) }

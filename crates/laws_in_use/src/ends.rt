@@ -7,7 +7,7 @@ ghost use Rattle.giop_calls.specs.declared.fault.CallFault.{CallFault};
 ghost use Rattle.giop_calls.specs.ClientTable.{client_step};
 ghost use Rattle.giop_session.specs.Calls.CallTable.{is_of_call};
 ghost use Rattle.giop_session.specs.Acts.ClientCalls.{cancel_fault, open_version, version_of};
-ghost use Rattle.giop_session.specs.declared.calls.table_fault.TableFault.TheVariants.{GatherFull, NoMemory, Rule, StillOpen, TooManyCalls};
+ghost use Rattle.giop_session.specs.declared.TableFault.TheVariants.{GatherFull, NoMemory, Rule, StillOpen, TooManyCalls};
 
 /// An end refuses by its rule, or since a call is open, for the call's own sake; as TooManyCalls,
 /// GatherFull and NoMemory not.

@@ -5,7 +5,7 @@ ghost use Rattle.giop_msg.specs.Msg.{message_octets};
 ghost use Rattle.giop_session.specs.Hearing.Heard.{hears};
 ghost use Rattle.giop_session.specs.Hearing.ServerHears.{server_side};
 ghost use Rattle.giop_session.specs.Pumping.{Feeds};
-ghost use Rattle.giop_session.specs.declared.session_fault.SessionFault.TheVariants.{NoMemory, Wire};
+ghost use Rattle.giop_session.specs.declared.SessionFault.TheVariants.{NoMemory, Wire};
 ghost use Rattle.laws_in_use.specs.Feeding.{bad_magic, no_header, state_of};
 ghost use Rattle.laws_in_use.specs.Limited.{new_server};
 ghost use Rattle.laws_in_use.specs.Locating.{door_begins, limits};

@@ -10,7 +10,7 @@ ghost use Rattle.giop_calls.specs.declared.kind.CallKind.TheVariants as kind;
 ghost use Rattle.giop_calls.specs.declared.server.entry.ServerEntry.{ServerEntry};
 ghost use Rattle.giop_calls.specs.declared.server.entry.ServerEntry.TheVariants.{Gathering};
 ghost use Rattle.giop_calls.specs.declared.server.rule.ServerRule.{ServerRule};
-ghost use Rattle.giop_session.specs.declared.session_fault.SessionFault.TheVariants.{NoMemory};
+ghost use Rattle.giop_session.specs.declared.SessionFault.TheVariants.{NoMemory};
 ghost use Rattle.giop_session.specs.Calls.CallTable.{at, Held};
 ghost use Rattle.giop_session.specs.Hearing.ClientHears.{client_side};
 ghost use Rattle.giop_session.specs.Worlds.Coding.{coding};

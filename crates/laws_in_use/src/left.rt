@@ -15,13 +15,13 @@ ghost use Rattle.giop_calls.specs.declared.server.event.ServerEvent.TheVariants 
 ghost use Rattle.giop_calls.specs.declared.server.rule.ServerRule.{ServerRule};
 ghost use Rattle.giop_calls.specs.ClientTable as client;
 ghost use Rattle.giop_calls.specs.ServerTable as server;
-ghost use Rattle.giop_session.specs.declared.session_fault.SessionFault.TheVariants.{Call as InCall};
+ghost use Rattle.giop_session.specs.declared.SessionFault.TheVariants.{Call as InCall};
 ghost use Rattle.giop_session.specs.Calls.CallTable.{Held, rules_of};
 ghost use Rattle.giop_session.specs.Acts.ClientCalls.{IsCall, IsCancel, IsLocate};
 ghost use Rattle.giop_session.specs.Runs.Events.{Does};
 ghost use Rattle.giop_session.specs.Hearing.Heard.{in_call};
 ghost use Rattle.giop_session.specs.Runs.LeftToSend.{ArePlanned, ClientPlans, IsLeft, ClientMeets};
-ghost use Rattle.giop_session.specs.Acts.Putting.{Befell};
+ghost use Rattle.giop_session.specs.Acts.Putting.{ActsOnCall};
 ghost use Rattle.giop_session.specs.Calls.Sending.{entry_of};
 ghost use Rattle.giop_session.specs.Acts.ServerAnswers.{IsAnswer, IsLocateAnswer};
 ghost use Rattle.laws_in_use.specs.Asking.{asking};
@@ -85,21 +85,21 @@ pub fn an_answer_is_accepted_or_refused(rule: &ServerRule)
     ensures accepted { (interface : Interface) (out : List ℕ)
         → (h k : Held ServerRule ServerEntry)
         × (entry_of (finite.get h.table 7) ≡ Some (entry.LocateAsked door))
-        × Befell (rules_of server.server_step server.is_closed server.is_gathering) in_call 7
+        × ActsOnCall (rules_of server.server_step server.is_closed server.is_gathering) in_call 7
         (sends (at_server.AnswerLocate true) (here_big ∷ [])) h out (Ok tt) k
         (out ++ message_octets here_big) }
     ensures answered { (h k : Held ServerRule ServerEntry) (out out' : List ℕ)
         → entry_of (finite.get h.table 7) ≡ Some (entry.LocateAsked door)
-        → Befell (rules_of server.server_step server.is_closed server.is_gathering) in_call 7
+        → ActsOnCall (rules_of server.server_step server.is_closed server.is_gathering) in_call 7
         (sends (at_server.AnswerLocate true) (here_big ∷ [])) h out (Ok tt) k out'
         → (entry_of (finite.get k.table 7) ≡ Some (entry.LocateAnswered (Some door.target) true))
         × (out' ≡ out ++ message_octets here_big)
         × ((id : ℕ) → id ≢ 7 → finite.get k.table id ≡ finite.get h.table id) }
-    ensures refused { Befell (rules_of server.server_step server.is_closed server.is_gathering)
+    ensures refused { ActsOnCall (rules_of server.server_step server.is_closed server.is_gathering)
         in_call 7 (sends (at_server.AnswerLocate true) (here_big ∷ [])) (new_server limits) []
         (Err (InCall 7 NotOpen)) (new_server limits) [] }
     ensures kept { (h k : Held ServerRule ServerEntry) (out out' : List ℕ)
-        → Befell (rules_of server.server_step server.is_closed server.is_gathering) in_call 7
+        → ActsOnCall (rules_of server.server_step server.is_closed server.is_gathering) in_call 7
         (sends (at_server.AnswerLocate true) (here_big ∷ [])) h out (Err (InCall 7 NotOpen)) k
         out' → (k ≡ h) × (out' ≡ out) }
 {

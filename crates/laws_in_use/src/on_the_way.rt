@@ -4,7 +4,7 @@ ghost use Rattle.giop_msg.specs.declared.fault.WireKind.TheVariants.{TooLarge};
 ghost use Rattle.giop_msg.specs.Fault.{fault};
 ghost use Rattle.giop_msg.specs.Msg.{message_octets};
 ghost use Rattle.giop_msg.specs.Stream.{BeginsWithFault};
-ghost use Rattle.giop_session.specs.Runs.Inputs.{nothing_unread};
+ghost use Rattle.giop_session.specs.Hearing.Feeding.{nothing_unread};
 ghost use Rattle.giop_session.specs.Worlds.OnTheWay.{IsFramed, OnTheWay};
 ghost use Rattle.laws_in_use.specs.Asking.{here_begins, here_ends};
 ghost use Rattle.laws_in_use.specs.Locating.{door_begins};

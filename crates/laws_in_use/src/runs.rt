@@ -17,10 +17,11 @@ ghost use Rattle.giop_calls.specs.declared.server.entry.ServerEntry.TheVariants.
 ghost use Rattle.giop_session.specs.declared.laws.inputs.Answered.TheVariants.{Done};
 ghost use Rattle.giop_session.specs.declared.laws.inputs.ClientInput.TheVariants as client;
 ghost use Rattle.giop_session.specs.declared.laws.inputs.ServerInput.TheVariants as server;
-ghost use Rattle.giop_session.specs.declared.session_fault.SessionFault.TheVariants.{Closed};
-ghost use Rattle.giop_session.specs.Runs.ClientRuns.{client_entry, client_named, client_run};
+ghost use Rattle.giop_session.specs.declared.SessionFault.TheVariants.{Closed};
+ghost use Rattle.giop_session.specs.Runs.ClientRuns.{client_named, client_run};
+ghost use Rattle.giop_session.specs.Calls.CallTable.{entry_at};
 ghost use Rattle.giop_session.specs.Runs.Fits.{Fits, history_of, IsAsAlone, SaysAlone};
-ghost use Rattle.giop_session.specs.Runs.ServerRuns.{server_entry, server_named, server_run};
+ghost use Rattle.giop_session.specs.Runs.ServerRuns.{server_named, server_run};
 ghost use Rattle.giop_session.specs.Runs.SideRuns.{SideHolds, SideTakesAs};
 ghost use Rattle.giop_session.specs.Runs.Driven.{NoneRefused, own_answers};
 ghost use Rattle.giop_session.specs.Runs.RunLimits.{ClientIsGivenWithin, NoneForALimit, ServerIsGivenWithin};
@@ -68,7 +69,7 @@ pub fn what_a_server_is_given()
     ensures stands { (interface : Described) → (left : _) × (k : _) × (held : SideHolds
         (server_run interface) locating.limits server_given server_answers left k server_said)
         × (history_of (server_run interface) 7 held.holds.0 ≡ history_of_door)
-        × (server_entry k 7 ≡ None) × (alone server_turn None history_of_door ≡ None)
+        × (entry_at k 7 ≡ None) × (alone server_turn None history_of_door ≡ None)
         × (server_latest.standing history_of_door ≡ None) }
 {
     entries_stand_at_server();
@@ -92,24 +93,24 @@ pub fn a_run_of_a_server<'a>(
         → SideHolds (server_run interface.now) locating.limits inputs.items run.1.items run.0.framer
         run.0.calls server_said) }
     ensures seven { inputs.items ≡ server_given → IfOk result (λ run.
-        NoneRefused run.1.items → run.0.fault ≡ None → server_entry run.0.calls 7 ≡ None) }
+        NoneRefused run.1.items → run.0.fault ≡ None → entry_at run.0.calls 7 ≡ None) }
     ensures told { inputs.items ≡ server_given → IfOk result (λ run.
         NoneRefused run.1.items → run.0.fault ≡ None
         → own_answers server_named 7 inputs.items run.1.items ≡ Done ∷ door_taken ∷ []) }
     ensures nine { inputs.items ≡ server_given → IfOk result (λ run.
         NoneRefused run.1.items → run.0.fault ≡ None
-        → server_entry run.0.calls 9 ≡ Some (Undecoded (record {
+        → entry_at run.0.calls 9 ≡ Some (Undecoded (record {
           version = V10;
           expects = Some kind.Locate;
           fault = Header (record { at = 16; kind = BadCount });
         }))) }
     ensures others { inputs.items ≡ server_given → IfOk result (λ run.
         NoneRefused run.1.items → run.0.fault ≡ None
-        → (id : ℕ) → id ≢ 7 → id ≢ 9 → server_entry run.0.calls id ≡ None) }
+        → (id : ℕ) → id ≢ 7 → id ≢ 9 → entry_at run.0.calls id ≡ None) }
     ensures accepted { (inputs.items ≡ server_given) ⊎ (inputs.items ≡ server_given_otherwise)
         → IfOk result (λ run. NoneRefused run.1.items × (run.0.fault ≡ None)) }
     ensures either { (inputs.items ≡ server_given) ⊎ (inputs.items ≡ server_given_otherwise)
-        → IfOk result (λ run. (server_entry run.0.calls 7 ≡ None)
+        → IfOk result (λ run. (entry_at run.0.calls 7 ≡ None)
         × (own_answers server_named 7 inputs.items run.1.items ≡ Done ∷ door_taken ∷ [])) }
     ensures alone { inputs.items ≡ server_given_otherwise → IfOk result (λ run.
         (fits : Fits (server_run interface.now) locating.limits inputs.items)
@@ -165,7 +166,7 @@ pub fn what_a_client_is_given()
         SideHolds (client_run interface) locating.limits (client_given forms) client_answers left k
         client_told)
         × (history_of (client_run interface) 7 held.holds.0 ≡ history_of_asking)
-        × (client_entry k 7 ≡ Some (LocateDone locating.door here))
+        × (entry_at k 7 ≡ Some (LocateDone locating.door here))
         × (alone client_turn None history_of_asking ≡ Some (LocateDone locating.door here))
         × (client_latest.standing history_of_asking ≡ Some (LocateDone locating.door here)) }
 {
@@ -189,20 +190,20 @@ pub fn a_run_of_a_client<'a>(
         run.0.calls client_told) }
     ensures seven { (forms : Forms) → inputs.items ≡ client_given forms → IfOk result (λ run.
         NoneRefused run.1.items → run.0.fault ≡ None
-        → client_entry run.0.calls 7 ≡ Some (LocateDone locating.door here)) }
+        → entry_at run.0.calls 7 ≡ Some (LocateDone locating.door here)) }
     ensures nine { (forms : Forms) → inputs.items ≡ client_given forms → IfOk result (λ run.
-        NoneRefused run.1.items → run.0.fault ≡ None → client_entry run.0.calls 9 ≡ None) }
+        NoneRefused run.1.items → run.0.fault ≡ None → entry_at run.0.calls 9 ≡ None) }
     ensures told { (forms : Forms) → inputs.items ≡ client_given forms → IfOk result (λ run.
         NoneRefused run.1.items → run.0.fault ≡ None
         → own_answers client_named 9 inputs.items run.1.items
         ≡ Done ∷ Done ∷ Done ∷ key_taken ∷ []) }
     ensures others { (forms : Forms) → inputs.items ≡ client_given forms → IfOk result (λ run.
         NoneRefused run.1.items → run.0.fault ≡ None
-        → (id : ℕ) → id ≢ 7 → id ≢ 9 → client_entry run.0.calls id ≡ None) }
+        → (id : ℕ) → id ≢ 7 → id ≢ 9 → entry_at run.0.calls id ≡ None) }
     ensures accepted { (forms : Forms) → inputs.items ≡ client_given forms → IfOk result (λ run.
         NoneRefused run.1.items × (run.0.fault ≡ None)) }
     ensures comes { (forms : Forms) → inputs.items ≡ client_given forms → IfOk result (λ run.
-        client_entry run.0.calls 7 ≡ Some (LocateDone locating.door here)) }
+        entry_at run.0.calls 7 ≡ Some (LocateDone locating.door here)) }
     ensures alone { (forms : Forms) → inputs.items ≡ client_given forms → IfOk result (λ run.
         (fits : Fits (client_run interface.now) locating.limits inputs.items)
         × IsAsAlone fits run.1.items run.0.calls 9) }

@@ -6,7 +6,7 @@ ghost use Rattle.giop_msg.specs.declared.kind.Kind.TheVariants as kind;
 ghost use Rattle.giop_session.specs.Hearing.ClientHears as client;
 ghost use Rattle.giop_session.specs.Acts.PutOut.{is_of_client, is_of_server};
 ghost use Rattle.giop_session.specs.Hearing.ServerHears as server;
-ghost use Rattle.giop_session.specs.declared.session_fault.SessionFault.TheVariants.{Closed, PeerError, WrongDirection};
+ghost use Rattle.giop_session.specs.declared.SessionFault.TheVariants.{Closed, PeerError, WrongDirection};
 
 /// What a client sends is exactly what a server takes for no wrong direction and for no
 /// MessageError; and what a server sends is exactly what a client takes so.

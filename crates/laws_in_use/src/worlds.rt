@@ -8,9 +8,8 @@ ghost use Rattle.giop_calls.specs.declared.outcome.Outcome.TheVariants.{Pending}
 ghost use Rattle.giop_calls.specs.declared.server.entry.ServerEntry.TheVariants.{LocateAsked};
 ghost use Rattle.giop_msg.specs.Msg.{message_octets};
 ghost use Rattle.giop_session.specs.declared.laws.inputs.ServerInput.{ServerInput};
-ghost use Rattle.giop_session.specs.declared.session_fault.SessionFault.TheVariants.{Call as InCall};
-ghost use Rattle.giop_session.specs.Runs.ClientRuns.{client_entry};
-ghost use Rattle.giop_session.specs.Runs.ServerRuns.{server_entry};
+ghost use Rattle.giop_session.specs.declared.SessionFault.TheVariants.{Call as InCall};
+ghost use Rattle.giop_session.specs.Calls.CallTable.{entry_at};
 ghost use Rattle.giop_session.specs.Worlds.World.{ends_of, fed_to_server};
 ghost use Rattle.laws_in_use.specs.Locating as locating;
 ghost use Rattle.laws_in_use.specs.Runs.{Forms};
@@ -38,7 +37,7 @@ pub fn a_world_of_two_ends<'a>(
         run.1.items ≡ Err (InCall 9 NotOpen) ∷ []) }
     ensures asked { (forms : Forms) → schedule.items ≡ asked_for forms → IfOk result (λ run.
         run.1.items ≡ Ok tt ∷ Ok tt ∷ []
-        → server_entry run.0.server.calls 9 ≡ Some (LocateAsked locating.key)) }
+        → entry_at run.0.server.calls 9 ≡ Some (LocateAsked locating.key)) }
     ensures same { IfOk result (λ run. (run.0.client.limits ≡ locating.limits)
         × (run.0.server.limits ≡ locating.limits)) }
     ensures joined { IfOk result (λ run. (inputs : List ServerInput) × ((more : List _)
@@ -47,8 +46,8 @@ pub fn a_world_of_two_ends<'a>(
     ensures agreed { (forms : Forms) → schedule.items ≡ asked_for forms → IfOk result (λ run.
         (ends_of run.0).client.fault ≡ None → (ends_of run.0).server.fault ≡ None
         → (ends_of run.0).client.outgoing ≡ [] → (ends_of run.0).server.outgoing ≡ []
-        → server_entry (ends_of run.0).server.calls 9 ≡ Some (LocateAsked locating.key)
-        → option_map outcome (client_entry (ends_of run.0).client.calls 9) ≡ Some Pending) }
+        → entry_at (ends_of run.0).server.calls 9 ≡ Some (LocateAsked locating.key)
+        → option_map outcome (entry_at (ends_of run.0).client.calls 9) ≡ Some Pending) }
     ensures stands { schedule.items ≡ unasked → IfOk result (λ run.
         (ends_of run.0).client.fault ≢ Some (InCall 9 NotOpen)) }
 {

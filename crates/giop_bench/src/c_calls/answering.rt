@@ -4,10 +4,10 @@ use crate::c_calls::row::{ASKED, Row};
 use crate::c_calls::{copied, mixed, of_big};
 use giop_calls::{Question, ServerEntry};
 use giop_cdr::Order;
+use giop_end::{Form, ServerEnd};
 use giop_msg::{
     Reply, ReplyBody, Request, ServiceContexts, outs_for, values_from_octets, values_to_octets,
 };
-use giop_session::{Form, ServerEnd};
 use giop_types::{Interface, Parameter, ValueList};
 use std::alloc::Global;
 

@@ -4,10 +4,10 @@ use crate::c_calls::answering::values_of;
 use crate::c_calls::{copied, mixed};
 use giop_calls::ClientEntry;
 use giop_cdr::{OctetList, Order};
+use giop_end::{ClientEnd, Form};
 use giop_msg::{
     ReplyBody, Request, RequestHead, ServiceContexts, Target, Version, outs_for, values_to_octets,
 };
-use giop_session::{ClientEnd, Form};
 use giop_types::Interface;
 use std::alloc::Global;
 

@@ -5,7 +5,7 @@ ghost use Rattle.std.specs.Prelude.{◌≤◌};
 use crate::c_calls::answering::answers;
 use crate::c_calls::asking::{calls, takes};
 use crate::c_calls::{LIMITS, copied};
-use giop_session::{ClientEnd, End, Hearing, ServerEnd};
+use giop_end::{ClientEnd, End, Hearing, ServerEnd};
 use giop_types::Interface;
 use std::alloc::Global;
 use std::io::{Read, Write};

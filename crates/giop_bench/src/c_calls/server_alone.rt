@@ -6,7 +6,7 @@ use crate::c_calls::answering::answers;
 use crate::c_calls::row::Row;
 use crate::c_calls::{LIMITS, copied, mixed};
 use crate::session::{ADD, PING, set_id};
-use giop_session::ServerEnd;
+use giop_end::ServerEnd;
 use giop_types::Interface;
 use std::alloc::Global;
 

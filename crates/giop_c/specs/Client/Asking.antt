@@ -10,11 +10,11 @@ use Rattle.giop_msg.specs.Locate.{AnyLocateRequest}
 use Rattle.giop_msg.specs.Messages.Request.{operation_of}
 use Rattle.giop_msg.specs.Target.{AnyTarget}
 use Rattle.giop_msg.specs.Version.{version_of}
-use Rattle.giop_session.specs.declared.acts.form.Form.{Form}
-use Rattle.giop_session.specs.declared.session_fault.SessionFault.{SessionFault}
-use Rattle.giop_session.specs.declared.session_fault.SessionFault.TheVariants as session
-use Rattle.giop_session.specs.Acts.ClientCalls.{IsCall, IsLocate, call_fault, locate_fault}
-use Rattle.giop_session.specs.Runs.ClientRuns.{client_entry}
+use Rattle.giop_end.specs.declared.acts.form.Form.{Form}
+use Rattle.giop_end.specs.declared.session_fault.SessionFault.{SessionFault}
+use Rattle.giop_end.specs.declared.session_fault.SessionFault.TheVariants as session
+use Rattle.giop_end.specs.Acts.ClientCalls.{IsCall, IsLocate, call_fault, locate_fault}
+use Rattle.giop_table.specs.CallTable.{entry_at}
 use Rattle.giop_c.specs.declared.act_fault.ActFault.{ActFault}
 use Rattle.giop_c.specs.declared.act_fault.ActFault.TheVariants as refused
 use Rattle.giop_c.specs.declared.client.asking.CallHead.{CallHead}
@@ -72,7 +72,7 @@ IsAsked operation value_form octets request asked =
 abbrev pub SendsRequest : Request → Form → Caller → Result (Unit {0}) SessionFault → Caller → Type 0
 SendsRequest q form old answer new =
     PutsAtClient q.head.id
-    (call_fault (arc_value old.interface) old.end.limits (client_entry old.end.calls q.head.id) q
+    (call_fault (arc_value old.interface) old.end.limits (entry_at old.end.calls q.head.id) q
     form)
     (IsCall (arc_value old.interface) q form) old answer new
 
@@ -97,7 +97,7 @@ CallsOperation id head target operation value_form octets form old answer new =
 abbrev pub SendsLocate : AnyLocateRequest → Form → Caller → Result (Unit {0}) SessionFault → Caller
     → Type 0
 SendsLocate q form old answer new =
-    PutsAtClient q.id (locate_fault old.end.limits (client_entry old.end.calls q.id) q form)
+    PutsAtClient q.id (locate_fault old.end.limits (entry_at old.end.calls q.id) q form)
     (IsLocate q form) old answer new
 
 -- it is asked where an object is

@@ -12,20 +12,19 @@ use Rattle.giop_calls.specs.declared.fault.CallFault.{CallFault}
 use Rattle.giop_calls.specs.declared.client.event.ClientEvent.{ClientEvent}
 use Rattle.giop_calls.specs.declared.client.event.ClientEvent.TheVariants as event
 use Rattle.giop_calls.specs.ClientTable as client
-use Rattle.giop_session.specs.declared.calls.plan.Planned.{Planned}
-use Rattle.giop_session.specs.declared.calls.plan.Plan.TheVariants.{Next}
-use Rattle.giop_session.specs.declared.limits.Limits.{Limits}
-use Rattle.giop_session.specs.declared.session_fault.SessionFault.{SessionFault}
-use Rattle.giop_session.specs.declared.session_fault.SessionFault.TheVariants.{Closed, NoMemory, StillOpen}
-use Rattle.giop_session.specs.Acts.Putting.{Puts}
-use Rattle.giop_session.specs.Acts.Sent.{close_connection}
-use Rattle.giop_session.specs.Acts.ClientCalls.{IsCancel, cancel_fault, open_version}
-use Rattle.giop_session.specs.Calls.CallTable.{rules_of}
-use Rattle.giop_session.specs.Hearing.Feeding.{Fed, standing, with_octets}
-use Rattle.giop_session.specs.Hearing.Heard.{hears_by, in_call}
-use Rattle.giop_session.specs.Hearing.ClientHears.{client_befalls, client_breaks}
-use Rattle.giop_session.specs.Runs.Driven.{end_state, new_end}
-use Rattle.giop_session.specs.Runs.ClientRuns.{client_entry}
+use Rattle.giop_table.specs.declared.plan.Planned.{Planned}
+use Rattle.giop_table.specs.declared.plan.Plan.TheVariants.{Next}
+use Rattle.giop_end.specs.declared.limits.Limits.{Limits}
+use Rattle.giop_end.specs.declared.session_fault.SessionFault.{SessionFault}
+use Rattle.giop_end.specs.declared.session_fault.SessionFault.TheVariants.{Closed, NoMemory, StillOpen}
+use Rattle.giop_end.specs.Acts.Putting.{Puts}
+use Rattle.giop_end.specs.Acts.Sent.{close_connection}
+use Rattle.giop_end.specs.Acts.ClientCalls.{IsCancel, cancel_fault, open_version}
+use Rattle.giop_table.specs.CallTable.{rules_of, entry_at}
+use Rattle.giop_end.specs.Hearing.Feeding.{Fed, standing, with_octets}
+use Rattle.giop_end.specs.Hearing.Heard.{hears_by, in_call}
+use Rattle.giop_end.specs.Hearing.ClientHears.{client_act, client_breaks}
+use Rattle.giop_end.specs.Ends.Begun.{end_state, new_end}
 use Rattle.giop_c.specs.declared.client.caller.Caller.{Caller}
 use Rattle.giop_c.specs.declared.shared.Shared.{Shared}
 use Rattle.giop_c.specs.declared.end_records.EndLimits.{EndLimits}
@@ -60,7 +59,7 @@ FeedsClient octets old answer new =
     Fails old answer new
     × (old.end.fault ≡ None
     → Fed (hears_by (λ rule. client.client_step) (λ rule. client.is_closed) client.is_gathering
-    in_call client_breaks (client_befalls (arc_value old.interface)))
+    in_call client_breaks (client_act (arc_value old.interface)))
     (with_octets old.end.framer octets) old.end.calls answer new.end.framer new.end.calls)
     × (old.end.fault ≡ None → new.end.fault ≡ standing answer)
     × (new ≡ record old {
@@ -72,7 +71,7 @@ FeedsClient octets old answer new =
     })
 
 -- something is done to the call of an id: that is refused for this, or else an event that is planned
--- so befalls the call, and what it sends is put out
+-- so acts on the call, and what it sends is put out
 abbrev pub PutsAtClient : ℕ → Option CallFault → (Planned ClientEvent → Type 0) → Caller
     → Result (Unit {0}) SessionFault → Caller → Type 0
 PutsAtClient id refusal Plans old answer new =
@@ -95,8 +94,8 @@ SendsAtClient id =
 -- the call of an id is cancelled (9.4.4)
 abbrev pub CancelsAtClient : ℕ → Order → Caller → Result (Unit {0}) SessionFault → Caller → Type 0
 CancelsAtClient id order old =
-    PutsAtClient id (cancel_fault (open_version (client_entry old.end.calls id)))
-    (IsCancel id order (open_version (client_entry old.end.calls id))) old
+    PutsAtClient id (cancel_fault (open_version (entry_at old.end.calls id)))
+    (IsCancel id order (open_version (entry_at old.end.calls id))) old
 
 -- the connection is closed: a CloseConnection is put out, and the end answers Closed from then on
 abbrev pub ClosesClient : Caller → Result (Unit {0}) SessionFault → Caller → Type 0

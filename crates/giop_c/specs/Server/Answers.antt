@@ -7,10 +7,10 @@ use Rattle.giop_msg.specs.declared.messages.reply.Reply.{Reply}
 use Rattle.giop_msg.specs.declared.messages.reply_body.ReplyBody.{ReplyBody}
 use Rattle.giop_msg.specs.declared.messages.reply_body.ReplyBody.TheVariants.{Forward, ForwardPerm, NoException, SystemException, UserException}
 use Rattle.giop_msg.specs.Messages.Reply.{exception_of, listed, outs_for}
-use Rattle.giop_session.specs.declared.acts.form.Form.{Form}
-use Rattle.giop_session.specs.declared.session_fault.SessionFault.{SessionFault}
-use Rattle.giop_session.specs.Acts.ServerAnswers.{IsAnswer, answer_fault, question_of}
-use Rattle.giop_session.specs.Runs.ServerRuns.{server_entry}
+use Rattle.giop_end.specs.declared.acts.form.Form.{Form}
+use Rattle.giop_end.specs.declared.session_fault.SessionFault.{SessionFault}
+use Rattle.giop_end.specs.Acts.ServerAnswers.{IsAnswer, answer_fault, question_of}
+use Rattle.giop_table.specs.CallTable.{entry_at}
 use Rattle.giop_c.specs.declared.act_fault.ActFault.{ActFault}
 use Rattle.giop_c.specs.declared.server.served.Served.{Served}
 use Rattle.giop_c.specs.declared.value_form.ValueForm.{ValueForm}
@@ -21,7 +21,7 @@ use Rattle.giop_c.specs.Server.Ends.{PutsAtServer}
 -- the Reply to the call of an id: in its version, without contexts
 abbrev pub reply_of : Served → ℕ → ReplyBody → Reply
 reply_of old id body = record {
-  version = version_asked (server_entry old.end.calls id);
+  version = version_asked (entry_at old.end.calls id);
   id = id;
   contexts = [];
   body = body;
@@ -33,8 +33,8 @@ abbrev pub Replies : ℕ → ReplyBody → Form → Served → Result (Unit {0})
 Replies id body form old answer new =
     PutsAtServer id
     (answer_fault (arc_value old.interface) old.end.limits
-    (question_of (server_entry old.end.calls id)) (reply_of old id body) form)
-    (IsAnswer (arc_value old.interface) (question_of (server_entry old.end.calls id))
+    (question_of (entry_at old.end.calls id)) (reply_of old id body) form)
+    (IsAnswer (arc_value old.interface) (question_of (entry_at old.end.calls id))
     (reply_of old id body) form)
     old answer new
 
@@ -49,7 +49,7 @@ abbrev pub AnswersOuts : ℕ → ValueForm → List ℕ → Form → Served → 
     → Served → Type 0
 AnswersOuts id value_form octets form old answer new =
     InForm form old answer new
-    (ReadsValues (outs_for (arc_value old.interface) (request_of (server_entry old.end.calls id)))
+    (ReadsValues (outs_for (arc_value old.interface) (request_of (entry_at old.end.calls id)))
     value_form octets (λ outs. RepliesOrNot id (NoException outs) form old answer new)
     old answer new)
 

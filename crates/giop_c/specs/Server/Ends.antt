@@ -12,20 +12,19 @@ use Rattle.giop_calls.specs.declared.fault.CallFault.{CallFault}
 use Rattle.giop_calls.specs.declared.server.event.ServerEvent.{ServerEvent}
 use Rattle.giop_calls.specs.declared.server.event.ServerEvent.TheVariants as event
 use Rattle.giop_calls.specs.ServerTable as server
-use Rattle.giop_session.specs.declared.calls.plan.Planned.{Planned}
-use Rattle.giop_session.specs.declared.calls.plan.Plan.TheVariants.{Next}
-use Rattle.giop_session.specs.declared.limits.Limits.{Limits}
-use Rattle.giop_session.specs.declared.session_fault.SessionFault.{SessionFault}
-use Rattle.giop_session.specs.declared.session_fault.SessionFault.TheVariants.{Closed, NoMemory, StillOpen}
-use Rattle.giop_session.specs.Acts.Putting.{Puts}
-use Rattle.giop_session.specs.Acts.Sent.{close_connection}
-use Rattle.giop_session.specs.Acts.ServerAnswers.{IsLocateAnswer, locate_of}
-use Rattle.giop_session.specs.Calls.CallTable.{rules_of}
-use Rattle.giop_session.specs.Hearing.Feeding.{Fed, standing, with_octets}
-use Rattle.giop_session.specs.Hearing.Heard.{hears_by, in_call}
-use Rattle.giop_session.specs.Hearing.ServerHears.{server_befalls, server_breaks}
-use Rattle.giop_session.specs.Runs.Driven.{end_state, new_end}
-use Rattle.giop_session.specs.Runs.ServerRuns.{server_entry}
+use Rattle.giop_table.specs.declared.plan.Planned.{Planned}
+use Rattle.giop_table.specs.declared.plan.Plan.TheVariants.{Next}
+use Rattle.giop_end.specs.declared.limits.Limits.{Limits}
+use Rattle.giop_end.specs.declared.session_fault.SessionFault.{SessionFault}
+use Rattle.giop_end.specs.declared.session_fault.SessionFault.TheVariants.{Closed, NoMemory, StillOpen}
+use Rattle.giop_end.specs.Acts.Putting.{Puts}
+use Rattle.giop_end.specs.Acts.Sent.{close_connection}
+use Rattle.giop_end.specs.Acts.ServerAnswers.{IsLocateAnswer, locate_of}
+use Rattle.giop_table.specs.CallTable.{rules_of, entry_at}
+use Rattle.giop_end.specs.Hearing.Feeding.{Fed, standing, with_octets}
+use Rattle.giop_end.specs.Hearing.Heard.{hears_by, in_call}
+use Rattle.giop_end.specs.Hearing.ServerHears.{server_act, server_breaks}
+use Rattle.giop_end.specs.Ends.Begun.{end_state, new_end}
 use Rattle.giop_c.specs.declared.server.served.Served.{Served}
 use Rattle.giop_c.specs.declared.shared.Shared.{Shared}
 use Rattle.giop_c.specs.declared.end_records.EndLimits.{EndLimits}
@@ -60,7 +59,7 @@ FeedsServer octets old answer new =
     Fails old answer new
     × (old.end.fault ≡ None
     → Fed (hears_by (λ rule. server.server_step) (λ rule. server.is_closed) server.is_gathering
-    in_call server_breaks (server_befalls (arc_value old.interface)))
+    in_call server_breaks (server_act (arc_value old.interface)))
     (with_octets old.end.framer octets) old.end.calls answer new.end.framer new.end.calls)
     × (old.end.fault ≡ None → new.end.fault ≡ standing answer)
     × (new ≡ record old {
@@ -72,7 +71,7 @@ FeedsServer octets old answer new =
     })
 
 -- something is done to the call of an id: that is refused for this, or else an event that is planned
--- so befalls the call, and what it sends is put out
+-- so acts on the call, and what it sends is put out
 abbrev pub PutsAtServer : ℕ → Option CallFault → (Planned ServerEvent → Type 0) → Served
     → Result (Unit {0}) SessionFault → Served → Type 0
 PutsAtServer id refusal Plans old answer new =
@@ -97,7 +96,7 @@ abbrev pub LocatesAtServer : ℕ → Bool → Order → Served
     → Result (Unit {0}) SessionFault → Served → Type 0
 LocatesAtServer id here order old =
     PutsAtServer id None
-    (IsLocateAnswer id here order (locate_of here (server_entry old.end.calls id))) old
+    (IsLocateAnswer id here order (locate_of here (entry_at old.end.calls id))) old
 
 -- the connection is closed: a CloseConnection is put out, and the end answers Closed from then on
 abbrev pub ClosesServer : Served → Result (Unit {0}) SessionFault → Served → Type 0

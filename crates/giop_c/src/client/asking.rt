@@ -4,7 +4,7 @@ ghost use Rattle.std.specs.Prelude.{◌≡◌, ◌≤◌, ◌^◌, length, IfOk,
 ghost use Rattle.std_alloc.specs.Arc.{arc_value};
 ghost use Rattle.giop_msg.specs.Messages.Request.{operation_of};
 ghost use Rattle.giop_msg.specs.Version.{version_of};
-ghost use Rattle.giop_session.specs.Acts.Form.{IsForm};
+ghost use Rattle.giop_end.specs.Acts.Form.{IsForm};
 ghost use Rattle.giop_c.specs.Client.Asking.{AsksWhere, CallsOperation, IsAsked, IsRead, SendsLocate, SendsRequest, locate_of, request_of, target_of};
 
 use crate::act_fault::{ActFault, of_end};
@@ -12,9 +12,9 @@ use crate::client::caller::Caller;
 use crate::value_form::ValueForm;
 use crate::values::read_values;
 use giop_cdr::OctetList;
+use giop_end::{Form, SessionFault};
 use giop_ior::TaggedProfile;
 use giop_msg::{LocateRequest, Request, RequestHead, ServiceContexts, Target, Version};
-use giop_session::{Form, SessionFault};
 use giop_types::{Operation, ValueList};
 use std::alloc::{AllocError, Global};
 

@@ -2,9 +2,9 @@
 ghost use Rattle.std.specs.Prelude.{◌≡◌, ◌+◌, ◌/◌, ◌≤◌, ◌^◌, Some, None, length, OnOk, OnErr};
 ghost use Rattle.std.specs.FinMap as finite;
 ghost use Rattle.std_alloc.specs.Arc.{arc_value};
-ghost use Rattle.giop_session.specs.Calls.SessionFaults.{error_message_of};
-ghost use Rattle.giop_session.specs.Runs.Driven.{end_state, new_end};
-ghost use Rattle.giop_session.specs.Runs.ClientRuns.{client_entry};
+ghost use Rattle.giop_end.specs.Ends.SessionFaults.{error_message_of};
+ghost use Rattle.giop_end.specs.Ends.Begun.{end_state, new_end};
+ghost use Rattle.giop_table.specs.CallTable.{entry_at};
 ghost use Rattle.giop_c.specs.Client.Entries.{CopiesMembers, CopiesOuts, CopiesReference, body_of, c_client_row, contexts_of, exception_in, forward_in};
 ghost use Rattle.giop_c.specs.Contexts.{CopiesContext, context_at};
 ghost use Rattle.giop_c.specs.Copying.{CopiesFront, CopiesOctets};
@@ -18,7 +18,7 @@ use crate::status::{OK, SMALL};
 use crate::value_form::ValueForm;
 use giop_calls::ClientRule;
 use giop_cdr::Order;
-use giop_session::{Detached, Limits, SessionFault};
+use giop_end::{Detached, Limits, SessionFault};
 use giop_types::Interface;
 use std::alloc::{AllocError, Global};
 use std::sync::Arc;
@@ -142,7 +142,7 @@ impl Caller {
 
     /// What is stored for an id, as C sees it. It takes no memory.
     pub fn row(&self, id: u32) -> ClientRow
-        ensures value { result ≡ c_client_row (client_entry self.now.end.calls id) }
+        ensures value { result ≡ c_client_row (entry_at self.now.end.calls id) }
     {
         ClientRow::of(self.end.entry(id))
     }
@@ -160,7 +160,7 @@ impl Caller {
         size: &mut usize,
     ) -> u32
         ensures copies { CopiesOuts (arc_value self.now.interface)
-            (client_entry self.now.end.calls id) form
+            (entry_at self.now.end.calls id) form
             buffer.old buffer.new size.old size.new result }
     {
         copy_outs(
@@ -177,7 +177,7 @@ impl Caller {
     /// SMALL, where the buffer has no room for it; or WAITS, where there is no such Reply. It takes
     /// no memory.
     pub fn exception(&self, id: u32, buffer: &mut [u8], size: &mut usize) -> u32
-        ensures copies { CopiesOctets (exception_in (body_of (client_entry self.now.end.calls id)))
+        ensures copies { CopiesOctets (exception_in (body_of (entry_at self.now.end.calls id)))
             buffer.old buffer.new size.old size.new result }
     {
         copy_octets(exception_in(body_of(self.end.entry(id))), buffer, size)
@@ -194,7 +194,7 @@ impl Caller {
         size: &mut usize,
     ) -> u32
         ensures copies { CopiesMembers (arc_value self.now.interface)
-            (body_of (client_entry self.now.end.calls id)) form
+            (body_of (entry_at self.now.end.calls id)) form
             buffer.old buffer.new size.old size.new result }
     {
         let body = body_of(self.end.entry(id));
@@ -213,7 +213,7 @@ impl Caller {
         size: &mut usize,
     ) -> u32
         ensures copies { CopiesContext (context_at index
-            (contexts_of (client_entry self.now.end.calls id)))
+            (contexts_of (entry_at self.now.end.calls id)))
             service.old service.new buffer.old buffer.new size.old size.new result }
     {
         let context = context_at(contexts_of(self.end.entry(id)), index);
@@ -223,7 +223,7 @@ impl Caller {
     /// Copies the text of the reference to which the Reply under an id forwards. It answers as
     /// `outs`; FAULT, where no octets spell the reference.
     pub fn forward(&self, alloc: Global, id: u32, buffer: &mut [u8], size: &mut usize) -> u32
-        ensures copies { CopiesReference (forward_in (body_of (client_entry self.now.end.calls id)))
+        ensures copies { CopiesReference (forward_in (body_of (entry_at self.now.end.calls id)))
             buffer.old buffer.new size.old size.new result }
     {
         let ior = forward_in(body_of(self.end.entry(id)));

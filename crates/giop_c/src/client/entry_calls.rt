@@ -2,7 +2,7 @@
 //! its Reply brought.
 ghost use Rattle.std.specs.Prelude.{◌≡◌};
 ghost use Rattle.std_alloc.specs.Arc.{arc_value};
-ghost use Rattle.giop_session.specs.Runs.ClientRuns.{client_entry};
+ghost use Rattle.giop_table.specs.CallTable.{entry_at};
 ghost use Rattle.giop_c.specs.Calls.{At, ok};
 ghost use Rattle.giop_c.specs.Client.Entries.{CopiesMembers, CopiesOuts, CopiesReference, body_of, c_client_row, contexts_of, exception_in, forward_in};
 ghost use Rattle.giop_c.specs.Contexts.{CopiesContext, context_at};
@@ -25,7 +25,7 @@ pub extern "C" fn giop_client_entry_of(
 ) -> u32
     ensures { At client.old.value client.new.value result (entry.new ≡ entry.old)
         (λ old new. (result ≡ ok) × (new ≡ old)
-        × (entry.new ≡ c_client_row (client_entry old.end.calls id))) }
+        × (entry.new ≡ c_client_row (entry_at old.end.calls id))) }
 {
     let Some(caller) = client.take(alloc) else {
         return CLOSED;
@@ -50,7 +50,7 @@ pub extern "C" fn giop_client_outs(
     ensures { At client.old.value client.new.value result
         ((buffer.new ≡ buffer.old) × (size.new ≡ size.old))
         (λ old new. (new ≡ old)
-        × CopiesOuts (arc_value old.interface) (client_entry old.end.calls id)
+        × CopiesOuts (arc_value old.interface) (entry_at old.end.calls id)
         (c_value_form value_form) buffer.old buffer.new size.old size.new result) }
 {
     let Some(caller) = client.take(alloc) else {
@@ -74,7 +74,7 @@ pub extern "C" fn giop_client_exception(
     ensures { At client.old.value client.new.value result
         ((buffer.new ≡ buffer.old) × (size.new ≡ size.old))
         (λ old new. (new ≡ old)
-        × CopiesOctets (exception_in (body_of (client_entry old.end.calls id)))
+        × CopiesOctets (exception_in (body_of (entry_at old.end.calls id)))
         buffer.old buffer.new size.old size.new result) }
 {
     let Some(caller) = client.take(alloc) else {
@@ -99,7 +99,7 @@ pub extern "C" fn giop_client_members(
     ensures { At client.old.value client.new.value result
         ((buffer.new ≡ buffer.old) × (size.new ≡ size.old))
         (λ old new. (new ≡ old)
-        × CopiesMembers (arc_value old.interface) (body_of (client_entry old.end.calls id))
+        × CopiesMembers (arc_value old.interface) (body_of (entry_at old.end.calls id))
         (c_value_form value_form) buffer.old buffer.new size.old size.new result) }
 {
     let Some(caller) = client.take(alloc) else {
@@ -126,7 +126,7 @@ pub extern "C" fn giop_client_context(
     ensures { At client.old.value client.new.value result
         ((service.new ≡ service.old) × (buffer.new ≡ buffer.old) × (size.new ≡ size.old))
         (λ old new. (new ≡ old)
-        × CopiesContext (context_at index (contexts_of (client_entry old.end.calls id)))
+        × CopiesContext (context_at index (contexts_of (entry_at old.end.calls id)))
         service.old service.new buffer.old buffer.new size.old size.new result) }
 {
     let Some(caller) = client.take(alloc) else {
@@ -151,7 +151,7 @@ pub extern "C" fn giop_client_forward(
     ensures { At client.old.value client.new.value result
         ((buffer.new ≡ buffer.old) × (size.new ≡ size.old))
         (λ old new. (new ≡ old)
-        × CopiesReference (forward_in (body_of (client_entry old.end.calls id)))
+        × CopiesReference (forward_in (body_of (entry_at old.end.calls id)))
         buffer.old buffer.new size.old size.new result) }
 {
     let Some(caller) = client.take(alloc) else {

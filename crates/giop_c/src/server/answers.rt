@@ -4,8 +4,8 @@ ghost use Rattle.std.specs.Prelude.{◌≡◌, ◌≤◌, ◌^◌, length};
 ghost use Rattle.std_alloc.specs.Arc.{arc_value};
 ghost use Rattle.giop_msg.specs.declared.messages.reply_body.ReplyBody.TheVariants.{UserException};
 ghost use Rattle.giop_msg.specs.Messages.Reply.{exception_of, listed, outs_for};
-ghost use Rattle.giop_session.specs.Acts.Form.{IsForm};
-ghost use Rattle.giop_session.specs.Runs.ServerRuns.{server_entry};
+ghost use Rattle.giop_end.specs.Acts.Form.{IsForm};
+ghost use Rattle.giop_table.specs.CallTable.{entry_at};
 ghost use Rattle.giop_c.specs.Acts.{IsReadAs, values_in};
 ghost use Rattle.giop_c.specs.Server.Answers.{AnswersForward, AnswersOuts, AnswersSystem, AnswersUser, Replies, RepliesOrNot, forward_to};
 ghost use Rattle.giop_c.specs.Server.Entries.{request_of};
@@ -17,9 +17,9 @@ use crate::server::served::Served;
 use crate::value_form::ValueForm;
 use crate::values::read_values;
 use giop_cdr::OctetList;
+use giop_end::{Form, SessionFault};
 use giop_ior::{Ior, ior_from_text};
 use giop_msg::{Completion, Reply, ReplyBody, ServiceContexts, outs_for};
-use giop_session::{Form, SessionFault};
 use giop_types::ValueList;
 use std::alloc::Global;
 
@@ -128,7 +128,7 @@ impl Served {
     ) -> Result<ValueList, ActFault>
         requires { length octets.now ≤ 2 ^ 62 }
         ensures { IsReadAs (values_in (outs_for (arc_value self.now.interface)
-            (request_of (server_entry self.now.end.calls id))) value_form octets.now) result }
+            (request_of (entry_at self.now.end.calls id))) value_form octets.now) result }
     {
         let parameters = outs_for(&self.interface, request_of(self.end.entry(id)));
         read_values(alloc, parameters, value_form, octets)

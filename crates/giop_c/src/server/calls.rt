@@ -2,7 +2,7 @@
 //! back. Those that read an entry are entry_calls.rt, and those that answer answer_calls.rt.
 ghost use Rattle.std.specs.Prelude.{◌≡◌, ◌≤◌, ◌+◌, ◌/◌, ◌⊎◌, None, length};
 ghost use Rattle.std.specs.FinMap as finite;
-ghost use Rattle.giop_session.specs.Calls.SessionFaults.{error_message_of};
+ghost use Rattle.giop_end.specs.Ends.SessionFaults.{error_message_of};
 ghost use Rattle.giop_c.specs.Acts.{Tells};
 ghost use Rattle.giop_c.specs.Calls.{At, no_memory, ok};
 ghost use Rattle.giop_c.specs.Copying.{CopiesFront, CopiesOctets};
@@ -15,7 +15,7 @@ use crate::server::served::Served;
 use crate::server::server_handle::ServerHandle;
 use crate::shared::Shared;
 use crate::status::{CLOSED, FAULT, NO_MEMORY, OK};
-use giop_session::Limits;
+use giop_end::Limits;
 use std::alloc::Global;
 use std::sync::Arc;
 

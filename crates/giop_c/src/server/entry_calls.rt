@@ -1,7 +1,7 @@
 //! The exported functions that say what is stored for the id of a call at a server's end.
 ghost use Rattle.std.specs.Prelude.{◌≡◌};
 ghost use Rattle.std_alloc.specs.Arc.{arc_value};
-ghost use Rattle.giop_session.specs.Runs.ServerRuns.{server_entry};
+ghost use Rattle.giop_table.specs.CallTable.{entry_at};
 ghost use Rattle.giop_c.specs.Calls.{At, ok};
 ghost use Rattle.giop_c.specs.Contexts.{CopiesContext, context_at};
 ghost use Rattle.giop_c.specs.Server.Entries.{c_server_row, contexts_in, key_in, operation_in, request_of, target_of};
@@ -24,7 +24,7 @@ pub extern "C" fn giop_server_entry_of(
 ) -> u32
     ensures { At server.old.value server.new.value result (entry.new ≡ entry.old)
         (λ old new. (result ≡ ok) × (new ≡ old)
-        × (entry.new ≡ c_server_row (server_entry old.end.calls id))) }
+        × (entry.new ≡ c_server_row (entry_at old.end.calls id))) }
 {
     let Some(served) = server.take(alloc) else {
         return CLOSED;
@@ -48,7 +48,7 @@ pub extern "C" fn giop_server_operation(
     ensures { At server.old.value server.new.value result
         ((buffer.new ≡ buffer.old) × (size.new ≡ size.old))
         (λ old new. (new ≡ old)
-        × CopiesOctets (operation_in (request_of (server_entry old.end.calls id)))
+        × CopiesOctets (operation_in (request_of (entry_at old.end.calls id)))
         buffer.old buffer.new size.old size.new result) }
 {
     let Some(served) = server.take(alloc) else {
@@ -73,7 +73,7 @@ pub extern "C" fn giop_server_key(
     ensures { At server.old.value server.new.value result
         ((buffer.new ≡ buffer.old) × (size.new ≡ size.old))
         (λ old new. (new ≡ old)
-        × CopiesOctets (key_in (target_of (server_entry old.end.calls id)))
+        × CopiesOctets (key_in (target_of (entry_at old.end.calls id)))
         buffer.old buffer.new size.old size.new result) }
 {
     let Some(served) = server.take(alloc) else {
@@ -101,7 +101,7 @@ pub extern "C" fn giop_server_context(
         ((service.new ≡ service.old) × (buffer.new ≡ buffer.old) × (size.new ≡ size.old))
         (λ old new. (new ≡ old)
         × CopiesContext (context_at index
-        (contexts_in (request_of (server_entry old.end.calls id))))
+        (contexts_in (request_of (entry_at old.end.calls id))))
         service.old service.new buffer.old buffer.new size.old size.new result) }
 {
     let Some(served) = server.take(alloc) else {
@@ -127,7 +127,7 @@ pub extern "C" fn giop_server_ins(
     ensures { At server.old.value server.new.value result
         ((buffer.new ≡ buffer.old) × (size.new ≡ size.old))
         (λ old new. (new ≡ old)
-        × CopiesIns (arc_value old.interface) (request_of (server_entry old.end.calls id))
+        × CopiesIns (arc_value old.interface) (request_of (entry_at old.end.calls id))
         (c_value_form value_form) buffer.old buffer.new size.old size.new result) }
 {
     let Some(served) = server.take(alloc) else {

@@ -1,7 +1,7 @@
 //! What the Request or the LocateRequest under an id says, copied into the caller's buffers.
 ghost use Rattle.std.specs.Prelude.{◌≡◌, Some, option_copied};
 ghost use Rattle.std_alloc.specs.Arc.{arc_value};
-ghost use Rattle.giop_session.specs.Runs.ServerRuns.{server_entry};
+ghost use Rattle.giop_table.specs.CallTable.{entry_at};
 ghost use Rattle.giop_c.specs.Contexts.{CopiesContext, context_at};
 ghost use Rattle.giop_c.specs.Copying.{CopiesOctets};
 ghost use Rattle.giop_c.specs.Server.Entries.{contexts_in, key_in, operation_in, request_of, target_of};
@@ -23,7 +23,7 @@ impl Served {
     /// no room for it; or WAITS, where no Request is known. It takes no memory.
     pub fn operation(&self, id: u32, buffer: &mut [u8], size: &mut usize) -> u32
         ensures copies { CopiesOctets
-            (operation_in (request_of (server_entry self.now.end.calls id)))
+            (operation_in (request_of (entry_at self.now.end.calls id)))
             buffer.old buffer.new size.old size.new result }
     {
         copy_octets(operation_in(request_of(self.end.entry(id))), buffer, size)
@@ -31,7 +31,7 @@ impl Served {
 
     /// Copies the key of the object of the Request or the LocateRequest under an id, as `operation`.
     pub fn key(&self, id: u32, buffer: &mut [u8], size: &mut usize) -> u32
-        ensures copies { CopiesOctets (key_in (target_of (server_entry self.now.end.calls id)))
+        ensures copies { CopiesOctets (key_in (target_of (entry_at self.now.end.calls id)))
             buffer.old buffer.new size.old size.new result }
     {
         copy_octets(key_in(target_of(self.end.entry(id))), buffer, size)
@@ -49,7 +49,7 @@ impl Served {
         size: &mut usize,
     ) -> u32
         ensures copies { CopiesContext (context_at index
-            (contexts_in (request_of (server_entry self.now.end.calls id))))
+            (contexts_in (request_of (entry_at self.now.end.calls id))))
             service.old service.new buffer.old buffer.new size.old size.new result }
     {
         let context = context_at(contexts_in(request_of(self.end.entry(id))), index);
@@ -67,7 +67,7 @@ impl Served {
         size: &mut usize,
     ) -> u32
         ensures copies { CopiesIns (arc_value self.now.interface)
-            (request_of (server_entry self.now.end.calls id)) form
+            (request_of (entry_at self.now.end.calls id)) form
             buffer.old buffer.new size.old size.new result }
     {
         let request = request_of(self.end.entry(id));

@@ -2,9 +2,9 @@
 ghost use Rattle.std.specs.Prelude.{◌≡◌, ◌≤◌, ◌+◌, ◌/◌, ◌^◌, length, OnOk, OnErr};
 ghost use Rattle.std.specs.FinMap as finite;
 ghost use Rattle.std_alloc.specs.Arc.{arc_value};
-ghost use Rattle.giop_session.specs.Calls.SessionFaults.{error_message_of};
-ghost use Rattle.giop_session.specs.Runs.Driven.{end_state, new_end};
-ghost use Rattle.giop_session.specs.Runs.ServerRuns.{server_entry};
+ghost use Rattle.giop_end.specs.Ends.SessionFaults.{error_message_of};
+ghost use Rattle.giop_end.specs.Ends.Begun.{end_state, new_end};
+ghost use Rattle.giop_table.specs.CallTable.{entry_at};
 ghost use Rattle.giop_c.specs.Server.Entries.{c_server_row};
 ghost use Rattle.giop_c.specs.Copying.{CopiesFront};
 ghost use Rattle.giop_c.specs.Server.Ends.{ClosesServer, FeedsServer, LocatesAtServer, SendsAtServer, TakesAtServer, WritesAtServer};
@@ -14,7 +14,7 @@ use crate::server::entries::ServerRow;
 use crate::status::{OK, SMALL};
 use giop_calls::ServerRule;
 use giop_cdr::Order;
-use giop_session::{Detached, Limits, SessionFault};
+use giop_end::{Detached, Limits, SessionFault};
 use giop_types::Interface;
 use std::alloc::{AllocError, Global};
 use std::sync::Arc;
@@ -140,7 +140,7 @@ impl Served {
 
     /// What is stored for an id, as C sees it. It takes no memory.
     pub fn row(&self, id: u32) -> ServerRow
-        ensures value { result ≡ c_server_row (server_entry self.now.end.calls id) }
+        ensures value { result ≡ c_server_row (entry_at self.now.end.calls id) }
     {
         ServerRow::of(self.end.entry(id))
     }

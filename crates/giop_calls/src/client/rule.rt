@@ -8,7 +8,7 @@ use crate::client::entry::ClientEntry;
 use crate::client::event::ClientEvent;
 use crate::client::steps;
 use crate::fault::CallFault;
-use giop_mux::{CallRule, Step};
+use giop_mux::{CallRule, Side, Step};
 use std::mem;
 
 /// The rule by which a client's calls run.
@@ -61,14 +61,20 @@ impl CallRule for ClientRule {
     }
 }
 
-impl ClientRule {
-    /// What an event does to a call with this entry, which changes where it lies. It does what
-    /// `step` does. Each event leaves an entry. It takes no memory.
+impl Side for ClientRule {
+    ghost use Rattle.giop_calls.specs.ClientTable.{is_gathering};
+    ghost use Rattle.giop_calls.specs.ClientKeeps.{gathering_is_open};
+
+    ghost gathering = { is_gathering };
+
+    ghost gathering_is_open = { λ rule. gathering_is_open };
+
+    fn is_gathering(entry: &ClientEntry) -> bool {
+        entry.is_gathering()
+    }
+
     #[inline(always)]
-    pub fn step_at(&self, entry: &mut ClientEntry, event: ClientEvent) -> Result<(), CallFault>
-        ensures { client_step (Some entry.old) event
-            ≡ record { entry = Some entry.new; outcome = result } }
-    {
+    fn step_at(&self, entry: &mut ClientEntry, event: ClientEvent) -> Result<(), CallFault> {
         match event {
             ClientEvent::Call { call, pieces } => steps::begin_at(entry, call, pieces),
             event => step_moved(entry, event),

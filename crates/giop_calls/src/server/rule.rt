@@ -8,7 +8,7 @@ use crate::fault::CallFault;
 use crate::server::entry::ServerEntry;
 use crate::server::event::ServerEvent;
 use crate::server::steps;
-use giop_mux::{CallRule, Step};
+use giop_mux::{CallRule, Side, Step};
 use std::mem;
 
 /// The rule by which a server's calls run.
@@ -58,14 +58,20 @@ impl CallRule for ServerRule {
     }
 }
 
-impl ServerRule {
-    /// What an event does to a call with this entry, which changes where it lies. It does what
-    /// `step` does. Each event leaves an entry. It takes no memory.
+impl Side for ServerRule {
+    ghost use Rattle.giop_calls.specs.ServerTable.{is_gathering};
+    ghost use Rattle.giop_calls.specs.ServerKeeps.{gathering_is_open};
+
+    ghost gathering = { is_gathering };
+
+    ghost gathering_is_open = { λ rule. gathering_is_open };
+
+    fn is_gathering(entry: &ServerEntry) -> bool {
+        entry.is_gathering()
+    }
+
     #[inline(always)]
-    pub fn step_at(&self, entry: &mut ServerEntry, event: ServerEvent) -> Result<(), CallFault>
-        ensures { server_step (Some entry.old) event
-            ≡ record { entry = Some entry.new; outcome = result } }
-    {
+    fn step_at(&self, entry: &mut ServerEntry, event: ServerEvent) -> Result<(), CallFault> {
         match event {
             ServerEvent::Whole { call } => steps::begin_at(entry, steps::arrived(call)),
             event => step_moved(entry, event),

@@ -4,8 +4,8 @@ ghost use Rattle.std.specs.Prelude.{◌≡◌, OnOk, IfOk};
 ghost use Rattle.giop_commands.specs.CallLines.{feed_at, none_taken, ReadsOn, ReadsPiece, so_far};
 
 use crate::call::lines::CallLines;
-use crate::failure::Failure;
-use crate::pieces::PieceBuffer;
+use giop_show::failure::Failure;
+use giop_show::pieces::PieceBuffer;
 use giop_types::Interface;
 use std::alloc::{AllocError, Global};
 use std::io::Read;
@@ -40,9 +40,8 @@ impl<S: Read + Drop> LineFeed<S> {
 
     /// Reads until a call is there, or the text is over, or a line is refused.
     pub fn read_on(&mut self, alloc: Global, interface: &Interface) -> Result<(), Failure>
-        ensures reads { OnOk result (ReadsOn interface.now
-            (feed_at (S.remaining self.old.source) self.old)
-            (feed_at (S.remaining self.new.source) self.new)) }
+        ensures reads { OnOk result (ReadsOn interface.now (feed_at (S.remaining self.old.source)
+            self.old) (feed_at (S.remaining self.new.source) self.new)) }
         ensures waits { self.new.waits ≡ self.old.waits }
     {
         'reads: for done in 0..u64::MAX {
@@ -56,9 +55,8 @@ impl<S: Read + Drop> LineFeed<S> {
 
     // Reads once.
     fn read_once(&mut self, alloc: Global, interface: &Interface) -> Result<(), Failure>
-        ensures reads { OnOk result (ReadsPiece interface.now
-            (feed_at (S.remaining self.old.source) self.old)
-            (feed_at (S.remaining self.new.source) self.new)) }
+        ensures reads { OnOk result (ReadsPiece interface.now (feed_at (S.remaining self.old.source)
+            self.old) (feed_at (S.remaining self.new.source) self.new)) }
         ensures waits { self.new.waits ≡ self.old.waits }
     {
         let piece = self.buffer.fill(&mut self.source)?;

@@ -8,22 +8,22 @@ ghost use Rattle.std.specs.Io.KnownBytes.{Appends};
 ghost use Rattle.giop_commands.specs.CallStreaming.{stream_status};
 ghost use Rattle.giop_commands.specs.Following.{CallsBetween, body_place, calls_of, entry_place, followed_text, forward_at, forwards_of, ids_of, is_one_of, latest, latest_at, latest_well};
 ghost use Rattle.giop_commands.specs.Sessions.{is_well, told};
-ghost use Rattle.giop_session.specs.Ends.View.{IsTurned};
+ghost use Rattle.giop_end.specs.Ends.View.{IsTurned};
 
 use crate::call::calls::CallLine;
 use crate::call::given::Calling;
 use crate::call::streaming::stream_status;
 use crate::call::well::is_well;
 use crate::call::{call_all, talk};
-use crate::failure::Failure;
-use crate::form::LineForm;
 use crate::session::table::Tabled;
 use crate::session::target::{Endpoint, place_in};
 use crate::session::{told, write_fault};
-use crate::status::Status;
 use giop_calls::{ClientEntry, ClientRule};
+use giop_end::{ClientEnd, SessionFault};
 use giop_msg::ReplyBody;
-use giop_session::{ClientEnd, SessionFault};
+use giop_show::failure::{Failure, Failure};
+use giop_show::form::{LineForm, LineForm};
+use giop_show::status::Status;
 use giop_types::Interface;
 use std::alloc::{AllocError, Global};
 use std::io::{Read, Write};
@@ -49,7 +49,9 @@ pub fn call_at<R: Read, W: Write>(
 ) -> Result<Option<SessionFault>, Failure>
     requires interface { end.old.interface.now ≡ calling.interface.now }
     requires limits { end.old.limits ≡ calling.limits }
-    ensures calls { IfOk result (λ refused. CallsBetween calling.entry calls.items (R.remaining reader.old) (W.contents writer.old) end.old refused (R.remaining reader.new) (W.contents writer.new) end.new) }
+    ensures calls { IfOk result (λ refused. CallsBetween calling.entry calls.items
+        (R.remaining reader.old) (W.contents writer.old) end.old refused (R.remaining reader.new)
+        (W.contents writer.new) end.new) }
     ensures others { IsTurned end.old end.new }
 {
     let refused = call_all(alloc, end, calling, calls)?;

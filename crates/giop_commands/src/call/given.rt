@@ -1,9 +1,9 @@
 //! What `call` takes beside its calls.
-ghost use Rattle.giop_session.specs.Acts.Form.{IsForm};
+ghost use Rattle.giop_end.specs.Acts.Form.{IsForm};
 ghost use Rattle.giop_commands.specs.Check.{AreLimits};
 
+use giop_end::{Form, Limits};
 use giop_msg::Version;
-use giop_session::{Form, Limits};
 use giop_types::Interface;
 
 /// Whose operations are called, how, and within which limits.

@@ -4,7 +4,7 @@ ghost use Rattle.std.specs.Prelude.{◌≡◌, ◌∷◌, ◌++◌, OnOk, []};
 ghost use Rattle.giop_commands.specs.CallLines.{is_blank, is_space, is_spent, line_ended, none_taken, octet_taken, octets_taken, read_taken, so_far, text_ended, wants_more};
 
 use crate::call::calls::{CallLine, call_from_json};
-use crate::failure::Failure;
+use giop_show::failure::Failure;
 use giop_types::{FormFault, Interface};
 use std::alloc::{AllocError, Global};
 use std::collections::VecDeque;
@@ -111,7 +111,9 @@ impl CallLines {
     // An octet more of the line.
     fn hold(&mut self, octet: u8) -> Result<(), AllocError>
         ensures { OnOk result
-            (so_far self.new ≡ record (so_far self.old) { line = self.old.line.items ++ octet ∷ [] }) }
+            (so_far self.new ≡ record (so_far self.old) {
+              line = self.old.line.items ++ octet ∷ [];
+            }) }
     {
         self.line.push(octet)?;
         Ok(())

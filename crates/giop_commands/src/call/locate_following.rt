@@ -4,17 +4,17 @@
 ghost use Rattle.std.specs.Prelude.{◌≡◌, ◌≤◌, ◌^◌, [], IfOk, length, option_copied};
 ghost use Rattle.giop_commands.specs.Calling.{entry_at};
 ghost use Rattle.giop_commands.specs.LocateFollowing.{LocatesBetween, is_elsewhere, located_place, place_behind, place_by};
-ghost use Rattle.giop_session.specs.Ends.View.{IsTurned};
+ghost use Rattle.giop_end.specs.Ends.View.{IsTurned};
 
 use crate::call::given::Calling;
 use crate::call::locating::{ID, locate_all};
 use crate::call::talk;
-use crate::failure::Failure;
 use crate::session::target::{Endpoint, place_in};
 use giop_calls::ClientEntry;
 use giop_cdr::{CdrIn, CdrKind, Order, SliceOctets};
+use giop_end::{ClientEnd, SessionFault};
 use giop_ior::read_ior;
-use giop_session::{ClientEnd, SessionFault};
+use giop_show::failure::Failure;
 use std::alloc::Global;
 use std::io::{Read, Write};
 
@@ -36,7 +36,9 @@ pub fn locate_at<R: Read, W: Write>(
 ) -> Result<Option<SessionFault>, Failure>
     requires interface { end.old.interface.now ≡ calling.interface.now }
     requires limits { end.old.limits ≡ calling.limits }
-    ensures located { IfOk result (λ refused. LocatesBetween calling.entry (R.remaining reader.old) (W.contents writer.old) end.old refused (R.remaining reader.new) (W.contents writer.new) end.new) }
+    ensures located { IfOk result (λ refused. LocatesBetween calling.entry (R.remaining reader.old)
+        (W.contents writer.old) end.old refused (R.remaining reader.new) (W.contents writer.new)
+        end.new) }
     ensures others { IsTurned end.old end.new }
 {
     let refused = locate_all(alloc, end, calling)?;

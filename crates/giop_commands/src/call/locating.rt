@@ -3,8 +3,8 @@
 ghost use Rattle.std.specs.Prelude.{◌≡◌, [], IfOk, OnOk, option_copied};
 ghost use Rattle.std.specs.Io.KnownBytes.{Appends};
 ghost use Rattle.giop_calls.specs.ClientTable.{is_closed};
-ghost use Rattle.giop_session.specs.Acts.Form.{IsForm};
-ghost use Rattle.giop_session.specs.Ends.View.{IsActedOn};
+ghost use Rattle.giop_end.specs.Acts.Form.{IsForm};
+ghost use Rattle.giop_end.specs.Ends.View.{IsActedOn};
 ghost use Rattle.giop_commands.specs.Acts.{outbox_of};
 ghost use Rattle.giop_commands.specs.Calling.{asked_of};
 ghost use Rattle.giop_commands.specs.Endings.{Ends};
@@ -14,16 +14,17 @@ ghost use Rattle.giop_commands.specs.Table.{client_entry_in};
 
 use crate::call::given::Calling;
 use crate::call::talk;
-use crate::failure::Failure;
-use crate::form::LineForm;
+use crate::session::broken::broken_status;
 use crate::session::ending::{Ending, ending_of};
 use crate::session::sending::send_all;
 use crate::session::{told, told_of, write_session};
-use crate::status::Status;
 use giop_calls::ClientEntry;
 use giop_cdr::OctetList;
+use giop_end::{ClientEnd, SessionFault};
 use giop_msg::{LocateRequest, Target, Version};
-use giop_session::{ClientEnd, SessionFault};
+use giop_show::failure::Failure;
+use giop_show::form::LineForm;
+use giop_show::status::Status;
 use giop_types::Interface;
 use std::alloc::{AllocError, Global};
 use std::io::{Read, Write};
@@ -46,7 +47,9 @@ pub fn locate_over<R: Read, W: Write, O: Write>(
     writer: &mut W,
     out: &mut O,
 ) -> Result<Ending, Failure>
-    ensures { IfOk result (LocatesEndOver calling.entry lines (change R.remaining reader.old reader.new) (change W.contents writer.old writer.new) (change O.contents out.old out.new)) }
+    ensures { IfOk result (LocatesEndOver calling.entry lines
+        (change R.remaining reader.old reader.new) (change W.contents writer.old writer.new)
+        (change O.contents out.old out.new)) }
 {
     let mut end = ClientEnd::new(alloc, calling.interface, calling.limits);
     let refused = locate_all(alloc, &mut end, calling)?;
@@ -69,8 +72,7 @@ pub fn locate_all(
 ) -> Result<Option<SessionFault>, Failure>
     requires { end.old.limits ≡ calling.limits }
     ensures locates { IfOk result (λ refused. Locates (asked_of calling.entry []) end.old.fault
-        (outbox_of end.old) refused
-        (outbox_of end.new)) }
+        (outbox_of end.old) refused (outbox_of end.new)) }
     ensures others { IsActedOn end.old end.new }
 {
     if let Some(fault) = locate_one(alloc, end, calling)? {
@@ -87,8 +89,7 @@ fn locate_one(
 ) -> Result<Option<SessionFault>, Failure>
     requires { end.old.limits ≡ calling.limits }
     ensures locates { IfOk result (λ refused. LocatesOne (asked_of calling.entry []) end.old.fault
-        (outbox_of end.old) refused
-        (outbox_of end.new)) }
+        (outbox_of end.old) refused (outbox_of end.new)) }
     ensures others { IsActedOn end.old end.new }
 {
     let request = request_of(alloc, calling.key, calling.version)?;
@@ -134,9 +135,9 @@ fn locate_status(refused: Option<SessionFault>, end: &ClientEnd<'_>) -> Status
     ensures { result ≡ locate_status refused end.now.fault end.now.calls.table }
 {
     match (refused, end.fault()) {
-        (Some(why), _) => Status::broken_by(why),
+        (Some(why), _) => broken_status(why),
         (None, _) if is_here(end.entry(ID)) => Status::Done,
-        (None, Some(why)) => Status::broken_by(why),
+        (None, Some(why)) => broken_status(why),
         (None, None) => Status::Refused,
     }
 }

@@ -15,16 +15,17 @@ use crate::call::calls::CallLine;
 use crate::call::given::Calling;
 use crate::call::streaming::turns::{CallTurn, turn_of_calls};
 use crate::call::well::all_well;
-use crate::failure::Failure;
-use crate::form::{LineForm, write_line};
+use crate::session::broken::broken_status;
 use crate::session::ending::{Ending, ending_of};
 use crate::session::streaming::{Streamed, tell_left};
 use crate::session::table::Tabled;
 use crate::session::{TURNS, told, write_fault};
-use crate::status::Status;
 use giop_calls::{ClientEntry, ClientRule};
+use giop_end::{ClientEnd, ClientEnd, Limits, SessionFault, SessionFault};
 use giop_lines::{UnsentJson, UnsentLine};
-use giop_session::{ClientEnd, SessionFault};
+use giop_show::failure::Failure;
+use giop_show::form::{LineForm, write_line};
+use giop_show::status::Status;
 use giop_types::Interface;
 use std::alloc::{AllocError, Global};
 use std::collections::VecDeque;
@@ -70,7 +71,9 @@ pub fn call_stream<R: Read, W: Write, O: Write>(
     writer: &mut W,
     out: &mut O,
 ) -> Result<Ending, Failure>
-    ensures { IfOk result (CallsStreamEndOver calling.entry calls.items lines (change R.remaining reader.old reader.new) (change W.contents writer.old writer.new) (change O.contents out.old out.new)) }
+    ensures { IfOk result (CallsStreamEndOver calling.entry calls.items lines
+        (change R.remaining reader.old reader.new) (change W.contents writer.old writer.new)
+        (change O.contents out.old out.new)) }
 {
     let mut end = ClientEnd::new(alloc, calling.interface, calling.limits);
     let mut left = VecDeque::from(calls);
@@ -113,10 +116,8 @@ fn converse<R: Read, W: Write, O: Write>(
     requires fault { end.old.fault ≡ None }
     ensures { IfOk result (λ refused. Streams (asked_of calling.entry left.old.items) lines
         (course_of (R.remaining reader.old) (W.contents writer.old) (O.contents out.old) end.old
-        left.old.items well.old)
-        refused
-        (course_of (R.remaining reader.new) (W.contents writer.new) (O.contents out.new) end.new
-        left.new.items well.new)) }
+        left.old.items well.old) refused (course_of (R.remaining reader.new) (W.contents writer.new)
+        (O.contents out.new) end.new left.new.items well.new)) }
 {
     'turns: for done in 0..TURNS {
         if let CallTurn::Ends(refused) = turn_of_calls(
@@ -212,9 +213,9 @@ pub fn stream_status(
     ensures { result ≡ stream_status refused fault done }
 {
     match (refused, fault) {
-        (Some(why), _) => Status::broken_by(why),
+        (Some(why), _) => broken_status(why),
         (None, _) if done => Status::Done,
-        (None, Some(why)) => Status::broken_by(why),
+        (None, Some(why)) => broken_status(why),
         (None, None) => Status::Refused,
     }
 }

@@ -6,7 +6,7 @@ ghost use Rattle.giop_commands.specs.CallStreaming.{all_over_well, is_over_well}
 ghost use Rattle.giop_commands.specs.Sessions.{all_well, is_well};
 
 use giop_calls::ClientEntry;
-use giop_session::ClientEnd;
+use giop_end::ClientEnd;
 use std::alloc::{AllocError, Global};
 
 /// Whether the calls of all ids are over.

@@ -3,13 +3,13 @@
 ghost use Rattle.std.specs.Prelude.{◌≡◌, IfOk, option_copied};
 ghost use Rattle.std.specs.FinMap as finite;
 ghost use Rattle.std.specs.List.{list_all};
-ghost use Rattle.giop_session.specs.Calls.Sending.{entry_of};
+ghost use Rattle.giop_table.specs.Sending.{entry_of};
 ghost use Rattle.giop_commands.specs.Check.{all_decoded, is_decoded, strict_status};
 
-use crate::failure::Failure;
-use crate::status::Status;
 use giop_calls::ServerEntry;
-use giop_session::ServerEnd;
+use giop_end::ServerEnd;
+use giop_show::failure::Failure;
+use giop_show::status::Status;
 use std::alloc::{AllocError, Global};
 
 /// The status of a check, by that of its end: where it is strict, a call that can't be decoded is

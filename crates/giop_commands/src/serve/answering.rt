@@ -5,7 +5,6 @@ ghost use Rattle.giop_types.specs.Values.Views.{value_view};
 ghost use Rattle.giop_commands.specs.Answering.{answer_to, asked_ins, due_to, due_to_undecoded, fault_answer, given_at, given_body, given_to, is_object, not_done, reply_of, result_for};
 ghost use Rattle.giop_commands.specs.Objects.{object_of};
 
-use crate::failure::Failure;
 use crate::serve::answers::AnswerGiven;
 use crate::serve::given::ServedObject;
 use crate::serve::in_turn::Passed;
@@ -14,6 +13,7 @@ use crate::serve::objects::{object_at, object_for};
 use giop_calls::{CallKind, ServerEntry};
 use giop_cdr::OctetList;
 use giop_msg::{Completion, Reply, ReplyBody, RequestFault, ServiceContexts, Target, Version};
+use giop_show::failure::Failure;
 use giop_types::{Interface, Offer, Value, ValueList};
 use std::alloc::{AllocError, Global};
 

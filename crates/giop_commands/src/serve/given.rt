@@ -1,9 +1,9 @@
 //! What `serve` takes beside a connection.
-ghost use Rattle.giop_session.specs.Acts.Form.{IsForm};
+ghost use Rattle.giop_end.specs.Acts.Form.{IsForm};
 ghost use Rattle.giop_commands.specs.Check.{AreLimits};
 
 use crate::serve::answers::Answers;
-use giop_session::{Form, Limits};
+use giop_end::{Form, Limits};
 use giop_types::Interface;
 
 /// An object that is served.
@@ -38,22 +38,4 @@ pub struct Sending {
     /// What the end holds at most.
     pub limits: Limits,
     pub ghost sent: { IsForm form },
-}
-
-/// When the calls of a connection are told.
-#[derive(Clone, Copy, Debug, PartialEq, Eq)]
-pub enum Telling {
-    /// All of them, when the connection has ended.
-    AtTheEnd,
-    /// Each when it is over.
-    WhenOver,
-}
-
-/// An object key, as it stands on the command line.
-#[derive(Clone, Copy, Debug)]
-pub enum KeyWord<'a> {
-    /// Pairs of hexadecimal digits.
-    Hex(&'a str),
-    /// A text, whose octets are the key.
-    Text(&'a str),
 }

@@ -1,7 +1,7 @@
 //! Whether an answer can go out as answers are sent. Its meaning is `is_let_out` in
 //! specs/LetOut.antt: change both.
 ghost use Rattle.std.specs.Prelude.{◌≡◌, ◌<◌, ◌≤◌, ◌^◌, length, IfOk};
-ghost use Rattle.giop_session.specs.Acts.Form.{is_fragmented, is_sendable, largest};
+ghost use Rattle.giop_end.specs.Acts.Form.{is_fragmented, is_sendable, largest};
 ghost use Rattle.giop_commands.specs.LetOut.{asking, goes_out, is_let_out};
 
 use crate::serve::answering::given_body;

@@ -4,12 +4,12 @@ ghost use Rattle.std.specs.Prelude.{◌≡◌, IfOk, option_copied};
 ghost use Rattle.std.specs.String.{string_bytes};
 ghost use Rattle.giop_commands.specs.Shown.{are_told_apart, entry_shown, located_shown, question_shown, target_shown};
 
-use crate::form::LineForm;
 use giop_calls::{Question, ServerEntry};
 use giop_lines::{
     AnswerJson, AnsweredJson, AnsweredLine, EntryJson, OwnTargetText, ServerEntryLine, TargetJson,
 };
 use giop_msg::Target;
+use giop_show::form::LineForm;
 use giop_types::Interface;
 use std::alloc::{AllocError, Global};
 use std::fmt;

@@ -4,7 +4,7 @@ ghost use Rattle.std.specs.Prelude.{◌≡◌, ◌++◌, IfOk, None, OnOk, lengt
 ghost use Rattle.std.specs.Io.KnownBytes.{Appends};
 ghost use Rattle.std.specs.String.{string_bytes};
 ghost use Rattle.giop_calls.specs.ServerTable.{is_closed};
-ghost use Rattle.giop_commands.specs.Dump.{ended};
+ghost use Rattle.giop_show.specs.Dump.{ended};
 ghost use Rattle.giop_commands.specs.Endings.{Ends, ServesStreamEndOver};
 ghost use Rattle.giop_commands.specs.Serving.{served_of, session, session_at};
 ghost use Rattle.giop_commands.specs.SessionLines.{last_in};
@@ -13,22 +13,21 @@ ghost use Rattle.giop_commands.specs.StreamLines.{answered_in, question_brought,
 ghost use Rattle.giop_commands.specs.Streaming.{Streams, shown};
 ghost use Rattle.giop_commands.specs.Table.{table_text};
 
-use crate::call::table::brought_by;
-use crate::failure::Failure;
-use crate::form::{LineForm, line_text, write_line};
 use crate::serve::given::Serving;
 use crate::serve::in_turn::Passed;
 use crate::serve::shown::{AnsweredObject, AnsweredShownLine, question_shown};
-use crate::serve::table::request_ins;
 use crate::serve::{answer_all, serve_status, write_connection};
 use crate::session::ending::{Ending, ending_of};
 use crate::session::streaming::{Streamed, tell_left, tell_over};
 use crate::session::table::Tabled;
 use crate::session::{TURNS, goes_on, told, write_session_fault};
 use giop_calls::{Question, ServerEntry, ServerRule};
+use giop_end::{ServerEnd, SessionFault};
 use giop_lines::{AnsweredJson, AnsweredLine, RestJson, RestLine};
 use giop_msg::ReplyBody;
-use giop_session::{ServerEnd, SessionFault};
+use giop_show::bodies::{brought_by, request_ins};
+use giop_show::failure::Failure;
+use giop_show::form::{LineForm, line_text, write_line};
 use giop_types::{Interface, NumberForm};
 use std::alloc::{AllocError, Global};
 use std::io::{Read, Write};
@@ -144,7 +143,9 @@ pub fn stream_over<R: Read, W: Write, O: Write>(
     writer: &mut W,
     out: &mut O,
 ) -> Result<Ending, Failure>
-    ensures { IfOk result (ServesStreamEndOver number serving.entry lines (change R.remaining reader.old reader.new) (change W.contents writer.old writer.new) passed.old passed.new (change O.contents out.old out.new)) }
+    ensures { IfOk result (ServesStreamEndOver number serving.entry lines
+        (change R.remaining reader.old reader.new) (change W.contents writer.old writer.new)
+        passed.old passed.new (change O.contents out.old out.new)) }
 {
     let interface = serving.interface;
     tell_begin(lines, number, out)?;
@@ -226,11 +227,10 @@ fn converse<R: Read, W: Write, O: Write>(
     out: &mut O,
 ) -> Result<Option<SessionFault>, Failure>
     requires { end.old.interface.now ≡ serving.interface.now }
-    ensures { IfOk result (λ refused. Streams (served_of serving.entry) end.old.limits lines
-        (shown (session_at (R.remaining reader.old) (W.contents writer.old) end.old passed.old) (O.contents out.old))
-        refused
-        (shown (session_at (R.remaining reader.new) (W.contents writer.new) end.new passed.new)
-        (O.contents out.new))) }
+    ensures { IfOk result (λ refused. Streams (served_of serving.entry) end.old.limits lines (shown
+        (session_at (R.remaining reader.old) (W.contents writer.old) end.old passed.old)
+        (O.contents out.old)) refused (shown (session_at (R.remaining reader.new)
+        (W.contents writer.new) end.new passed.new) (O.contents out.new))) }
 {
     'turns: for done in 0..TURNS {
         if !goes_on(end, reader, writer)? {

@@ -2,15 +2,15 @@
 //! giop_lines.
 ghost use Rattle.std.specs.Prelude.{◌≡◌, IfOk};
 ghost use Rattle.std.specs.String.{string_bytes};
-ghost use Rattle.giop_commands.specs.Bodies.{ins_text, request_ins};
+ghost use Rattle.giop_commands.specs.EntryBodies.{ins_text};
 
-use crate::form::{LineForm, line_text};
 use crate::serve::shown::{EntryObject, EntryShownLine, entry_shown};
 use crate::session::table::Tabled;
 use giop_calls::{ServerEntry, ServerRule};
 use giop_lines::ServerEntryLine;
-use giop_msg::Request;
-use giop_types::{Interface, NumberForm, values_to_text};
+use giop_show::bodies::request_ins;
+use giop_show::form::{LineForm, line_text};
+use giop_types::{Interface, NumberForm};
 use std::alloc::{AllocError, Global};
 
 impl Tabled for ServerRule {
@@ -54,21 +54,5 @@ pub fn ins_text(
         ServerEntry::Asked { request } => request_ins(alloc, numbers, interface, request),
         ServerEntry::Delivered { request } => request_ins(alloc, numbers, interface, request),
         _ => Ok(String::new(alloc)),
-    }
-}
-
-/// The ins of a Request, as a JSON list.
-pub fn request_ins(
-    alloc: Global,
-    numbers: NumberForm,
-    interface: &Interface,
-    request: &Request,
-) -> Result<String, AllocError>
-    ensures { IfOk result (λ text. string_bytes text ≡ request_ins numbers interface.now request.now) }
-{
-    let values = request.body.as_slice();
-    match request.head.operation_asked(interface) {
-        Some(operation) => values_to_text(alloc, numbers, operation.ins.as_slice(), values),
-        None => values_to_text(alloc, numbers, &[], values),
     }
 }

@@ -4,8 +4,8 @@ ghost use Rattle.std.specs.Prelude.{◌≡◌, IfOk};
 ghost use Rattle.giop_commands.specs.Endings.{Ends, open_ids};
 
 use crate::session::streaming::{Streamed, is_over_at};
-use crate::status::Status;
-use giop_session::{End, SessionFault};
+use giop_end::{End, SessionFault};
+use giop_show::status::Status;
 use std::alloc::{AllocError, Global};
 
 /// What a session came to.

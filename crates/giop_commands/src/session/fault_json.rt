@@ -1,8 +1,8 @@
 //! The JSON line of the fault that ended a session. Its text is `session_fault_json` in
 //! specs/CheckJson.antt; the numbers are giop_session's: change all three.
 use giop_calls::CallFault;
+use giop_end::SessionFault;
 use giop_lines::{CdrFaultJson, WireFaultJson};
-use giop_session::SessionFault;
 use std::fmt;
 
 /// Why an end of a connection failed: `{"fault":{"number":NUMBER,"name":NAME}}`, with a `fault` of

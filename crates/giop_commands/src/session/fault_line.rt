@@ -1,6 +1,6 @@
 //! The line of the fault that ended a session. The numbers are giop_session's: change both.
+use giop_end::SessionFault;
 use giop_lines::CdrFaultText;
-use giop_session::SessionFault;
 use std::fmt;
 
 /// Why an end of a connection failed, in one line: `fault 1 Wire NUMBER NAME at PLACE`,

@@ -2,13 +2,13 @@
 //! The order is `SendsAll` in specs/Acts.antt: change both.
 ghost use Rattle.std.specs.Prelude.{◌≡◌, map, max, IfOk};
 ghost use Rattle.giop_commands.specs.Acts.{left_at, most, outbox_of, SendsAll, SendsNext, SendsRound};
-ghost use Rattle.giop_session.specs.Ends.View.{IsActedOn};
+ghost use Rattle.giop_end.specs.Ends.View.{IsActedOn};
 
-use crate::failure::Failure;
 use crate::session::told_of;
 use giop_calls::{ClientEntry, ClientRule, ServerEntry, ServerRule};
-use giop_mux::CallRule;
-use giop_session::{End, Hearing, SessionFault, Side};
+use giop_end::{End, Hearing, SessionFault};
+use giop_mux::{CallRule, Side};
+use giop_show::failure::Failure;
 use std::alloc::Global;
 
 /// A side of a connection whose program puts out messages in pieces.
@@ -28,8 +28,7 @@ pub trait Sender: Hearing {
     fn send(end: &mut End<'_, Self>, id: u32) -> Result<(), SessionFault>
         ensures sent { SendsPiece ⟦<Self as CallRule>⟧.next ⟦<Self as CallRule>⟧.closed
             ⟦<Self as Side>⟧.gathering ⟦<Self as Hearing>⟧.in_call sends end.old.fault id
-            (outbox_of end.old) result
-            (outbox_of end.new) }
+            (outbox_of end.old) result (outbox_of end.new) }
         ensures others { IsActedOn end.old end.new };
 }
 
@@ -74,8 +73,7 @@ pub fn send_all<R: Sender>(
     end: &mut End<'_, R>,
 ) -> Result<Option<SessionFault>, Failure>
     ensures sends { IfOk result (λ refused. SendsAll R.next R.closed R.gathering R.in_call R.sends
-        end.old.fault R.left_in (outbox_of end.old) refused
-        (outbox_of end.new)) }
+        end.old.fault R.left_in (outbox_of end.old) refused (outbox_of end.new)) }
     ensures others { IsActedOn end.old end.new }
 {
     let ids = end.ids(alloc)?;
@@ -120,9 +118,8 @@ fn left_of<R: Sender>(end: &End<'_, R>, id: u32) -> u32
 
 // Puts out one piece of each id that has some left.
 fn send_each<R: Sender>(end: &mut End<'_, R>, ids: &[u32]) -> Result<Option<SessionFault>, Failure>
-    ensures sends { IfOk result (λ refused. SendsRound R.next R.closed R.gathering R.in_call
-        R.sends end.old.fault R.left_in ids.now 0 (outbox_of end.old) refused
-        (outbox_of end.new)) }
+    ensures sends { IfOk result (λ refused. SendsRound R.next R.closed R.gathering R.in_call R.sends
+        end.old.fault R.left_in ids.now 0 (outbox_of end.old) refused (outbox_of end.new)) }
     ensures others { IsActedOn end.old end.new }
 {
     'ids: for id in ids {
@@ -136,8 +133,7 @@ fn send_each<R: Sender>(end: &mut End<'_, R>, ids: &[u32]) -> Result<Option<Sess
 // Puts out the next piece of an id, where it has some left.
 fn send_next<R: Sender>(end: &mut End<'_, R>, id: u32) -> Result<Option<SessionFault>, Failure>
     ensures sends { IfOk result (λ refused. SendsNext R.next R.closed R.gathering R.in_call R.sends
-        end.old.fault R.left_in id (outbox_of end.old) refused
-        (outbox_of end.new)) }
+        end.old.fault R.left_in id (outbox_of end.old) refused (outbox_of end.new)) }
     ensures others { IsActedOn end.old end.new }
 {
     if left_of(end, id) == 0 {

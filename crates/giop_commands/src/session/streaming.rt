@@ -8,12 +8,12 @@ ghost use Rattle.std.specs.Io.KnownBytes.{Appends, Keeps};
 ghost use Rattle.giop_commands.specs.Streaming.{OutInPart, ToldInPart, ended_at, over_at, over_text, without_ended, without_over};
 ghost use Rattle.giop_commands.specs.Table.{table_text, text_at};
 
-use crate::failure::Failure;
-use crate::form::LineForm;
 use crate::session::table::Tabled;
 use crate::session::untold::Untold;
+use giop_end::{End, Hearing};
 use giop_mux::CallRule;
-use giop_session::{End, Hearing};
+use giop_show::failure::Failure;
+use giop_show::form::LineForm;
 use giop_types::Interface;
 use std::alloc::{AllocError, Global};
 use std::io::Write;
@@ -23,7 +23,7 @@ pub trait Streamed: Tabled {
     ghost use Rattle.std.specs.Prelude.{◌≡◌, ℕ, List, IfOk};
     ghost use Rattle.std.specs.String.{string_bytes};
     ghost use Rattle.giop_types.specs.declared.json.interface.Interface.{Interface};
-    ghost use Rattle.giop_commands.specs.declared.form.LineForm.{LineForm};
+    ghost use Rattle.giop_show.specs.declared.form.LineForm.{LineForm};
 
     ghost told: { LineForm → Interface → ℕ → Self.Entry → List ℕ };
 

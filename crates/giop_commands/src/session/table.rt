@@ -4,10 +4,10 @@ ghost use Rattle.std.specs.Prelude.{◌≡◌, OnOk};
 ghost use Rattle.std.specs.Io.KnownBytes.{Appends};
 ghost use Rattle.giop_commands.specs.Table.{table_text};
 
-use crate::failure::Failure;
-use crate::form::LineForm;
+use giop_end::{End, Hearing};
 use giop_mux::CallRule;
-use giop_session::{End, Hearing};
+use giop_show::failure::Failure;
+use giop_show::form::LineForm;
 use giop_types::Interface;
 use std::alloc::{AllocError, Global};
 use std::io::Write;
@@ -17,7 +17,7 @@ pub trait Tabled: Hearing {
     ghost use Rattle.std.specs.Prelude.{◌≡◌, ℕ, List, IfOk};
     ghost use Rattle.std.specs.String.{string_bytes};
     ghost use Rattle.giop_types.specs.declared.json.interface.Interface.{Interface};
-    ghost use Rattle.giop_commands.specs.declared.form.LineForm.{LineForm};
+    ghost use Rattle.giop_show.specs.declared.form.LineForm.{LineForm};
 
     ghost line: { LineForm → Interface → ℕ → Self.Entry → List ℕ };
 

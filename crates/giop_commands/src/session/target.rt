@@ -6,11 +6,9 @@ ghost use Rattle.giop_ior.specs.CorbalocWriting.{corbaloc_text};
 ghost use Rattle.giop_ior.specs.Ior.{ior_layout};
 ghost use Rattle.giop_msg.specs.Version.{version_of};
 ghost use Rattle.giop_types.specs.IorText.{ior_text_of};
-ghost use Rattle.giop_commands.specs.declared.failure.Failure.TheVariants.{Memory};
+ghost use Rattle.giop_show.specs.declared.failure.Failure.TheVariants.{Memory};
 ghost use Rattle.giop_commands.specs.Target.{at_first, at_profile, by_corbaloc, by_reference, corbaloc_at, first_iiop, iiop_in, is_reference, place_in, said, target_of};
 
-use crate::convert::reference::ior_refusal;
-use crate::failure::Failure;
 use giop_cdr::{CdrKind, OctetList};
 use giop_ior::{
     Address, Corbaloc, CorbalocKind, IiopProfile, Ior, Sequence, TaggedProfile, corbaloc_from_text,
@@ -18,6 +16,8 @@ use giop_ior::{
 };
 use giop_lines::RefusalLine;
 use giop_msg::Version;
+use giop_show::convert::reference::ior_refusal;
+use giop_show::failure::Failure;
 use std::alloc::{AllocError, Global};
 
 /// Where an object is reached, in which version, and by which key.

@@ -2,7 +2,7 @@
 ghost use Rattle.std.specs.Prelude.{◌≡◌, ◌≢◌};
 ghost use Rattle.std.specs.IoError.{error_kind};
 
-use crate::failure::Failure;
+use giop_show::failure::Failure;
 use std::alloc::AllocError;
 use std::io;
 use std::io::ErrorKind;

@@ -1,6 +1,6 @@
 //! A message of the greatest size. Other files are cases of the built program (tests/cases/dump).
-use giop_commands::dump_octets;
-use giop_commands::status::Status;
+use giop_show::dump_octets;
+use giop_show::status::Status;
 use std::test::Fail;
 
 // A message of the greatest size, which is fed in many pieces, and one octet more.

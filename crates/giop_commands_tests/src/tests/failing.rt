@@ -1,7 +1,7 @@
 //! Commands that fail: a writer that fails, and the status and the text of each failure.
-use giop_commands::dump_octets;
-use giop_commands::failure::Failure;
-use giop_commands::status::Status;
+use giop_show::dump_octets;
+use giop_show::failure::Failure;
+use giop_show::status::Status;
 use std::io;
 use std::io::{ErrorKind, Write};
 use std::test::Fail;

@@ -1,5 +1,5 @@
 //! The limits where none are given (docs/giopctl.md, Options): `ping` and `locate` have them too.
-use giop_session::Limits;
+use giop_end::Limits;
 
 #[test]
 fn the_limits_by_default(rt: HostRuntime) {

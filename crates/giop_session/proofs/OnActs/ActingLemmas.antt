@@ -6,16 +6,16 @@ use Rattle.giop_ids.specs.Runs.{Does, left, told, within}
 use Rattle.giop_ids.proofs.Puts.{get-put_other, get-put_same}
 use Rattle.giop_msg.specs.declared.msg.Msg.{Msg}
 use Rattle.giop_mux.specs.declared.step.Step.{Step}
-use Rattle.giop_session.specs.declared.calls.plan.Plan.{Plan}
-use Rattle.giop_session.specs.declared.calls.plan.Planned.{Planned}
-use Rattle.giop_session.specs.declared.calls.sending.Sends.{Sends}
-use Rattle.giop_session.specs.declared.session_fault.SessionFault.{SessionFault}
-use Rattle.giop_session.specs.declared.calls.table_fault.TableFault.{TableFault}
+use Rattle.giop_table.specs.declared.plan.Plan.{Plan}
+use Rattle.giop_table.specs.declared.plan.Planned.{Planned}
+use Rattle.giop_table.specs.declared.sending.Sends.{Sends}
+use Rattle.giop_end.specs.declared.session_fault.SessionFault.{SessionFault}
+use Rattle.giop_table.specs.declared.table_fault.TableFault.{TableFault}
 use Rattle.giop_session.specs.Acts.Acting.{IsAccepted}
-use Rattle.giop_session.specs.Calls.CallTable.{Answers, Call, Held, Hears, Nothing, Reply, at, brought, event_reply, limit, rules_of, turn, turned}
-use Rattle.giop_session.specs.Hearing.Heard.{told_of}
-use Rattle.giop_session.specs.Acts.Putting.{Befell, octets_of, put_out}
-use Rattle.giop_session.specs.Calls.Sending.{entry_of, message_of, settled_by, slot_of, unsent_after, unsent_of}
+use Rattle.giop_table.specs.CallTable.{Answers, Call, Held, Hears, Nothing, Reply, at, brought, event_reply, limit, rules_of, turn, turned}
+use Rattle.giop_end.specs.Hearing.Heard.{result_of}
+use Rattle.giop_end.specs.Acts.Putting.{ActsOnCall, octets_of, put_out}
+use Rattle.giop_table.specs.Sending.{entry_of, message_of, settled_by, slot_of, unsent_after, unsent_of}
 
 -- the message that is answered, if one is
 abbrev message_told : {E A F : Type 0} → Result (Reply E A) (TableFault F) → Option Msg
@@ -41,7 +41,7 @@ module _ {E V A F : Type 0} (next : Option E → V → Step E A F) (closed gathe
   module _ {R : Type 0} (of_rule : ℕ → F → SessionFault) (id : ℕ) (planned : Planned V) (h : Held R E) (out : List ℕ) where
     by_answer : (answered : Result (Sends A) (TableFault F)) (k : Held R E) (out' : List ℕ)
         → Does (rules_of next closed gathering) h (record { id = id; what = Hears planned Nothing }) (event_reply answered) k
-        → Ok tt ≡ told_of (of_rule id) answered → out' ≡ out ++ put_out answered → IsAccepted next id planned h out k out'
+        → Ok tt ≡ result_of (of_rule id) answered → out' ≡ out ++ put_out answered → IsAccepted next id planned h out k out'
     by_answer (Err why) k out' does told_so puts = absurd cc
     by_answer (Ok sends) k out' does told_so puts =
         let slot = finite.get h.table id in
@@ -56,16 +56,16 @@ module _ {E V A F : Type 0} (next : Option E → V → Step E A F) (closed gathe
           puts = puts ∙ ap (λ m. out ++ octets_of m) found.2;
         }
 
-    pub accepted : (k : Held R E) (out' : List ℕ) → Befell (rules_of next closed gathering) of_rule id planned h out (Ok tt) k out'
+    pub accepted : (k : Held R E) (out' : List ℕ) → ActsOnCall (rules_of next closed gathering) of_rule id planned h out (Ok tt) k out'
         → IsAccepted next id planned h out k out'
-    accepted k out' befell = by_answer befell.answered k out' befell.does befell.told befell.puts
+    accepted k out' on_call = by_answer on_call.answered k out' on_call.does on_call.returned on_call.puts
 
     by_refusal : (answered : Result (Sends A) (TableFault F)) (why : SessionFault) (k : Held R E) (out' : List ℕ)
         → Does (rules_of next closed gathering) h (record { id = id; what = Hears planned Nothing }) (event_reply answered) k
-        → Err why ≡ told_of (of_rule id) answered → out' ≡ out ++ put_out answered → (k ≡ h) × (out' ≡ out)
+        → Err why ≡ result_of (of_rule id) answered → out' ≡ out ++ put_out answered → (k ≡ h) × (out' ≡ out)
     by_refusal (Ok sends) why k out' does told_so puts = absurd cc
     by_refusal (Err fault) why k out' does told_so puts = (does.leaves, puts ∙ append-nil out)
 
     pub refused : (why : SessionFault) (k : Held R E) (out' : List ℕ)
-        → Befell (rules_of next closed gathering) of_rule id planned h out (Err why) k out' → (k ≡ h) × (out' ≡ out)
-    refused why k out' befell = by_refusal befell.answered why k out' befell.does befell.told befell.puts
+        → ActsOnCall (rules_of next closed gathering) of_rule id planned h out (Err why) k out' → (k ≡ h) × (out' ≡ out)
+    refused why k out' on_call = by_refusal on_call.answered why k out' on_call.does on_call.returned on_call.puts

@@ -47,13 +47,13 @@ use Rattle.giop_calls.specs.declared.client.call.Call.TheVariants as asked
 use Rattle.giop_calls.specs.declared.client.entry.ClientEntry.{ClientEntry}
 use Rattle.giop_calls.specs.declared.client.event.ClientEvent.TheVariants as at_client
 use Rattle.giop_calls.specs.declared.server.event.ServerEvent.TheVariants as at_server
-use Rattle.giop_session.specs.Acts.ClientCalls.{IsCancel, locate_octets, request_octets}
+use Rattle.giop_end.specs.Acts.ClientCalls.{IsCancel, locate_octets, request_octets}
 use Rattle.giop_session.specs.Worlds.OnTheWay.{Names, id_of}
 use Rattle.giop_session.specs.Worlds.OwnLane.{PlansCall, PlansReply, sends_cut}
-use Rattle.giop_session.specs.Acts.Sent.{cancel_request, sends_one}
-use Rattle.giop_session.specs.Acts.ServerAnswers.{IsLocateAnswer, located, reply_octets}
+use Rattle.giop_end.specs.Acts.Sent.{cancel_request, sends_one}
+use Rattle.giop_end.specs.Acts.ServerAnswers.{IsLocateAnswer, located, reply_octets}
 use Rattle.giop_session.proofs.OnActs.WrittenLemmas.{locate_written, reply_written, request_written}
-use Rattle.giop_session.proofs.OnLanes.CodingLemmas.{same_piece, told_fits, told_holds, told_of}
+use Rattle.giop_session.proofs.OnLanes.CodingLemmas.{same_piece, told_fits, told_holds, result_of}
 
 -- ---- octets that begin with the fields up to an id
 
@@ -326,7 +326,7 @@ reply_named interface q r cut is =
 pub located_named : (id : ℕ) (here : Bool) (order : Order) (version : Version) (piece : Msg)
     → IsLocateAnswer id here order (Some version) (sends_one (at_server.AnswerLocate here) piece) → Names id piece
 located_named id here order version piece (small, is) =
-    let told = told_of version id here in
+    let told = result_of version id here in
     let octets = ((locate_reply version).written told (joined_into order)).octets in
     let whole = whole_of (locate_reply_is version) in
     let begins = located_begins version order told octets

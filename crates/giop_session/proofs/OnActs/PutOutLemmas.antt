@@ -20,23 +20,23 @@ use Rattle.giop_msg.specs.Msg.{message_octets}
 use Rattle.giop_msg.specs.RequestId.{request_id_of}
 use Rattle.giop_session.specs.declared.laws.inputs.Answered.{Answered}
 use Rattle.giop_session.specs.declared.laws.inputs.Answered.TheVariants as answer
-use Rattle.giop_session.specs.declared.calls.plan.Plan.{Plan}
-use Rattle.giop_session.specs.declared.calls.plan.Plan.TheVariants.{Put, Next, Keep}
-use Rattle.giop_session.specs.declared.calls.plan.Planned.{Planned}
-use Rattle.giop_session.specs.declared.calls.sending.Sends.{Sends}
-use Rattle.giop_session.specs.declared.session_fault.SessionFault.{SessionFault}
-use Rattle.giop_session.specs.declared.calls.slot.Slot.{Slot}
-use Rattle.giop_session.specs.declared.calls.table_fault.TableFault.{TableFault}
-use Rattle.giop_session.specs.Calls.CallTable.{Act, Answers, Call, Held, Hears, IsTaken, Nothing, Reply, at}
-use Rattle.giop_session.specs.Calls.CallTable.{brought, event_reply, put_call, taken, turned}
-use Rattle.giop_session.specs.Runs.Driven.{Closes, Deed, EndRuns, EndState, Feeds, IsDoneBy, IsGivenBy, PutsOut, TakesOut}
-use Rattle.giop_session.specs.Hearing.Feeding.{Through}
-use Rattle.giop_session.specs.Hearing.Heard.{Befalls, Breaks, Heard, IsHeardAs, heard_by, heard_of, SideOf, turn_at, rules_at, hears}
+use Rattle.giop_table.specs.declared.plan.Plan.{Plan}
+use Rattle.giop_table.specs.declared.plan.Plan.TheVariants.{Put, Next, Keep}
+use Rattle.giop_table.specs.declared.plan.Planned.{Planned}
+use Rattle.giop_table.specs.declared.sending.Sends.{Sends}
+use Rattle.giop_end.specs.declared.session_fault.SessionFault.{SessionFault}
+use Rattle.giop_table.specs.declared.slot.Slot.{Slot}
+use Rattle.giop_table.specs.declared.table_fault.TableFault.{TableFault}
+use Rattle.giop_table.specs.CallTable.{Act, Answers, Call, Held, Hears, IsTaken, Nothing, Reply, at, brought, event_reply, put_call, taken, turned}
+use Rattle.giop_session.specs.Runs.Driven.{Closes, Deed, EndRuns, Feeds, IsDoneBy, IsGivenBy, PutsOut, TakesOut}
+use Rattle.giop_end.specs.Ends.Begun.{EndState}
+use Rattle.giop_end.specs.Hearing.Feeding.{Through}
+use Rattle.giop_end.specs.Hearing.Heard.{ActsOn, Breaks, Heard, IsHeardAs, heard_by, heard_of, SideOf, turn_at, rules_at, hears}
 use Rattle.giop_session.specs.Acts.PutOut.{AreOf, ArePutOut}
-use Rattle.giop_session.specs.Acts.Putting.{Puts, octets_of, put_out}
-use Rattle.giop_session.specs.Calls.Sending.{entry_of, message_of, sending_step, settled_by, slot_of, unsent_after, unsent_of}
-use Rattle.giop_session.specs.Acts.Sent.{close_connection}
-use Rattle.giop_session.specs.Calls.Unsent.{first_of}
+use Rattle.giop_end.specs.Acts.Putting.{Puts, octets_of, put_out}
+use Rattle.giop_table.specs.Sending.{entry_of, message_of, sending_step, settled_by, slot_of, unsent_after, unsent_of}
+use Rattle.giop_end.specs.Acts.Sent.{close_connection}
+use Rattle.giop_table.specs.Unsent.{first_of}
 
 module _ (sends : Kind → Bool) where
   dropped : (messages : List Msg) → AreOf sends messages → AreOf sends (drop 1 messages)
@@ -115,7 +115,7 @@ module _ (sends : Kind → Bool) where
 
   abbrev HeardIsOf : {V : Type 0} → Heard V → Type 0
   HeardIsOf (Breaks why) = Unit {0}
-  HeardIsOf (Befalls id act) = ActIsOf act
+  HeardIsOf (ActsOn id act) = ActIsOf act
 
   abbrev pub DeedIsOf : {V F : Type 0} → Deed V F → Type 0
   DeedIsOf {V} (Feeds octets) = Unit {0}
@@ -211,10 +211,10 @@ module _ (sends : Kind → Bool) where
         (subst TableIsOf (sym calls) table, subst (ArePutOut sends) (sym is) put)
     puts_is h k id (Some why) Plans out out' result plans (inr (refused, calls, is)) table put =
         (subst TableIsOf (sym calls) table, subst (ArePutOut sends) (sym is) put)
-    puts_is h k id None Plans out out' result plans (inr (planned, so, befell)) table put = (
-      does_is h k id (Hears planned Nothing) (event_reply befell.answered) befell.does table (plans planned so),
-      subst (ArePutOut sends) (sym befell.puts)
-          (does_sends h k id planned befell.answered out befell.does table (plans planned so) put),
+    puts_is h k id None Plans out out' result plans (inr (planned, so, on_call)) table put = (
+      does_is h k id (Hears planned Nothing) (event_reply on_call.answered) on_call.does table (plans planned so),
+      subst (ArePutOut sends) (sym on_call.puts)
+          (does_sends h k id planned on_call.answered out on_call.does table (plans planned so) put),
     )
 
     heard_is : (broken : Option SessionFault) (name : Option (Result ℕ CdrFault)) (act : ℕ → Act V) → ((id : ℕ) → ActIsOf (act id))
@@ -227,15 +227,15 @@ module _ (sends : Kind → Bool) where
     hears_as : (heard : Heard V) (h k : Held R E) (result : Result (Unit {0}) SessionFault) → HeardIsOf heard
         → IsHeardAs (rules_at side h.rule) side.of_rule heard h result k → TableIsOf h → TableIsOf k
     hears_as (Breaks why) h k result is (told_so, same) table = subst TableIsOf (sym same) table
-    hears_as (Befalls id act) h k result is (answered, does, told_so) table = does_is h k id act (event_reply answered) does table is
+    hears_as (ActsOn id act) h k result is (answered, does, told_so) table = does_is h k id act (event_reply answered) does table is
 
-    module _ (comes : (m : Msg) (call : Call E) → ActIsOf (side.befalls m call)) where
+    module _ (comes : (m : Msg) (call : Call E) → ActIsOf (side.act_by m call)) where
       hears_is : (m : Msg) (h k : Held R E) (result : Result (Unit {0}) SessionFault)
           → hears side m h result k → TableIsOf h → TableIsOf k
       hears_is m h k result (inl (wanting, same)) table = subst TableIsOf (sym same) table
       hears_is m h k result (inr heard) table =
-          hears_as (heard_of side.breaks side.befalls h m) h k result
-          (heard_is (side.breaks m) (request_id_of m) (λ id. side.befalls m (at h id)) (λ id. comes m (at h id))) heard table
+          hears_as (heard_of side.breaks side.act_by h m) h k result
+          (heard_is (side.breaks m) (request_id_of m) (λ id. side.act_by m (at h id)) (λ id. comes m (at h id))) heard table
 
       through_is : (h k : Held R E) (messages : List Msg)
           → Through (hears side) h messages k → TableIsOf h → TableIsOf k

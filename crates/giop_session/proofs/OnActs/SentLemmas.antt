@@ -23,14 +23,14 @@ use Rattle.giop_calls.specs.declared.client.call.Call.TheVariants as asked
 use Rattle.giop_calls.specs.declared.client.entry.ClientEntry.{ClientEntry}
 use Rattle.giop_calls.specs.declared.client.event.ClientEvent.TheVariants as at_client
 use Rattle.giop_calls.specs.declared.server.event.ServerEvent.TheVariants as at_server
-use Rattle.giop_session.specs.Acts.ClientCalls.{IsCancel, locate_octets, request_octets}
+use Rattle.giop_end.specs.Acts.ClientCalls.{IsCancel, locate_octets, request_octets}
 use Rattle.giop_session.specs.Worlds.OnTheWay.{IsFramed}
 use Rattle.giop_session.specs.Worlds.OwnLane.{PlansCall, PlansLocated, PlansReply, sends_cut}
-use Rattle.giop_session.specs.Acts.Sent.{cancel_request, sends_one}
-use Rattle.giop_session.specs.Acts.ServerAnswers.{located, reply_octets}
+use Rattle.giop_end.specs.Acts.Sent.{cancel_request, sends_one}
+use Rattle.giop_end.specs.Acts.ServerAnswers.{located, reply_octets}
 use Rattle.giop_session.proofs.OnActs.WrittenLemmas.{locate_written, reply_written, request_written}
 use Rattle.giop_session.proofs.OnLanes.CodingLemmas.{same_piece}
-use Rattle.giop_session.proofs.OnActs.LocatedLemmas.{located_eight}
+use Rattle.giop_end.proofs.OnActs.LocatedLemmas.{located_eight}
 
 -- ---- what is cut
 

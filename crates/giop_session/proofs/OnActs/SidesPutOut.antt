@@ -20,28 +20,29 @@ use Rattle.giop_calls.specs.declared.server.entry.ServerEntry.{ServerEntry}
 use Rattle.giop_calls.specs.declared.server.event.ServerEvent.{ServerEvent}
 use Rattle.giop_calls.specs.declared.server.event.ServerEvent.TheVariants as server_event
 use Rattle.giop_calls.specs.declared.server.rule.ServerRule.{ServerRule}
-use Rattle.giop_session.specs.declared.acts.form.Form.{Form}
+use Rattle.giop_end.specs.declared.acts.form.Form.{Form}
 use Rattle.giop_session.specs.declared.laws.inputs.Answered.{Answered}
 use Rattle.giop_session.specs.declared.laws.inputs.ClientInput.{ClientInput}
 use Rattle.giop_session.specs.declared.laws.inputs.ClientInput.TheVariants as client
 use Rattle.giop_session.specs.declared.laws.inputs.ServerInput.{ServerInput}
 use Rattle.giop_session.specs.declared.laws.inputs.ServerInput.TheVariants as server
-use Rattle.giop_session.specs.declared.limits.Limits.{Limits}
-use Rattle.giop_session.specs.declared.calls.plan.Planned.{Planned}
-use Rattle.giop_session.specs.Calls.CallTable.{Act, Call, Held}
-use Rattle.giop_session.specs.Acts.ClientCalls.{IsCancel, open_version}
-use Rattle.giop_session.specs.Hearing.ClientHears as client_hears
-use Rattle.giop_session.specs.Hearing.ClientHears.{client_befalls, client_side}
-use Rattle.giop_session.specs.Runs.ClientRuns.{client_deed, client_entry, client_run}
-use Rattle.giop_session.specs.Runs.ServerRuns.{server_deed, server_entry, server_run}
+use Rattle.giop_end.specs.declared.limits.Limits.{Limits}
+use Rattle.giop_table.specs.declared.plan.Planned.{Planned}
+use Rattle.giop_table.specs.CallTable.{Act, Call, Held, entry_at}
+use Rattle.giop_end.specs.Acts.ClientCalls.{IsCancel, open_version}
+use Rattle.giop_end.specs.Hearing.ClientHears as client_hears
+use Rattle.giop_end.specs.Hearing.Pieces as joining
+use Rattle.giop_end.specs.Hearing.ClientHears.{client_act, client_side}
+use Rattle.giop_session.specs.Runs.ClientRuns.{client_deed, client_run}
+use Rattle.giop_session.specs.Runs.ServerRuns.{server_deed, server_run}
 use Rattle.giop_session.specs.Runs.SideRuns.{SideRuns}
-use Rattle.giop_session.specs.Runs.Driven.{EndState, new_end}
+use Rattle.giop_end.specs.Ends.Begun.{EndState, new_end}
 use Rattle.giop_session.specs.Acts.PutOut.{AreOf, ArePutOut, is_of_client, is_of_server}
-use Rattle.giop_session.specs.Calls.Sending.{unsent_of}
-use Rattle.giop_session.specs.Acts.Sent.{IsSent}
-use Rattle.giop_session.specs.Acts.ServerAnswers.{IsAnswer, IsLocateAnswer, locate_of, question_of, reply_octets}
-use Rattle.giop_session.specs.Hearing.ServerHears as server_hears
-use Rattle.giop_session.specs.Hearing.ServerHears.{server_befalls, server_side}
+use Rattle.giop_table.specs.Sending.{unsent_of}
+use Rattle.giop_end.specs.Acts.Sent.{IsSent}
+use Rattle.giop_end.specs.Acts.ServerAnswers.{IsAnswer, IsLocateAnswer, locate_of, question_of, reply_octets}
+use Rattle.giop_end.specs.Hearing.ServerHears as server_hears
+use Rattle.giop_end.specs.Hearing.ServerHears.{server_act, server_side}
 use Rattle.giop_session.proofs.OnActs.PutOutLemmas.{ActIsOf, DeedIsOf, PlanIsOf, cut_are, run_is}
 
 -- what is sent in messages of a kind
@@ -64,17 +65,17 @@ client_first interface kind m None = act_if is_of_client m.more _ _ tt tt
 client_first interface kind m (Some call) = act_if is_of_client m.more _ _ tt tt
 
 client_more : (interface : Interface) (m : Msg) (pieces : Option (Asked × List ℕ))
-    → ActIsOf is_of_client (client_hears.continues interface m pieces)
+    → ActIsOf is_of_client (joining.continues client_hears.client_pieces interface m pieces)
 client_more interface m None = act_if is_of_client m.more _ _ tt tt
 client_more interface m (Some pieces) = act_if is_of_client m.more _ _ tt tt
 
-client_comes : (interface : Interface) (m : Msg) (call : Call ClientEntry) → ActIsOf is_of_client (client_befalls interface m call)
+client_comes : (interface : Interface) (m : Msg) (call : Call ClientEntry) → ActIsOf is_of_client (client_act interface m call)
 client_comes interface m call = by_kind m.kind
   where
-    by_kind : (kind : Kind) → ActIsOf is_of_client (client_hears.befalls_by interface m call kind)
+    by_kind : (kind : Kind) → ActIsOf is_of_client (client_hears.act_by_kind interface m call kind)
     by_kind message.Reply = client_first interface kind.Request m (client_hears.awaited kind.Request m.version call.slot)
     by_kind message.LocateReply = client_first interface kind.Locate m (client_hears.awaited kind.Locate m.version call.slot)
-    by_kind message.Fragment = client_more interface m (client_hears.continued m.order (client_hears.gathered_call call.slot) call.pieces)
+    by_kind message.Fragment = client_more interface m (joining.continued m.order (client_hears.gathered_call call.slot) call.pieces)
     by_kind message.Request = tt
     by_kind message.LocateRequest = tt
     by_kind message.CancelRequest = tt
@@ -88,7 +89,7 @@ client_deeds interface limits h (client.Call request form) = λ planned is.
     sent_is is_of_client _ message.Request form.form _ (client_event.Call (asked.Request request)) planned refl refl is.sent
 client_deeds interface limits h (client.Locate request form) =
     λ planned is. sent_is is_of_client _ message.LocateRequest form.form _ (client_event.Call (asked.Locate request)) planned refl refl is.sent
-client_deeds interface limits h (client.Cancel id order) = λ planned is. by_version (open_version (client_entry h id)) planned is
+client_deeds interface limits h (client.Cancel id order) = λ planned is. by_version (open_version (entry_at h id)) planned is
   where
     by_version : (version : Option Version) (planned : Planned ClientEvent) → IsCancel id order version planned → PlanIsOf is_of_client planned.plan
     by_version None planned is = absurd is
@@ -109,18 +110,18 @@ server_first : (interface : Interface) (kind : CallKind) (m : Msg) → ActIsOf i
 server_first interface kind m = act_if is_of_server m.more _ _ tt tt
 
 server_more : (interface : Interface) (m : Msg) (pieces : Option (CallKind × List ℕ))
-    → ActIsOf is_of_server (server_hears.continues interface m pieces)
+    → ActIsOf is_of_server (joining.continues server_hears.server_pieces interface m pieces)
 server_more interface m None = tt
 server_more interface m (Some pieces) = act_if is_of_server m.more _ _ tt tt
 
-server_comes : (interface : Interface) (m : Msg) (call : Call ServerEntry) → ActIsOf is_of_server (server_befalls interface m call)
+server_comes : (interface : Interface) (m : Msg) (call : Call ServerEntry) → ActIsOf is_of_server (server_act interface m call)
 server_comes interface m call = by_kind m.kind
   where
-    by_kind : (kind : Kind) → ActIsOf is_of_server (server_hears.befalls_by interface m call kind)
+    by_kind : (kind : Kind) → ActIsOf is_of_server (server_hears.act_by_kind interface m call kind)
     by_kind message.Request = server_first interface kind.Request m
     by_kind message.LocateRequest = server_first interface kind.Locate m
     by_kind message.CancelRequest = tt
-    by_kind message.Fragment = server_more interface m (server_hears.continued m.order (server_hears.gathered_kind call.slot) call.pieces)
+    by_kind message.Fragment = server_more interface m (joining.continued m.order (server_hears.gathered_kind call.slot) call.pieces)
     by_kind message.Reply = tt
     by_kind message.LocateReply = tt
     by_kind message.CloseConnection = tt
@@ -129,7 +130,7 @@ server_comes interface m call = by_kind m.kind
 server_deeds : (interface : Interface) (limits : Limits) (h : Held ServerRule ServerEntry) (input : ServerInput)
     → DeedIsOf is_of_server (server_deed interface limits h input)
 server_deeds interface limits h (server.Feed octets) = tt
-server_deeds interface limits h (server.Answer reply form) = λ planned is. by_question (question_of (server_entry h reply.id)) planned is
+server_deeds interface limits h (server.Answer reply form) = λ planned is. by_question (question_of (entry_at h reply.id)) planned is
   where
     by_question : (question : Option (Option Request)) (planned : Planned ServerEvent) → IsAnswer interface question reply form.form planned
         → PlanIsOf is_of_server planned.plan
@@ -138,7 +139,7 @@ server_deeds interface limits h (server.Answer reply form) = λ planned is. by_q
         sent_is is_of_server reply.version message.Reply form.form (reply_octets interface question reply form.form.order)
         (server_event.Answer reply) planned refl refl is.sent
 server_deeds interface limits h (server.AnswerLocate id here order) =
-    λ planned is. by_version (locate_of here (server_entry h id)) planned is
+    λ planned is. by_version (locate_of here (entry_at h id)) planned is
   where
     by_version : (version : Option Version) (planned : Planned ServerEvent) → IsLocateAnswer id here order version planned
         → PlanIsOf is_of_server planned.plan

@@ -19,13 +19,13 @@ use Rattle.giop_calls.specs.declared.client.call.Call.TheVariants as asked
 use Rattle.giop_calls.specs.declared.client.entry.ClientEntry.{ClientEntry}
 use Rattle.giop_calls.specs.declared.client.event.ClientEvent.TheVariants as at_client
 use Rattle.giop_calls.specs.declared.server.event.ServerEvent.TheVariants as at_server
-use Rattle.giop_session.specs.Acts.ClientCalls.{locate_octets, request_octets}
-use Rattle.giop_session.specs.Acts.Sent.{sends_one}
-use Rattle.giop_session.specs.Acts.ServerAnswers.{IsLocateAnswer, located, reply_octets}
+use Rattle.giop_end.specs.Acts.ClientCalls.{locate_octets, request_octets}
+use Rattle.giop_end.specs.Acts.Sent.{sends_one}
+use Rattle.giop_end.specs.Acts.ServerAnswers.{IsLocateAnswer, located, reply_octets}
 use Rattle.giop_session.specs.Items.Carries.{IsWrittenAs}
 use Rattle.giop_session.specs.Worlds.OwnLane.{PlansCall, PlansReply, sends_cut}
-use Rattle.giop_session.proofs.OnActs.LocatedLemmas.{located_eight}
-use Rattle.giop_session.proofs.OnLanes.CodingLemmas.{locate_sent, reply_sent, request_sent, same_piece, same_pieces, told_fits, told_holds, told_of}
+use Rattle.giop_end.proofs.OnActs.LocatedLemmas.{located_eight}
+use Rattle.giop_session.proofs.OnLanes.CodingLemmas.{locate_sent, reply_sent, request_sent, same_piece, same_pieces, told_fits, told_holds, result_of}
 
 pub request_written : (interface : Interface) (entry : Option ClientEntry) (q : Request) (cut : Cut)
     (is : PlansCall interface entry (asked.Request q) (sends_cut (at_client.Call (asked.Request q)) cut))
@@ -70,9 +70,9 @@ reply_written interface q r cut is =
 -- eight octets are one piece of 24
 pub located_written : (id : ℕ) (here : Bool) (order : Order) (version : Version) (m : Msg)
     → IsLocateAnswer id here order (Some version) (sends_one (at_server.AnswerLocate here) m)
-    → IsWrittenAs (locate_reply version) order (told_of version id here) message.LocateReply 24 version (m ∷ [])
+    → IsWrittenAs (locate_reply version) order (result_of version id here) message.LocateReply 24 version (m ∷ [])
 located_written id here order version m (small, is) =
-    let octets = ((locate_reply version).written (told_of version id here) (joined_into order)).octets in
+    let octets = ((locate_reply version).written (result_of version id here) (joined_into order)).octets in
     let eight : length octets ≡ 8 = located_eight version order id (if here then 1 else 0) in record {
       fits = told_fits version id here;
       holds = told_holds version id here small;

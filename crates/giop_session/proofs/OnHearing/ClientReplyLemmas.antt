@@ -26,14 +26,14 @@ use Rattle.giop_calls.specs.declared.fault.CallFault.TheVariants.{WrongKind}
 use Rattle.giop_calls.specs.declared.kind.CallKind.{CallKind}
 use Rattle.giop_calls.specs.declared.kind.CallKind.TheVariants as kind
 use Rattle.giop_calls.specs.ClientTable.{answers, becomes, client_step, is_closed, is_gathering, refused, settles}
-use Rattle.giop_session.specs.declared.calls.slot.Slot.{Slot}
-use Rattle.giop_session.specs.Calls.CallTable.{Call, First, Hears, More, Nothing}
+use Rattle.giop_table.specs.declared.slot.Slot.{Slot}
+use Rattle.giop_table.specs.CallTable.{Call, First, Hears, More, Nothing}
 use Rattle.giop_session.specs.Items.Carries.{AreFragments, IsSeries}
 use Rattle.giop_session.specs.Items.ClientCarries.{SpellsReply, answered, begun, received, replies, unspelled}
-use Rattle.giop_session.specs.Hearing.ClientHears.{awaited, client_befalls, comes, heard_located_by, heard_reply, heard_reply_by}
+use Rattle.giop_end.specs.Hearing.ClientHears.{awaited, client_act, comes, heard_located_by, heard_reply, heard_reply_by}
 use Rattle.giop_session.specs.Runs.Events.{Comes, Follows}
-use Rattle.giop_session.specs.Hearing.Heard.{kept}
-use Rattle.giop_session.specs.Calls.Sending.{entry_of}
+use Rattle.giop_end.specs.Hearing.Heard.{silently}
+use Rattle.giop_table.specs.Sending.{entry_of}
 use Rattle.giop_session.proofs.OnItems.ItemLemmas.{call_of, entry_is, entry_left, heard}
 use Rattle.giop_session.proofs.OnHearing.ClientCancelLemmas.{Passes, accepted, behind, client_turn, ended, ignored, with}
 
@@ -123,13 +123,13 @@ module _ (interface : Interface) (k : CallKind) (version : Version) (order : Ord
       by_entry (Undecoded call fault) nobody ok = no_fault ok
       by_entry (OnewaySent request) nobody ok = no_fault ok
 
-  -- what a reply befalls its call with
+  -- what a reply does to its call
   comes_is : (more : Bool) (payload : List ℕ) (call : Call ClientEntry)
-      → client_befalls interface (message_of version (replies k) order more payload) call
+      → client_act interface (message_of version (replies k) order more payload) call
       ≡ comes interface k (message_of version (replies k) order more payload) (awaited k version call.slot)
   comes_is more payload call = by_kind k
     where
-      by_kind : (k : CallKind) → client_befalls interface (message_of version (replies k) order more payload) call
+      by_kind : (k : CallKind) → client_act interface (message_of version (replies k) order more payload) call
           ≡ comes interface k (message_of version (replies k) order more payload) (awaited k version call.slot)
       by_kind kind.Request = refl
       by_kind kind.Locate = refl
@@ -150,75 +150,75 @@ module _ (interface : Interface) (k : CallKind) (version : Version) (order : Ord
     gathering octets = with (Gathering call) unsent (Some (record { order = order; octets = octets }))
 
     pub more_act : (octets payload : List ℕ)
-        → client_befalls interface (message_of version message.Fragment order true payload) (gathering octets)
-        ≡ Hears (kept (event.More true)) (More (drop 4 payload))
+        → client_act interface (message_of version message.Fragment order true payload) (gathering octets)
+        ≡ Hears (silently (event.More true)) (More (drop 4 payload))
     more_act octets payload = by_order order
       where
         by_order : (o : Order)
-            → client_befalls interface (message_of version message.Fragment o true payload)
+            → client_act interface (message_of version message.Fragment o true payload)
             (with (Gathering call) unsent (Some (record { order = o; octets = octets })))
-            ≡ Hears (kept (event.More true)) (More (drop 4 payload))
+            ≡ Hears (silently (event.More true)) (More (drop 4 payload))
         by_order Big = refl
         by_order Little = refl
 
     last_act : (octets payload : List ℕ)
-        → client_befalls interface (message_of version message.Fragment order false payload) (gathering octets)
-        ≡ Hears (kept (event.Last true (heard_reply interface call version order (octets ++ drop 4 payload)))) (More (drop 4 payload))
+        → client_act interface (message_of version message.Fragment order false payload) (gathering octets)
+        ≡ Hears (silently (event.Last true (heard_reply interface call version order (octets ++ drop 4 payload)))) (More (drop 4 payload))
     last_act octets payload = by_order order
       where
         by_order : (o : Order)
-            → client_befalls interface (message_of version message.Fragment o false payload)
+            → client_act interface (message_of version message.Fragment o false payload)
             (with (Gathering call) unsent (Some (record { order = o; octets = octets })))
-            ≡ Hears (kept (event.Last true (heard_reply interface call version o (octets ++ drop 4 payload)))) (More (drop 4 payload))
+            ≡ Hears (silently (event.Last true (heard_reply interface call version o (octets ++ drop 4 payload)))) (More (drop 4 payload))
         by_order Big = refl
         by_order Little = refl
 
     fragments : (messages : List Msg) (more : Bool) (octets : List ℕ) (after : Call ClientEntry)
         → IsSeries message.Fragment version order more messages
-        → Follows client_turn (client_befalls interface) (gathering octets) (map Comes messages) after
+        → Follows client_turn (client_act interface) (gathering octets) (map Comes messages) after
         → entry_of after.slot ≡ shown more (Some (Waiting call)) (octets ++ flat_map continued messages)
     fragments [] more octets after series follows = absurd series
     fragments (m ∷ []) true octets after series follows =
-        let act = ap (λ n. client_befalls interface n (gathering octets)) series ∙ more_act octets m.payload in
+        let act = ap (λ n. client_act interface n (gathering octets)) series ∙ more_act octets m.payload in
         ap (λ call. entry_of call.slot) (follows.1 ∙ ap (behind (gathering octets)) act)
     fragments (m ∷ []) false octets after series follows =
         let told = heard_reply interface call version order (octets ++ drop 4 m.payload) in
-        let act = ap (λ n. client_befalls interface n (gathering octets)) series ∙ last_act octets m.payload in
-        let did = heard client_step is_closed is_gathering (gathering octets) (kept (event.Last true told)) (More (drop 4 m.payload))
+        let act = ap (λ n. client_act interface n (gathering octets)) series ∙ last_act octets m.payload in
+        let did = heard client_step is_closed is_gathering (gathering octets) (silently (event.Last true told)) (More (drop 4 m.payload))
         (subst (Passes (gathering octets)) act follows.0) in
         ap (λ call. entry_of call.slot) (follows.1 ∙ ap (behind (gathering octets)) act ∙ did.leaves)
         ∙ entry_is (settles (Gathering call) call told).entry unsent
         ∙ settled_same call told did.accepted
         ∙ ap (λ all. received (Some (Waiting call)) (heard_reply interface call version order (octets ++ all))) (sym (append-nil (drop 4 m.payload)))
     fragments (m ∷ n ∷ messages) more octets after (is, series) follows =
-        let act = ap (λ n. client_befalls interface n (gathering octets)) is ∙ more_act octets m.payload in
-        let rest = subst (λ call. Follows client_turn (client_befalls interface) call (map Comes (n ∷ messages)) after)
+        let act = ap (λ n. client_act interface n (gathering octets)) is ∙ more_act octets m.payload in
+        let rest = subst (λ call. Follows client_turn (client_act interface) call (map Comes (n ∷ messages)) after)
         (ap (behind (gathering octets)) act) follows.1 in
         fragments (n ∷ messages) more (octets ++ drop 4 m.payload) after series rest
         ∙ ap (λ all. shown more (Some (Waiting call)) all) (append_assoc octets (drop 4 m.payload) (flat_map continued (n ∷ messages)))
 
     module _ (waits : answers k version call ≡ true) where
       whole_act : (pieces : Option Pieces) (payload : List ℕ)
-          → client_befalls interface (message_of version (replies k) order false payload) (with (Waiting call) unsent pieces)
-          ≡ Hears (kept (event.Whole k version (heard_reply interface call version order payload))) Nothing
+          → client_act interface (message_of version (replies k) order false payload) (with (Waiting call) unsent pieces)
+          ≡ Hears (silently (event.Whole k version (heard_reply interface call version order payload))) Nothing
       whole_act pieces payload =
           comes_is false payload (with (Waiting call) unsent pieces)
           ∙ ap (λ b. comes interface k (message_of version (replies k) order false payload) (cond b (Some call) None)) waits
 
       first_act : (pieces : Option Pieces) (payload : List ℕ)
-          → client_befalls interface (message_of version (replies k) order true payload) (with (Waiting call) unsent pieces)
-          ≡ Hears (kept (event.First k version)) (First order payload)
+          → client_act interface (message_of version (replies k) order true payload) (with (Waiting call) unsent pieces)
+          ≡ Hears (silently (event.First k version)) (First order payload)
       first_act pieces payload =
           comes_is true payload (with (Waiting call) unsent pieces)
           ∙ ap (λ b. comes interface k (message_of version (replies k) order true payload) (cond b (Some call) None)) waits
 
       -- the call gathers its reply behind the first piece
       pub begins : (m : Msg) (pieces : Option Pieces) → m ≡ message_of version (replies k) order true m.payload
-          → Passes (with (Waiting call) unsent pieces) (client_befalls interface m (with (Waiting call) unsent pieces))
-          → behind (with (Waiting call) unsent pieces) (client_befalls interface m (with (Waiting call) unsent pieces)) ≡ gathering m.payload
+          → Passes (with (Waiting call) unsent pieces) (client_act interface m (with (Waiting call) unsent pieces))
+          → behind (with (Waiting call) unsent pieces) (client_act interface m (with (Waiting call) unsent pieces)) ≡ gathering m.payload
       begins m pieces is ok =
-          let act = ap (λ n. client_befalls interface n (with (Waiting call) unsent pieces)) is ∙ first_act pieces m.payload in
-          let did = heard client_step is_closed is_gathering (with (Waiting call) unsent pieces) (kept (event.First k version)) (First order m.payload)
+          let act = ap (λ n. client_act interface n (with (Waiting call) unsent pieces)) is ∙ first_act pieces m.payload in
+          let did = heard client_step is_closed is_gathering (with (Waiting call) unsent pieces) (silently (event.First k version)) (First order m.payload)
           (subst (Passes (with (Waiting call) unsent pieces)) act ok) in
           ap (behind (with (Waiting call) unsent pieces)) act ∙ did.leaves
           ∙ ap (λ b. call_of client_step is_closed is_gathering (cond b (becomes (Gathering call)) (refused (Some (Waiting call)) WrongKind)).entry
@@ -226,36 +226,36 @@ module _ (interface : Interface) (k : CallKind) (version : Version) (order : Ord
 
       awaited_series : (messages : List Msg) (more : Bool) (pieces : Option Pieces) (after : Call ClientEntry)
           → IsSeries (replies k) version order more messages
-          → Follows client_turn (client_befalls interface) (with (Waiting call) unsent pieces) (map Comes messages) after
+          → Follows client_turn (client_act interface) (with (Waiting call) unsent pieces) (map Comes messages) after
           → entry_of after.slot ≡ shown more (Some (Waiting call)) (joined messages)
       awaited_series [] more pieces after is follows = absurd is
       awaited_series (m ∷ []) true pieces after is follows =
           ap (λ call. entry_of call.slot) (follows.1 ∙ begins m pieces is follows.0)
       awaited_series (m ∷ []) false pieces after is follows =
           let said = heard_reply interface call version order m.payload in
-          let act = ap (λ n. client_befalls interface n (with (Waiting call) unsent pieces)) is ∙ whole_act pieces m.payload in
-          entry_left client_step is_closed is_gathering (with (Waiting call) unsent pieces) after (kept (event.Whole k version said))
+          let act = ap (λ n. client_act interface n (with (Waiting call) unsent pieces)) is ∙ whole_act pieces m.payload in
+          entry_left client_step is_closed is_gathering (with (Waiting call) unsent pieces) after (silently (event.Whole k version said))
           (subst (Passes (with (Waiting call) unsent pieces)) act follows.0)
           (follows.1 ∙ ap (behind (with (Waiting call) unsent pieces)) act)
           ∙ ap (λ b. (cond b (settles (Waiting call) call said) (refused (Some (Waiting call)) WrongKind)).entry) waits
           ∙ ap (λ octets. received (Some (Waiting call)) (heard_reply interface call version order octets)) (sym (append-nil m.payload))
       awaited_series (m ∷ n ∷ messages) more pieces after (is, series) follows =
           fragments (n ∷ messages) more m.payload after series
-          (subst (λ call. Follows client_turn (client_befalls interface) call (map Comes (n ∷ messages)) after)
+          (subst (λ call. Follows client_turn (client_act interface) call (map Comes (n ∷ messages)) after)
           (begins m pieces is follows.0) follows.1)
 
   -- ---- of a call that doesn't
 
   pub unread_first : (m : Msg) (call : Call ClientEntry) → awaited k version call.slot ≡ None → m ≡ message_of version (replies k) order true m.payload
-      → client_befalls interface m call ≡ Hears (kept (event.First k version)) Nothing
+      → client_act interface m call ≡ Hears (silently (event.First k version)) Nothing
   unread_first m call nobody is =
-      ap (λ n. client_befalls interface n call) is ∙ comes_is true m.payload call
+      ap (λ n. client_act interface n call) is ∙ comes_is true m.payload call
       ∙ ap (comes interface k (message_of version (replies k) order true m.payload)) nobody
 
   unread_whole : (m : Msg) (call : Call ClientEntry) → awaited k version call.slot ≡ None → m ≡ message_of version (replies k) order false m.payload
-      → client_befalls interface m call ≡ Hears (kept (event.Whole k version heard_as.Unread)) Nothing
+      → client_act interface m call ≡ Hears (silently (event.Whole k version heard_as.Unread)) Nothing
   unread_whole m call nobody is =
-      ap (λ n. client_befalls interface n call) is ∙ comes_is false m.payload call
+      ap (λ n. client_act interface n call) is ∙ comes_is false m.payload call
       ∙ ap (comes interface k (message_of version (replies k) order false m.payload)) nobody
 
   -- pieces behind the first are Fragments
@@ -271,30 +271,30 @@ module _ (interface : Interface) (k : CallKind) (version : Version) (order : Ord
 
   unread_series : (messages : List Msg) (more : Bool) (call after : Call ClientEntry) → awaited k version call.slot ≡ None
       → IsSeries (replies k) version order more messages
-      → Follows client_turn (client_befalls interface) call (map Comes messages) after
+      → Follows client_turn (client_act interface) call (map Comes messages) after
       → entry_of after.slot ≡ shown more (entry_of call.slot) (joined messages)
   unread_series [] more call after nobody is follows = absurd is
   unread_series (m ∷ []) true call after nobody is follows =
       let act = unread_first m call nobody is in
       let ok = subst (Passes call) act follows.0 in
-      let was = first_unread call.slot nobody (accepted call (kept (event.First k version)) ok) in
-      entry_left client_step is_closed is_gathering call after (kept (event.First k version)) ok (follows.1 ∙ ap (behind call) act)
+      let was = first_unread call.slot nobody (accepted call (silently (event.First k version)) ok) in
+      entry_left client_step is_closed is_gathering call after (silently (event.First k version)) ok (follows.1 ∙ ap (behind call) act)
       ∙ ap (λ entry. (client_step entry (event.First k version)).entry) was ∙ sym (ap begun was)
   unread_series (m ∷ []) false call after nobody is follows =
       let act = unread_whole m call nobody is in
       let ok = subst (Passes call) act follows.0 in
-      let was = whole_unread (entry_of call.slot) (accepted call (kept (event.Whole k version heard_as.Unread)) ok) in
-      entry_left client_step is_closed is_gathering call after (kept (event.Whole k version heard_as.Unread)) ok (follows.1 ∙ ap (behind call) act)
+      let was = whole_unread (entry_of call.slot) (accepted call (silently (event.Whole k version heard_as.Unread)) ok) in
+      entry_left client_step is_closed is_gathering call after (silently (event.Whole k version heard_as.Unread)) ok (follows.1 ∙ ap (behind call) act)
       ∙ ap (λ entry. (client_step entry (event.Whole k version heard_as.Unread)).entry) was
       ∙ sym (ap (λ entry. received entry (told_in entry (joined (m ∷ [])))) was)
   unread_series (m ∷ n ∷ messages) more call after nobody (is, series) follows =
       let act = unread_first m call nobody is in
       let ok = subst (Passes call) act follows.0 in
-      let was = first_unread call.slot nobody (accepted call (kept (event.First k version)) ok) in
-      let begins = entry_left client_step is_closed is_gathering call (behind call (client_befalls interface m call))
-      (kept (event.First k version)) ok (ap (behind call) act)
+      let was = first_unread call.slot nobody (accepted call (silently (event.First k version)) ok) in
+      let begins = entry_left client_step is_closed is_gathering call (behind call (client_act interface m call))
+      (silently (event.First k version)) ok (ap (behind call) act)
       ∙ ap (λ entry. (client_step entry (event.First k version)).entry) was in
-      ignored interface (n ∷ messages) (not more) late.Begun (behind call (client_befalls interface m call)) after begins
+      ignored interface (n ∷ messages) (not more) late.Begun (behind call (client_act interface m call)) after begins
       (are_fragments (n ∷ messages) more series) follows.1
       ∙ by_end more
       ∙ sym (ap (λ entry. shown more entry (joined (m ∷ n ∷ messages))) was)
@@ -306,14 +306,14 @@ module _ (interface : Interface) (k : CallKind) (version : Version) (order : Ord
   -- a reply leaves the same, whole or in pieces
   pub series : (messages : List Msg) (more : Bool) (call after : Call ClientEntry)
       → IsSeries (replies k) version order more messages
-      → Follows client_turn (client_befalls interface) call (map Comes messages) after
+      → Follows client_turn (client_act interface) call (map Comes messages) after
       → entry_of after.slot ≡ shown more (entry_of call.slot) (joined messages)
   series messages more call after is follows = elim (awaits call.slot) [
     | Nobody nobody ↦ unread_series messages more call after nobody is follows
     | Waits one unsent slot waits ↦
         let there : call ≡ with (Waiting one) unsent call.pieces = (λ i. record { slot = slot i; pieces = call.pieces }) in
         awaited_series one unsent waits messages more call.pieces after is
-        (subst (λ call. Follows client_turn (client_befalls interface) call (map Comes messages) after) there follows)
+        (subst (λ call. Follows client_turn (client_act interface) call (map Comes messages) after) there follows)
         ∙ sym (ap (λ slot. shown more (entry_of slot) (joined messages)) slot)
   ]
 

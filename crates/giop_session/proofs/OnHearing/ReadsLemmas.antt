@@ -7,17 +7,17 @@ use Rattle.giop_msg.specs.Msg.{message_octets}
 use Rattle.giop_msg.specs.Stream.{TakesMessage, TakesMessages, Unread, Waits}
 use Rattle.giop_msg.proofs.StreamLemmas.{each_head, each_tail, fault_stands, message_or_fault, one_fault, same_message}
 use Rattle.giop_mux.specs.declared.step.Step.{Step}
-use Rattle.giop_session.specs.declared.session_fault.SessionFault.{SessionFault}
-use Rattle.giop_session.specs.declared.session_fault.SessionFault.TheVariants.{NoMemory}
-use Rattle.giop_session.specs.declared.session_fault.SessionFault.TheVariants as session
-use Rattle.giop_session.specs.declared.calls.sending.Sends.{Sends}
-use Rattle.giop_session.specs.declared.calls.table_fault.TableFault.{TableFault}
-use Rattle.giop_session.specs.declared.calls.table_fault.TableFault.TheVariants as table
-use Rattle.giop_session.specs.Calls.CallTable.{Act, Call, Held, event_reply, rules_of}
-use Rattle.giop_session.specs.Hearing.Feeding.{Fed, Stops, Through, standing, with_octets}
-use Rattle.giop_session.specs.Hearing.Heard.{Befalls, Breaks, Heard, IsHeard, IsHeardAs, hears_by, heard_of, told_of}
-use Rattle.giop_session.specs.Pumping.{Feeds, State}
-use Rattle.giop_session.proofs.OnHearing.FeedingLemmas.{fed_in_turn}
+use Rattle.giop_end.specs.declared.session_fault.SessionFault.{SessionFault}
+use Rattle.giop_end.specs.declared.session_fault.SessionFault.TheVariants.{NoMemory}
+use Rattle.giop_end.specs.declared.session_fault.SessionFault.TheVariants as session
+use Rattle.giop_table.specs.declared.sending.Sends.{Sends}
+use Rattle.giop_table.specs.declared.table_fault.TableFault.{TableFault}
+use Rattle.giop_table.specs.declared.table_fault.TableFault.TheVariants as table
+use Rattle.giop_table.specs.CallTable.{Act, Call, Held, event_reply, rules_of}
+use Rattle.giop_end.specs.Hearing.Feeding.{Fed, Stops, Through, standing, with_octets}
+use Rattle.giop_end.specs.Hearing.Heard.{ActsOn, Breaks, Heard, IsHeard, IsHeardAs, hears_by, heard_of, result_of}
+use Rattle.giop_end.specs.Pumping.{Feeds, State}
+use Rattle.giop_end.proofs.OnHearing.FeedingLemmas.{fed_in_turn}
 
 -- what is done isn't refused too
 done_or_refused : {V Answer Why : Type 0} (d : Result (Done V Answer) Why) (answer : Answer) (why : Why)
@@ -54,8 +54,8 @@ module _ {R E V A F : Type 0} (next : R → Option E → V → Step E A F) (clos
 
   -- an end that isn't out of memory got an answer that isn't
   told_there : (id : ℕ) (one : Result (Sends A) (TableFault F)) (result : Result (Unit {0}) SessionFault)
-      → result ≡ told_of (of_rule id) one → result ≢ Err NoMemory → one ≢ Err table.NoMemory
-  told_there id one result is there want = there (is ∙ ap (told_of (of_rule id)) want)
+      → result ≡ result_of (of_rule id) one → result ≢ Err NoMemory → one ≢ Err table.NoMemory
+  told_there id one result is there want = there (is ∙ ap (result_of (of_rule id)) want)
 
   -- what is heard is answered in one way, and leaves one thing
   heard_as_same : (rule : R) (heard : Heard V) (h k k' : Held R E) (one other : Result (Unit {0}) SessionFault)
@@ -64,10 +64,10 @@ module _ {R E V A F : Type 0} (next : R → Option E → V → Step E A F) (clos
       → IsHeardAs (rules_of (next rule) (closed rule) gathering) of_rule heard h other k'
       → (one ≡ other) × (k ≡ k')
   heard_as_same rule (Breaks why) h k k' one other there there' is is' = (is.0 ∙ sym is'.0, is.1 ∙ sym is'.1)
-  heard_as_same rule (Befalls id act) h k k' one other there there' is is' =
+  heard_as_same rule (ActsOn id act) h k k' one other there there' is is' =
       let same = acted_same rule h k k' id act is.0 is'.0 (told_there id is.0 one is.2 there)
       (told_there id is'.0 other is'.2 there') is.1 is'.1 in
-      (is.2 ∙ ap (told_of (of_rule id)) same.0 ∙ sym is'.2, same.1)
+      (is.2 ∙ ap (result_of (of_rule id)) same.0 ∙ sym is'.2, same.1)
 
   heard_same : (rule : R) (heard : Heard V) (h k k' : Held R E) (one other : Result (Unit {0}) SessionFault)
       → one ≢ Err NoMemory → other ≢ Err NoMemory
@@ -79,12 +79,12 @@ module _ {R E V A F : Type 0} (next : R → Option E → V → Step E A F) (clos
   heard_same rule heard h k k' one other there there' (inr is) (inr is') =
       heard_as_same rule heard h k k' one other there there' is is'
 
-  pub hears_same : (breaks : Msg → Option SessionFault) (befalls : Msg → Call E → Act V) (m : Msg) (h k k' : Held R E)
+  pub hears_same : (breaks : Msg → Option SessionFault) (act_by : Msg → Call E → Act V) (m : Msg) (h k k' : Held R E)
       (one other : Result (Unit {0}) SessionFault) → one ≢ Err NoMemory → other ≢ Err NoMemory
-      → hears_by next closed gathering of_rule breaks befalls m h one k
-      → hears_by next closed gathering of_rule breaks befalls m h other k' → (one ≡ other) × (k ≡ k')
-  hears_same breaks befalls m h k k' one other there there' is is' =
-      heard_same h.rule (heard_of breaks befalls h m) h k k' one other there there' is is'
+      → hears_by next closed gathering of_rule breaks act_by m h one k
+      → hears_by next closed gathering of_rule breaks act_by m h other k' → (one ≡ other) × (k ≡ k')
+  hears_same breaks act_by m h k k' one other there there' is is' =
+      heard_same h.rule (heard_of breaks act_by h m) h k k' one other there there' is is'
 
 -- one message at most is taken from the front
 takes_same : (unread left left' : Unread) (m n : Msg) → TakesMessage unread m left → TakesMessage unread n left' → (m ≡ n) × (left ≡ left')

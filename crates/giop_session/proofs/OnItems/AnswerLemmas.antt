@@ -11,17 +11,16 @@ use Rattle.giop_mux.specs.Runs.{Hears as IsTold, IsTaken as IsTakenOut}
 use Rattle.giop_session.specs.declared.laws.inputs.Answered.{Answered}
 use Rattle.giop_session.specs.declared.laws.inputs.Answered.TheVariants as answer
 use Rattle.giop_session.specs.Runs.Alone.{names}
-use Rattle.giop_session.specs.Calls.CallTable.{Act, Call, Held, Turned, at}
+use Rattle.giop_table.specs.CallTable.{Act, Call, Held, Turned, at}
 use Rattle.giop_session.specs.Items.Carries.{Bad, Begun, Cancel, Carries, CarriesItem, Did, Got, Item, Rest, Telling, done_by}
 use Rattle.giop_session.specs.Runs.Driven.{Closes, Deed, Feeds, IsAct, PutsOut, TakesAs, TakesOut, answer_to, id_of, is_named, item_answers, own_answers, taken_answer}
-use Rattle.giop_session.specs.Runs.Events.{Comes, Event, Follows, Local, Meets, act_of, is_of, own_events}
-use Rattle.giop_session.specs.Runs.Events.{Does as Happens}
+use Rattle.giop_session.specs.Runs.Events.{Comes, Event, Follows, Local, Meets, act_of, is_of, own_events, Does as Happens}
 use Rattle.giop_session.specs.Runs.Inputs.{AreEvents, Does, Input, Reads}
-use Rattle.giop_session.specs.Calls.Sending.{entry_of}
+use Rattle.giop_table.specs.Sending.{entry_of}
 use Rattle.giop_session.proofs.OnRuns.EventLemmas.{each_follows, rule_stays}
 use Rattle.giop_session.proofs.OnRuns.InputLemmas.{takes_events}
 use Rattle.giop_session.proofs.OnItems.ItemLemmas.{ItemLeaves, in_two}
-use Rattle.giop_session.specs.Hearing.Heard.{SideOf, turn_at}
+use Rattle.giop_end.specs.Hearing.Heard.{SideOf, turn_at}
 
 -- one more in front, if it is
 one_in_front : {X : Type 0} (b : Bool) (x : X) (rest : List X) → cond b (x ∷ rest) rest ≡ cond b (x ∷ []) [] ++ rest
@@ -38,33 +37,33 @@ own_events-append {V} id (e ∷ one) rest = by_name (is_of id e) (own_events id 
     by_name true all is = ap (λ events. e ∷ events) is
     by_name false all is = is
 
-module _ {E V A F : Type 0} (turn_of : Call E → Act V → Turned E A F) (befalls : Msg → Call E → Act V) where
+module _ {E V A F : Type 0} (turn_of : Call E → Act V → Turned E A F) (act_by : Msg → Call E → Act V) where
   -- what one call answers to its own acts among these events, one after another
   abbrev pub answers_alone : Call E → List (Event V) → List (Answered E)
   answers_alone call [] = []
-  answers_alone call (Comes m ∷ events) = answers_alone (left call (turn_of call (befalls m call))) events
+  answers_alone call (Comes m ∷ events) = answers_alone (left call (turn_of call (act_by m call))) events
   answers_alone call (Happens id act ∷ events) =
       answer_to (entry_of call.slot) act ∷ answers_alone (left call (turn_of call (act_of act))) events
 
-  in_parts : (call mid : Call E) (one rest : List (Event V)) → Follows turn_of befalls call one mid
+  in_parts : (call mid : Call E) (one rest : List (Event V)) → Follows turn_of act_by call one mid
       → answers_alone call (one ++ rest) ≡ answers_alone call one ++ answers_alone mid rest
   in_parts call mid [] rest follows = ap (λ c. answers_alone c rest) (sym follows)
-  in_parts call mid (Comes m ∷ one) rest (ok, follows) = in_parts (left call (turn_of call (befalls m call))) mid one rest follows
+  in_parts call mid (Comes m ∷ one) rest (ok, follows) = in_parts (left call (turn_of call (act_by m call))) mid one rest follows
   in_parts call mid (Happens id act ∷ one) rest (ok, follows) =
       ap (λ answers. answer_to (entry_of call.slot) act ∷ answers) (in_parts (left call (turn_of call (act_of act))) mid one rest follows)
 
   -- to messages nothing is answered
   silent : (call : Call E) (messages : List Msg) → answers_alone call (map Comes messages) ≡ []
   silent call [] = refl
-  silent call (m ∷ messages) = silent (left call (turn_of call (befalls m call))) messages
+  silent call (m ∷ messages) = silent (left call (turn_of call (act_by m call))) messages
 
   own_silent : (id : ℕ) (call : Call E) (messages : List Msg) → answers_alone call (own_events id (map Comes messages ++ [])) ≡ []
   own_silent id call [] = refl
   own_silent id call (m ∷ messages) =
-      by_name (names m id) (own_silent id (left call (turn_of call (befalls m call))) messages) (own_silent id call messages)
+      by_name (names m id) (own_silent id (left call (turn_of call (act_by m call))) messages) (own_silent id call messages)
     where
       by_name : (own : Bool)
-          → answers_alone (left call (turn_of call (befalls m call))) (own_events id (map Comes messages ++ [])) ≡ []
+          → answers_alone (left call (turn_of call (act_by m call))) (own_events id (map Comes messages ++ [])) ≡ []
           → answers_alone call (own_events id (map Comes messages ++ [])) ≡ []
           → answers_alone call (cond own (Comes m ∷ own_events id (map Comes messages ++ [])) (own_events id (map Comes messages ++ []))) ≡ []
       by_name true behind same = behind
@@ -100,12 +99,12 @@ module _ {E V A F : Type 0} (turn_of : Call E → Act V → Turned E A F) (befal
         ∙ ap (λ before. before ++ answers_of (telling.behind t (Did act)) items) (sym (ap (answers_alone call) is))
 
     -- what one call answers is what its items say
-    pub items_answer : ItemLeaves turn_of befalls telling Shows → (items : List (Item Message V)) (t : T) (call after : Call E) (events : List (Event V))
-        → Shows t call → Carries telling t items events → Follows turn_of befalls call events after
+    pub items_answer : ItemLeaves turn_of act_by telling Shows → (items : List (Item Message V)) (t : T) (call after : Call E) (events : List (Event V))
+        → Shows t call → Carries telling t items events → Follows turn_of act_by call events after
         → answers_alone call events ≡ answers_of t items
     items_answer law [] t call after events shows carries follows = ap (answers_alone call) carries
     items_answer law (item ∷ items) t call after events shows (one, rest, e, carries, more) follows =
-        let parts = in_two turn_of befalls telling Shows call after one rest (subst (λ l. Follows turn_of befalls call l after) e follows) in
+        let parts = in_two turn_of act_by telling Shows call after one rest (subst (λ l. Follows turn_of act_by call l after) e follows) in
         let behind = items_answer law items (telling.behind t item) parts.0 after rest (law t call parts.0 item one shows carries parts.1) more parts.2 in
         ap (answers_alone call) e ∙ in_parts call parts.0 one rest parts.1 ∙ ap (λ answers. answers_alone call one ++ answers) behind
         ∙ sym (one_item t call item items one shows carries)
@@ -144,7 +143,7 @@ module _ {R E V A F : Type 0} (side : SideOf R E V A F) where
   MeetsAll = Meets side
 
   abbrev pub answers_by : R → Call E → List (Event V) → List (Answered E)
-  answers_by rule = answers_alone (turn_at side rule) side.befalls
+  answers_by rule = answers_alone (turn_at side rule) side.act_by
 
   meets_more : (h mid k : Held R E) (one rest : List (Event V)) → MeetsAll h one mid → MeetsAll mid rest k → MeetsAll h (one ++ rest) k
   meets_more h mid k [] rest met behind = subst (λ s. MeetsAll s rest k) met behind
@@ -155,7 +154,7 @@ module _ {R E V A F : Type 0} (side : SideOf R E V A F) where
       → answers_by h.rule (at h id) (own_events id events) ≡ cond (is_named id (act_id act)) (taken_answer h act ∷ []) []
   one_answer unread mid h (Reads octets) events (messages, read, others, taken, waits, is, (none, same)) id =
       ap (λ all. answers_by h.rule (at h id) (own_events id all)) (is ∙ ap (λ more. map Comes messages ++ more) none)
-      ∙ own_silent (turn_at side h.rule) side.befalls id (at h id) messages
+      ∙ own_silent (turn_at side h.rule) side.act_by id (at h id) messages
   one_answer unread mid h (Does named act) events (others, is, (none, same)) id =
       ap (λ all. answers_by h.rule (at h id) (own_events id all)) (is ∙ ap (λ more. Happens named act ∷ more) none) ∙ by_name (id == named) refl
     where
@@ -193,7 +192,7 @@ module _ {R E V A F : Type 0} (side : SideOf R E V A F) where
               ∙ ap (λ answers. answers ++ own) (sym (one_answer unread mid h act one.0 one.1 id))
               ∙ ap (λ answers. before ++ answers)
               (subst (λ r. own ≡ answers_by r (at calls id) (own_events id others.0)) rule (others.3 id))
-              ∙ sym (in_parts (turn_at side h.rule) side.befalls (at h id) (at calls id) (own_events id one.0) (own_events id others.0)
+              ∙ sym (in_parts (turn_at side h.rule) side.act_by (at h id) (at calls id) (own_events id one.0) (own_events id others.0)
               (each_follows side h calls one.0 id one.2))
               ∙ ap (answers_by h.rule (at h id)) (sym (own_events-append id one.0 others.0)),
         )

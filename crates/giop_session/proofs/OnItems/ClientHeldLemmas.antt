@@ -40,29 +40,29 @@ use Rattle.giop_calls.specs.ClientTable as table
 use Rattle.giop_calls.specs.ClientTable.{client_step, is_gathering, settles}
 use Rattle.giop_session.specs.declared.laws.inputs.ClientInput.{ClientInput}
 use Rattle.giop_session.specs.declared.laws.inputs.ClientInput.TheVariants as input
-use Rattle.giop_session.specs.declared.limits.Limits.{Limits}
-use Rattle.giop_session.specs.declared.session_fault.SessionFault.{SessionFault}
-use Rattle.giop_session.specs.declared.calls.plan.Plan.{Plan}
-use Rattle.giop_session.specs.declared.calls.plan.Plan.TheVariants.{Keep}
-use Rattle.giop_session.specs.declared.calls.slot.Slot.{Slot}
-use Rattle.giop_session.specs.Calls.CallTable.{Act, Call, Held, Hears, IsTaken, Nothing, at, gathers}
-use Rattle.giop_session.specs.Calls.Sending.{entry_of, settled_by, slot_of}
-use Rattle.giop_session.specs.Acts.ClientCalls.{IsCancel, open_version}
-use Rattle.giop_session.specs.Hearing.ClientHears.{befalls_by, breaks_by, client_befalls, client_breaks, comes, continued, continues, gathered_call}
-use Rattle.giop_session.specs.Hearing.Heard.{kept}
+use Rattle.giop_end.specs.declared.limits.Limits.{Limits}
+use Rattle.giop_end.specs.declared.session_fault.SessionFault.{SessionFault}
+use Rattle.giop_table.specs.declared.plan.Plan.{Plan}
+use Rattle.giop_table.specs.declared.plan.Plan.TheVariants.{Keep}
+use Rattle.giop_table.specs.declared.slot.Slot.{Slot}
+use Rattle.giop_table.specs.CallTable.{Act, Call, Held, Hears, IsTaken, Nothing, at, gathers}
+use Rattle.giop_table.specs.Sending.{entry_of, settled_by, slot_of}
+use Rattle.giop_end.specs.Acts.ClientCalls.{IsCancel, open_version}
+use Rattle.giop_end.specs.Hearing.ClientHears.{act_by_kind, breaks_by, client_act, client_breaks, comes, gathered_call, client_pieces}
+use Rattle.giop_end.specs.Hearing.Pieces.{continued, continues}
+use Rattle.giop_end.specs.Hearing.Heard.{silently}
 use Rattle.giop_session.specs.Items.Carries.{Bad, Begun, Did, Got, IsSeries, Rest}
 use Rattle.giop_session.specs.Items.ClientCarries.{Known, SpellsReply, answered, begun, client_telling, received, replies, unknown, unspelled}
 use Rattle.giop_session.specs.Runs.ClientRuns.{client_deed}
 use Rattle.giop_session.specs.Runs.Driven.{IsAct}
-use Rattle.giop_session.specs.Runs.Events.{Comes, Event, Follows, what}
-use Rattle.giop_session.specs.Runs.Events.{Does as DoesTo}
+use Rattle.giop_session.specs.Runs.Events.{Comes, Event, Follows, what, Does as DoesTo}
 use Rattle.giop_session.specs.Runs.Inputs.{Input}
 use Rattle.giop_session.proofs.OnHearing.ClientCancelLemmas.{Passes, accepted, client_turn, with}
 use Rattle.giop_session.proofs.OnHearing.ClientReplyLemmas.{Nobody, Waits, awaits, begins as begins_reply, first_unread, more_act, unread_first}
 use Rattle.giop_session.proofs.OnItems.ClientItemLemmas.{client_item_leaves}
 use Rattle.giop_session.proofs.OnItems.HeldLemmas.{Each, Ends, Goes, GoesOn, IsOwnInput, IsTakenEvent, Said, all_said, ends_with, one_said}
 use Rattle.giop_session.proofs.OnItems.SeriesLemmas.{continued_version, fragment_version, joined_on, message_is, orders, series_on, twice}
-use Rattle.giop_session.proofs.OnLimits.QuietLemmas.{call_quiet, cancel_quiet, client_send_quiet}
+use Rattle.giop_end.proofs.OnActs.QuietLemmas.{call_quiet, cancel_quiet, client_send_quiet}
 
 -- the acts that a client's end does itself
 abbrev pub is_own : ClientEvent → Bool
@@ -146,7 +146,7 @@ own_there one order unsent octets (event.Last in_order told) plan owned ok = abs
 
 -- what a Fragment is to a call whose reply isn't gathered
 abbrev stray : Bool → Act ClientEvent
-stray more = if more then Hears (kept (event.More false)) Nothing else Hears (kept (event.Last false heard_as.Unread)) Nothing
+stray more = if more then Hears (silently (event.More false)) Nothing else Hears (silently (event.Last false heard_as.Unread)) Nothing
 
 stray_refused : (more : Bool) (entry : ClientEntry) (unsent : List Msg) (pieces : Option Pieces)
     → Passes (with entry unsent pieces) (stray more) → (l : Late) × (entry ≡ client.Cancelled l)
@@ -184,10 +184,10 @@ module _ (interface : Interface) (limit : ℕ) where
     pub there : call ≡ gathering one order unsent (joined front)
 
   abbrev pub GoesSo : Known → List Msg → Call ClientEntry → Event ClientEvent → Type 0
-  GoesSo = Goes client_turn (client_befalls interface) (client_telling interface) Stands (client_item_leaves interface) IsMet Away Open
+  GoesSo = Goes client_turn (client_act interface) (client_telling interface) Stands (client_item_leaves interface) IsMet Away Open
 
   abbrev pub SaidSo : Known → List (Event ClientEvent) → Type 0
-  SaidSo = Said client_turn (client_befalls interface) (client_telling interface) Stands (client_item_leaves interface) IsMet Away Open
+  SaidSo = Said client_turn (client_act interface) (client_telling interface) Stands (client_item_leaves interface) IsMet Away Open
 
   -- octets spell an answer to a call, or none
   abbrev Spelled : Option Asked → CallKind → Version → Order → List ℕ → Type 0
@@ -236,9 +236,9 @@ module _ (interface : Interface) (limit : ℕ) where
       → IsSeries (replies k) version order false (front ++ m ∷ []) → GoesSo known front call (Comes m)
   told known front call m k version order away series =
       elim (spelled (answered known.entry known.latest) k version order (joined (front ++ m ∷ []))) [
-        | inl found ↦ ends_with client_turn (client_befalls interface) (client_telling interface) Stands (client_item_leaves interface) IsMet Away Open
+        | inl found ↦ ends_with client_turn (client_act interface) (client_telling interface) Stands (client_item_leaves interface) IsMet Away Open
             known front call m (Got found.0) (k, version, order, front ++ m ∷ [], refl, series, found.1) (received_away known.entry found.0 away)
-        | inr none ↦ ends_with client_turn (client_befalls interface) (client_telling interface) Stands (client_item_leaves interface) IsMet Away Open
+        | inr none ↦ ends_with client_turn (client_act interface) (client_telling interface) Stands (client_item_leaves interface) IsMet Away Open
             known front call m (Bad k version order (joined (front ++ m ∷ []))) (front ++ m ∷ [], refl, series, refl, none)
             (received_away known.entry
             (unspelled interface (answered known.entry known.latest) version order (joined (front ++ m ∷ []))) away)
@@ -248,12 +248,12 @@ module _ (interface : Interface) (limit : ℕ) where
 
   -- the first piece of a reply: it is gathered where its call waits for it, and else comes behind a cancel
   first : (known : Known) (call : Call ClientEntry) (m : Msg) (k : CallKind) → Stands known call → m ≡ message_of V12 (replies k) m.order true m.payload
-      → Passes call (client_befalls interface m call) → GoesSo known [] call (Comes m)
+      → Passes call (client_act interface m call) → GoesSo known [] call (Comes m)
   first known call m k stands same ok = elim (awaits interface k V12 m.order call.slot) [
     | Nobody nobody ↦
         let act = unread_first interface k V12 m.order m call nobody same in
-        let was = first_unread interface k V12 m.order call.slot nobody (accepted call (kept (event.First k V12)) (subst (Passes call) act ok)) in
-        ends_with client_turn (client_befalls interface) (client_telling interface) Stands (client_item_leaves interface) IsMet Away Open
+        let was = first_unread interface k V12 m.order call.slot nobody (accepted call (silently (event.First k V12)) (subst (Passes call) act ok)) in
+        ends_with client_turn (client_act interface) (client_telling interface) Stands (client_item_leaves interface) IsMet Away Open
         known [] call m (Begun k) (V12, m.order, m ∷ [], refl, same)
         (ap (λ entry. gathers is_gathering (slot_of (begun entry) [])) (sym stands ∙ was))
     | Waits one unsent slot waits ↦
@@ -265,15 +265,15 @@ module _ (interface : Interface) (limit : ℕ) where
           unsent = unsent;
           series = same;
           waited = sym stands ∙ ap entry_of slot;
-          there = ap (λ c. left c (client_turn c (client_befalls interface m c))) there
+          there = ap (λ c. left c (client_turn c (client_act interface m c))) there
               ∙ begins_reply interface k V12 m.order one unsent waits m call.pieces same
-              (subst (λ c. Passes c (client_befalls interface m c)) there ok)
+              (subst (λ c. Passes c (client_act interface m c)) there ok)
               ∙ ap (gathering one m.order unsent) (sym (append-nil m.payload));
         })
   ]
 
   replied : (known : Known) (call : Call ClientEntry) (m : Msg) (k : CallKind) → Stands known call → Away known → IsMet (Comes m) → m.kind ≡ replies k
-      → Passes call (client_befalls interface m call) → GoesSo known [] call (Comes m)
+      → Passes call (client_act interface m call) → GoesSo known [] call (Comes m)
   replied known call m k stands away met is ok = by_more m.more refl
     where
       by_more : (more : Bool) → m.more ≡ more → GoesSo known [] call (Comes m)
@@ -283,7 +283,7 @@ module _ (interface : Interface) (limit : ℕ) where
 
   -- a Fragment where none is gathered comes behind a cancel
   behind_cancel : (m : Msg) (slot : Option (Slot ClientEntry)) (pieces : Option Pieces) (entry : Option ClientEntry) → entry_of slot ≡ entry → IsAway entry
-      → Passes (record { slot = slot; pieces = pieces }) (continues interface m (continued m.order (gathered_call slot) pieces))
+      → Passes (record { slot = slot; pieces = pieces }) (continues client_pieces interface m (continued m.order (gathered_call slot) pieces))
       → (l : Late) × (entry ≡ Some (client.Cancelled l))
   behind_cancel m None pieces entry stands away ok = by_more m.more ok
     where
@@ -297,7 +297,7 @@ module _ (interface : Interface) (limit : ℕ) where
       so e stands ok = let was = stray_refused m.more e slot.unsent pieces ok in (was.0, sym stands ∙ ap Some was.1)
 
       by_entry : (e : ClientEntry) → ◌≡◌ {A = Option ClientEntry} (Some e) entry
-          → Passes (with e slot.unsent pieces) (continues interface m
+          → Passes (with e slot.unsent pieces) (continues client_pieces interface m
           (continued m.order (gathered_call (Some (record { entry = e; unsent = slot.unsent }))) pieces))
           → (l : Late) × (entry ≡ Some (client.Cancelled l))
       by_entry (client.Gathering call) stands ok = absurd (let gathers : true ≡ false = subst IsAway (sym stands) away in cc)
@@ -314,15 +314,15 @@ module _ (interface : Interface) (limit : ℕ) where
   broken m k why is breaks none = let told = sym (ap breaks_by is) ∙ none in cc
 
   begins : (known : Known) (call : Call ClientEntry) (e : Event ClientEvent) → Stands known call → Away known → IsMet e
-      → IsOk (client_turn call (what client_turn (client_befalls interface) e call)) → GoesSo known [] call e
+      → IsOk (client_turn call (what client_turn (client_act interface) e call)) → GoesSo known [] call e
   begins known call (Comes m) stands away met ok = by_kind m.kind refl
     where
       by_kind : (k : Kind) → m.kind ≡ k → GoesSo known [] call (Comes m)
       by_kind message.Reply is = replied known call m kind.Request stands away met is ok
       by_kind message.LocateReply is = replied known call m kind.Locate stands away met is ok
       by_kind message.Fragment is =
-          let was = behind_cancel m call.slot call.pieces known.entry stands away (subst (Passes call) (ap (befalls_by interface m call) is) ok) in
-          ends_with client_turn (client_befalls interface) (client_telling interface) Stands (client_item_leaves interface) IsMet Away Open
+          let was = behind_cancel m call.slot call.pieces known.entry stands away (subst (Passes call) (ap (act_by_kind interface m call) is) ok) in
+          ends_with client_turn (client_act interface) (client_telling interface) Stands (client_item_leaves interface) IsMet Away Open
           known [] call m (Rest (not m.more)) (was, m ∷ [], refl, (is, twice m.more))
           (ap (λ entry. gathers is_gathering (slot_of
           (if not m.more then (client_step entry (event.Last false heard_as.Unread)).entry else entry) [])) was.1 ∙ rest_away (not m.more) was.0)
@@ -332,11 +332,11 @@ module _ (interface : Interface) (limit : ℕ) where
       by_kind message.CloseConnection is = absurd (broken m message.CloseConnection _ is refl met.1)
       by_kind message.MessageError is = absurd (broken m message.MessageError _ is refl met.1)
   begins known call (DoesTo id (IsTold planned)) stands away owned ok =
-      Ends (one_said client_turn (client_befalls interface) (client_telling interface) Stands (client_item_leaves interface) IsMet Away Open
+      Ends (one_said client_turn (client_act interface) (client_telling interface) Stands (client_item_leaves interface) IsMet Away Open
       known (Did (IsTold planned.event)) (DoesTo id (IsTold planned) ∷ []) (id, IsTold planned, refl, refl))
       (own_away known.entry planned.event owned away)
   begins known call (DoesTo id TakesOut) stands away owned ok =
-      Ends (one_said client_turn (client_befalls interface) (client_telling interface) Stands (client_item_leaves interface) IsMet Away Open
+      Ends (one_said client_turn (client_act interface) (client_telling interface) Stands (client_item_leaves interface) IsMet Away Open
       known (Did TakesOut) (DoesTo id TakesOut ∷ []) (id, TakesOut, refl, refl)) refl
 
   -- ---- where messages are open
@@ -347,15 +347,16 @@ module _ (interface : Interface) (limit : ℕ) where
   unknown_reply m k one order unsent octets ok = by_more m.more ok
     where
       by_more : (more : Bool) → Passes (gathering one order unsent octets)
-          (cond more (Hears (kept (event.First k m.version)) Nothing) (Hears (kept (event.Whole k m.version heard_as.Unread)) Nothing)) → ⊥
+          (cond more (Hears (silently (event.First k m.version)) Nothing) (Hears (silently (event.Whole k m.version heard_as.Unread)) Nothing)) → ⊥
       by_more true ok = no_fault ok
       by_more false ok = no_fault ok
 
   differs : (m : Msg) (one : Asked) (order : Order) (unsent : List Msg) (octets : List ℕ) → same_order m.order order ≡ false
       → Passes (gathering one order unsent octets)
-      (continues interface m (continued m.order (Some one) (Some (record { order = order; octets = octets })))) → ⊥
+      (continues client_pieces interface m (continued m.order (Some one) (Some (record { order = order; octets = octets })))) → ⊥
   differs m one order unsent octets is ok =
-      by_more m.more (subst (λ same. Passes (gathering one order unsent octets) (continues interface m (cond same (Some (one, octets)) None))) is ok)
+      by_more m.more
+      (subst (λ same. Passes (gathering one order unsent octets) (continues client_pieces interface m (cond same (Some (one, octets)) None))) is ok)
     where
       by_more : (more : Bool) → Passes (gathering one order unsent octets) (stray more) → ⊥
       by_more true ok = no_fault ok
@@ -374,7 +375,7 @@ module _ (interface : Interface) (limit : ℕ) where
       by_more true more =
           let same = message_is m V12 message.Fragment opened.order true (fragment_version limit m met.0 is) is in_order more in
           let here = gathering opened.one opened.order opened.unsent (joined front) in
-          let act = ap (λ n. client_befalls interface n here) same
+          let act = ap (λ n. client_act interface n here) same
           ∙ more_act interface opened.k V12 opened.order opened.one opened.unsent (joined front) m.payload in
           GoesOn m refl (record {
             k = opened.k;
@@ -383,20 +384,20 @@ module _ (interface : Interface) (limit : ℕ) where
             unsent = opened.unsent;
             series = series_on front m (replies opened.k) V12 opened.order true opened.series same;
             waited = opened.waited;
-            there = ap (λ c. left c (client_turn c (client_befalls interface m c))) opened.there
+            there = ap (λ c. left c (client_turn c (client_act interface m c))) opened.there
                 ∙ ap (λ act. left here (client_turn here act)) act
                 ∙ ap (gathering opened.one opened.order opened.unsent) (sym (joined_on front m (replies opened.k) V12 opened.order opened.series));
           })
 
   goes_on : (known : Known) (front : List Msg) (call : Call ClientEntry) (e : Event ClientEvent) → Open known front call → IsMet e
-      → IsOk (client_turn call (what client_turn (client_befalls interface) e call)) → GoesSo known front call e
+      → IsOk (client_turn call (what client_turn (client_act interface) e call)) → GoesSo known front call e
   goes_on known front call (Comes m) opened met ok = by_kind m.kind refl
     where
       passes : (k : Kind) → m.kind ≡ k → Passes (gathering opened.one opened.order opened.unsent (joined front))
-          (befalls_by interface m (gathering opened.one opened.order opened.unsent (joined front)) k)
+          (act_by_kind interface m (gathering opened.one opened.order opened.unsent (joined front)) k)
       passes k is =
           let here = gathering opened.one opened.order opened.unsent (joined front) in
-          subst (λ k. Passes here (befalls_by interface m here k)) is (subst (λ c. Passes c (client_befalls interface m c)) opened.there ok)
+          subst (λ k. Passes here (act_by_kind interface m here k)) is (subst (λ c. Passes c (client_act interface m c)) opened.there ok)
 
       by_kind : (k : Kind) → m.kind ≡ k → GoesSo known front call (Comes m)
       by_kind message.Reply is = absurd (unknown_reply m kind.Request opened.one opened.order opened.unsent (joined front) (passes message.Reply is))
@@ -431,13 +432,13 @@ module _ (interface : Interface) (limit : ℕ) where
 
   stops : (known : Known) (front : List Msg) (call : Call ClientEntry) → Open known front call → SaidSo known (map Comes front)
   stops known front call opened =
-      one_said client_turn (client_befalls interface) (client_telling interface) Stands (client_item_leaves interface) IsMet Away Open
+      one_said client_turn (client_act interface) (client_telling interface) Stands (client_item_leaves interface) IsMet Away Open
       known (Begun opened.k) (map Comes front) (V12, opened.order, front, refl, opened.series)
 
   pub client_said : (call k : Call ClientEntry) (events : List (Event ClientEvent)) → entry_of call.slot ≡ None → Each IsMet events
-      → Follows client_turn (client_befalls interface) call events k → SaidSo unknown events
+      → Follows client_turn (client_act interface) call events k → SaidSo unknown events
   client_said call k events stands met follows =
-      all_said client_turn (client_befalls interface) (client_telling interface) Stands (client_item_leaves interface) IsMet Away Open
+      all_said client_turn (client_act interface) (client_telling interface) Stands (client_item_leaves interface) IsMet Away Open
       (record { begins = begins; goes_on = goes_on; stops = stops }) unknown call k events stands refl met follows
 
 -- each input that is taken is an act of the client's own

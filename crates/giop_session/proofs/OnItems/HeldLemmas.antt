@@ -7,28 +7,27 @@ use Rattle.giop_msg.specs.Stream.{Unread}
 use Rattle.giop_msg.proofs.StreamLemmas.{each_head, each_tail}
 use Rattle.giop_mux.specs.Runs.{Hears as IsTold, IsTaken as TakesOut}
 use Rattle.giop_session.specs.declared.laws.inputs.Answered.{Answered}
-use Rattle.giop_session.specs.declared.session_fault.SessionFault.{SessionFault}
-use Rattle.giop_session.specs.Calls.CallTable.{Act, Call, Held, Turned}
+use Rattle.giop_end.specs.declared.session_fault.SessionFault.{SessionFault}
+use Rattle.giop_table.specs.CallTable.{Act, Call, Held, Turned}
 use Rattle.giop_session.specs.Items.Carries.{Carries, CarriesItem, Item, Telling, behind_all}
 use Rattle.giop_session.specs.Runs.Driven.{Deed, IsAct, TakesAs}
-use Rattle.giop_session.specs.Runs.Events.{Comes, Event, Follows, is_of, own_events, what}
-use Rattle.giop_session.specs.Runs.Events.{Does as DoesTo}
+use Rattle.giop_session.specs.Runs.Events.{Comes, Event, Follows, is_of, own_events, what, Does as DoesTo}
 use Rattle.giop_session.specs.Runs.Inputs.{AreEvents, Does, Input, Reads}
 use Rattle.giop_session.proofs.OnItems.ItemLemmas.{ItemLeaves, items_leave}
 use Rattle.giop_session.proofs.OnRuns.FollowedLemmas.{AreHeard}
-use Rattle.giop_session.specs.Hearing.Heard.{SideOf}
+use Rattle.giop_end.specs.Hearing.Heard.{SideOf}
 
 -- each of these is so
 abbrev pub Each : {X : Type 0} → (X → Type 0) → List X → Type 0
 Each P [] = Unit {0}
 Each P (x ∷ xs) = P x × Each P xs
 
-module _ {E V A F T Message : Type 0} (turn : Call E → Act V → Turned E A F) (befalls : Msg → Call E → Act V)
-    (telling : Telling T Message V) (Stands : T → Call E → Type 0) (law : ItemLeaves turn befalls telling Stands)
+module _ {E V A F T Message : Type 0} (turn : Call E → Act V → Turned E A F) (act_by : Msg → Call E → Act V)
+    (telling : Telling T Message V) (Stands : T → Call E → Type 0) (law : ItemLeaves turn act_by telling Stands)
     (IsMet : Event V → Type 0) (Away : T → Type 0) (Open : T → List Msg → Call E → Type 0) where
   -- a call behind an event
   abbrev pub after : Call E → Event V → Call E
-  after call e = left call (turn call (what turn befalls e call))
+  after call e = left call (turn call (what turn act_by e call))
 
   -- some items are carried by these events
   abbrev pub Said : T → List (Event V) → Type 0
@@ -46,9 +45,9 @@ module _ {E V A F T Message : Type 0} (turn : Call E → Act V → Turned E A F)
   -- so each event of a call does; and what is open when there are no more is said, too
   pub record Steps : Type 0 where
     pub begins : (t : T) (call : Call E) (e : Event V) → Stands t call → Away t → IsMet e
-        → IsOk (turn call (what turn befalls e call)) → Goes t [] call e
+        → IsOk (turn call (what turn act_by e call)) → Goes t [] call e
     pub goes_on : (t : T) (front : List Msg) (call : Call E) (e : Event V) → Open t front call → IsMet e
-        → IsOk (turn call (what turn befalls e call)) → Goes t front call e
+        → IsOk (turn call (what turn act_by e call)) → Goes t front call e
     pub stops : (t : T) (front : List Msg) (call : Call E) → Open t front call → Said t (map Comes front)
 
   -- items and then others
@@ -63,10 +62,10 @@ module _ {E V A F T Message : Type 0} (turn : Call E → Act V → Turned E A F)
     carries_join one other (telling.behind t item) b rest more next,
   )
 
-  follows_more : (one : List (Event V)) (e : Event V) (start call : Call E) → Follows turn befalls start one call
-      → IsOk (turn call (what turn befalls e call)) → Follows turn befalls start (one ++ e ∷ []) (after call e)
+  follows_more : (one : List (Event V)) (e : Event V) (start call : Call E) → Follows turn act_by start one call
+      → IsOk (turn call (what turn act_by e call)) → Follows turn act_by start (one ++ e ∷ []) (after call e)
   follows_more [] e start call follows ok =
-      subst (λ s. Follows turn befalls s (e ∷ []) (after call e)) follows (ok, refl)
+      subst (λ s. Follows turn act_by s (e ∷ []) (after call e)) follows (ok, refl)
   follows_more (d ∷ one) e start call follows ok = (follows.0, follows_more one e (after start d) call follows.1 ok)
 
   -- the messages that are open at a call, or none
@@ -83,8 +82,8 @@ module _ {E V A F T Message : Type 0} (turn : Call E → Act V → Turned E A F)
   at_end steps t (m ∷ front) call here = steps.stops t (m ∷ front) call here
 
   one_step : Steps → (t : T) (front : List Msg) (start call : Call E) (e : Event V) → Stands t start
-      → Follows turn befalls start (map Comes front) call → IsAt t front call → IsMet e
-      → IsOk (turn call (what turn befalls e call)) → Goes t front call e
+      → Follows turn act_by start (map Comes front) call → IsAt t front call → IsMet e
+      → IsOk (turn call (what turn act_by e call)) → Goes t front call e
   one_step steps t [] start call e stands before here met ok = steps.begins t call e (subst (Stands t) (sym before) stands) here met ok
   one_step steps t (m ∷ front) start call e stands before here met ok = steps.goes_on t (m ∷ front) call e here met ok
 
@@ -114,8 +113,8 @@ module _ {E V A F T Message : Type 0} (turn : Call E → Act V → Turned E A F)
   )
 
   carried : Steps → (events : List (Event V)) (t : T) (front : List Msg) (start call k : Call E)
-      → Stands t start → Follows turn befalls start (map Comes front) call → IsAt t front call
-      → Each IsMet events → Follows turn befalls call events k → Said t (map Comes front ++ events)
+      → Stands t start → Follows turn act_by start (map Comes front) call → IsAt t front call
+      → Each IsMet events → Follows turn act_by call events k → Said t (map Comes front ++ events)
   carried steps [] t front start call k stands before here met follows =
       subst (Said t) (sym (append-nil (map Comes front))) (at_end steps t front call here)
   carried steps (e ∷ events) t front start call k stands before here met follows =
@@ -123,17 +122,17 @@ module _ {E V A F T Message : Type 0} (turn : Call E → Act V → Turned E A F)
       elim (one_step steps t front start call e stands before here met.0 follows.0) [
         | Ends said away ↦ said_first t front e events said
             (carried steps events (behind_all telling t said.0) [] (after call e) (after call e) k
-            (items_leave turn befalls telling Stands law said.0 t start (after call e) (map Comes front ++ e ∷ []) stands said.1 behind)
+            (items_leave turn act_by telling Stands law said.0 t start (after call e) (map Comes front ++ e ∷ []) stands said.1 behind)
             refl away met.1 follows.1)
         | GoesOn m is opened ↦ subst (Said t) (comes_then front m e events is)
             (carried steps events t (front ++ m ∷ []) start (after call e) k stands
-            (subst (λ l. Follows turn befalls start l (after call e)) (ap (λ e. map Comes front ++ e ∷ []) is ∙ sym (comes_more front m)) behind)
+            (subst (λ l. Follows turn act_by start l (after call e)) (ap (λ e. map Comes front ++ e ∷ []) is ∙ sym (comes_more front m)) behind)
             (at_more t front m (after call e) opened) met.1 follows.1)
       ]
 
   -- so all that a call follows from where nothing is open
   pub all_said : Steps → (t : T) (call k : Call E) (events : List (Event V)) → Stands t call → Away t → Each IsMet events
-      → Follows turn befalls call events k → Said t events
+      → Follows turn act_by call events k → Said t events
   all_said steps t call k events stands away met follows = carried steps events t [] call call k stands refl away met follows
 
 -- what is known of an event that an end takes: a message was framed, and doesn't end the session; an act is one of the end's own calls

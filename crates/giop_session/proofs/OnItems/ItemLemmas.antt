@@ -6,12 +6,12 @@ use Rattle.giop_ids.specs.Runs.{left}
 use Rattle.giop_msg.specs.declared.msg.Msg.{Msg}
 use Rattle.giop_mux.specs.Faults.{no_fault}
 use Rattle.giop_mux.specs.declared.step.Step.{Step}
-use Rattle.giop_session.specs.declared.calls.plan.Plan.{Plan}
-use Rattle.giop_session.specs.declared.calls.plan.Planned.{Planned}
-use Rattle.giop_session.specs.Calls.CallTable.{Act, Brings, Call, Hears, IsTaken, Nothing, Turned, brought, gathers, taken, turn, turned}
+use Rattle.giop_table.specs.declared.plan.Plan.{Plan}
+use Rattle.giop_table.specs.declared.plan.Planned.{Planned}
+use Rattle.giop_table.specs.CallTable.{Act, Brings, Call, Hears, IsTaken, Nothing, Turned, brought, gathers, taken, turn, turned}
 use Rattle.giop_session.specs.Items.Carries.{Item, Telling, CarriesItem, Carries, behind_all}
 use Rattle.giop_session.specs.Runs.Events.{Event, Follows, what}
-use Rattle.giop_session.specs.Calls.Sending.{entry_of, settled_by, slot_of, unsent_after, unsent_of}
+use Rattle.giop_table.specs.Sending.{entry_of, settled_by, slot_of, unsent_after, unsent_of}
 
 -- the entry of the slot of an entry
 pub entry_is : {E : Type 0} (entry : Option E) (unsent : List Msg) → entry_of (slot_of entry unsent) ≡ entry
@@ -72,26 +72,26 @@ module _ {E V A F : Type 0} (next : Option E → V → Step E A F) (closed gathe
       by_closed (Some true) ok = refl
       by_closed (Some false) ok = no_fault ok
 
-module _ {E V A F T Message : Type 0} (turn : Call E → Act V → Turned E A F) (befalls : Msg → Call E → Act V)
+module _ {E V A F T Message : Type 0} (turn : Call E → Act V → Turned E A F) (act_by : Msg → Call E → Act V)
     (telling : Telling T Message V) (Stands : T → Call E → Type 0) where
   -- events in two parts
-  pub in_two : (call after : Call E) (one rest : List (Event V)) → Follows turn befalls call (one ++ rest) after
-      → (mid : Call E) × Follows turn befalls call one mid × Follows turn befalls mid rest after
+  pub in_two : (call after : Call E) (one rest : List (Event V)) → Follows turn act_by call (one ++ rest) after
+      → (mid : Call E) × Follows turn act_by call one mid × Follows turn act_by mid rest after
   in_two call after [] rest follows = (call, refl, follows)
   in_two call after (e ∷ one) rest follows =
-      let behind = in_two (left call (turn call (what turn befalls e call))) after one rest follows.1 in
+      let behind = in_two (left call (turn call (what turn act_by e call))) after one rest follows.1 in
       (behind.0, (follows.0, behind.1), behind.2)
 
   -- an item leaves of a call what is said, whatever events carry it
   abbrev pub ItemLeaves : Type 0
   ItemLeaves = (t : T) (call after : Call E) (item : Item Message V) (events : List (Event V)) → Stands t call
-      → CarriesItem telling t item events → Follows turn befalls call events after → Stands (telling.behind t item) after
+      → CarriesItem telling t item events → Follows turn act_by call events after → Stands (telling.behind t item) after
 
   -- so do many
   pub items_leave : ItemLeaves → (items : List (Item Message V)) (t : T) (call after : Call E) (events : List (Event V)) → Stands t call
-      → Carries telling t items events → Follows turn befalls call events after → Stands (behind_all telling t items) after
+      → Carries telling t items events → Follows turn act_by call events after → Stands (behind_all telling t items) after
   items_leave law [] t call after events stands carries follows =
-      let same : after ≡ call = subst (λ l. Follows turn befalls call l after) carries follows in subst (Stands t) (sym same) stands
+      let same : after ≡ call = subst (λ l. Follows turn act_by call l after) carries follows in subst (Stands t) (sym same) stands
   items_leave law (item ∷ items) t call after events stands (one, rest, e, carries, more) follows =
-      let parts = in_two call after one rest (subst (λ l. Follows turn befalls call l after) e follows) in
+      let parts = in_two call after one rest (subst (λ l. Follows turn act_by call l after) e follows) in
       items_leave law items (telling.behind t item) parts.0 after rest (law t call parts.0 item one stands carries parts.1) more parts.2

@@ -38,29 +38,29 @@ use Rattle.giop_calls.specs.ServerTable.{arrived, is_closed, is_gathering, serve
 use Rattle.giop_session.specs.declared.laws.inputs.Answered.{Answered}
 use Rattle.giop_session.specs.declared.laws.inputs.ServerInput.{ServerInput}
 use Rattle.giop_session.specs.declared.laws.inputs.ServerInput.TheVariants as input
-use Rattle.giop_session.specs.declared.limits.Limits.{Limits}
-use Rattle.giop_session.specs.declared.session_fault.SessionFault.{SessionFault}
-use Rattle.giop_session.specs.declared.calls.plan.Plan.{Plan}
-use Rattle.giop_session.specs.declared.calls.plan.Plan.TheVariants.{Keep}
-use Rattle.giop_session.specs.declared.calls.slot.Slot.{Slot}
-use Rattle.giop_session.specs.Calls.CallTable.{Act, Call, First, Held, Hears, IsTaken, Nothing, at, gathers}
-use Rattle.giop_session.specs.Calls.Sending.{entry_of, settled_by, slot_of, unsent_of}
-use Rattle.giop_session.specs.Acts.ServerAnswers.{IsAnswer, IsLocateAnswer, locate_of, question_of}
-use Rattle.giop_session.specs.Hearing.Decoding.{heard_call}
-use Rattle.giop_session.specs.Hearing.Heard.{kept}
-use Rattle.giop_session.specs.Hearing.ServerHears.{befalls_by, breaks_by, comes, continued, continues, gathered_kind, server_befalls, server_breaks}
+use Rattle.giop_end.specs.declared.limits.Limits.{Limits}
+use Rattle.giop_end.specs.declared.session_fault.SessionFault.{SessionFault}
+use Rattle.giop_table.specs.declared.plan.Plan.{Plan}
+use Rattle.giop_table.specs.declared.plan.Plan.TheVariants.{Keep}
+use Rattle.giop_table.specs.declared.slot.Slot.{Slot}
+use Rattle.giop_table.specs.CallTable.{Act, Call, First, Held, Hears, IsTaken, Nothing, at, gathers}
+use Rattle.giop_table.specs.Sending.{entry_of, settled_by, slot_of, unsent_of}
+use Rattle.giop_end.specs.Acts.ServerAnswers.{IsAnswer, IsLocateAnswer, locate_of, question_of}
+use Rattle.giop_end.specs.Hearing.Decoding.{heard_call}
+use Rattle.giop_end.specs.Hearing.Heard.{silently}
+use Rattle.giop_end.specs.Hearing.ServerHears.{act_by_kind, breaks_by, comes, gathered_kind, server_act, server_breaks, server_pieces}
+use Rattle.giop_end.specs.Hearing.Pieces.{continued, continues}
 use Rattle.giop_session.specs.Items.Carries.{Bad, Begun, Cancel, Did, Got, IsSeries, Rest}
 use Rattle.giop_session.specs.Items.ServerCarries.{SpellsCall, asks, server_telling}
 use Rattle.giop_session.specs.Runs.Driven.{IsAct}
-use Rattle.giop_session.specs.Runs.Events.{Comes, Event, Follows, what}
-use Rattle.giop_session.specs.Runs.Events.{Does as DoesTo}
+use Rattle.giop_session.specs.Runs.Events.{Comes, Event, Follows, what, Does as DoesTo}
 use Rattle.giop_session.specs.Runs.Inputs.{Input}
 use Rattle.giop_session.specs.Runs.ServerRuns.{server_deed}
 use Rattle.giop_session.proofs.OnItems.HeldLemmas.{Each, Ends, Goes, GoesOn, IsOwnInput, IsTakenEvent, Said, all_said, ends_with, one_said}
 use Rattle.giop_session.proofs.OnItems.ItemLemmas.{call_of, heard}
 use Rattle.giop_session.proofs.OnItems.SeriesLemmas.{continued_version, fragment_version, joined_on, message_is, orders, series_on, twice}
 use Rattle.giop_session.proofs.OnItems.ServerItemLemmas.{begun, first_act, more_act, server_item_leaves, server_turn}
-use Rattle.giop_session.proofs.OnLimits.QuietLemmas.{answer_locate_quiet, answer_quiet, server_send_quiet}
+use Rattle.giop_end.proofs.OnActs.QuietLemmas.{answer_locate_quiet, answer_quiet, server_send_quiet}
 
 -- the acts that a server's end does itself
 abbrev pub is_own : ServerEvent → Bool
@@ -161,10 +161,10 @@ module _ (interface : Interface) (limit : ℕ) where
     pub there : call ≡ gathering k order unsent (joined front)
 
   abbrev pub GoesSo : Option ServerEntry → List Msg → Call ServerEntry → Event ServerEvent → Type 0
-  GoesSo = Goes server_turn (server_befalls interface) (server_telling interface) Stands (server_item_leaves interface) IsMet Away Open
+  GoesSo = Goes server_turn (server_act interface) (server_telling interface) Stands (server_item_leaves interface) IsMet Away Open
 
   abbrev pub SaidSo : Option ServerEntry → List (Event ServerEvent) → Type 0
-  SaidSo = Said server_turn (server_befalls interface) (server_telling interface) Stands (server_item_leaves interface) IsMet Away Open
+  SaidSo = Said server_turn (server_act interface) (server_telling interface) Stands (server_item_leaves interface) IsMet Away Open
 
   -- octets spell a call, or none
   spelled : (k : CallKind) (version : Version) (order : Order) (octets : List ℕ)
@@ -201,9 +201,9 @@ module _ (interface : Interface) (limit : ℕ) where
   told : (entry : Option ServerEntry) (front : List Msg) (call : Call ServerEntry) (m : Msg) (k : CallKind) (version : Version) (order : Order)
       → IsSeries (asks k) version order false (front ++ m ∷ []) → GoesSo entry front call (Comes m)
   told entry front call m k version order series = elim (spelled k version order (joined (front ++ m ∷ []))) [
-    | inl found ↦ ends_with server_turn (server_befalls interface) (server_telling interface) Stands (server_item_leaves interface) IsMet Away Open
+    | inl found ↦ ends_with server_turn (server_act interface) (server_telling interface) Stands (server_item_leaves interface) IsMet Away Open
         entry front call m (Got found.0) (k, version, order, front ++ m ∷ [], refl, series, found.1) (arrived_away found.0)
-    | inr none ↦ ends_with server_turn (server_befalls interface) (server_telling interface) Stands (server_item_leaves interface) IsMet Away Open
+    | inr none ↦ ends_with server_turn (server_act interface) (server_telling interface) Stands (server_item_leaves interface) IsMet Away Open
         entry front call m (Bad k version order (joined (front ++ m ∷ []))) (front ++ m ∷ [], refl, series, refl, none)
         (arrived_away (heard_call interface k version order (joined (front ++ m ∷ []))))
   ]
@@ -212,15 +212,15 @@ module _ (interface : Interface) (limit : ℕ) where
 
   -- a Request or a LocateRequest is said, or is open
   asked : (entry : Option ServerEntry) (call : Call ServerEntry) (m : Msg) (k : CallKind) → IsMet (Comes m) → m.kind ≡ asks k
-      → Passes call (server_befalls interface m call) → GoesSo entry [] call (Comes m)
+      → Passes call (server_act interface m call) → GoesSo entry [] call (Comes m)
   asked entry call m k met is ok = by_more m.more refl
     where
       by_more : (more : Bool) → m.more ≡ more → GoesSo entry [] call (Comes m)
       by_more false last = told entry [] call m k m.version m.order (message_is m m.version (asks k) m.order false refl is refl last)
       by_more true more =
           let same = message_is m V12 (asks k) m.order true (continued_version limit m met.0 more) is refl more in
-          let act = ap (λ n. server_befalls interface n call) same ∙ first_act interface k V12 m.order m.payload call in
-          let did = heard server_step is_closed is_gathering call (kept (event.First k)) (First m.order m.payload) (subst (Passes call) act ok) in
+          let act = ap (λ n. server_act interface n call) same ∙ first_act interface k V12 m.order m.payload call in
+          let did = heard server_step is_closed is_gathering call (silently (event.First k)) (First m.order m.payload) (subst (Passes call) act ok) in
           GoesOn m refl (record {
             k = k;
             order = m.order;
@@ -235,7 +235,7 @@ module _ (interface : Interface) (limit : ℕ) where
 
   -- a Fragment where none is gathered comes behind a cancel
   behind_cancel : (m : Msg) (slot : Option (Slot ServerEntry)) (pieces : Option Pieces) (entry : Option ServerEntry) → entry_of slot ≡ entry → Away entry
-      → Passes (record { slot = slot; pieces = pieces }) (continues interface m (continued m.order (gathered_kind slot) pieces))
+      → Passes (record { slot = slot; pieces = pieces }) (continues server_pieces interface m (continued m.order (gathered_kind slot) pieces))
       → (answered : Bool) × (left_over : ℕ) × (entry ≡ Some (server.Cancelled answered left_over))
   behind_cancel m None pieces entry stands away ok = absurd (no_fault ok)
   behind_cancel m (Some slot) pieces entry stands away ok =
@@ -243,7 +243,7 @@ module _ (interface : Interface) (limit : ℕ) where
     where
       by_entry : (e : ServerEntry) → ◌≡◌ {A = Option ServerEntry} (Some e) entry
           → Passes (record { slot = Some (record { entry = e; unsent = slot.unsent }); pieces = pieces })
-          (continues interface m (continued m.order (gathered_kind (Some (record { entry = e; unsent = slot.unsent }))) pieces))
+          (continues server_pieces interface m (continued m.order (gathered_kind (Some (record { entry = e; unsent = slot.unsent }))) pieces))
           → (answered : Bool) × (left_over : ℕ) × (entry ≡ Some (server.Cancelled answered left_over))
       by_entry (server.Cancelled answered left_over) stands ok = (answered, left_over, sym stands)
       by_entry (server.Gathering k) stands ok = absurd (let gathers : true ≡ false = subst Away (sym stands) away in cc)
@@ -259,28 +259,28 @@ module _ (interface : Interface) (limit : ℕ) where
   broken m k why is breaks none = let told = sym (ap breaks_by is) ∙ none in cc
 
   begins : (entry : Option ServerEntry) (call : Call ServerEntry) (e : Event ServerEvent) → Stands entry call → Away entry → IsMet e
-      → IsOk (server_turn call (what server_turn (server_befalls interface) e call)) → GoesSo entry [] call e
+      → IsOk (server_turn call (what server_turn (server_act interface) e call)) → GoesSo entry [] call e
   begins entry call (Comes m) stands away met ok = by_kind m.kind refl
     where
       by_kind : (k : Kind) → m.kind ≡ k → GoesSo entry [] call (Comes m)
       by_kind message.Request is = asked entry call m kind.Request met is ok
       by_kind message.LocateRequest is = asked entry call m kind.Locate met is ok
       by_kind message.CancelRequest is =
-          ends_with server_turn (server_befalls interface) (server_telling interface) Stands (server_item_leaves interface) IsMet Away Open
+          ends_with server_turn (server_act interface) (server_telling interface) Stands (server_item_leaves interface) IsMet Away Open
           entry [] call m Cancel (m, is, refl) (cancel_away entry)
       by_kind message.Fragment is =
-          let was = behind_cancel m call.slot call.pieces entry stands away (subst (Passes call) (ap (befalls_by interface m call) is) ok) in
-          ends_with server_turn (server_befalls interface) (server_telling interface) Stands (server_item_leaves interface) IsMet Away Open
+          let was = behind_cancel m call.slot call.pieces entry stands away (subst (Passes call) (ap (act_by_kind interface m call) is) ok) in
+          ends_with server_turn (server_act interface) (server_telling interface) Stands (server_item_leaves interface) IsMet Away Open
           entry [] call m (Rest (not m.more)) (was, m ∷ [], refl, (is, twice m.more)) away
       by_kind message.Reply is = absurd (broken m message.Reply _ is refl met.1)
       by_kind message.LocateReply is = absurd (broken m message.LocateReply _ is refl met.1)
       by_kind message.CloseConnection is = absurd (broken m message.CloseConnection _ is refl met.1)
       by_kind message.MessageError is = absurd (broken m message.MessageError _ is refl met.1)
   begins entry call (DoesTo id (IsTold planned)) stands away owned ok =
-      Ends (one_said server_turn (server_befalls interface) (server_telling interface) Stands (server_item_leaves interface) IsMet Away Open
+      Ends (one_said server_turn (server_act interface) (server_telling interface) Stands (server_item_leaves interface) IsMet Away Open
       entry (Did (IsTold planned.event)) (DoesTo id (IsTold planned) ∷ []) (id, IsTold planned, refl, refl)) (own_away entry planned.event owned away)
   begins entry call (DoesTo id TakesOut) stands away owned ok =
-      Ends (one_said server_turn (server_befalls interface) (server_telling interface) Stands (server_item_leaves interface) IsMet Away Open
+      Ends (one_said server_turn (server_act interface) (server_telling interface) Stands (server_item_leaves interface) IsMet Away Open
       entry (Did TakesOut) (DoesTo id TakesOut ∷ []) (id, TakesOut, refl, refl)) refl
 
   -- ---- where messages are open
@@ -290,15 +290,16 @@ module _ (interface : Interface) (limit : ℕ) where
   in_use m k other order unsent octets ok = by_more m.more ok
     where
       by_more : (more : Bool) → Passes (gathering k order unsent octets)
-          (cond more (Hears (kept (event.First other)) (First m.order m.payload))
-          (Hears (kept (event.Whole (heard_call interface other m.version m.order m.payload))) Nothing)) → ⊥
+          (cond more (Hears (silently (event.First other)) (First m.order m.payload))
+          (Hears (silently (event.Whole (heard_call interface other m.version m.order m.payload))) Nothing)) → ⊥
       by_more true ok = no_fault ok
       by_more false ok = no_fault ok
 
   differs : (m : Msg) (k : CallKind) (order : Order) (unsent : List Msg) (octets : List ℕ) → same_order m.order order ≡ false
-      → Passes (gathering k order unsent octets) (continues interface m (continued m.order (Some k) (Some (record { order = order; octets = octets })))) → ⊥
+      → Passes (gathering k order unsent octets)
+      (continues server_pieces interface m (continued m.order (Some k) (Some (record { order = order; octets = octets })))) → ⊥
   differs m k order unsent octets is ok =
-      no_fault (subst (λ same. Passes (gathering k order unsent octets) (continues interface m (cond same (Some (k, octets)) None))) is ok)
+      no_fault (subst (λ same. Passes (gathering k order unsent octets) (continues server_pieces interface m (cond same (Some (k, octets)) None))) is ok)
 
   -- a Fragment in their order
   fragment : (entry : Option ServerEntry) (front : List Msg) (call : Call ServerEntry) (m : Msg) (opened : Open entry front call) → IsMet (Comes m)
@@ -312,26 +313,26 @@ module _ (interface : Interface) (limit : ℕ) where
       by_more true more =
           let same = message_is m V12 message.Fragment opened.order true (fragment_version limit m met.0 is) is in_order more in
           let here = gathering opened.k opened.order opened.unsent (joined front) in
-          let act = ap (λ n. server_befalls interface n here) same ∙ more_act interface opened.k V12 opened.order opened.unsent (joined front) m.payload in
+          let act = ap (λ n. server_act interface n here) same ∙ more_act interface opened.k V12 opened.order opened.unsent (joined front) m.payload in
           GoesOn m refl (record {
             k = opened.k;
             order = opened.order;
             unsent = opened.unsent;
             series = series_on front m (asks opened.k) V12 opened.order true opened.series same;
-            there = ap (λ c. left c (server_turn c (server_befalls interface m c))) opened.there
+            there = ap (λ c. left c (server_turn c (server_act interface m c))) opened.there
                 ∙ ap (λ act. left here (server_turn here act)) act
                 ∙ ap (gathering opened.k opened.order opened.unsent) (sym (joined_on front m (asks opened.k) V12 opened.order opened.series));
           })
 
   goes_on : (entry : Option ServerEntry) (front : List Msg) (call : Call ServerEntry) (e : Event ServerEvent) → Open entry front call → IsMet e
-      → IsOk (server_turn call (what server_turn (server_befalls interface) e call)) → GoesSo entry front call e
+      → IsOk (server_turn call (what server_turn (server_act interface) e call)) → GoesSo entry front call e
   goes_on entry front call (Comes m) opened met ok = by_kind m.kind refl
     where
       passes : (k : Kind) → m.kind ≡ k → Passes (gathering opened.k opened.order opened.unsent (joined front))
-          (befalls_by interface m (gathering opened.k opened.order opened.unsent (joined front)) k)
+          (act_by_kind interface m (gathering opened.k opened.order opened.unsent (joined front)) k)
       passes k is =
           let here = gathering opened.k opened.order opened.unsent (joined front) in
-          subst (λ k. Passes here (befalls_by interface m here k)) is (subst (λ c. Passes c (server_befalls interface m c)) opened.there ok)
+          subst (λ k. Passes here (act_by_kind interface m here k)) is (subst (λ c. Passes c (server_act interface m c)) opened.there ok)
 
       by_kind : (k : Kind) → m.kind ≡ k → GoesSo entry front call (Comes m)
       by_kind message.Request is = absurd (in_use m opened.k kind.Request opened.order opened.unsent (joined front) (passes message.Request is))
@@ -363,14 +364,14 @@ module _ (interface : Interface) (limit : ℕ) where
 
   stops : (entry : Option ServerEntry) (front : List Msg) (call : Call ServerEntry) → Open entry front call → SaidSo entry (map Comes front)
   stops entry front call opened =
-      one_said server_turn (server_befalls interface) (server_telling interface) Stands (server_item_leaves interface) IsMet Away Open
+      one_said server_turn (server_act interface) (server_telling interface) Stands (server_item_leaves interface) IsMet Away Open
       entry (Begun opened.k) (map Comes front) (V12, opened.order, front, refl, opened.series)
 
   pub server_said : (call k : Call ServerEntry) (events : List (Event ServerEvent)) → entry_of call.slot ≡ None
       → Each IsMet events
-      → Follows server_turn (server_befalls interface) call events k → SaidSo None events
+      → Follows server_turn (server_act interface) call events k → SaidSo None events
   server_said call k events stands met follows =
-      all_said server_turn (server_befalls interface) (server_telling interface) Stands (server_item_leaves interface) IsMet Away Open
+      all_said server_turn (server_act interface) (server_telling interface) Stands (server_item_leaves interface) IsMet Away Open
       (record { begins = begins; goes_on = goes_on; stops = stops }) None call k events stands refl met follows
 
 -- each input that is taken is an act of the server's own

@@ -27,21 +27,21 @@ use Rattle.giop_calls.specs.declared.server.event.ServerEvent.TheVariants as eve
 use Rattle.giop_calls.specs.declared.server.heard.HeardCall.{HeardCall}
 use Rattle.giop_calls.specs.declared.server.heard.HeardCall.TheVariants as heard_as
 use Rattle.giop_calls.specs.ServerTable.{arrived, becomes, begins, is_closed, is_free, is_gathering, refused, server_step}
-use Rattle.giop_session.specs.declared.calls.slot.Slot.{Slot}
-use Rattle.giop_session.specs.Calls.CallTable.{Act, Call, First, Hears, More, Nothing, Turned, turn}
+use Rattle.giop_table.specs.declared.slot.Slot.{Slot}
+use Rattle.giop_table.specs.CallTable.{Act, Call, First, Hears, More, Nothing, Turned, turn}
 use Rattle.giop_session.specs.Items.Carries.{AreFragments, Got, Bad, Begun, Rest, Cancel, Did, IsSeries, done_by}
-use Rattle.giop_session.specs.Hearing.Decoding.{heard_call}
+use Rattle.giop_end.specs.Hearing.Decoding.{heard_call}
 use Rattle.giop_session.specs.Runs.Events.{Comes, Follows, Local, act_of}
-use Rattle.giop_session.specs.Hearing.Heard.{kept}
-use Rattle.giop_session.specs.Calls.Sending.{entry_of, unsent_of}
+use Rattle.giop_end.specs.Hearing.Heard.{silently}
+use Rattle.giop_table.specs.Sending.{entry_of, unsent_of}
 use Rattle.giop_session.specs.Items.ServerCarries.{SpellsCall, asks, server_behind, server_telling}
-use Rattle.giop_session.specs.Hearing.ServerHears.{server_befalls}
+use Rattle.giop_end.specs.Hearing.ServerHears.{server_act}
 use Rattle.giop_session.proofs.OnItems.ItemLemmas.{ItemLeaves, call_of, entry_is, entry_left, heard, taken_out}
 
 abbrev Answer : Type 0
 Answer = Unit {0}
 
--- what befalls a call at a server
+-- what a message does to a call at a server
 abbrev pub server_turn : Call ServerEntry → Act ServerEvent → Turned ServerEntry Answer CallFault
 server_turn = turn server_step is_closed is_gathering
 
@@ -67,22 +67,22 @@ begun entry now ok = by_test (is_free entry) ok
 -- so do all messages of a kind, as it comes
 module _ (interface : Interface) (k : CallKind) (version : Version) (order : Order) where
   whole_act : (payload : List ℕ) (call : Call ServerEntry)
-      → server_befalls interface (message_of version (asks k) order false payload) call
-      ≡ Hears (kept (event.Whole (heard_call interface k version order payload))) Nothing
+      → server_act interface (message_of version (asks k) order false payload) call
+      ≡ Hears (silently (event.Whole (heard_call interface k version order payload))) Nothing
   whole_act payload call = by_kind k
     where
-      by_kind : (k : CallKind) → server_befalls interface (message_of version (asks k) order false payload) call
-          ≡ Hears (kept (event.Whole (heard_call interface k version order payload))) Nothing
+      by_kind : (k : CallKind) → server_act interface (message_of version (asks k) order false payload) call
+          ≡ Hears (silently (event.Whole (heard_call interface k version order payload))) Nothing
       by_kind kind.Request = refl
       by_kind kind.Locate = refl
 
   pub first_act : (payload : List ℕ) (call : Call ServerEntry)
-      → server_befalls interface (message_of version (asks k) order true payload) call
-      ≡ Hears (kept (event.First k)) (First order payload)
+      → server_act interface (message_of version (asks k) order true payload) call
+      ≡ Hears (silently (event.First k)) (First order payload)
   first_act payload call = by_kind k
     where
-      by_kind : (k : CallKind) → server_befalls interface (message_of version (asks k) order true payload) call
-          ≡ Hears (kept (event.First k)) (First order payload)
+      by_kind : (k : CallKind) → server_act interface (message_of version (asks k) order true payload) call
+          ≡ Hears (silently (event.First k)) (First order payload)
       by_kind kind.Request = refl
       by_kind kind.Locate = refl
 
@@ -91,26 +91,26 @@ module _ (interface : Interface) (k : CallKind) (version : Version) (order : Ord
   gathering unsent octets = standing (Some (Gathering k)) unsent (Some (record { order = order; octets = octets }))
 
   pub more_act : (unsent : List Msg) (octets payload : List ℕ)
-      → server_befalls interface (message_of version message.Fragment order true payload) (gathering unsent octets)
-      ≡ Hears (kept (event.More true)) (More (drop 4 payload))
+      → server_act interface (message_of version message.Fragment order true payload) (gathering unsent octets)
+      ≡ Hears (silently (event.More true)) (More (drop 4 payload))
   more_act unsent octets payload = by_order order
     where
       by_order : (o : Order)
-          → server_befalls interface (message_of version message.Fragment o true payload)
+          → server_act interface (message_of version message.Fragment o true payload)
           (standing (Some (Gathering k)) unsent (Some (record { order = o; octets = octets })))
-          ≡ Hears (kept (event.More true)) (More (drop 4 payload))
+          ≡ Hears (silently (event.More true)) (More (drop 4 payload))
       by_order Big = refl
       by_order Little = refl
 
   last_act : (unsent : List Msg) (octets payload : List ℕ)
-      → server_befalls interface (message_of version message.Fragment order false payload) (gathering unsent octets)
-      ≡ Hears (kept (event.Last true (heard_call interface k version order (octets ++ drop 4 payload)))) (More (drop 4 payload))
+      → server_act interface (message_of version message.Fragment order false payload) (gathering unsent octets)
+      ≡ Hears (silently (event.Last true (heard_call interface k version order (octets ++ drop 4 payload)))) (More (drop 4 payload))
   last_act unsent octets payload = by_order order
     where
       by_order : (o : Order)
-          → server_befalls interface (message_of version message.Fragment o false payload)
+          → server_act interface (message_of version message.Fragment o false payload)
           (standing (Some (Gathering k)) unsent (Some (record { order = o; octets = octets })))
-          ≡ Hears (kept (event.Last true (heard_call interface k version o (octets ++ drop 4 payload)))) (More (drop 4 payload))
+          ≡ Hears (silently (event.Last true (heard_call interface k version o (octets ++ drop 4 payload)))) (More (drop 4 payload))
       by_order Big = refl
       by_order Little = refl
 
@@ -121,19 +121,19 @@ module _ (interface : Interface) (k : CallKind) (version : Version) (order : Ord
   -- Fragments go on from there
   fragments : (messages : List Msg) (more : Bool) (unsent : List Msg) (octets : List ℕ) (after : Call ServerEntry)
       → IsSeries message.Fragment version order more messages
-      → Follows server_turn (server_befalls interface) (gathering unsent octets) (map Comes messages) after
+      → Follows server_turn (server_act interface) (gathering unsent octets) (map Comes messages) after
       → entry_of after.slot ≡ Some (shown more (octets ++ flat_map continued messages))
   fragments [] more unsent octets after series follows = absurd series
   fragments (m ∷ []) true unsent octets after series follows =
-      let act = ap (λ n. server_befalls interface n (gathering unsent octets)) series ∙ more_act unsent octets m.payload in
+      let act = ap (λ n. server_act interface n (gathering unsent octets)) series ∙ more_act unsent octets m.payload in
       ap (λ call. entry_of call.slot) (follows.1 ∙ ap (behind (gathering unsent octets)) act)
   fragments (m ∷ []) false unsent octets after series follows =
-      let act = ap (λ n. server_befalls interface n (gathering unsent octets)) series ∙ last_act unsent octets m.payload in
+      let act = ap (λ n. server_act interface n (gathering unsent octets)) series ∙ last_act unsent octets m.payload in
       ap (λ call. entry_of call.slot) (follows.1 ∙ ap (behind (gathering unsent octets)) act)
       ∙ ap (λ all. Some (arrived (heard_call interface k version order (octets ++ all)))) (sym (append-nil (drop 4 m.payload)))
   fragments (m ∷ n ∷ messages) more unsent octets after (is, series) follows =
-      let act = ap (λ n. server_befalls interface n (gathering unsent octets)) is ∙ more_act unsent octets m.payload in
-      let rest = subst (λ call. Follows server_turn (server_befalls interface) call (map Comes (n ∷ messages)) after)
+      let act = ap (λ n. server_act interface n (gathering unsent octets)) is ∙ more_act unsent octets m.payload in
+      let rest = subst (λ call. Follows server_turn (server_act interface) call (map Comes (n ∷ messages)) after)
       (ap (behind (gathering unsent octets)) act) follows.1 in
       fragments (n ∷ messages) more unsent (octets ++ drop 4 m.payload) after series rest
       ∙ ap (λ all. Some (shown more all)) (append_assoc octets (drop 4 m.payload) (flat_map continued (n ∷ messages)))
@@ -141,31 +141,31 @@ module _ (interface : Interface) (k : CallKind) (version : Version) (order : Ord
   -- a message leaves the same, whole or in pieces
   pub series : (messages : List Msg) (more : Bool) (call after : Call ServerEntry)
       → IsSeries (asks k) version order more messages
-      → Follows server_turn (server_befalls interface) call (map Comes messages) after
+      → Follows server_turn (server_act interface) call (map Comes messages) after
       → entry_of after.slot ≡ Some (shown more (joined messages))
   series [] more call after is follows = absurd is
   series (m ∷ []) true call after is follows =
-      let act = ap (λ n. server_befalls interface n call) is ∙ first_act m.payload call in
-      let did = heard server_step is_closed is_gathering call (kept (event.First k)) (First order m.payload) (subst (Passes call) act follows.0) in
+      let act = ap (λ n. server_act interface n call) is ∙ first_act m.payload call in
+      let did = heard server_step is_closed is_gathering call (silently (event.First k)) (First order m.payload) (subst (Passes call) act follows.0) in
       ap (λ call. entry_of call.slot) (follows.1 ∙ ap (behind call) act ∙ did.leaves)
       ∙ entry_is (begins (entry_of call.slot) (Gathering k)).entry (unsent_of call.slot)
       ∙ begun (entry_of call.slot) (Gathering k) did.accepted
   series (m ∷ []) false call after is follows =
       let heard_as = heard_call interface k version order m.payload in
-      let act = ap (λ n. server_befalls interface n call) is ∙ whole_act m.payload call in
-      let did = heard server_step is_closed is_gathering call (kept (event.Whole heard_as)) Nothing (subst (Passes call) act follows.0) in
+      let act = ap (λ n. server_act interface n call) is ∙ whole_act m.payload call in
+      let did = heard server_step is_closed is_gathering call (silently (event.Whole heard_as)) Nothing (subst (Passes call) act follows.0) in
       ap (λ call. entry_of call.slot) (follows.1 ∙ ap (behind call) act ∙ did.leaves)
       ∙ entry_is (begins (entry_of call.slot) (arrived heard_as)).entry (unsent_of call.slot)
       ∙ begun (entry_of call.slot) (arrived heard_as) did.accepted
       ∙ ap (λ octets. Some (arrived (heard_call interface k version order octets))) (sym (append-nil m.payload))
   series (m ∷ n ∷ messages) more call after (is, rest) follows =
-      let act = ap (λ n. server_befalls interface n call) is ∙ first_act m.payload call in
-      let did = heard server_step is_closed is_gathering call (kept (event.First k)) (First order m.payload) (subst (Passes call) act follows.0) in
+      let act = ap (λ n. server_act interface n call) is ∙ first_act m.payload call in
+      let did = heard server_step is_closed is_gathering call (silently (event.First k)) (First order m.payload) (subst (Passes call) act follows.0) in
       let moved = ap (behind call) act ∙ did.leaves
       ∙ ap (λ entry. standing entry (unsent_of call.slot) (Some (record { order = order; octets = m.payload })))
       (begun (entry_of call.slot) (Gathering k) did.accepted) in
       fragments (n ∷ messages) more (unsent_of call.slot) m.payload after rest
-      (subst (λ call. Follows server_turn (server_befalls interface) call (map Comes (n ∷ messages)) after) moved follows.1)
+      (subst (λ call. Follows server_turn (server_act interface) call (map Comes (n ∷ messages)) after) moved follows.1)
 
 -- what octets spell is heard
 spelled : (interface : Interface) (k : CallKind) (version : Version) (order : Order) (octets : List ℕ) (call : HeardCall)
@@ -182,8 +182,8 @@ spelled interface kind.Locate version order octets (heard_as.Undecoded call) spe
 -- Fragments behind a cancel change nothing
 module _ (interface : Interface) (answered : Bool) (left_over : ℕ) where
   pub fragment_act : (m : Msg) (unsent : List Msg) (pieces : Option Pieces) → m.kind ≡ message.Fragment
-      → server_befalls interface m (record { slot = Some (record { entry = Cancelled answered left_over; unsent = unsent }); pieces = pieces })
-      ≡ Hears (kept (event.More false)) Nothing
+      → server_act interface m (record { slot = Some (record { entry = Cancelled answered left_over; unsent = unsent }); pieces = pieces })
+      ≡ Hears (silently (event.More false)) Nothing
   fragment_act m unsent pieces is = rw is refl
 
   abbrev IsCancelled : Call ServerEntry → Type 0
@@ -191,36 +191,36 @@ module _ (interface : Interface) (answered : Bool) (left_over : ℕ) where
 
   -- the act of a Fragment behind a cancel
   ignored_act : (m : Msg) (call : Call ServerEntry) → IsCancelled call → m.kind ≡ message.Fragment
-      → server_befalls interface m call ≡ Hears (kept (event.More false)) Nothing
+      → server_act interface m call ≡ Hears (silently (event.More false)) Nothing
   ignored_act m call is fragment = by_slot call.slot is
     where
       by_slot : (slot : Option (Slot ServerEntry)) → entry_of slot ≡ Some (Cancelled answered left_over)
-          → server_befalls interface m (record { slot = slot; pieces = call.pieces }) ≡ Hears (kept (event.More false)) Nothing
+          → server_act interface m (record { slot = slot; pieces = call.pieces }) ≡ Hears (silently (event.More false)) Nothing
       by_slot None is = absurd cc
       by_slot (Some slot) is =
           let same : slot.entry ≡ Cancelled answered left_over = cc in
-          subst (λ entry. server_befalls interface m (record { slot = Some (record { entry = entry; unsent = slot.unsent }); pieces = call.pieces })
-          ≡ Hears (kept (event.More false)) Nothing) (sym same) (fragment_act m slot.unsent call.pieces fragment)
+          subst (λ entry. server_act interface m (record { slot = Some (record { entry = entry; unsent = slot.unsent }); pieces = call.pieces })
+          ≡ Hears (silently (event.More false)) Nothing) (sym same) (fragment_act m slot.unsent call.pieces fragment)
 
   ignored_one : (m : Msg) (call : Call ServerEntry) → IsCancelled call → m.kind ≡ message.Fragment
-      → Passes call (server_befalls interface m call) → IsCancelled (behind call (server_befalls interface m call))
+      → Passes call (server_act interface m call) → IsCancelled (behind call (server_act interface m call))
   ignored_one m call is fragment ok =
       let act = ignored_act m call is fragment in
-      let did = heard server_step is_closed is_gathering call (kept (event.More false)) Nothing (subst (Passes call) act ok) in
+      let did = heard server_step is_closed is_gathering call (silently (event.More false)) Nothing (subst (Passes call) act ok) in
       ap (λ call. entry_of call.slot) (ap (behind call) act ∙ did.leaves)
       ∙ entry_is (server_step (entry_of call.slot) (event.More false)).entry (unsent_of call.slot)
       ∙ ap (λ entry. (server_step entry (event.More false)).entry) is
 
   pub ignored : (messages : List Msg) (ends : Bool) (call after : Call ServerEntry) → IsCancelled call → AreFragments ends messages
-      → Follows server_turn (server_befalls interface) call (map Comes messages) after → IsCancelled after
+      → Follows server_turn (server_act interface) call (map Comes messages) after → IsCancelled after
   ignored [] ends call after is are follows = subst IsCancelled (sym follows) is
   ignored (m ∷ []) ends call after is are follows = subst IsCancelled (sym follows.1) (ignored_one m call is are.0 follows.0)
   ignored (m ∷ n ∷ messages) ends call after is are follows =
-      ignored (n ∷ messages) ends (behind call (server_befalls interface m call)) after (ignored_one m call is are.0 follows.0) are.2 follows.1
+      ignored (n ∷ messages) ends (behind call (server_act interface m call)) after (ignored_one m call is are.0 follows.0) are.2 follows.1
 
 -- a cancel is the rule's event
 pub cancel_act : (interface : Interface) (m : Msg) (call : Call ServerEntry) → m.kind ≡ message.CancelRequest
-    → server_befalls interface m call ≡ Hears (kept event.Cancel) Nothing
+    → server_act interface m call ≡ Hears (silently event.Cancel) Nothing
 cancel_act interface m call is = rw is refl
 
 -- an act of the server itself does what its rule's event does
@@ -234,24 +234,24 @@ did interface call after act TakesOut done ok is =
 
 -- an item leaves of a call what is said, whatever events carry it
 pub server_item_leaves : (interface : Interface)
-    → ItemLeaves server_turn (server_befalls interface) (server_telling interface) (λ entry call. entry_of call.slot ≡ entry)
+    → ItemLeaves server_turn (server_act interface) (server_telling interface) (λ entry call. entry_of call.slot ≡ entry)
 server_item_leaves interface entry call after (Got said) events stands (k, version, order, messages, e, are, spells) follows =
-    series interface k version order messages false call after are (subst (λ l. Follows server_turn (server_befalls interface) call l after) e follows)
+    series interface k version order messages false call after are (subst (λ l. Follows server_turn (server_act interface) call l after) e follows)
     ∙ ap (λ call. Some (arrived call)) (spelled interface k version order (joined messages) said spells)
 server_item_leaves interface entry call after (Bad k version order octets) events stands (messages, e, are, same, none) follows =
-    series interface k version order messages false call after are (subst (λ l. Follows server_turn (server_befalls interface) call l after) e follows)
+    series interface k version order messages false call after are (subst (λ l. Follows server_turn (server_act interface) call l after) e follows)
     ∙ ap (λ octets. Some (arrived (heard_call interface k version order octets))) same
 server_item_leaves interface entry call after (Begun k) events stands (version, order, messages, e, are) follows =
-    series interface k version order messages true call after are (subst (λ l. Follows server_turn (server_befalls interface) call l after) e follows)
+    series interface k version order messages true call after are (subst (λ l. Follows server_turn (server_act interface) call l after) e follows)
 server_item_leaves interface entry call after (Rest ends) events stands (was, messages, e, are) follows =
     ignored interface was.0 was.1 messages ends call after (stands ∙ was.2) are
-    (subst (λ l. Follows server_turn (server_befalls interface) call l after) e follows)
+    (subst (λ l. Follows server_turn (server_act interface) call l after) e follows)
     ∙ sym was.2
 server_item_leaves interface entry call after Cancel events stands (m, is, e) follows =
-    let met = subst (λ l. Follows server_turn (server_befalls interface) call l after) e follows in
+    let met = subst (λ l. Follows server_turn (server_act interface) call l after) e follows in
     let act = cancel_act interface m call is in
-    entry_left server_step is_closed is_gathering call after (kept event.Cancel) (subst (Passes call) act met.0) (met.1 ∙ ap (behind call) act)
+    entry_left server_step is_closed is_gathering call after (silently event.Cancel) (subst (Passes call) act met.0) (met.1 ∙ ap (behind call) act)
     ∙ ap (λ entry. (server_step entry event.Cancel).entry) stands
 server_item_leaves interface entry call after (Did act) events stands (id, local, done, e) follows =
-    let met = subst (λ l. Follows server_turn (server_befalls interface) call l after) e follows in
+    let met = subst (λ l. Follows server_turn (server_act interface) call l after) e follows in
     did interface call after act local done met.0 met.1 ∙ ap (λ entry. server_behind interface entry (Did act)) stands

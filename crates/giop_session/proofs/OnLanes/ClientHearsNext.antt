@@ -14,16 +14,16 @@ use Rattle.giop_calls.specs.declared.client.entry.ClientEntry.{ClientEntry}
 use Rattle.giop_calls.specs.declared.client.entry.ClientEntry.TheVariants.{Gathering}
 use Rattle.giop_calls.specs.declared.client.event.ClientEvent.{ClientEvent}
 use Rattle.giop_calls.specs.declared.client.rule.ClientRule.{ClientRule}
-use Rattle.giop_session.specs.declared.session_fault.SessionFault.{SessionFault}
-use Rattle.giop_session.specs.declared.session_fault.SessionFault.TheVariants.{NoMemory}
-use Rattle.giop_session.specs.declared.calls.slot.Slot.{Slot}
-use Rattle.giop_session.specs.Calls.CallTable.{Call, Held, at, brought}
-use Rattle.giop_session.specs.Calls.CallTable as table
-use Rattle.giop_session.specs.Hearing.ClientHears.{client_side}
+use Rattle.giop_end.specs.declared.session_fault.SessionFault.{SessionFault}
+use Rattle.giop_end.specs.declared.session_fault.SessionFault.TheVariants.{NoMemory}
+use Rattle.giop_table.specs.declared.slot.Slot.{Slot}
+use Rattle.giop_table.specs.CallTable.{Call, Held, at, brought}
+use Rattle.giop_table.specs.CallTable as table
+use Rattle.giop_end.specs.Hearing.ClientHears.{client_side}
 use Rattle.giop_session.specs.Worlds.Coding.{coding}
-use Rattle.giop_session.specs.Hearing.Heard.{hears}
+use Rattle.giop_end.specs.Hearing.Heard.{hears}
 use Rattle.giop_session.specs.Worlds.LaneAtEnds.{gathered_in, seen}
-use Rattle.giop_session.specs.Calls.Sending.{entry_of, slot_of, unsent_of}
+use Rattle.giop_table.specs.Sending.{entry_of, slot_of, unsent_of}
 use Rattle.giop_session.specs.Worlds.Tracks.{ClientShows, IsToClient, IsToServer}
 use Rattle.giop_session.proofs.OnLanes.ClientSteps.{AcceptsIt, Gathers, Steps, half, steps}
 use Rattle.giop_session.proofs.OnLanes.HearsNext.{Came, accepted, call_behind, came, held_on, mapped, put_beside, put_there, unsent_kept}
@@ -148,7 +148,7 @@ module _ (interface : Interface) (lane : Lane) (id : ℕ) (m : Msg) (later : Lis
       by_step result memory hears =
           heard_so result
           (came (client_side interface) id m its.what its.brings h k
-          its.small (subst (λ (one : ClientStep). IsOk one.outcome) (sym same_step) ok_there) is.unbroken is.names its.befalls result memory hears)
+          its.small (subst (λ (one : ClientStep). IsOk one.outcome) (sym same_step) ok_there) is.unbroken is.names its.act_by result memory hears)
 
 pub client_hears_next : (interface : Interface) (lane : Lane) (id : ℕ) (m : Msg) (later : List Message)
     (h k : Held ClientRule ClientEntry) (result : Result (Unit {0}) SessionFault)

@@ -1,4 +1,4 @@
--- What befalls a call at a client by a message does what the event of its lane does.
+-- What a message does to a call at a client is what the event of its lane does.
 use Rattle.std.proofs.Common.{◌≡◌, ℕ, ◌≤◌, Bool, true, false, not, cond, if◌then◌else◌, List, [], ◌∷◌, ◌++◌, length, Option, Some, None, is_some, IsOk, is_ok, refl, sym, ap, subst, ◌∙◌, length-drop, arith}
 use Rattle.giop_types.specs.declared.json.interface.Interface.{Interface}
 use Rattle.giop_frag.specs.Gathered.{Pieces}
@@ -21,15 +21,15 @@ use Rattle.giop_calls.specs.declared.client.late.Late.TheVariants as late
 use Rattle.giop_calls.specs.declared.fault.CallFault.TheVariants.{OrderDiffers, WrongKind}
 use Rattle.giop_calls.specs.declared.kind.CallKind.{CallKind}
 use Rattle.giop_calls.specs.declared.kind.CallKind.TheVariants as kind
-use Rattle.giop_session.specs.declared.calls.slot.Slot.{Slot}
-use Rattle.giop_session.specs.Calls.CallTable.{Brings, Call, First, Hears, More, Nothing, brought}
+use Rattle.giop_table.specs.declared.slot.Slot.{Slot}
+use Rattle.giop_table.specs.CallTable.{Brings, Call, First, Hears, More, Nothing, brought}
 use Rattle.giop_session.specs.Items.ClientCarries.{replies}
-use Rattle.giop_session.specs.Hearing.ClientHears.{awaited, breaks_by, client_befalls, client_breaks, comes}
-use Rattle.giop_session.specs.Hearing.ClientHears as hearing
+use Rattle.giop_end.specs.Hearing.ClientHears.{awaited, breaks_by, client_act, client_breaks, comes}
+use Rattle.giop_end.specs.Hearing.ClientHears as hearing
 use Rattle.giop_session.specs.Worlds.Coding.{coding}
-use Rattle.giop_session.specs.Hearing.Heard.{behind_id, kept}
+use Rattle.giop_end.specs.Hearing.Heard.{behind_id, silently}
 use Rattle.giop_session.specs.Worlds.LaneAtEnds.{gathered_in, seen}
-use Rattle.giop_session.specs.Calls.Sending.{entry_of}
+use Rattle.giop_table.specs.Sending.{entry_of}
 use Rattle.giop_session.proofs.OnHearing.ClientCancelLemmas as cancelled
 use Rattle.giop_session.proofs.OnLanes.HearsNext.{same_orders}
 use Rattle.giop_session.proofs.OnLanes.LaneAtEndsLemmas as ends
@@ -64,7 +64,7 @@ settled_stays before (asked.Locate request) (heard_as.Locate reply) = refl
 settled_stays before (asked.Locate request) (heard_as.Undecoded fault) = refl
 settled_stays before (asked.Locate request) heard_as.Unread = refl
 
--- ---- what befalls a call is its lane's step
+-- ---- what a message does to a call is its lane's step
 
 -- where a reply is gathered, these are its pieces
 abbrev pub Gathers : Option ClientEntry → List Piece → Option Pieces → Type 0
@@ -86,12 +86,12 @@ module _ (interface : Interface) (m : Msg) (slot : Option (Slot ClientEntry)) (h
   abbrev pub of_lane : Message → Option ClientEvent
   of_lane one = client_event (coding interface) (half (entry_of slot) pieces uses) one
 
-  -- the message befalls the call by an event that does what the lane's does, and leaves its pieces
+  -- the message acts on the call by an event that does what the lane's does, and leaves its pieces
   pub record Steps (one : Message) : Type 0 where
     pub what : ClientEvent
     pub lanes_event : ClientEvent
     pub brings : Brings
-    pub befalls : client_befalls interface m stored_call ≡ Hears (kept what) brings
+    pub act_by : client_act interface m stored_call ≡ Hears (silently what) brings
     pub small : brought_by brings ≤ length m.payload
     pub on_lane : of_lane one ≡ Some lanes_event
     pub same : stepped what ≡ stepped lanes_event
@@ -125,7 +125,7 @@ module _ (interface : Interface) (m : Msg) (k : CallKind) (q : Asked) (unsent : 
         what = event.First k m.version;
         lanes_event = event.First k m.version;
         brings = First m.order m.payload;
-        befalls = ends.first_reply interface k q m (record { slot = waiting; pieces = held }) is more (awaited_by true waits);
+        act_by = ends.first_reply interface k q m (record { slot = waiting; pieces = held }) is more (awaited_by true waits);
         small = omega arith;
         on_lane = refl;
         same = refl;
@@ -143,7 +143,7 @@ module _ (interface : Interface) (m : Msg) (k : CallKind) (q : Asked) (unsent : 
         what = event.Whole k m.version told;
         lanes_event = event.Whole k m.version told;
         brings = Nothing;
-        befalls = ends.whole_reply interface k q m (record { slot = waiting; pieces = held }) is more (awaited_by true waits);
+        act_by = ends.whole_reply interface k q m (record { slot = waiting; pieces = held }) is more (awaited_by true waits);
         small = omega arith;
         on_lane = refl;
         same = refl;
@@ -183,10 +183,10 @@ late_apart l q is = cc
 
 -- a late reply, to a call that was cancelled
 late_act : (interface : Interface) (m : Msg) (k : CallKind) (unsent : List Msg) (held : Option Pieces) → m.kind ≡ replies k
-    → client_befalls interface m (record { slot = Some (record { entry = Cancelled late.None; unsent = unsent }); pieces = held })
+    → client_act interface m (record { slot = Some (record { entry = Cancelled late.None; unsent = unsent }); pieces = held })
     ≡ comes interface k m None
 late_act interface m k unsent held is =
-    ap (hearing.befalls_by interface m (record { slot = Some (record { entry = Cancelled late.None; unsent = unsent }); pieces = held })) is
+    ap (hearing.act_by_kind interface m (record { slot = Some (record { entry = Cancelled late.None; unsent = unsent }); pieces = held })) is
     ∙ ends.answer_act interface k m (record { slot = Some (record { entry = Cancelled late.None; unsent = unsent }); pieces = held })
 
 late_opens : (interface : Interface) (m : Msg) (k : CallKind) (unsent : List Msg) (held : Option Pieces) (pieces : List Piece) (uses : ℕ) (more : Bool)
@@ -196,7 +196,7 @@ late_opens interface m k unsent held pieces uses true is there = record {
   what = event.First k m.version;
   lanes_event = event.First k m.version;
   brings = Nothing;
-  befalls = late_act interface m k unsent held is ∙ ends.more_is m.more _ _ there;
+  act_by = late_act interface m k unsent held is ∙ ends.more_is m.more _ _ there;
   small = omega arith;
   on_lane = refl;
   same = refl;
@@ -207,7 +207,7 @@ late_opens interface m k unsent held pieces uses false is there = record {
   what = event.Whole k m.version heard_as.Unread;
   lanes_event = event.Whole k m.version heard_as.Unread;
   brings = Nothing;
-  befalls = late_act interface m k unsent held is ∙ ends.not_more m.more _ _ there;
+  act_by = late_act interface m k unsent held is ∙ ends.not_more m.more _ _ there;
   small = omega arith;
   on_lane = refl;
   same = refl;
@@ -274,8 +274,8 @@ module _ (interface : Interface) (m : Msg) (q : Asked) (unsent : List Msg) (held
     what = event.More true;
     lanes_event = event.More (in_order pieces m);
     brings = More (behind_id m);
-    befalls =
-        ap (λ pieces. client_befalls interface m (record { slot = gathering_slot; pieces = pieces })) joined_so
+    act_by =
+        ap (λ pieces. client_act interface m (record { slot = gathering_slot; pieces = pieces })) joined_so
         ∙ ends.more_reply interface q cut m unsent fragment more order;
     small = behind_is_small;
     on_lane = refl;
@@ -298,8 +298,8 @@ module _ (interface : Interface) (m : Msg) (q : Asked) (unsent : List Msg) (held
         what = event.Last true told;
         lanes_event = event.Last (in_order pieces m) ((coding interface).read_reply q (pieces ++ m ∷ []));
         brings = More (behind_id m);
-        befalls =
-            ap (λ pieces. client_befalls interface m (record { slot = gathering_slot; pieces = pieces })) joined_so
+        act_by =
+            ap (λ pieces. client_act interface m (record { slot = gathering_slot; pieces = pieces })) joined_so
             ∙ ends.last_reply interface q cut m unsent fragment more order;
         small = behind_is_small;
         on_lane = refl;
@@ -320,7 +320,7 @@ module _ (interface : Interface) (m : Msg) (unsent : List Msg) (held : Option Pi
     what = event.More false;
     lanes_event = event.More (in_order pieces m);
     brings = Nothing;
-    befalls = cancelled.fragment_act interface m (record { slot = stopped l; pieces = held }) l false refl fragment more;
+    act_by = cancelled.fragment_act interface m (record { slot = stopped l; pieces = held }) l false refl fragment more;
     small = omega arith;
     on_lane = refl;
     same = refl;
@@ -333,7 +333,7 @@ module _ (interface : Interface) (m : Msg) (unsent : List Msg) (held : Option Pi
     what = event.Last false heard_as.Unread;
     lanes_event = event.Last (in_order pieces m) heard_as.Unread;
     brings = Nothing;
-    befalls = cancelled.fragment_act interface m (record { slot = stopped l; pieces = held }) l true refl fragment more;
+    act_by = cancelled.fragment_act interface m (record { slot = stopped l; pieces = held }) l true refl fragment more;
     small = omega arith;
     on_lane = refl;
     same = by_late l;

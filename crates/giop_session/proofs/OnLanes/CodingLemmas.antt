@@ -41,20 +41,20 @@ use Rattle.giop_calls.specs.declared.kind.CallKind.TheVariants as kind
 use Rattle.giop_calls.specs.declared.server.event.ServerEvent.{ServerEvent}
 use Rattle.giop_calls.specs.declared.server.event.ServerEvent.TheVariants as at_server
 use Rattle.giop_calls.specs.declared.server.heard.HeardCall.TheVariants as heard
-use Rattle.giop_session.specs.declared.acts.form.Form.{Form}
-use Rattle.giop_session.specs.declared.calls.plan.Plan.{Plan}
-use Rattle.giop_session.specs.declared.calls.plan.Plan.TheVariants.{Put, Next, Keep}
-use Rattle.giop_session.specs.declared.calls.plan.Planned.{Planned}
+use Rattle.giop_end.specs.declared.acts.form.Form.{Form}
+use Rattle.giop_table.specs.declared.plan.Plan.{Plan}
+use Rattle.giop_table.specs.declared.plan.Plan.TheVariants.{Put, Next, Keep}
+use Rattle.giop_table.specs.declared.plan.Planned.{Planned}
 use Rattle.giop_session.specs.Items.Carries.{IsSeries}
-use Rattle.giop_session.specs.Acts.ClientCalls.{begin_fault, is_locate_sendable, is_request_sendable, locate_octets, request_octets}
-use Rattle.giop_session.specs.Hearing.ClientHears.{heard_reply}
+use Rattle.giop_end.specs.Acts.ClientCalls.{begin_fault, is_locate_sendable, is_request_sendable, locate_octets, request_octets}
+use Rattle.giop_end.specs.Hearing.ClientHears.{heard_reply}
 use Rattle.giop_session.specs.Worlds.Coding.{coding, kind_asked, last_piece, read_call, read_reply}
-use Rattle.giop_session.specs.Hearing.Decoding.{heard_call}
-use Rattle.giop_session.specs.Acts.Form.{IsForm, is_sendable, largest}
+use Rattle.giop_end.specs.Hearing.Decoding.{heard_call}
+use Rattle.giop_end.specs.Acts.Form.{IsForm, is_sendable, largest}
 use Rattle.giop_session.specs.Worlds.OwnLane.{IsOwn, OwnRuns, PlansCall, PlansLocated, PlansReply, sends_cut}
-use Rattle.giop_session.specs.Calls.Refused.{unfit_unless}
-use Rattle.giop_session.specs.Acts.Sent.{IsSent, sends_one}
-use Rattle.giop_session.specs.Acts.ServerAnswers.{is_reply_sendable, located, reply_octets}
+use Rattle.giop_end.specs.Acts.Refused.{unfit_unless}
+use Rattle.giop_end.specs.Acts.Sent.{IsSent, sends_one}
+use Rattle.giop_end.specs.Acts.ServerAnswers.{is_reply_sendable, located, reply_octets}
 use Rattle.giop_session.proofs.OnItems.CutItemLemmas.{cut_series}
 
 -- ---- the pieces of a series
@@ -306,13 +306,13 @@ reply_read interface q r planned is =
     )
 
 -- the LocateReply of an id, which says whether the target is here and no more
-abbrev pub told_of : Version → ℕ → Bool → LocateReply
-told_of version id here = record {
+abbrev pub result_of : Version → ℕ → Bool → LocateReply
+result_of version id here = record {
   head = record { version = version; id = id; status = if here then 1 else 0 };
   rest = [];
 }
 
-pub told_fits : (version : Version) (id : ℕ) (here : Bool) → (locate_reply version).fits (told_of version id here) ≡ true
+pub told_fits : (version : Version) (id : ℕ) (here : Bool) → (locate_reply version).fits (result_of version id here) ≡ true
 told_fits V10 id true = unfold locate_reply leads made_of remainder locate_reply_head field gives locate_status such number in refl
 told_fits V10 id false = unfold locate_reply leads made_of remainder locate_reply_head field gives locate_status such number in refl
 told_fits V11 id true = unfold locate_reply leads made_of remainder locate_reply_head field gives locate_status such number in refl
@@ -324,7 +324,7 @@ status_small : (here : Bool) → (if here then 1 else 0) < 2 ^ 32
 status_small true = omega arith
 status_small false = omega arith
 
-pub told_holds : (version : Version) (id : ℕ) (here : Bool) → id < 2 ^ 32 → (locate_reply version).holds (told_of version id here)
+pub told_holds : (version : Version) (id : ℕ) (here : Bool) → id < 2 ^ 32 → (locate_reply version).holds (result_of version id here)
 told_holds version id here small =
     unfold locate_reply leads made_of remainder locate_reply_head field gives locate_status such number in
     ((small, (status_small here, refl)), (refl, tt))
@@ -335,7 +335,7 @@ pub located_read : (interface : Interface) (q : AnyLocateRequest) (here : Bool) 
     × CutsLocated (coding interface) q here piece told
 located_read interface q here planned (id, order, (small, plans)) =
     let version = q.version in
-    let told = told_of version id here in
+    let told = result_of version id here in
     let octets = ((locate_reply version).written told (joined_into order)).octets in (
       located version order id here,
       told,

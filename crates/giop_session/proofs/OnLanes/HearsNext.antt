@@ -1,4 +1,4 @@
--- A message that its call accepts is heard, and befalls that call alone, unless a limit of its end is met.
+-- A message that its call accepts is heard, and acts on that call alone, unless a limit of its end is met.
 use Rattle.std.proofs.Common.{◌≡◌, ◌≢◌, ◌⊎◌, ℕ, ◌+◌, ◌<◌, ◌≤◌, ◌&&◌, ◌==◌, nat_lt, Bool, true, false, cond, List, length, Option, Some, None, is_none, is_some, Result, Ok, Err, IsOk, refl, sym, ap, subst, ◌∙◌, inl, inr, arith}
 use Rattle.std.proofs.lemmas.Bool.Decides.{nat_tests}
 use Rattle.std.specs.Option.{option_map, option_or}
@@ -15,17 +15,17 @@ use Rattle.giop_mux.specs.declared.step.Step.{Step}
 use Rattle.giop_calls.specs.Lane.{taken}
 use Rattle.giop_calls.specs.Messages.{is_same_order}
 use Rattle.giop_calls.specs.declared.fault.CallFault.{CallFault}
-use Rattle.giop_session.specs.declared.calls.plan.Planned.{Planned}
-use Rattle.giop_session.specs.declared.session_fault.SessionFault.{SessionFault}
-use Rattle.giop_session.specs.declared.session_fault.SessionFault.TheVariants as session
-use Rattle.giop_session.specs.declared.calls.slot.Slot.{Slot}
-use Rattle.giop_session.specs.declared.calls.table_fault.TableFault.{TableFault}
-use Rattle.giop_session.specs.declared.calls.table_fault.TableFault.TheVariants.{TooManyCalls, GatherFull, NoMemory}
-use Rattle.giop_session.specs.Calls.CallTable.{Act, Brings, Call, First, Hears, Held, More, Nothing, Reply, Turned, at, brought, calls_fault, gathers, limit, octets_fault, put_call, room_fault, turn, turned}
-use Rattle.giop_session.specs.Hearing.Heard.{Befalls, IsHeard, heard_by, heard_of, kept, SideOf, turn_at, rules_at, hears}
+use Rattle.giop_table.specs.declared.plan.Planned.{Planned}
+use Rattle.giop_end.specs.declared.session_fault.SessionFault.{SessionFault}
+use Rattle.giop_end.specs.declared.session_fault.SessionFault.TheVariants as session
+use Rattle.giop_table.specs.declared.slot.Slot.{Slot}
+use Rattle.giop_table.specs.declared.table_fault.TableFault.{TableFault}
+use Rattle.giop_table.specs.declared.table_fault.TableFault.TheVariants.{TooManyCalls, GatherFull, NoMemory}
+use Rattle.giop_table.specs.CallTable.{Act, Brings, Call, First, Hears, Held, More, Nothing, Reply, Turned, at, brought, calls_fault, gathers, limit, octets_fault, put_call, room_fault, turn, turned}
+use Rattle.giop_end.specs.Hearing.Heard.{ActsOn, IsHeard, heard_by, heard_of, silently, SideOf, turn_at, rules_at, hears}
 use Rattle.giop_session.specs.Worlds.OnTheWay.{Names}
-use Rattle.giop_session.specs.Calls.Sending.{entry_of, sending_step, settled_by, slot_of, unsent_of}
-use Rattle.giop_session.specs.Calls.SessionFaults.{of_table}
+use Rattle.giop_table.specs.Sending.{entry_of, sending_step, settled_by, slot_of, unsent_of}
+use Rattle.giop_end.specs.Ends.SessionFaults.{of_table}
 use Rattle.giop_session.proofs.OnItems.ItemLemmas.{call_of, heard}
 use Rattle.giop_session.proofs.OnLimits.LimitLemmas.{brought_by}
 use Rattle.giop_session.proofs.OnLanes.NextHeard.{IsBeside, IsFull}
@@ -152,7 +152,7 @@ module _ {R E V A F : Type 0} (next : R → Option E → V → Step E A F) (clos
       call_of (next h.rule) (closed h.rule) gathering (next h.rule (entry_of (finite.get h.table id)) event).entry
       (unsent_of (finite.get h.table id)) (brought brings (finite.get h.gathered id))
 
-  -- it befell its call, or met a limit, and nothing changed
+  -- it acted on its call, or met a limit, and nothing changed
   abbrev pub Came : ℕ → Msg → V → Brings → Held R E → Result (Unit {0}) SessionFault → Held R E → Type 0
   Came id m event brings h (Ok done) k = k ≡ put_call h id (call_behind h id event brings)
   Came id m event brings h (Err why) k = (k ≡ h) × IsFull m h why
@@ -174,13 +174,13 @@ module _ {R E V A F : Type 0} (side : SideOf R E V A F) where
     rules = rules_at side h.rule
 
     abbrev act : Act V
-    act = Hears (kept event) brings
+    act = Hears (silently event) brings
 
     turned_ok : IsOk (turn_at side h.rule (at h id) act)
-    turned_ok = passes (side.next h.rule) (side.closed h.rule) side.gathering (at h id) (kept event) brings ok
+    turned_ok = passes (side.next h.rule) (side.closed h.rule) side.gathering (at h id) (silently event) brings ok
 
-    befell : left (at h id) (turn_at side h.rule (at h id) act) ≡ call_behind side.next side.closed side.gathering h id event brings
-    befell = (heard (side.next h.rule) (side.closed h.rule) side.gathering (at h id) (kept event) brings turned_ok).leaves
+    on_call : left (at h id) (turn_at side h.rule (at h id) act) ≡ call_behind side.next side.closed side.gathering h id event brings
+    on_call = (heard (side.next h.rule) (side.closed h.rule) side.gathering (at h id) (silently event) brings turned_ok).leaves
 
     by_fault : (result : Result (Unit {0}) SessionFault) (fault : TableFault F) (why : SessionFault) → result ≢ Err session.NoMemory
         → result ≡ Err (of_table (side.of_rule id) fault) → result ≡ Err why
@@ -188,14 +188,14 @@ module _ {R E V A F : Type 0} (side : SideOf R E V A F) where
     by_fault result fault why memory is told (inl found) =
         let same : of_table (side.of_rule id) fault ≡ why = cc in
         subst (IsFull m h) same
-        (limit_met (side.next h.rule) (side.closed h.rule) side.gathering (side.of_rule id) m h id (kept event) brings fault small found)
+        (limit_met (side.next h.rule) (side.closed h.rule) side.gathering (side.of_rule id) m h id (silently event) brings fault small found)
     by_fault result fault why memory is told (inr wanting) =
         absurd (memory (is ∙ ap (λ one. Err (of_table (side.of_rule id) one)) wanting))
 
     by_told : (result : Result (Unit {0}) SessionFault) → result ≢ Err session.NoMemory
-        → IsHeard rules side.of_rule (Befalls id act) h result k → Came side.next side.closed side.gathering id m event brings h result k
+        → IsHeard rules side.of_rule (ActsOn id act) h result k → Came side.next side.closed side.gathering id m event brings h result k
     by_told (Ok done) memory (inl both) = absurd cc
-    by_told (Ok done) memory (inr (Ok sends, does, is)) = does.leaves ∙ ap (put_call h id) befell
+    by_told (Ok done) memory (inr (Ok sends, does, is)) = does.leaves ∙ ap (put_call h id) on_call
     by_told (Ok done) memory (inr (Err fault, does, is)) = absurd cc
     by_told (Err why) memory (inl both) = absurd (memory both.0)
     by_told (Err why) memory (inr (Ok sends, does, is)) = absurd cc
@@ -207,14 +207,14 @@ module _ {R E V A F : Type 0} (side : SideOf R E V A F) where
     )
 
     -- so is an end that hears the message
-    pub came : side.breaks m ≡ None → Names id m → side.befalls m (at h id) ≡ act → (result : Result (Unit {0}) SessionFault)
+    pub came : side.breaks m ≡ None → Names id m → side.act_by m (at h id) ≡ act → (result : Result (Unit {0}) SessionFault)
         → result ≢ Err session.NoMemory → hears side m h result k
         → Came side.next side.closed side.gathering id m event brings h result k
     came unbroken names is result memory hears =
         by_told result memory (subst (λ one. IsHeard rules side.of_rule one h result k) does hears)
       where
-        does : heard_of side.breaks side.befalls h m ≡ Befalls id act
-        does = (λ i. heard_by (unbroken i) (names i) (λ id. side.befalls m (at h id))) ∙ ap (λ one. Befalls id one) is
+        does : heard_of side.breaks side.act_by h m ≡ ActsOn id act
+        does = (λ i. heard_by (unbroken i) (names i) (λ id. side.act_by m (at h id))) ∙ ap (λ one. ActsOn id one) is
 
 -- ---- what is stored for an id
 

@@ -25,23 +25,24 @@ use Rattle.giop_calls.specs.declared.kind.CallKind.TheVariants as kind
 use Rattle.giop_calls.specs.declared.server.entry.ServerEntry.{ServerEntry}
 use Rattle.giop_calls.specs.declared.server.entry.ServerEntry.TheVariants as server_entry
 use Rattle.giop_calls.specs.declared.server.event.ServerEvent.TheVariants as at_server
-use Rattle.giop_session.specs.declared.acts.form.Form.{Form}
-use Rattle.giop_session.specs.declared.calls.plan.Planned.{Planned}
-use Rattle.giop_session.specs.Calls.CallTable.{Call, First, Hears, More, Nothing, brought}
+use Rattle.giop_end.specs.declared.acts.form.Form.{Form}
+use Rattle.giop_table.specs.declared.plan.Planned.{Planned}
+use Rattle.giop_table.specs.CallTable.{Call, First, Hears, More, Nothing, brought}
 use Rattle.giop_session.specs.Items.Carries.{IsSeries}
 use Rattle.giop_session.specs.Items.ClientCarries.{replies}
-use Rattle.giop_session.specs.Hearing.ClientHears as client
-use Rattle.giop_session.specs.Hearing.ClientHears.{awaited, client_befalls, heard_reply}
+use Rattle.giop_end.specs.Hearing.ClientHears as client
+use Rattle.giop_end.specs.Hearing.Pieces as joining
+use Rattle.giop_end.specs.Hearing.ClientHears.{awaited, client_act, heard_reply}
 use Rattle.giop_session.specs.Worlds.Coding.{coding, kind_asked, last_piece, read_call, read_reply}
-use Rattle.giop_session.specs.Hearing.Decoding.{heard_call}
-use Rattle.giop_session.specs.Hearing.Heard.{behind_id, kept}
+use Rattle.giop_end.specs.Hearing.Decoding.{heard_call}
+use Rattle.giop_end.specs.Hearing.Heard.{behind_id, silently}
 use Rattle.giop_session.specs.Worlds.LaneAtEnds.{carried, gathered_in, gathers, seen, seen_as}
 use Rattle.giop_session.specs.Worlds.OwnLane.{PlansCall, PlansLocated, PlansReply, sends_cut}
-use Rattle.giop_session.specs.Acts.Sent.{IsSent, sends_one}
-use Rattle.giop_session.specs.Acts.ServerAnswers.{located}
+use Rattle.giop_end.specs.Acts.Sent.{IsSent, sends_one}
+use Rattle.giop_end.specs.Acts.ServerAnswers.{located}
 use Rattle.giop_session.specs.Items.ServerCarries.{asks}
-use Rattle.giop_session.specs.Hearing.ServerHears as server
-use Rattle.giop_session.specs.Hearing.ServerHears.{server_befalls}
+use Rattle.giop_end.specs.Hearing.ServerHears as server
+use Rattle.giop_end.specs.Hearing.ServerHears.{server_act}
 use Rattle.giop_session.proofs.OnLanes.CodingLemmas.{put_of, same_piece}
 use Rattle.giop_session.proofs.OnItems.CutItemLemmas.{series}
 
@@ -88,91 +89,91 @@ whole_read : (interface : Interface) (k : CallKind) (m : Msg) → m.kind ≡ ask
 whole_read interface k m is = sym (λ i. heard_call interface ((ap kind_asked is ∙ asked_as k) i) m.version m.order (append-nil m.payload i))
 
 whole_act : (interface : Interface) (k : CallKind) (m : Msg) (call : Call ServerEntry)
-    → server.befalls_by interface m call (asks k) ≡ server.comes interface k m
+    → server.act_by_kind interface m call (asks k) ≡ server.comes interface k m
 whole_act interface kind.Request m call = refl
 whole_act interface kind.Locate m call = refl
 
 pub whole_call : (interface : Interface) (k : CallKind) (m : Msg) (call : Call ServerEntry) → m.kind ≡ asks k → m.more ≡ false
-    → server_befalls interface m call ≡ Hears (kept (at_server.Whole ((coding interface).read_call (m ∷ [])))) Nothing
+    → server_act interface m call ≡ Hears (silently (at_server.Whole ((coding interface).read_call (m ∷ [])))) Nothing
 whole_call interface k m call is more =
-    ap (server.befalls_by interface m call) is
+    ap (server.act_by_kind interface m call) is
     ∙ whole_act interface k m call
     ∙ not_more m.more _ _ more
-    ∙ ap (λ heard. Hears (kept (at_server.Whole heard)) Nothing) (whole_read interface k m is)
+    ∙ ap (λ heard. Hears (silently (at_server.Whole heard)) Nothing) (whole_read interface k m is)
 
 pub first_call : (interface : Interface) (k : CallKind) (m : Msg) (call : Call ServerEntry) → m.kind ≡ asks k → m.more ≡ true
-    → server_befalls interface m call ≡ Hears (kept (at_server.First k)) (First m.order m.payload)
+    → server_act interface m call ≡ Hears (silently (at_server.First k)) (First m.order m.payload)
 first_call interface k m call is more =
-    ap (server.befalls_by interface m call) is ∙ whole_act interface k m call ∙ more_is m.more _ _ more
+    ap (server.act_by_kind interface m call) is ∙ whole_act interface k m call ∙ more_is m.more _ _ more
 
 pub more_call : (interface : Interface) (k : CallKind) (cut : Cut) (m : Msg) (unsent : List Msg) → m.kind ≡ message.Fragment → m.more ≡ true
     → m.order ≡ cut.first.order
-    → server_befalls interface m (gathers (server_entry.Gathering k) unsent cut) ≡ Hears (kept (at_server.More true)) (More (behind_id m))
+    → server_act interface m (gathers (server_entry.Gathering k) unsent cut) ≡ Hears (silently (at_server.More true)) (More (behind_id m))
 more_call interface k cut m unsent fragment more order =
-    ap (server.befalls_by interface m (gathers (server_entry.Gathering k) unsent cut)) fragment
-    ∙ ap (λ same. server.continues interface m (if same then Some (k, joined (pieces_of cut)) else None))
+    ap (server.act_by_kind interface m (gathers (server_entry.Gathering k) unsent cut)) fragment
+    ∙ ap (λ same. joining.continues server.server_pieces interface m (if same then Some (k, joined (pieces_of cut)) else None))
     (ap (λ one. same_order one cut.first.order) order ∙ same_is cut.first.order)
     ∙ more_is m.more _ _ more
 
 pub last_call : (interface : Interface) (k : CallKind) (cut : Cut) (m : Msg) (unsent : List Msg) → cut.first.kind ≡ asks k
     → m.kind ≡ message.Fragment → m.more ≡ false → m.order ≡ cut.first.order
-    → server_befalls interface m (gathers (server_entry.Gathering k) unsent cut)
-    ≡ Hears (kept (at_server.Last true ((coding interface).read_call (pieces_of cut ++ m ∷ [])))) (More (behind_id m))
+    → server_act interface m (gathers (server_entry.Gathering k) unsent cut)
+    ≡ Hears (silently (at_server.Last true ((coding interface).read_call (pieces_of cut ++ m ∷ [])))) (More (behind_id m))
 last_call interface k cut m unsent is fragment more order =
     let read : heard_call interface k m.version m.order (joined (pieces_of cut) ++ behind_id m) ≡ read_call interface (pieces_of cut ++ m ∷ []) =
     (λ i. heard_call interface (sym (ap kind_asked is ∙ asked_as k) i) (sym (last_is cut.first m cut.rest) i).version
     (sym (last_is cut.first m cut.rest) i).order (joined_is cut.first m cut.rest i)) in
-    ap (server.befalls_by interface m (gathers (server_entry.Gathering k) unsent cut)) fragment
-    ∙ ap (λ same. server.continues interface m (if same then Some (k, joined (pieces_of cut)) else None))
+    ap (server.act_by_kind interface m (gathers (server_entry.Gathering k) unsent cut)) fragment
+    ∙ ap (λ same. joining.continues server.server_pieces interface m (if same then Some (k, joined (pieces_of cut)) else None))
     (ap (λ one. same_order one cut.first.order) order ∙ same_is cut.first.order)
     ∙ not_more m.more _ _ more
-    ∙ ap (λ heard. Hears (kept (at_server.Last true heard)) (More (behind_id m))) read
+    ∙ ap (λ heard. Hears (silently (at_server.Last true heard)) (More (behind_id m))) read
 
 -- ---- a client's end
 
 pub answer_act : (interface : Interface) (k : CallKind) (m : Msg) (call : Call ClientEntry)
-    → client.befalls_by interface m call (replies k) ≡ client.comes interface k m (awaited k m.version call.slot)
+    → client.act_by_kind interface m call (replies k) ≡ client.comes interface k m (awaited k m.version call.slot)
 answer_act interface kind.Request m call = refl
 answer_act interface kind.Locate m call = refl
 
 pub whole_reply : (interface : Interface) (k : CallKind) (q : Asked) (m : Msg) (call : Call ClientEntry) → m.kind ≡ replies k → m.more ≡ false
     → awaited k m.version call.slot ≡ Some q
-    → client_befalls interface m call ≡ Hears (kept (at_client.Whole k m.version ((coding interface).read_reply q (m ∷ [])))) Nothing
+    → client_act interface m call ≡ Hears (silently (at_client.Whole k m.version ((coding interface).read_reply q (m ∷ [])))) Nothing
 whole_reply interface k q m call is more waits =
-    ap (client.befalls_by interface m call) is
+    ap (client.act_by_kind interface m call) is
     ∙ answer_act interface k m call
     ∙ ap (client.comes interface k m) waits
     ∙ not_more m.more _ _ more
-    ∙ ap (λ octets. Hears (kept (at_client.Whole k m.version (heard_reply interface q m.version m.order octets))) Nothing) (sym (append-nil m.payload))
+    ∙ ap (λ octets. Hears (silently (at_client.Whole k m.version (heard_reply interface q m.version m.order octets))) Nothing) (sym (append-nil m.payload))
 
 pub first_reply : (interface : Interface) (k : CallKind) (q : Asked) (m : Msg) (call : Call ClientEntry) → m.kind ≡ replies k → m.more ≡ true
     → awaited k m.version call.slot ≡ Some q
-    → client_befalls interface m call ≡ Hears (kept (at_client.First k m.version)) (First m.order m.payload)
+    → client_act interface m call ≡ Hears (silently (at_client.First k m.version)) (First m.order m.payload)
 first_reply interface k q m call is more waits =
-    ap (client.befalls_by interface m call) is ∙ answer_act interface k m call ∙ ap (client.comes interface k m) waits ∙ more_is m.more _ _ more
+    ap (client.act_by_kind interface m call) is ∙ answer_act interface k m call ∙ ap (client.comes interface k m) waits ∙ more_is m.more _ _ more
 
 pub more_reply : (interface : Interface) (q : Asked) (cut : Cut) (m : Msg) (unsent : List Msg) → m.kind ≡ message.Fragment → m.more ≡ true
     → m.order ≡ cut.first.order
-    → client_befalls interface m (gathers (client_entry.Gathering q) unsent cut) ≡ Hears (kept (at_client.More true)) (More (behind_id m))
+    → client_act interface m (gathers (client_entry.Gathering q) unsent cut) ≡ Hears (silently (at_client.More true)) (More (behind_id m))
 more_reply interface q cut m unsent fragment more order =
-    ap (client.befalls_by interface m (gathers (client_entry.Gathering q) unsent cut)) fragment
-    ∙ ap (λ same. client.continues interface m (if same then Some (q, joined (pieces_of cut)) else None))
+    ap (client.act_by_kind interface m (gathers (client_entry.Gathering q) unsent cut)) fragment
+    ∙ ap (λ same. joining.continues client.client_pieces interface m (if same then Some (q, joined (pieces_of cut)) else None))
     (ap (λ one. same_order one cut.first.order) order ∙ same_is cut.first.order)
     ∙ more_is m.more _ _ more
 
 pub last_reply : (interface : Interface) (q : Asked) (cut : Cut) (m : Msg) (unsent : List Msg) → m.kind ≡ message.Fragment → m.more ≡ false
     → m.order ≡ cut.first.order
-    → client_befalls interface m (gathers (client_entry.Gathering q) unsent cut)
-    ≡ Hears (kept (at_client.Last true ((coding interface).read_reply q (pieces_of cut ++ m ∷ [])))) (More (behind_id m))
+    → client_act interface m (gathers (client_entry.Gathering q) unsent cut)
+    ≡ Hears (silently (at_client.Last true ((coding interface).read_reply q (pieces_of cut ++ m ∷ [])))) (More (behind_id m))
 last_reply interface q cut m unsent fragment more order =
     let read : heard_reply interface q m.version m.order (joined (pieces_of cut) ++ behind_id m) ≡ read_reply interface q (pieces_of cut ++ m ∷ []) =
     (λ i. heard_reply interface q (sym (last_is cut.first m cut.rest) i).version (sym (last_is cut.first m cut.rest) i).order
     (joined_is cut.first m cut.rest i)) in
-    ap (client.befalls_by interface m (gathers (client_entry.Gathering q) unsent cut)) fragment
-    ∙ ap (λ same. client.continues interface m (if same then Some (q, joined (pieces_of cut)) else None))
+    ap (client.act_by_kind interface m (gathers (client_entry.Gathering q) unsent cut)) fragment
+    ∙ ap (λ same. joining.continues client.client_pieces interface m (if same then Some (q, joined (pieces_of cut)) else None))
     (ap (λ one. same_order one cut.first.order) order ∙ same_is cut.first.order)
     ∙ not_more m.more _ _ more
-    ∙ ap (λ heard. Hears (kept (at_client.Last true heard)) (More (behind_id m))) read
+    ∙ ap (λ heard. Hears (silently (at_client.Last true heard)) (More (behind_id m))) read
 
 -- ---- what is cut, as a lane carries it
 

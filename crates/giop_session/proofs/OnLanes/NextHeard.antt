@@ -9,13 +9,13 @@ use Rattle.giop_calls.specs.declared.client.entry.ClientEntry.{ClientEntry}
 use Rattle.giop_calls.specs.declared.client.rule.ClientRule.{ClientRule}
 use Rattle.giop_calls.specs.declared.server.entry.ServerEntry.{ServerEntry}
 use Rattle.giop_calls.specs.declared.server.rule.ServerRule.{ServerRule}
-use Rattle.giop_session.specs.declared.session_fault.SessionFault.{SessionFault}
-use Rattle.giop_session.specs.declared.session_fault.SessionFault.TheVariants.{GatherFull, TooManyCalls}
-use Rattle.giop_session.specs.Calls.CallTable.{Held, at}
-use Rattle.giop_session.specs.Hearing.ClientHears.{client_side}
+use Rattle.giop_end.specs.declared.session_fault.SessionFault.{SessionFault}
+use Rattle.giop_end.specs.declared.session_fault.SessionFault.TheVariants.{GatherFull, TooManyCalls}
+use Rattle.giop_table.specs.CallTable.{Held, at}
+use Rattle.giop_end.specs.Hearing.ClientHears.{client_side}
 use Rattle.giop_session.specs.Worlds.Coding.{coding}
-use Rattle.giop_session.specs.Hearing.Heard.{hears}
-use Rattle.giop_session.specs.Hearing.ServerHears.{server_side}
+use Rattle.giop_end.specs.Hearing.Heard.{hears}
+use Rattle.giop_end.specs.Hearing.ServerHears.{server_side}
 use Rattle.giop_session.specs.Worlds.Tracks.{ClientShows, ServerShows}
 
 -- how each end hears a message

@@ -23,7 +23,7 @@ use Rattle.giop_calls.specs.declared.server.heard.HeardCall.TheVariants as heard
 use Rattle.giop_calls.specs.declared.server.question.Question.TheVariants as question
 use Rattle.giop_session.specs.Worlds.Coding.{coding}
 use Rattle.giop_session.specs.Worlds.OwnLane.{OwnRuns, PlansCall, PlansLocated, PlansReply, alone, located_run, replied_run, sends_cut}
-use Rattle.giop_session.specs.Acts.Sent.{sends_one}
+use Rattle.giop_end.specs.Acts.Sent.{sends_one}
 use Rattle.giop_session.proofs.OnLanes.CodingLemmas.{call_read, located_read, reply_read, same_piece, same_pieces}
 
 same_asked : (q other : Request) → ◌≡◌ {A = Option ServerEntry} (Some (server.Asked q)) (Some (server.Asked other)) → q ≡ other

@@ -13,17 +13,17 @@ use Rattle.giop_calls.specs.declared.server.entry.ServerEntry.{ServerEntry}
 use Rattle.giop_calls.specs.declared.server.entry.ServerEntry.TheVariants.{Gathering}
 use Rattle.giop_calls.specs.declared.server.event.ServerEvent.{ServerEvent}
 use Rattle.giop_calls.specs.declared.server.rule.ServerRule.{ServerRule}
-use Rattle.giop_session.specs.declared.session_fault.SessionFault.{SessionFault}
-use Rattle.giop_session.specs.declared.session_fault.SessionFault.TheVariants.{NoMemory}
-use Rattle.giop_session.specs.declared.calls.slot.Slot.{Slot}
-use Rattle.giop_session.specs.Calls.CallTable.{Held, at, brought}
-use Rattle.giop_session.specs.Calls.CallTable as table
+use Rattle.giop_end.specs.declared.session_fault.SessionFault.{SessionFault}
+use Rattle.giop_end.specs.declared.session_fault.SessionFault.TheVariants.{NoMemory}
+use Rattle.giop_table.specs.declared.slot.Slot.{Slot}
+use Rattle.giop_table.specs.CallTable.{Held, at, brought}
+use Rattle.giop_table.specs.CallTable as table
 use Rattle.giop_session.specs.Worlds.Coding.{coding}
-use Rattle.giop_session.specs.Hearing.Heard.{hears}
+use Rattle.giop_end.specs.Hearing.Heard.{hears}
 use Rattle.giop_session.specs.Worlds.LaneAtEnds.{gathered_in, seen}
-use Rattle.giop_session.specs.Calls.Sending.{entry_of, slot_of, unsent_of}
+use Rattle.giop_table.specs.Sending.{entry_of, slot_of, unsent_of}
 use Rattle.giop_session.specs.Items.ServerCarries.{asks}
-use Rattle.giop_session.specs.Hearing.ServerHears.{server_side}
+use Rattle.giop_end.specs.Hearing.ServerHears.{server_side}
 use Rattle.giop_session.specs.Worlds.Tracks.{IsToClient, IsToServer, ServerShows}
 use Rattle.giop_session.proofs.OnLanes.HearsNext.{Came, accepted, call_behind, came, held_on, mapped, put_beside, put_there, unsent_kept}
 use Rattle.giop_session.proofs.OnItems.ItemLemmas.{entry_is}
@@ -127,7 +127,7 @@ module _ (interface : Interface) (lane : Lane) (id : ℕ) (m : Msg) (later : Lis
       (subst (λ entry. IsOk (server_step entry lane_event).outcome) (sym shows.entry) one.0) in
       heard_so its after so one.1 result
       (came (server_side interface) id m its.what its.brings h k its.small ok
-      is.unbroken is.names its.befalls result memory hears)
+      is.unbroken is.names its.act_by result memory hears)
 
 pub server_hears_next : (interface : Interface) (lane : Lane) (id : ℕ) (m : Msg) (later : List Message)
     (h k : Held ServerRule ServerEntry) (result : Result (Unit {0}) SessionFault)

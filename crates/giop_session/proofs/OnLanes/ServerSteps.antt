@@ -1,4 +1,4 @@
--- What befalls a call at a server by a message does what the event of its lane does.
+-- What a message does to a call at a server is what the event of its lane does.
 use Rattle.std.proofs.Common.{◌≡◌, ℕ, ◌≤◌, Bool, true, false, not, cond, List, [], ◌∷◌, ◌++◌, length, Option, Some, None, is_some, IsOk, refl, sym, ap, subst, ◌∙◌, length-drop, arith}
 use Rattle.giop_types.specs.declared.json.interface.Interface.{Interface}
 use Rattle.giop_frag.specs.Gathered.{Pieces}
@@ -19,14 +19,14 @@ use Rattle.giop_calls.specs.declared.server.event.ServerEvent.{ServerEvent}
 use Rattle.giop_calls.specs.declared.server.event.ServerEvent.TheVariants as event
 use Rattle.giop_calls.specs.declared.server.heard.HeardCall.{HeardCall}
 use Rattle.giop_calls.specs.declared.server.heard.HeardCall.TheVariants as heard_as
-use Rattle.giop_session.specs.declared.calls.slot.Slot.{Slot}
-use Rattle.giop_session.specs.Calls.CallTable.{Brings, Call, First, Hears, More, Nothing, brought}
+use Rattle.giop_table.specs.declared.slot.Slot.{Slot}
+use Rattle.giop_table.specs.CallTable.{Brings, Call, First, Hears, More, Nothing, brought}
 use Rattle.giop_session.specs.Worlds.Coding.{coding}
-use Rattle.giop_session.specs.Hearing.Heard.{behind_id, kept}
+use Rattle.giop_end.specs.Hearing.Heard.{behind_id, silently}
 use Rattle.giop_session.specs.Worlds.LaneAtEnds.{gathered_in, seen, seen_as}
-use Rattle.giop_session.specs.Calls.Sending.{entry_of}
+use Rattle.giop_table.specs.Sending.{entry_of}
 use Rattle.giop_session.specs.Items.ServerCarries.{asks}
-use Rattle.giop_session.specs.Hearing.ServerHears.{breaks_by, server_befalls, server_breaks}
+use Rattle.giop_end.specs.Hearing.ServerHears.{breaks_by, server_act, server_breaks}
 use Rattle.giop_session.proofs.OnLanes.HearsNext.{same_orders}
 use Rattle.giop_session.proofs.OnLanes.LaneAtEndsLemmas as ends
 use Rattle.giop_session.proofs.OnLanes.LaneEventLemmas.{asked_seen, fragment_seen}
@@ -81,7 +81,7 @@ passed : (b : Bool) (before after : ServerEntry) (fault : CallFault) → IsOk (b
 passed true before after fault ok = refl
 passed false before after fault ok = no_fault ok
 
--- ---- what befalls a call is its lane's step
+-- ---- what a message does to a call is its lane's step
 
 -- where a message is gathered, these are its pieces
 abbrev pub Gathers : Option ServerEntry → List Piece → Option Pieces → Type 0
@@ -96,11 +96,11 @@ module _ (interface : Interface) (m : Msg) (slot : Option (Slot ServerEntry)) (h
   abbrev pub stepped : ServerEvent → ServerStep
   stepped what = server_step (entry_of slot) what
 
-  -- the message befalls the call by an event that does what the lane's does, and leaves its pieces
+  -- the message acts on the call by an event that does what the lane's does, and leaves its pieces
   pub record Steps (one : Message) : Type 0 where
     pub what : ServerEvent
     pub brings : Brings
-    pub befalls : server_befalls interface m stored_call ≡ Hears (kept what) brings
+    pub act_by : server_act interface m stored_call ≡ Hears (silently what) brings
     pub small : brought_by brings ≤ length m.payload
     pub same : stepped what ≡ stepped (server_event (coding interface) pieces one)
     pub stays : is_some (entry_of slot) ≡ true → is_some (stepped what).entry ≡ true
@@ -117,7 +117,7 @@ module _ (interface : Interface) (m : Msg) (slot : Option (Slot ServerEntry)) (h
       let now = items.begun (entry_of slot) (Gathering k) ok in record {
         what = event.First k;
         brings = First m.order m.payload;
-        befalls = ends.first_call interface k m stored_call is there;
+        act_by = ends.first_call interface k m stored_call is there;
         small = omega arith;
         same = refl;
         stays = λ had. ap (λ one. is_some one) now;
@@ -133,7 +133,7 @@ module _ (interface : Interface) (m : Msg) (slot : Option (Slot ServerEntry)) (h
       let now = items.begun (entry_of slot) (arrived call_read) ok in record {
         what = event.Whole call_read;
         brings = Nothing;
-        befalls = ends.whole_call interface k m stored_call is there;
+        act_by = ends.whole_call interface k m stored_call is there;
         small = omega arith;
         same = refl;
         stays = λ had. ap (λ one. is_some one) now;
@@ -145,7 +145,7 @@ module _ (interface : Interface) (m : Msg) (slot : Option (Slot ServerEntry)) (h
   stops is = record {
     what = event.Cancel;
     brings = Nothing;
-    befalls = items.cancel_act interface m stored_call is;
+    act_by = items.cancel_act interface m stored_call is;
     small = omega arith;
     same = refl;
     stays = cancel_stays (entry_of slot);
@@ -169,8 +169,8 @@ module _ (interface : Interface) (m : Msg) (k : CallKind) (unsent : List Msg) (h
   more_of_it more = record {
     what = event.More true;
     brings = More (behind_id m);
-    befalls =
-        ap (λ pieces. server_befalls interface m (record { slot = gathering_slot; pieces = pieces })) joined_so
+    act_by =
+        ap (λ pieces. server_act interface m (record { slot = gathering_slot; pieces = pieces })) joined_so
         ∙ ends.more_call interface k cut m unsent fragment more order;
     small = behind_is_small;
     same = ap (λ b. server_step (Some (Gathering k)) (event.More b)) (sym ordered);
@@ -187,8 +187,8 @@ module _ (interface : Interface) (m : Msg) (k : CallKind) (unsent : List Msg) (h
   last_of_it more = record {
     what = event.Last true ((coding interface).read_call (pieces_of cut ++ m ∷ []));
     brings = More (behind_id m);
-    befalls =
-        ap (λ pieces. server_befalls interface m (record { slot = gathering_slot; pieces = pieces })) joined_so
+    act_by =
+        ap (λ pieces. server_act interface m (record { slot = gathering_slot; pieces = pieces })) joined_so
         ∙ ends.last_call interface k cut m unsent kind_is fragment more order;
     small = behind_is_small;
     same = λ i. server_step (Some (Gathering k)) (event.Last (sym ordered i) ((coding interface).read_call (sym came_so i ++ m ∷ [])));
@@ -202,7 +202,7 @@ late : (interface : Interface) (m : Msg) (answered : Bool) (left : ℕ) (unsent 
 late interface m answered left unsent held pieces last is = record {
   what = event.More false;
   brings = Nothing;
-  befalls = items.fragment_act interface answered left m unsent held is;
+  act_by = items.fragment_act interface answered left m unsent held is;
   small = omega arith;
   same = by_last last;
   stays = λ had. refl;

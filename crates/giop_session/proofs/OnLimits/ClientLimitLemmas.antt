@@ -13,10 +13,11 @@ use Rattle.giop_calls.specs.declared.client.event.ClientEvent.{ClientEvent}
 use Rattle.giop_calls.specs.declared.client.event.ClientEvent.TheVariants as event
 use Rattle.giop_calls.specs.declared.client.heard.HeardReply.TheVariants as heard
 use Rattle.giop_calls.specs.ClientTable.{client_step}
-use Rattle.giop_session.specs.declared.session_fault.SessionFault.{SessionFault}
-use Rattle.giop_session.specs.Calls.CallTable.{Call, First, Hears, More, Nothing}
-use Rattle.giop_session.specs.Hearing.ClientHears.{awaited, befalls_by, breaks_by, client_befalls, client_breaks, comes, continued, continues, gathered_call, heard_reply}
-use Rattle.giop_session.specs.Hearing.Heard.{behind_id, in_call, kept}
+use Rattle.giop_end.specs.declared.session_fault.SessionFault.{SessionFault}
+use Rattle.giop_table.specs.CallTable.{Call, First, Hears, More, Nothing}
+use Rattle.giop_end.specs.Hearing.ClientHears.{awaited, act_by_kind, breaks_by, client_act, client_breaks, comes, gathered_call, heard_reply, client_pieces}
+use Rattle.giop_end.specs.Hearing.Pieces.{continued, continues}
+use Rattle.giop_end.specs.Hearing.Heard.{behind_id, in_call, silently}
 use Rattle.giop_session.specs.Runs.Limits.{begins_at_client, octets_by, octets_with}
 use Rattle.giop_session.proofs.OnLimits.LimitLemmas.{IsSmall, IsUnlimited}
 
@@ -35,39 +36,39 @@ comes_small : (interface : Interface) (kind : CallKind) (m : Msg) (call : Option
 comes_small interface kind m None = by_more m.more
   where
     by_more : (b : Bool) → IsSmall begins_at_client false (cond b (length m.payload) 0)
-        (cond b (Hears (kept (event.First kind m.version)) Nothing) (Hears (kept (event.Whole kind m.version heard.Unread)) Nothing))
+        (cond b (Hears (silently (event.First kind m.version)) Nothing) (Hears (silently (event.Whole kind m.version heard.Unread)) Nothing))
     by_more true = (λ is. is, omega arith)
     by_more false = (λ is. is, omega arith)
 comes_small interface kind m (Some call) = by_more m.more
   where
     by_more : (b : Bool) → IsSmall begins_at_client false (cond b (length m.payload) 0)
-        (cond b (Hears (kept (event.First kind m.version)) (First m.order m.payload))
-        (Hears (kept (event.Whole kind m.version (heard_reply interface call m.version m.order m.payload))) Nothing))
+        (cond b (Hears (silently (event.First kind m.version)) (First m.order m.payload))
+        (Hears (silently (event.Whole kind m.version (heard_reply interface call m.version m.order m.payload))) Nothing))
     by_more true = (λ is. is, omega arith)
     by_more false = (λ is. is, omega arith)
 
 continues_small : (interface : Interface) (m : Msg) (pieces : Option (Asked × List ℕ))
-    → IsSmall begins_at_client false (length (behind_id m)) (continues interface m pieces)
+    → IsSmall begins_at_client false (length (behind_id m)) (continues client_pieces interface m pieces)
 continues_small interface m None = by_more m.more
   where
     by_more : (b : Bool) → IsSmall begins_at_client false (length (behind_id m))
-        (cond b (Hears (kept (event.More false)) Nothing) (Hears (kept (event.Last false heard.Unread)) Nothing))
+        (cond b (Hears (silently (event.More false)) Nothing) (Hears (silently (event.Last false heard.Unread)) Nothing))
     by_more true = (λ is. is, omega arith)
     by_more false = (λ is. is, omega arith)
 continues_small interface m (Some pieces) = by_more m.more
   where
     by_more : (b : Bool) → IsSmall begins_at_client false (length (behind_id m)) (cond b
-        (Hears (kept (event.More true)) (More (behind_id m)))
-        (Hears (kept (event.Last true (heard_reply interface pieces.0 m.version m.order (pieces.1 ++ behind_id m)))) (More (behind_id m))))
+        (Hears (silently (event.More true)) (More (behind_id m)))
+        (Hears (silently (event.Last true (heard_reply interface pieces.0 m.version m.order (pieces.1 ++ behind_id m)))) (More (behind_id m))))
     by_more true = (λ is. is, omega arith)
     by_more false = (λ is. is, omega arith)
 
--- what befalls a call by a message
+-- what a message does to a call
 pub small : (interface : Interface) (m : Msg) (call : Call ClientEntry)
-    → IsSmall begins_at_client false (octets_with m) (client_befalls interface m call)
+    → IsSmall begins_at_client false (octets_with m) (client_act interface m call)
 small interface m call = by_kind m.kind
   where
-    by_kind : (of_kind : Kind) → IsSmall begins_at_client false (octets_by of_kind m) (befalls_by interface m call of_kind)
+    by_kind : (of_kind : Kind) → IsSmall begins_at_client false (octets_by of_kind m) (act_by_kind interface m call of_kind)
     by_kind message.Reply = comes_small interface kind.Request m (awaited kind.Request m.version call.slot)
     by_kind message.LocateReply = comes_small interface kind.Locate m (awaited kind.Locate m.version call.slot)
     by_kind message.Fragment = continues_small interface m (continued m.order (gathered_call call.slot) call.pieces)

@@ -12,14 +12,14 @@ use Rattle.giop_calls.specs.declared.client.rule.ClientRule.{ClientRule}
 use Rattle.giop_session.specs.declared.laws.inputs.Answered.{Answered}
 use Rattle.giop_session.specs.declared.laws.inputs.ClientInput.{ClientInput}
 use Rattle.giop_session.specs.declared.laws.inputs.ClientInput.TheVariants as input
-use Rattle.giop_session.specs.declared.limits.Limits.{Limits}
-use Rattle.giop_session.specs.declared.calls.plan.Planned.{Planned}
-use Rattle.giop_session.specs.Calls.CallTable.{Held}
-use Rattle.giop_session.specs.Acts.ClientCalls.{IsCancel, open_version}
-use Rattle.giop_session.specs.Hearing.ClientHears.{client_side}
-use Rattle.giop_session.specs.Runs.ClientRuns.{client_deed, client_entry, client_run}
+use Rattle.giop_end.specs.declared.limits.Limits.{Limits}
+use Rattle.giop_table.specs.declared.plan.Planned.{Planned}
+use Rattle.giop_table.specs.CallTable.{Held, entry_at}
+use Rattle.giop_end.specs.Acts.ClientCalls.{IsCancel, open_version}
+use Rattle.giop_end.specs.Hearing.ClientHears.{client_side}
+use Rattle.giop_session.specs.Runs.ClientRuns.{client_deed, client_run}
 use Rattle.giop_session.specs.Runs.SideRuns.{SideRuns}
-use Rattle.giop_session.specs.Runs.Driven.{EndState}
+use Rattle.giop_end.specs.Ends.Begun.{EndState}
 use Rattle.giop_session.specs.Runs.Limits.{begins_at_client}
 use Rattle.giop_session.specs.Runs.RunLimits.{ClientIsGivenWithin, NoneForALimit, calls_under, fed_to_client}
 use Rattle.giop_session.proofs.OnLimits.ClientLimitLemmas.{begins_only, broken, own, small}
@@ -40,7 +40,7 @@ suits : (interface : Interface) (limits : Limits) (h : Held ClientRule ClientEnt
 suits interface limits h (input.Feed octets) = refl
 suits interface limits h (input.Call request form) = (refl, λ planned plans begins_so. eq_itself request.head.id)
 suits interface limits h (input.Locate request form) = (refl, λ planned plans begins_so. eq_itself request.id)
-suits interface limits h (input.Cancel id order) = (refl, cancelled_none id order (open_version (client_entry h id)))
+suits interface limits h (input.Cancel id order) = (refl, cancelled_none id order (open_version (entry_at h id)))
 suits interface limits h (input.Send id) = (refl, λ planned same. begins_none _ planned (ap (λ p. p.event) same) refl)
 suits interface limits h (input.Take id) = refl
 suits interface limits h input.Close = refl

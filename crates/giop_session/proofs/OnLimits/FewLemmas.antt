@@ -11,7 +11,7 @@ use Rattle.giop_msg.specs.declared.msg.Msg.{Msg}
 use Rattle.giop_msg.specs.RequestId.{request_id_of}
 use Rattle.giop_ids.specs.ById.{is_listed}
 use Rattle.giop_mux.specs.Runs.{Hears as IsTold, IsTaken as TakesOut}
-use Rattle.giop_session.specs.declared.limits.Limits.{Limits}
+use Rattle.giop_end.specs.declared.limits.Limits.{Limits}
 use Rattle.giop_session.specs.Runs.Alone.{names_by}
 use Rattle.giop_session.specs.Runs.Events.{Comes, Does, Event}
 use Rattle.giop_session.specs.Runs.Limits.{AreWithin, octets_by, octets_of, opens, payload_of}

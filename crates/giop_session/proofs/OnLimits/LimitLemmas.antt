@@ -20,22 +20,22 @@ use Rattle.giop_frag.proofs.TotalLemmas.{octets_in-grown, total_put}
 use Rattle.giop_mux.specs.Calls.{is_one_too_many}
 use Rattle.giop_mux.specs.Runs.{Hears as IsTold, IsTaken as TakesOut}
 use Rattle.giop_mux.specs.declared.step.Step.{Step}
-use Rattle.giop_session.specs.declared.limits.Limits.{Limits}
-use Rattle.giop_session.specs.declared.calls.plan.Planned.{Planned}
-use Rattle.giop_session.specs.declared.calls.sending.Sends.{Sends}
-use Rattle.giop_session.specs.declared.session_fault.SessionFault.{SessionFault}
-use Rattle.giop_session.specs.declared.session_fault.SessionFault.TheVariants as session
-use Rattle.giop_session.specs.declared.calls.slot.Slot.{Slot}
-use Rattle.giop_session.specs.declared.calls.table_fault.TableFault.{TableFault}
-use Rattle.giop_session.specs.declared.calls.table_fault.TableFault.TheVariants.{Rule, TooManyCalls, GatherFull, StillOpen, NoMemory}
+use Rattle.giop_end.specs.declared.limits.Limits.{Limits}
+use Rattle.giop_table.specs.declared.plan.Planned.{Planned}
+use Rattle.giop_table.specs.declared.sending.Sends.{Sends}
+use Rattle.giop_end.specs.declared.session_fault.SessionFault.{SessionFault}
+use Rattle.giop_end.specs.declared.session_fault.SessionFault.TheVariants as session
+use Rattle.giop_table.specs.declared.slot.Slot.{Slot}
+use Rattle.giop_table.specs.declared.table_fault.TableFault.{TableFault}
+use Rattle.giop_table.specs.declared.table_fault.TableFault.TheVariants.{Rule, TooManyCalls, GatherFull, StillOpen, NoMemory}
 use Rattle.giop_session.specs.Runs.Alone.{names_by}
-use Rattle.giop_session.specs.Calls.Begun.{no_calls}
-use Rattle.giop_session.specs.Calls.CallTable.{Act, Brings, Call, First, Hears, Held, IsTaken, More, Nothing, Reply, Turned, at, brought, calls_fault, gathers, limit, octets_fault, room_fault, rules_of, taken, turn, turned}
+use Rattle.giop_end.specs.Ends.Begun.{no_calls}
+use Rattle.giop_table.specs.CallTable.{Act, Brings, Call, First, Hears, Held, IsTaken, More, Nothing, Reply, Turned, at, brought, calls_fault, gathers, limit, octets_fault, room_fault, rules_of, taken, turn, turned}
 use Rattle.giop_session.specs.Runs.Events.{Accepts, Comes, Does, Event, Meets}
-use Rattle.giop_session.specs.Hearing.Heard.{IsHeard, heard_by, SideOf, rules_at}
+use Rattle.giop_end.specs.Hearing.Heard.{IsHeard, heard_by, SideOf, rules_at}
 use Rattle.giop_session.specs.Runs.Limits.{AreWithin, IsNext, Refuses, octets_of, octets_with, opens}
-use Rattle.giop_session.specs.Calls.Sending.{sending_step, settled_by}
-use Rattle.giop_session.specs.Calls.SessionFaults.{of_table}
+use Rattle.giop_table.specs.Sending.{sending_step, settled_by}
+use Rattle.giop_end.specs.Ends.SessionFaults.{of_table}
 
 -- ---- plain facts
 
@@ -261,7 +261,7 @@ module _ {E V A F : Type 0} (next : Option E → V → Step E A F) (closed gathe
 
 -- ---- events
 
--- what befalls a call by a message begins one only where the message asks for it, and brings at most so many octets
+-- what a message does to a call begins one only where the message asks for it, and brings at most so many octets
 abbrev pub IsSmall : {V : Type 0} → (V → Bool) → Bool → ℕ → Act V → Type 0
 IsSmall begins asked n (Hears planned brings) = (begins planned.event ≡ true → asked ≡ true) × (brought_by brings ≤ n)
 IsSmall begins asked n IsTaken = Unit {0}
@@ -272,7 +272,7 @@ IsUnlimited why = (why ≢ session.TooManyCalls) × (why ≢ session.GatherFull)
 
 module _ {R E V A F : Type 0} (side : SideOf R E V A F) (asks : Kind → Bool) (begins : V → Bool)
     (begins_only : (rule : R) (v : V) → is_some (side.next rule None v).entry ≡ true → begins v ≡ true)
-    (small : (m : Msg) (call : Call E) → IsSmall begins (asks m.kind) (octets_with m) (side.befalls m call))
+    (small : (m : Msg) (call : Call E) → IsSmall begins (asks m.kind) (octets_with m) (side.act_by m call))
     (own : (id : ℕ) (fault : F) → IsUnlimited (side.of_rule id fault))
     (broken : (m : Msg) (why : SessionFault) → side.breaks m ≡ Some why → IsUnlimited why) where
   -- what a message asks of the call that it names
@@ -291,7 +291,7 @@ module _ {R E V A F : Type 0} (side : SideOf R E V A F) (asks : Kind → Bool) (
 
   abbrev HeardSo : Msg → Held R E → Option SessionFault → Option (Result ℕ CdrFault) → Result (Unit {0}) SessionFault → Held R E → Type 0
   HeardSo m h breaking name result k =
-      IsHeard (rules_at side h.rule) side.of_rule (heard_by breaking name (λ id. side.befalls m (at h id))) h result k
+      IsHeard (rules_at side h.rule) side.of_rule (heard_by breaking name (λ id. side.act_by m (at h id))) h result k
 
   abbrev ListedBy : List ℕ → Msg → Option (Result ℕ CdrFault) → Type 0
   ListedBy ids m name = (id : ℕ) → (asks m.kind && names_by name id) ≡ true → is_listed ids id ≡ true
@@ -301,9 +301,9 @@ module _ {R E V A F : Type 0} (side : SideOf R E V A F) (asks : Kind → Bool) (
   named_so false id is = is
 
   asked_named : (ids : List ℕ) (m : Msg) (h : Held R E) (id : ℕ) → ListedBy ids m (Some (Ok id))
-      → Asks (side.next h.rule) (side.closed h.rule) side.gathering begins (begins_only h.rule) ids (octets_with m) id (side.befalls m (at h id))
+      → Asks (side.next h.rule) (side.closed h.rule) side.gathering begins (begins_only h.rule) ids (octets_with m) id (side.act_by m (at h id))
   asked_named ids m h id listed =
-      asked ids id (octets_with m) (asks m.kind) (side.befalls m (at h id)) h.rule (small m (at h id)) (λ is. listed id (named_so (asks m.kind) id is))
+      asked ids id (octets_with m) (asks m.kind) (side.act_by m (at h id)) h.rule (small m (at h id)) (λ is. listed id (named_so (asks m.kind) id is))
 
   -- a message that is heard leaves room for what else was to come
   pub heard_fits : (m : Msg) (h k : Held R E) (ids : List ℕ) (rest : ℕ) (breaking : Option SessionFault) (name : Option (Result ℕ CdrFault))
@@ -314,7 +314,7 @@ module _ {R E V A F : Type 0} (side : SideOf R E V A F) (asks : Kind → Bool) (
   heard_fits m h k ids rest None (Some (Err fault)) fits listed (inr both) = absurd cc
   heard_fits m h k ids rest None (Some (Ok id)) fits listed (inr (Err why, does, is)) = absurd cc
   heard_fits m h k ids rest None (Some (Ok id)) fits listed (inr (Ok sends, does, is)) =
-      fits_then (side.next h.rule) (side.closed h.rule) side.gathering begins (begins_only h.rule) h k ids (octets_with m) rest id (side.befalls m (at h id)) _
+      fits_then (side.next h.rule) (side.closed h.rule) side.gathering begins (begins_only h.rule) h k ids (octets_with m) rest id (side.act_by m (at h id)) _
       fits (asked_named ids m h id listed) does
 
   -- one that is refused is so for no limit
@@ -330,7 +330,7 @@ module _ {R E V A F : Type 0} (side : SideOf R E V A F) (asks : Kind → Bool) (
   heard_free m h k ids rest None (Some (Ok id)) why breaks_so fits listed (inr (Err fault, does, is)) =
       let free = table_free id fault
       (refused_free (side.next h.rule) (side.closed h.rule) side.gathering begins (begins_only h.rule) h k ids (octets_with m) rest id
-      (side.befalls m (at h id)) fault
+      (side.act_by m (at h id)) fault
       fits (asked_named ids m h id listed) does) in
       let same : of_table (side.of_rule id) fault ≡ why = cc in
       subst IsUnlimited same free

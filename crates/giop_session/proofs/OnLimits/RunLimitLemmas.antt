@@ -12,21 +12,22 @@ use Rattle.giop_msg.specs.Stream.{BeginsWithMessage, Msgs, Unread}
 use Rattle.giop_msg.proofs.StreamLemmas.{each_head, each_one, each_tail, same_message}
 use Rattle.giop_session.specs.declared.laws.inputs.Answered.{Answered}
 use Rattle.giop_session.specs.declared.laws.inputs.Answered.TheVariants as answer
-use Rattle.giop_session.specs.declared.limits.Limits.{Limits}
-use Rattle.giop_session.specs.declared.calls.plan.Planned.{Planned}
-use Rattle.giop_session.specs.declared.calls.sending.Sends.{Sends}
-use Rattle.giop_session.specs.declared.session_fault.SessionFault.{SessionFault}
-use Rattle.giop_session.specs.declared.session_fault.SessionFault.TheVariants as session
-use Rattle.giop_session.specs.declared.calls.table_fault.TableFault.{TableFault}
+use Rattle.giop_end.specs.declared.limits.Limits.{Limits}
+use Rattle.giop_table.specs.declared.plan.Planned.{Planned}
+use Rattle.giop_table.specs.declared.sending.Sends.{Sends}
+use Rattle.giop_end.specs.declared.session_fault.SessionFault.{SessionFault}
+use Rattle.giop_end.specs.declared.session_fault.SessionFault.TheVariants as session
+use Rattle.giop_table.specs.declared.table_fault.TableFault.{TableFault}
 use Rattle.giop_session.specs.Runs.Alone.{names}
-use Rattle.giop_session.specs.Calls.CallTable.{Call, Held, Hears, IsTaken, Nothing, event_reply}
-use Rattle.giop_session.specs.Runs.Driven.{Closes, Deed, EndRuns, EndState, Feeds, IsDoneBy, IsGiven, IsGivenBy, PutsOut, TakesOut, new_end}
-use Rattle.giop_session.specs.Hearing.Feeding.{Fed, Stops, Through, standing, with_octets}
-use Rattle.giop_session.specs.Hearing.Heard.{told_of, SideOf, rules_at, hears}
+use Rattle.giop_table.specs.CallTable.{Call, Held, Hears, IsTaken, Nothing, event_reply}
+use Rattle.giop_session.specs.Runs.Driven.{Closes, Deed, EndRuns, Feeds, IsDoneBy, IsGiven, IsGivenBy, PutsOut, TakesOut}
+use Rattle.giop_end.specs.Ends.Begun.{EndState, new_end}
+use Rattle.giop_end.specs.Hearing.Feeding.{Fed, Stops, Through, standing, with_octets}
+use Rattle.giop_end.specs.Hearing.Heard.{result_of, SideOf, rules_at, hears}
 use Rattle.giop_session.specs.Runs.Limits.{octets_with}
-use Rattle.giop_session.specs.Acts.Putting.{Puts}
+use Rattle.giop_end.specs.Acts.Putting.{Puts}
 use Rattle.giop_session.specs.Runs.RunLimits.{IsForNoLimit, NoneForALimit}
-use Rattle.giop_session.specs.Calls.SessionFaults.{of_table}
+use Rattle.giop_end.specs.Ends.SessionFaults.{of_table}
 use Rattle.giop_session.proofs.OnLimits.LimitLemmas.{Fits, IsSmall, IsUnlimited, fits_then, heard_fits, heard_free, new_fits, refused_free, table_free}
 
 -- what is taken from the front of octets is the front of the messages that stand there
@@ -90,7 +91,7 @@ pub record Waiting {R E I : Type 0} (asks : Kind → Bool) (fed : I → List ℕ
 
 module _ {R E V A F I : Type 0} (side : SideOf R E V A F) (asks : Kind → Bool) (begins : V → Bool)
     (begins_only : (rule : R) (v : V) → is_some (side.next rule None v).entry ≡ true → begins v ≡ true)
-    (small : (m : Msg) (call : Call E) → IsSmall begins (asks m.kind) (octets_with m) (side.befalls m call))
+    (small : (m : Msg) (call : Call E) → IsSmall begins (asks m.kind) (octets_with m) (side.act_by m call))
     (own : (id : ℕ) (fault : F) → IsUnlimited (side.of_rule id fault))
     (broken : (m : Msg) (why : SessionFault) → side.breaks m ≡ Some why → IsUnlimited why)
     (fed : I → List ℕ) (asked_in : I → ℕ → Bool) (deed : Held R E → I → Deed V F)
@@ -175,18 +176,18 @@ module _ {R E V A F I : Type 0} (side : SideOf R E V A F) (asks : Kind → Bool)
           (λ id there. listed id (ap (λ b. b || list_any (λ n. asks n.kind && names n id) second.0) there)) refused
 
   -- an act of the end's own program
-  befell_fits : (h k : Held R E) (ids : List ℕ) (n id : ℕ) (planned : Planned V) (answered : Result (Sends A) (TableFault F))
+  act_fits : (h k : Held R E) (ids : List ℕ) (n id : ℕ) (planned : Planned V) (answered : Result (Sends A) (TableFault F))
       (result : Result (Unit {0}) SessionFault) → Fits h ids n → (begins planned.event ≡ true → is_listed ids id ≡ true)
       → DoesAct (rules_at side h.rule) h (record { id = id; what = Hears planned Nothing }) (event_reply answered) k
-      → result ≡ told_of (side.of_rule id) answered
+      → result ≡ result_of (side.of_rule id) answered
       → Fits k ids n × ((why : SessionFault) → result ≡ Err why → IsUnlimited why)
-  befell_fits h k ids n id planned (Ok sends) result fits listed does told = (
+  act_fits h k ids n id planned (Ok sends) result fits listed does told = (
     fits_then (side.next h.rule) (side.closed h.rule) side.gathering begins (begins_only h.rule) h k ids 0 n id (Hears planned Nothing) _
         (none_more h ids n fits)
         (listed, omega arith) does,
     λ why is. absurd cc,
   )
-  befell_fits h k ids n id planned (Err fault) result fits listed does told = (
+  act_fits h k ids n id planned (Err fault) result fits listed does told = (
     fits_then (side.next h.rule) (side.closed h.rule) side.gathering begins (begins_only h.rule) h k ids 0 n id (Hears planned Nothing) _
         (none_more h ids n fits)
         (listed, omega arith) does,
@@ -210,8 +211,8 @@ module _ {R E V A F I : Type 0} (side : SideOf R E V A F) (asks : Kind → Bool)
     subst (λ s. Fits s ids n) (sym same) fits,
     λ why is. let other : side.of_rule id fault ≡ why = cc in subst IsUnlimited other (own id fault),
   )
-  puts_fits h k ids n id None Plans out out' result fits listed (inr (planned, plans, befell)) =
-      befell_fits h k ids n id planned befell.answered result fits (listed planned plans) befell.does befell.told
+  puts_fits h k ids n id None Plans out out' result fits listed (inr (planned, plans, on_call)) =
+      act_fits h k ids n id planned on_call.answered result fits (listed planned plans) on_call.does on_call.returned
 
   -- an end whose fault and unread octets stay
   stays : (s t : EndState (Held R E)) (inputs : List I) → s.fault ≡ None → t.fault ≡ s.fault → t.unread ≡ s.unread

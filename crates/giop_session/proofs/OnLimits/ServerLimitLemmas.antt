@@ -11,12 +11,13 @@ use Rattle.giop_calls.specs.declared.server.entry.ServerEntry.{ServerEntry}
 use Rattle.giop_calls.specs.declared.server.event.ServerEvent.{ServerEvent}
 use Rattle.giop_calls.specs.declared.server.event.ServerEvent.TheVariants as event
 use Rattle.giop_calls.specs.ServerTable.{server_step}
-use Rattle.giop_session.specs.declared.session_fault.SessionFault.{SessionFault}
-use Rattle.giop_session.specs.Calls.CallTable.{Call, First, Hears, More, Nothing}
-use Rattle.giop_session.specs.Hearing.Decoding.{heard_call}
-use Rattle.giop_session.specs.Hearing.Heard.{behind_id, in_call, kept}
+use Rattle.giop_end.specs.declared.session_fault.SessionFault.{SessionFault}
+use Rattle.giop_table.specs.CallTable.{Call, First, Hears, More, Nothing}
+use Rattle.giop_end.specs.Hearing.Decoding.{heard_call}
+use Rattle.giop_end.specs.Hearing.Heard.{behind_id, in_call, silently}
 use Rattle.giop_session.specs.Runs.Limits.{begins_at_server, is_asking, octets_by, octets_with}
-use Rattle.giop_session.specs.Hearing.ServerHears.{befalls_by, breaks_by, comes, continued, continues, gathered_kind, server_befalls, server_breaks}
+use Rattle.giop_end.specs.Hearing.ServerHears.{act_by_kind, breaks_by, comes, gathered_kind, server_act, server_breaks, server_pieces}
+use Rattle.giop_end.specs.Hearing.Pieces.{continued, continues}
 use Rattle.giop_session.proofs.OnLimits.LimitLemmas.{IsSmall, IsUnlimited}
 
 -- an id without a call gets one only by an event that begins it
@@ -35,28 +36,28 @@ comes_small : (interface : Interface) (kind : CallKind) (m : Msg)
 comes_small interface kind m = by_more m.more
   where
     by_more : (b : Bool) → IsSmall begins_at_server true (cond b (length m.payload) 0)
-        (cond b (Hears (kept (event.First kind)) (First m.order m.payload))
-        (Hears (kept (event.Whole (heard_call interface kind m.version m.order m.payload))) Nothing))
+        (cond b (Hears (silently (event.First kind)) (First m.order m.payload))
+        (Hears (silently (event.Whole (heard_call interface kind m.version m.order m.payload))) Nothing))
     by_more true = (λ is. refl, omega arith)
     by_more false = (λ is. refl, omega arith)
 
 continues_small : (interface : Interface) (m : Msg) (pieces : Option (CallKind × List ℕ))
-    → IsSmall begins_at_server false (length (behind_id m)) (continues interface m pieces)
+    → IsSmall begins_at_server false (length (behind_id m)) (continues server_pieces interface m pieces)
 continues_small interface m None = (λ is. is, omega arith)
 continues_small interface m (Some pieces) = by_more m.more
   where
     by_more : (b : Bool) → IsSmall begins_at_server false (length (behind_id m)) (cond b
-        (Hears (kept (event.More true)) (More (behind_id m)))
-        (Hears (kept (event.Last true (heard_call interface pieces.0 m.version m.order (pieces.1 ++ behind_id m)))) (More (behind_id m))))
+        (Hears (silently (event.More true)) (More (behind_id m)))
+        (Hears (silently (event.Last true (heard_call interface pieces.0 m.version m.order (pieces.1 ++ behind_id m)))) (More (behind_id m))))
     by_more true = (λ is. is, omega arith)
     by_more false = (λ is. is, omega arith)
 
--- what befalls a call by a message
+-- what a message does to a call
 pub small : (interface : Interface) (m : Msg) (call : Call ServerEntry)
-    → IsSmall begins_at_server (is_asking m.kind) (octets_with m) (server_befalls interface m call)
+    → IsSmall begins_at_server (is_asking m.kind) (octets_with m) (server_act interface m call)
 small interface m call = by_kind m.kind
   where
-    by_kind : (of_kind : Kind) → IsSmall begins_at_server (is_asking of_kind) (octets_by of_kind m) (befalls_by interface m call of_kind)
+    by_kind : (of_kind : Kind) → IsSmall begins_at_server (is_asking of_kind) (octets_by of_kind m) (act_by_kind interface m call of_kind)
     by_kind message.Request = comes_small interface kind.Request m
     by_kind message.LocateRequest = comes_small interface kind.Locate m
     by_kind message.Fragment = continues_small interface m (continued m.order (gathered_kind call.slot) call.pieces)

@@ -9,19 +9,19 @@ use Rattle.giop_msg.specs.declared.version.Version.{Version}
 use Rattle.giop_calls.specs.declared.server.entry.ServerEntry.{ServerEntry}
 use Rattle.giop_calls.specs.declared.server.event.ServerEvent.{ServerEvent}
 use Rattle.giop_calls.specs.declared.server.rule.ServerRule.{ServerRule}
-use Rattle.giop_session.specs.declared.acts.form.Form.{Form}
+use Rattle.giop_end.specs.declared.acts.form.Form.{Form}
 use Rattle.giop_session.specs.declared.laws.inputs.Answered.{Answered}
 use Rattle.giop_session.specs.declared.laws.inputs.ServerInput.{ServerInput}
 use Rattle.giop_session.specs.declared.laws.inputs.ServerInput.TheVariants as input
-use Rattle.giop_session.specs.declared.limits.Limits.{Limits}
-use Rattle.giop_session.specs.declared.calls.plan.Planned.{Planned}
-use Rattle.giop_session.specs.Calls.CallTable.{Held}
-use Rattle.giop_session.specs.Runs.Driven.{EndState}
+use Rattle.giop_end.specs.declared.limits.Limits.{Limits}
+use Rattle.giop_table.specs.declared.plan.Planned.{Planned}
+use Rattle.giop_table.specs.CallTable.{Held, entry_at}
+use Rattle.giop_end.specs.Ends.Begun.{EndState}
 use Rattle.giop_session.specs.Runs.Limits.{begins_at_server, is_asking}
 use Rattle.giop_session.specs.Runs.RunLimits.{NoneForALimit, ServerIsGivenWithin, fed_to_server}
-use Rattle.giop_session.specs.Acts.ServerAnswers.{IsAnswer, IsLocateAnswer, locate_of, question_of}
-use Rattle.giop_session.specs.Hearing.ServerHears.{server_side}
-use Rattle.giop_session.specs.Runs.ServerRuns.{server_deed, server_entry, server_run}
+use Rattle.giop_end.specs.Acts.ServerAnswers.{IsAnswer, IsLocateAnswer, locate_of, question_of}
+use Rattle.giop_end.specs.Hearing.ServerHears.{server_side}
+use Rattle.giop_session.specs.Runs.ServerRuns.{server_deed, server_run}
 use Rattle.giop_session.specs.Runs.SideRuns.{SideRuns}
 use Rattle.giop_session.proofs.OnLimits.RunLimitLemmas.{Suits, new_run_free}
 use Rattle.giop_session.proofs.OnLimits.ServerLimitLemmas.{begins_only, broken, own, small}
@@ -45,8 +45,8 @@ suits : (interface : Interface) (limits : Limits) (h : Held ServerRule ServerEnt
     → Suits fed_to_server (λ i id. false) begins_at_server given (server_deed interface limits h given)
 suits interface limits h (input.Feed octets) = refl
 suits interface limits h (input.Answer reply form) =
-    (refl, answered_none interface (question_of (server_entry h reply.id)) reply form.form)
-suits interface limits h (input.AnswerLocate id here order) = (refl, located_none id here order (locate_of here (server_entry h id)))
+    (refl, answered_none interface (question_of (entry_at h reply.id)) reply form.form)
+suits interface limits h (input.AnswerLocate id here order) = (refl, located_none id here order (locate_of here (entry_at h id)))
 suits interface limits h (input.Send id) = (refl, λ planned same. begins_none _ planned (ap (λ p. p.event) same) refl)
 suits interface limits h (input.Take id) = refl
 suits interface limits h input.Close = refl

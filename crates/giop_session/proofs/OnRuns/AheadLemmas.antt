@@ -11,22 +11,22 @@ use Rattle.giop_msg.proofs.FramerLemmas.{waits_for_header}
 use Rattle.giop_msg.proofs.StreamLemmas.{each_one}
 use Rattle.giop_session.specs.declared.laws.inputs.Answered.{Answered}
 use Rattle.giop_session.specs.declared.laws.inputs.Answered.TheVariants as answer
-use Rattle.giop_session.specs.declared.calls.plan.Planned.{Planned}
-use Rattle.giop_session.specs.declared.calls.sending.Sends.{Sends}
-use Rattle.giop_session.specs.declared.session_fault.SessionFault.{SessionFault}
-use Rattle.giop_session.specs.declared.session_fault.SessionFault.TheVariants as session
-use Rattle.giop_session.specs.declared.calls.table_fault.TableFault.{TableFault}
-use Rattle.giop_session.specs.declared.calls.table_fault.TableFault.TheVariants.{Rule, TooManyCalls, GatherFull, StillOpen, NoMemory}
-use Rattle.giop_session.specs.Acts.Putting.{Puts}
-use Rattle.giop_session.specs.Calls.CallTable.{Act, Call, Held, Hears, IsTaken, Nothing, Turned, at, event_reply, is_of_call, limit, taken}
-use Rattle.giop_session.specs.Calls.Sending.{entry_of}
-use Rattle.giop_session.specs.Calls.SessionFaults.{of_table}
-use Rattle.giop_session.specs.Hearing.Feeding.{Fed, Through, with_octets}
-use Rattle.giop_session.specs.Hearing.Heard.{IsHeard, heard_by, told_of, SideOf, turn_at, rules_at, hears}
-use Rattle.giop_session.specs.Runs.Driven.{Closes, Deed, EndRuns, EndState, Feeds, IsDoneBy, IsGivenBy, NoneRefused, PutsOut, TakesOut, id_of, is_named, own_answers}
-use Rattle.giop_session.specs.Runs.Inputs.{nothing_unread}
+use Rattle.giop_table.specs.declared.plan.Planned.{Planned}
+use Rattle.giop_table.specs.declared.sending.Sends.{Sends}
+use Rattle.giop_end.specs.declared.session_fault.SessionFault.{SessionFault}
+use Rattle.giop_end.specs.declared.session_fault.SessionFault.TheVariants as session
+use Rattle.giop_table.specs.declared.table_fault.TableFault.{TableFault}
+use Rattle.giop_table.specs.declared.table_fault.TableFault.TheVariants.{Rule, TooManyCalls, GatherFull, StillOpen, NoMemory}
+use Rattle.giop_end.specs.Acts.Putting.{Puts}
+use Rattle.giop_table.specs.CallTable.{Act, Call, Held, Hears, IsTaken, Nothing, Turned, at, event_reply, is_of_call, limit, taken}
+use Rattle.giop_table.specs.Sending.{entry_of}
+use Rattle.giop_end.specs.Ends.SessionFaults.{of_table}
+use Rattle.giop_end.specs.Hearing.Feeding.{Fed, Through, with_octets, nothing_unread}
+use Rattle.giop_end.specs.Hearing.Heard.{IsHeard, heard_by, result_of, SideOf, turn_at, rules_at, hears}
+use Rattle.giop_session.specs.Runs.Driven.{Closes, Deed, EndRuns, Feeds, IsDoneBy, IsGivenBy, NoneRefused, PutsOut, TakesOut, id_of, is_named, own_answers}
+use Rattle.giop_end.specs.Ends.Begun.{EndState}
 use Rattle.giop_session.specs.Runs.Met.{Comes, Does, Met, Sorting, given_as}
-use Rattle.giop_session.proofs.OnCalls.TableLemmas.{told_apart}
+use Rattle.giop_table.proofs.TableLemmas.{told_apart}
 use Rattle.giop_session.proofs.OnRuns.EventLemmas.{Changes, changes, heard}
 use Rattle.giop_session.proofs.OnRuns.InputLemmas.{same_taken}
 
@@ -110,17 +110,17 @@ module _ {R E V A F : Type 0} (side : SideOf R E V A F) where
 
   -- a message that its call takes is not refused for the call's own sake
   pub never_refused : (m : Msg) (h k : Held R E) (id : ℕ) (why : SessionFault)
-      → IsHeard (rules_at side h.rule) side.of_rule (heard_by None (Some (Ok id)) (λ q. side.befalls m (at h q))) h (Err why) k
-      → IsOk (turn_by h.rule (at h id) (side.befalls m (at h id))) → IsOwn why → ⊥
+      → IsHeard (rules_at side h.rule) side.of_rule (heard_by None (Some (Ok id)) (λ q. side.act_by m (at h q))) h (Err why) k
+      → IsOk (turn_by h.rule (at h id) (side.act_by m (at h id))) → IsOwn why → ⊥
   never_refused m h k id why (inl both) ok own = let want = both.0 in let is : why ≡ session.NoMemory = cc in own.2 is
   never_refused m h k id why (inr (Ok sends, does, is)) ok own = absurd cc
   never_refused m h k id why (inr (Err fault, does, is)) ok own =
       let told : why ≡ of_table (side.of_rule id) fault = cc in
-      not_own id fault (table_refuses h k id (side.befalls m (at h id)) fault ok does) (subst IsOwn told own)
+      not_own id fault (table_refuses h k id (side.act_by m (at h id)) fault ok does) (subst IsOwn told own)
 
   -- a message that is heard ends no session
   unbroken : (broken : Option SessionFault) (m : Msg) (name : Option (Result ℕ CdrFault)) (h k : Held R E)
-      → IsHeard (rules_at side h.rule) side.of_rule (heard_by broken name (λ q. side.befalls m (at h q))) h (Ok tt) k → broken ≡ None
+      → IsHeard (rules_at side h.rule) side.of_rule (heard_by broken name (λ q. side.act_by m (at h q))) h (Ok tt) k → broken ≡ None
   unbroken broken m name h k (inl both) = absurd cc
   unbroken None m name h k (inr is) = refl
   unbroken (Some why) m name h k (inr both) = absurd cc
@@ -152,10 +152,10 @@ module _ {R E V A F : Type 0} (side : SideOf R E V A F) where
       → (refusal ≡ None) × ((planned : Planned V) × Plans planned × ChangesSo h id (λ call. Hears planned Nothing) k)
   put_done h k id refusal Plans out out' (inl wanting) = let wrong = wanting.0 in absurd cc
   put_done h k id (Some why) Plans out out' (inr refused) = let wrong = refused.0 in absurd cc
-  put_done h k id None Plans out out' (inr (planned, plans, befell)) =
-      (refl, (planned, plans, by_answer befell.answered befell.does befell.told))
+  put_done h k id None Plans out out' (inr (planned, plans, on_call)) =
+      (refl, (planned, plans, by_answer on_call.answered on_call.does on_call.returned))
     where
-      by_answer : (answered : Result (Sends A) (TableFault F)) → DoesSo h id planned answered k → Ok tt ≡ told_of (side.of_rule id) answered
+      by_answer : (answered : Result (Sends A) (TableFault F)) → DoesSo h id planned answered k → Ok tt ≡ result_of (side.of_rule id) answered
           → ChangesSo h id (λ call. Hears planned Nothing) k
       by_answer (Ok sends) does told = changes side h k id (λ call. Hears planned Nothing) _ does
       by_answer (Err why) does told = absurd cc
@@ -168,13 +168,13 @@ module _ {R E V A F : Type 0} (side : SideOf R E V A F) where
   put_refused h k id refusal Plans out out' why planned none once plans ok own (inl wanting) =
       let want = wanting.0 in let is : why ≡ session.NoMemory = cc in own.2 is
   put_refused h k id (Some fault) Plans out out' why planned none once plans ok own (inr refused) = absurd cc
-  put_refused h k id None Plans out out' why planned none once plans ok own (inr (other, planned_so, befell)) =
-      by_answer befell.answered befell.does befell.told
+  put_refused h k id None Plans out out' why planned none once plans ok own (inr (other, planned_so, on_call)) =
+      by_answer on_call.answered on_call.does on_call.returned
     where
       ok_there : IsOk (turn_by h.rule (at h id) (Hears other Nothing))
       ok_there = subst (λ p. IsOk (turn_by h.rule (at h id) (Hears p Nothing))) (once planned other plans planned_so) ok
 
-      by_answer : (answered : Result (Sends A) (TableFault F)) → DoesSo h id other answered k → Err why ≡ told_of (side.of_rule id) answered → ⊥
+      by_answer : (answered : Result (Sends A) (TableFault F)) → DoesSo h id other answered k → Err why ≡ result_of (side.of_rule id) answered → ⊥
       by_answer (Ok sends) does told = absurd cc
       by_answer (Err fault) does told =
           let is : why ≡ of_table (side.of_rule id) fault = cc in
@@ -323,13 +323,13 @@ module _ {R E V A F : Type 0} (side : SideOf R E V A F) where
     -- a message is to come: its call takes it, and what that leaves is the same
     pub comes_ahead : (h : Held R E) (id : ℕ) (m : Msg) (own : List (Met I)) (told : List (Answered E)) (end : EndState (Held R E))
         → IsMessage message m → request_id_of m ≡ Some (Ok id) → Ahead h id (Comes m ∷ own) told end
-        → (side.breaks m ≡ None) × IsOk (turn_by h.rule (at h id) (side.befalls m (at h id)))
-        × ((k : Held R E) → ChangesSo h id (side.befalls m) k → Ahead k id own told end)
+        → (side.breaks m ≡ None) × IsOk (turn_by h.rule (at h id) (side.act_by m (at h id)))
+        × ((k : Held R E) → ChangesSo h id (side.act_by m) k → Ahead k id own told end)
     comes_ahead h id m own told end is name ahead = by_answers ahead.answers ahead.runs ahead.none ahead.told_is
       where
         Goal : Type 0
-        Goal = (side.breaks m ≡ None) × IsOk (turn_by h.rule (at h id) (side.befalls m (at h id)))
-            × ((k : Held R E) → ChangesSo h id (side.befalls m) k → Ahead k id own told end)
+        Goal = (side.breaks m ≡ None) × IsOk (turn_by h.rule (at h id) (side.act_by m (at h id)))
+            × ((k : Held R E) → ChangesSo h id (side.act_by m) k → Ahead k id own told end)
 
         by_given : (answered : Answered E) (answers : List (Answered E)) (mid : EndState (Held R E))
             → DoneSo (Feeds (message_octets m)) ahead.start answered mid → RunsSo mid (map (given_as sorting) own) answers end
@@ -342,15 +342,15 @@ module _ {R E V A F : Type 0} (side : SideOf R E V A F) where
             let step = heard side m ahead.start.calls mid.calls (side.breaks m) (request_id_of m) one.0 in
             let names_it = sym step.1 ∙ name in
             let same_id : step.0 ≡ id = cc in
-            let there = subst (λ q. ChangesSo ahead.start.calls q (side.befalls m) mid.calls) same_id step.2 in (
+            let there = subst (λ q. ChangesSo ahead.start.calls q (side.act_by m) mid.calls) same_id step.2 in (
               unbroken (side.breaks m) m (request_id_of m) ahead.start.calls mid.calls one.0,
-              accepted_alike ahead.start.calls.rule h.rule (at ahead.start.calls id) (at h id) (side.befalls m) ahead.rule ahead.same there.accepted,
+              accepted_alike ahead.start.calls.rule h.rule (at ahead.start.calls id) (at h id) (side.act_by m) ahead.rule ahead.same there.accepted,
               λ k here. record {
                 start = mid;
                 sound = ap (λ e. e.fault) is_mid;
                 empty = one.1;
                 rule = there.rule_stays ∙ ahead.rule ∙ sym here.rule_stays;
-                same = changed_alike ahead.start.calls mid.calls h k id (side.befalls m) there here ahead.rule ahead.same;
+                same = changed_alike ahead.start.calls mid.calls h k id (side.act_by m) there here ahead.rule ahead.same;
                 answers = answers;
                 runs = runs;
                 none = none;

@@ -10,16 +10,16 @@ use Rattle.giop_msg.specs.Stream.{BeginsWithFault, Msgs, TakesMessages, Unread, 
 use Rattle.giop_msg.proofs.StreamLemmas.{each_head, each_one, each_tail, message_or_fault}
 use Rattle.giop_session.specs.declared.laws.inputs.Answered.{Answered}
 use Rattle.giop_session.specs.declared.laws.inputs.Answered.TheVariants as answer
-use Rattle.giop_session.specs.declared.limits.Limits.{Limits}
-use Rattle.giop_session.specs.declared.session_fault.SessionFault.{SessionFault}
-use Rattle.giop_session.specs.declared.session_fault.SessionFault.TheVariants as session
-use Rattle.giop_session.specs.Calls.CallTable.{Act, Call, Held, at}
-use Rattle.giop_session.specs.Hearing.Feeding.{Fed, Stops, Through, with_octets}
-use Rattle.giop_session.specs.Hearing.Heard.{IsHeard, heard_by, SideOf, rules_at, hears}
+use Rattle.giop_end.specs.declared.limits.Limits.{Limits}
+use Rattle.giop_end.specs.declared.session_fault.SessionFault.{SessionFault}
+use Rattle.giop_end.specs.declared.session_fault.SessionFault.TheVariants as session
+use Rattle.giop_table.specs.CallTable.{Act, Call, Held, at}
+use Rattle.giop_end.specs.Hearing.Feeding.{Fed, Stops, Through, with_octets, nothing_unread}
+use Rattle.giop_end.specs.Hearing.Heard.{IsHeard, heard_by, SideOf, rules_at, hears}
 use Rattle.giop_session.specs.Runs.Alone.{names_by}
-use Rattle.giop_session.specs.Runs.Driven.{Closes, Deed, EndRuns, EndState, Feeds, IsDoneBy, IsGivenBy, NoneRefused, PutsOut, TakesOut, id_of, is_named, new_end, own_answers}
+use Rattle.giop_session.specs.Runs.Driven.{Closes, Deed, EndRuns, Feeds, IsDoneBy, IsGivenBy, NoneRefused, PutsOut, TakesOut, id_of, is_named, own_answers}
+use Rattle.giop_end.specs.Ends.Begun.{EndState, new_end}
 use Rattle.giop_session.specs.Runs.Fits.{only}
-use Rattle.giop_session.specs.Runs.Inputs.{nothing_unread}
 use Rattle.giop_session.specs.Runs.Met.{AreMet, Comes, Does, IsMet, IsOfCall, Met, Sorting, given_alone, own_met}
 use Rattle.giop_session.specs.Runs.RunLimits.{IsForNoLimit, NoneForALimit}
 use Rattle.giop_session.proofs.OnLimits.RunLimitLemmas.{front}
@@ -98,7 +98,7 @@ module _ {R E V A F I : Type 0} (side : SideOf R E V A F)
         → HearsSo m h (Ok tt) k → EachAhead k met tolds
     one_comes h k m met tolds is each hears q = by_name (q == step.0) refl
       where
-        step : (id : ℕ) × (request_id_of m ≡ Some (Ok id)) × ChangesSo h id (side.befalls m) k
+        step : (id : ℕ) × (request_id_of m ≡ Some (Ok id)) × ChangesSo h id (side.act_by m) k
         step = heard side m h k (side.breaks m) (request_id_of m) hears
 
         by_name : (own : Bool) → (q == step.0) ≡ own → IsAhead k q (own_met sorting q met) (tolds q) (ends q)
@@ -114,10 +114,10 @@ module _ {R E V A F I : Type 0} (side : SideOf R E V A F)
                 let to : step.0 ≡ q = grind (arith, nat_tests) in
                 (comes_ahead side message deed sorting feeds_none deed_feeds same_deed about once
                 h q m (own_met sorting q met) (tolds q) (ends q) is (step.1 ∙ ap (λ n. Some (Ok n)) to) ahead).2 k
-                (subst (λ n. ChangesSo h n (side.befalls m) k) to step.2)
+                (subst (λ n. ChangesSo h n (side.act_by m) k) to step.2)
             by_own false it ahead =
                 other_ahead side message deed sorting feeds_none deed_feeds same_deed about once
-                h k step.0 q (side.befalls m) (own_met sorting q met) (tolds q) (ends q) step.2 it ahead
+                h k step.0 q (side.act_by m) (own_met sorting q met) (tolds q) (ends q) step.2 it ahead
 
     each_comes : (messages : List Msg) (met : List (Met I)) (h k : Held R E) (tolds : ℕ → List (Answered E)) → All (IsMessage message) messages
         → EachAhead h (map Comes messages ++ met) tolds → Through HearsSo h messages k → EachAhead k met tolds
@@ -135,8 +135,8 @@ module _ {R E V A F I : Type 0} (side : SideOf R E V A F)
         let ok = comes_ahead side message deed sorting feeds_none deed_feeds same_deed about once
         h id m (own_met sorting id met) (tolds id) (ends id) is name ahead in
         never_refused side m h k id why
-        (subst (λ n. IsHeard (rules_at side h.rule) side.of_rule (heard_by None n (λ q. side.befalls m (at h q))) h (Err why) k) name
-        (subst (λ b. IsHeard (rules_at side h.rule) side.of_rule (heard_by b (request_id_of m) (λ q. side.befalls m (at h q))) h (Err why) k)
+        (subst (λ n. IsHeard (rules_at side h.rule) side.of_rule (heard_by None n (λ q. side.act_by m (at h q))) h (Err why) k) name
+        (subst (λ b. IsHeard (rules_at side h.rule) side.of_rule (heard_by b (request_id_of m) (λ q. side.act_by m (at h q))) h (Err why) k)
         ok.0 hears)) ok.1 own
 
     all_of : (one other : List Msg) (met : List (Met I)) → AllByRecursion OfCall (map Comes (one ++ other) ++ met)

@@ -22,15 +22,16 @@ use Rattle.giop_calls.specs.declared.client.heard.HeardReply.TheVariants as hear
 use Rattle.giop_calls.specs.declared.client.late.Late.TheVariants as late
 use Rattle.giop_calls.specs.Messages.{is_oneway}
 use Rattle.giop_calls.specs.ClientTable.{ClientStep, answers, becomes, begins, cancel, client_step, first, is_closed, is_free, is_gathering, last, left_of, more, refused, send, sending, sent, settles, whole}
-use Rattle.giop_session.specs.declared.calls.plan.Plan.{Plan}
-use Rattle.giop_session.specs.declared.calls.plan.Plan.TheVariants.{Put, Next, Keep}
-use Rattle.giop_session.specs.declared.calls.plan.Planned.{Planned}
-use Rattle.giop_session.specs.declared.calls.slot.Slot.{Slot}
-use Rattle.giop_session.specs.Calls.CallTable.{Act, Brings, Call, First, More, Nothing, Hears, turn}
-use Rattle.giop_session.specs.Hearing.ClientHears.{awaited, befalls_by, breaks_by, client_befalls, client_breaks, comes, continued, continues, gathered_call, heard_reply}
-use Rattle.giop_session.specs.Hearing.Heard.{behind_id, kept}
+use Rattle.giop_table.specs.declared.plan.Plan.{Plan}
+use Rattle.giop_table.specs.declared.plan.Plan.TheVariants.{Put, Next, Keep}
+use Rattle.giop_table.specs.declared.plan.Planned.{Planned}
+use Rattle.giop_table.specs.declared.slot.Slot.{Slot}
+use Rattle.giop_table.specs.CallTable.{Act, Brings, Call, First, More, Nothing, Hears, turn}
+use Rattle.giop_end.specs.Hearing.ClientHears.{awaited, act_by_kind, breaks_by, client_act, client_breaks, comes, gathered_call, heard_reply, client_pieces}
+use Rattle.giop_end.specs.Hearing.Pieces.{continued, continues}
+use Rattle.giop_end.specs.Hearing.Heard.{behind_id, silently}
 use Rattle.giop_session.specs.Runs.LeftToSend.{ClientPlans, IsLeft}
-use Rattle.giop_session.specs.Calls.Sending.{entry_of, sending_step, settled_by, unsent_after, unsent_of}
+use Rattle.giop_table.specs.Sending.{entry_of, sending_step, settled_by, unsent_after, unsent_of}
 use Rattle.giop_session.proofs.OnRuns.FollowedLemmas.{behind, event_left}
 
 -- so many are left where a step is accepted
@@ -256,20 +257,20 @@ heard_left slot (event.Call call pieces) of is = absurd of
 heard_left slot event.Send of is = absurd of
 heard_left slot event.Cancel of is = absurd of
 
--- ---- what befalls a call by a message
+-- ---- what a message does to a call
 
 record IsKept (act : Act ClientEvent) : Type 0 where
   e : ClientEvent
   brings : Brings
   of : IsOfMessage e
-  same : act ≡ Hears (kept e) brings
+  same : act ≡ Hears (silently e) brings
 
 came : (interface : Interface) (kind : CallKind) (m : Msg) (call : Option Question)
     → IsKept (comes interface kind m call)
 came interface kind m None = by_more m.more
   where
-    by_more : (b : Bool) → IsKept (cond b (Hears (kept (event.First kind m.version)) Nothing)
-        (Hears (kept (event.Whole kind m.version heard.Unread)) Nothing))
+    by_more : (b : Bool) → IsKept (cond b (Hears (silently (event.First kind m.version)) Nothing)
+        (Hears (silently (event.Whole kind m.version heard.Unread)) Nothing))
     by_more true = record { e = event.First kind m.version; brings = Nothing; of = tt; same = refl }
     by_more false = record {
       e = event.Whole kind m.version heard.Unread;
@@ -280,8 +281,8 @@ came interface kind m None = by_more m.more
 came interface kind m (Some call) = by_more m.more
   where
     by_more : (b : Bool) → IsKept (cond b
-        (Hears (kept (event.First kind m.version)) (First m.order m.payload))
-        (Hears (kept (event.Whole kind m.version
+        (Hears (silently (event.First kind m.version)) (First m.order m.payload))
+        (Hears (silently (event.Whole kind m.version
         (heard_reply interface call m.version m.order m.payload))) Nothing))
     by_more true = record {
       e = event.First kind m.version;
@@ -297,18 +298,18 @@ came interface kind m (Some call) = by_more m.more
     }
 
 went_on : (interface : Interface) (m : Msg) (pieces : Option (Question × List ℕ))
-    → IsKept (continues interface m pieces)
+    → IsKept (continues client_pieces interface m pieces)
 went_on interface m None = by_more m.more
   where
-    by_more : (b : Bool) → IsKept (cond b (Hears (kept (event.More false)) Nothing)
-        (Hears (kept (event.Last false heard.Unread)) Nothing))
+    by_more : (b : Bool) → IsKept (cond b (Hears (silently (event.More false)) Nothing)
+        (Hears (silently (event.Last false heard.Unread)) Nothing))
     by_more true = record { e = event.More false; brings = Nothing; of = tt; same = refl }
     by_more false =
         record { e = event.Last false heard.Unread; brings = Nothing; of = tt; same = refl }
 went_on interface m (Some pieces) = by_more m.more
   where
-    by_more : (b : Bool) → IsKept (cond b (Hears (kept (event.More true)) (More (behind_id m)))
-        (Hears (kept (event.Last true (heard_reply interface pieces.0 m.version m.order
+    by_more : (b : Bool) → IsKept (cond b (Hears (silently (event.More true)) (More (behind_id m)))
+        (Hears (silently (event.Last true (heard_reply interface pieces.0 m.version m.order
         (pieces.1 ++ behind_id m)))) (More (behind_id m))))
     by_more true =
         record { e = event.More true; brings = More (behind_id m); of = tt; same = refl }
@@ -320,19 +321,19 @@ went_on interface m (Some pieces) = by_more m.more
       same = refl;
     }
 
-befalls_kept : (interface : Interface) (m : Msg) (call : Call ClientEntry) (of_kind : Kind)
-    → breaks_by of_kind ≡ None → IsKept (befalls_by interface m call of_kind)
-befalls_kept interface m call message.Reply sound =
+act_is_silent : (interface : Interface) (m : Msg) (call : Call ClientEntry) (of_kind : Kind)
+    → breaks_by of_kind ≡ None → IsKept (act_by_kind interface m call of_kind)
+act_is_silent interface m call message.Reply sound =
     came interface kind.Request m (awaited kind.Request m.version call.slot)
-befalls_kept interface m call message.LocateReply sound =
+act_is_silent interface m call message.LocateReply sound =
     came interface kind.Locate m (awaited kind.Locate m.version call.slot)
-befalls_kept interface m call message.Fragment sound =
+act_is_silent interface m call message.Fragment sound =
     went_on interface m (continued m.order (gathered_call call.slot) call.pieces)
-befalls_kept interface m call message.Request sound = absurd cc
-befalls_kept interface m call message.LocateRequest sound = absurd cc
-befalls_kept interface m call message.CancelRequest sound = absurd cc
-befalls_kept interface m call message.CloseConnection sound = absurd cc
-befalls_kept interface m call message.MessageError sound = absurd cc
+act_is_silent interface m call message.Request sound = absurd cc
+act_is_silent interface m call message.LocateRequest sound = absurd cc
+act_is_silent interface m call message.CancelRequest sound = absurd cc
+act_is_silent interface m call message.CloseConnection sound = absurd cc
+act_is_silent interface m call message.MessageError sound = absurd cc
 
 -- ---- as `followed` wants them
 
@@ -344,15 +345,15 @@ own_of slot planned so is = own_left slot planned.event planned.plan so is
 
 pub heard_of : (interface : Interface) (m : Msg) (call : Call ClientEntry)
     → client_breaks m ≡ None → IsLeft left_of call.slot
-    → IsOk (turn client_step is_closed is_gathering call (client_befalls interface m call))
+    → IsOk (turn client_step is_closed is_gathering call (client_act interface m call))
     → IsLeft left_of (behind client_step is_closed is_gathering left_of call
-    (client_befalls interface m call)).slot
-heard_of interface m call sound is = by_act (client_befalls interface m call)
-    (befalls_kept interface m call m.kind sound)
+    (client_act interface m call)).slot
+heard_of interface m call sound is = by_act (client_act interface m call)
+    (act_is_silent interface m call m.kind sound)
   where
     by_act : (act : Act ClientEvent) → IsKept act
         → IsOk (turn client_step is_closed is_gathering call act)
         → IsLeft left_of (behind client_step is_closed is_gathering left_of call act).slot
     by_act act told = rw told.same
-        (λ ok. event_left client_step is_closed is_gathering left_of call (kept told.e) told.brings
+        (λ ok. event_left client_step is_closed is_gathering left_of call (silently told.e) told.brings
         ok (heard_left call.slot told.e told.of is))

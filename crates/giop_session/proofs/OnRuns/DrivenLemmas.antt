@@ -5,18 +5,18 @@ use Rattle.giop_msg.specs.Stream.{Unread}
 use Rattle.giop_mux.specs.Runs.{Hears as IsTold, IsTaken as IsTakenOut}
 use Rattle.giop_session.specs.declared.laws.inputs.Answered.{Answered}
 use Rattle.giop_session.specs.declared.laws.inputs.Answered.TheVariants as answer
-use Rattle.giop_session.specs.declared.calls.plan.Planned.{Planned}
-use Rattle.giop_session.specs.declared.calls.sending.Sends.{Sends}
-use Rattle.giop_session.specs.declared.session_fault.SessionFault.{SessionFault}
-use Rattle.giop_session.specs.declared.session_fault.SessionFault.TheVariants.{NoMemory}
-use Rattle.giop_session.specs.declared.calls.table_fault.TableFault.{TableFault}
-use Rattle.giop_session.specs.Calls.CallTable.{Answers, Held, Hears, Nothing, event_reply}
-use Rattle.giop_session.specs.Runs.Driven.{Closes, Deed, EndRuns, EndState, Feeds, InTurn, IsAct, IsDoneBy, IsGiven, IsGivenBy, NoneRefused, PutsOut, TakesAs, TakesOut, answer_of, taken_answer}
-use Rattle.giop_session.specs.Runs.Events.{Accepts}
-use Rattle.giop_session.specs.Runs.Events.{Does as Happens}
-use Rattle.giop_session.specs.Hearing.Heard.{told_of, SideOf, rules_at}
+use Rattle.giop_table.specs.declared.plan.Planned.{Planned}
+use Rattle.giop_table.specs.declared.sending.Sends.{Sends}
+use Rattle.giop_end.specs.declared.session_fault.SessionFault.{SessionFault}
+use Rattle.giop_end.specs.declared.session_fault.SessionFault.TheVariants.{NoMemory}
+use Rattle.giop_table.specs.declared.table_fault.TableFault.{TableFault}
+use Rattle.giop_table.specs.CallTable.{Answers, Held, Hears, Nothing, event_reply}
+use Rattle.giop_session.specs.Runs.Driven.{Closes, Deed, EndRuns, Feeds, InTurn, IsAct, IsDoneBy, IsGiven, IsGivenBy, NoneRefused, PutsOut, TakesAs, TakesOut, answer_of, taken_answer}
+use Rattle.giop_end.specs.Ends.Begun.{EndState}
+use Rattle.giop_session.specs.Runs.Events.{Accepts, Does as Happens}
+use Rattle.giop_end.specs.Hearing.Heard.{result_of, SideOf, rules_at}
 use Rattle.giop_session.specs.Runs.Inputs.{Does, Input, Reads, Takes}
-use Rattle.giop_session.specs.Acts.Putting.{Puts}
+use Rattle.giop_end.specs.Acts.Putting.{Puts}
 
 module _ {S I A : Type 0} (Steps : S → I → A → S → Type 0) where
   -- a run and then one step is a run
@@ -60,10 +60,10 @@ module _ {R E V A F : Type 0} (side : SideOf R E V A F) where
   abbrev TakesAll : Unread → Held R E → List (Input V) → Unread → Held R E → Type 0
   TakesAll = Takes side
 
-  -- what befell a call is accepted, where the end tells so
+  -- what acted on a call is accepted, where the end tells so
   told_accepted : (h k : Held R E) (id : ℕ) (planned : Planned V) (answered : Result (Sends A) (TableFault F))
       → DoesAct (rules_at side h.rule) h (record { id = id; what = Hears planned Nothing }) (event_reply answered) k
-      → Ok tt ≡ told_of (side.of_rule id) answered → AcceptsOne h id planned k
+      → Ok tt ≡ result_of (side.of_rule id) answered → AcceptsOne h id planned k
   told_accepted h k id planned (Ok sends) does told = (Answers sends, does)
   told_accepted h k id planned (Err why) does told = absurd cc
 
@@ -72,8 +72,8 @@ module _ {R E V A F : Type 0} (side : SideOf R E V A F) where
       → (planned : Planned V) × Plans planned × AcceptsOne h id planned k
   puts_accepted h k id refusal Plans out out' (inl wanting) = let wrong = wanting.0 in absurd cc
   puts_accepted h k id (Some why) Plans out out' (inr refused) = let wrong = refused.0 in absurd cc
-  puts_accepted h k id None Plans out out' (inr (planned, plans, befell)) =
-      (planned, plans, told_accepted h k id planned befell.answered befell.does befell.told)
+  puts_accepted h k id None Plans out out' (inr (planned, plans, on_call)) =
+      (planned, plans, told_accepted h k id planned on_call.answered on_call.does on_call.returned)
 
   -- an input that is done is taken as an act
   done_taken : (deed : Deed V F) (s t : EndState (Held R E)) (answered : Answered E)

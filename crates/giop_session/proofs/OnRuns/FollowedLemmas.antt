@@ -7,16 +7,16 @@ use Rattle.giop_mux.specs.Runs.{Hears as IsTold, IsTaken as TakesOut}
 use Rattle.giop_mux.specs.declared.step.Step.{Step}
 use Rattle.giop_msg.specs.declared.msg.Msg.{Msg}
 use Rattle.giop_msg.specs.RequestId.{request_id_of}
-use Rattle.giop_session.specs.declared.session_fault.SessionFault.{SessionFault}
-use Rattle.giop_session.specs.declared.calls.plan.Plan.{Plan}
-use Rattle.giop_session.specs.declared.calls.plan.Planned.{Planned}
-use Rattle.giop_session.specs.declared.calls.sending.Sends.{Sends}
-use Rattle.giop_session.specs.declared.calls.slot.Slot.{Slot}
-use Rattle.giop_session.specs.Calls.CallTable.{Act, Brings, Call, Held, Hears, at, IsTaken, Nothing, brought, taken, turn, turned}
+use Rattle.giop_end.specs.declared.session_fault.SessionFault.{SessionFault}
+use Rattle.giop_table.specs.declared.plan.Plan.{Plan}
+use Rattle.giop_table.specs.declared.plan.Planned.{Planned}
+use Rattle.giop_table.specs.declared.sending.Sends.{Sends}
+use Rattle.giop_table.specs.declared.slot.Slot.{Slot}
+use Rattle.giop_table.specs.CallTable.{Act, Brings, Call, Held, Hears, at, IsTaken, Nothing, brought, taken, turn, turned}
 use Rattle.giop_session.specs.Runs.Events.{Comes, Does, Event, Follows, Meets, is_of, own_events}
-use Rattle.giop_session.specs.Hearing.Heard.{IsHeard, heard_by, SideOf, rules_at}
+use Rattle.giop_end.specs.Hearing.Heard.{IsHeard, heard_by, SideOf, rules_at}
 use Rattle.giop_session.specs.Runs.LeftToSend.{ArePlanned, IsLeft}
-use Rattle.giop_session.specs.Calls.Sending.{sending_step}
+use Rattle.giop_table.specs.Sending.{sending_step}
 
 -- no message among these events ends the session
 abbrev pub AreHeard : {V : Type 0} → (Msg → Option SessionFault) → List (Event V) → Type 0
@@ -28,7 +28,7 @@ module _ {R E V A F : Type 0} (side : SideOf R E V A F) where
   -- none that an end took does
   unbroken : (h k : Held R E) (m : Msg) (broken : Option SessionFault)
       → IsHeard (rules_at side h.rule) side.of_rule
-      (heard_by broken (request_id_of m) (λ id. side.befalls m (at h id))) h (Ok tt) k → broken ≡ None
+      (heard_by broken (request_id_of m) (λ id. side.act_by m (at h id))) h (Ok tt) k → broken ≡ None
   unbroken h k m None is = refl
   unbroken h k m (Some why) (inl both) = absurd cc
   unbroken h k m (Some why) (inr both) = absurd cc
@@ -58,7 +58,7 @@ own_heard breaks id (Does named act ∷ events) whole =
 
 module _ {E V A F : Type 0} (next : Option E → V → Step E A F) (closed gathering : E → Bool)
     (left_of : E → ℕ) where
-  -- what stands behind what befalls a call
+  -- what stands behind an act on a call
   abbrev pub behind : Call E → Act V → Call E
   behind call act = left call (turn next closed gathering call act)
 
@@ -90,22 +90,22 @@ module _ {E V A F : Type 0} (next : Option E → V → Step E A F) (closed gathe
       → IsLeft left_of (behind call IsTaken).slot
   take_left call ok = taken_left call (option_map (λ slot. closed slot.entry) call.slot) ok
 
-  module _ (breaks : Msg → Option SessionFault) (befalls : Msg → Call E → Act V)
+  module _ (breaks : Msg → Option SessionFault) (act_by : Msg → Call E → Act V)
       (plans : V → Plan → Type 0)
       (heard : (m : Msg) (call : Call E) → breaks m ≡ None → IsLeft left_of call.slot
-      → IsOk (turn next closed gathering call (befalls m call))
-      → IsLeft left_of (behind call (befalls m call)).slot)
+      → IsOk (turn next closed gathering call (act_by m call))
+      → IsLeft left_of (behind call (act_by m call)).slot)
       (own : (slot : Option (Slot E)) (planned : Planned V) → plans planned.event planned.plan
       → IsLeft left_of slot → IsOk (sending_step next slot planned).outcome
       → IsLeft left_of (sending_step next slot planned).entry) where
     -- all of them
     pub followed : (call after : Call E) (events : List (Event V)) → AreHeard breaks events
         → ArePlanned plans events → IsLeft left_of call.slot
-        → Follows (turn next closed gathering) befalls call events after
+        → Follows (turn next closed gathering) act_by call events after
         → IsLeft left_of after.slot
     followed call after [] whole planned is follows = subst (λ c. IsLeft left_of c.slot) (sym follows) is
     followed call after (Comes m ∷ events) (sound, whole) planned is (ok, rest) =
-        followed (behind call (befalls m call)) after events whole planned
+        followed (behind call (act_by m call)) after events whole planned
         (heard m call sound is ok) rest
     followed call after (Does id (IsTold told) ∷ events) whole (so, planned) is (ok, rest) =
         followed (behind call (Hears told Nothing)) after events whole planned

@@ -7,10 +7,10 @@ use Rattle.giop_msg.specs.declared.msg.Msg.{Msg}
 use Rattle.giop_mux.specs.Runs.{Happening}
 use Rattle.giop_mux.specs.Runs as mux
 use Rattle.giop_mux.specs.declared.step.Step.{Step}
-use Rattle.giop_session.specs.declared.calls.plan.Plan.{Plan}
-use Rattle.giop_session.specs.declared.calls.slot.Slot.{Slot}
-use Rattle.giop_session.specs.Calls.CallTable.{Act, Call, Hears, IsTaken, Turned, brought, taken, turn, turned}
-use Rattle.giop_session.specs.Calls.Sending.{entry_of, settled_by, slot_of, unsent_of}
+use Rattle.giop_table.specs.declared.plan.Plan.{Plan}
+use Rattle.giop_table.specs.declared.slot.Slot.{Slot}
+use Rattle.giop_table.specs.CallTable.{Act, Call, Hears, IsTaken, Turned, brought, taken, turn, turned}
+use Rattle.giop_table.specs.Sending.{entry_of, settled_by, slot_of, unsent_of}
 use Rattle.giop_session.specs.Runs.Events.{Event, Follows, happening, history, what}
 
 entry_is : {E : Type 0} (entry : Option E) (unsent : List Msg) → entry_of (slot_of entry unsent) ≡ entry
@@ -58,17 +58,17 @@ module _ {E V A F : Type 0} (next : Option E → V → Step E A F) (closed gathe
       (next (entry_of call.slot) planned.event).outcome ok
   step_is call IsTaken ok = take_is call.slot call.pieces ok
 
-  module _ (befalls : Msg → Call E → Act V) where
+  module _ (act_by : Msg → Call E → Act V) where
     -- so do all of them
-    pub follows_steps : (events : List (Event V)) (call after : Call E) → Follows Does befalls call events after
-        → AllByRecursion IsOk (told_alone Steps (entry_of call.slot) (history Does befalls call events))
-        × (entry_of after.slot ≡ alone Steps (entry_of call.slot) (history Does befalls call events))
+    pub follows_steps : (events : List (Event V)) (call after : Call E) → Follows Does act_by call events after
+        → AllByRecursion IsOk (told_alone Steps (entry_of call.slot) (history Does act_by call events))
+        × (entry_of after.slot ≡ alone Steps (entry_of call.slot) (history Does act_by call events))
     follows_steps [] call after follows = (tt, ap (λ c. entry_of c.slot) follows)
     follows_steps (e ∷ events) call after (ok, follows) =
-        let act = what Does befalls e call in
+        let act = what Does act_by e call in
         let one = step_is call act ok in
         let behind = follows_steps events (left call (Does call act)) after follows in
-        let rest = history Does befalls (left call (Does call act)) events in (
+        let rest = history Does act_by (left call (Does call act)) events in (
           (one.0, subst (λ entry. AllByRecursion IsOk (told_alone Steps entry rest)) one.1 behind.0),
           behind.1 ∙ ap (λ entry. alone Steps entry rest) one.1,
         )

@@ -3,11 +3,10 @@ use Rattle.std.proofs.Common.{◌≡◌, List, [], ◌∷◌, ◌++◌, map, ref
 use Rattle.giop_msg.specs.declared.msg.Msg.{Msg}
 use Rattle.giop_msg.specs.Stream.{BeginsWithMessage, Msgs, TakesMessages, Unread, Waits}
 use Rattle.giop_msg.proofs.StreamLemmas.{same_splits}
-use Rattle.giop_session.specs.Calls.CallTable.{Held}
-use Rattle.giop_session.specs.Runs.Events.{Event, Comes, Meets}
-use Rattle.giop_session.specs.Runs.Events.{Does as DoesTo}
-use Rattle.giop_session.specs.Hearing.Feeding.{Through, with_octets}
-use Rattle.giop_session.specs.Hearing.Heard.{SideOf, hears}
+use Rattle.giop_table.specs.CallTable.{Held}
+use Rattle.giop_session.specs.Runs.Events.{Event, Comes, Meets, Does as DoesTo}
+use Rattle.giop_end.specs.Hearing.Feeding.{Through, with_octets}
+use Rattle.giop_end.specs.Hearing.Heard.{SideOf, hears}
 use Rattle.giop_session.specs.Runs.Inputs.{AreEvents, Input, Reads, Does, Takes}
 
 -- what is taken until the end waits is the split of the stream

@@ -21,17 +21,18 @@ use Rattle.giop_calls.specs.declared.server.question.Question.TheVariants as que
 use Rattle.giop_calls.specs.declared.server.undecoded.UndecodedCall.{UndecodedCall}
 use Rattle.giop_calls.specs.Messages.{is_oneway, is_same_version, is_system_exception}
 use Rattle.giop_calls.specs.ServerTable.{ServerStep, server_step, is_closed, is_free, is_gathering, left_of, arrived, begins, becomes, becomes_if, refused, more, last, cancel, answer, answer_undecoded, answer_locate, answer_locate_undecoded, send}
-use Rattle.giop_session.specs.declared.calls.plan.Plan.{Plan}
-use Rattle.giop_session.specs.declared.calls.plan.Plan.TheVariants.{Put, Next, Keep}
-use Rattle.giop_session.specs.declared.calls.plan.Planned.{Planned}
-use Rattle.giop_session.specs.declared.calls.slot.Slot.{Slot}
-use Rattle.giop_session.specs.Calls.CallTable.{Act, Brings, Call, First, More, Nothing, Hears, turn}
-use Rattle.giop_session.specs.Hearing.Decoding.{heard_call}
-use Rattle.giop_session.specs.Hearing.Heard.{behind_id, kept}
-use Rattle.giop_session.specs.Runs.LeftToSend.{IsLeft, ServerPlans, left_in}
-use Rattle.giop_session.specs.Calls.Sending.{entry_of, sending_step, settled_by, unsent_after, unsent_of}
+use Rattle.giop_table.specs.declared.plan.Plan.{Plan}
+use Rattle.giop_table.specs.declared.plan.Plan.TheVariants.{Put, Next, Keep}
+use Rattle.giop_table.specs.declared.plan.Planned.{Planned}
+use Rattle.giop_table.specs.declared.slot.Slot.{Slot}
+use Rattle.giop_table.specs.CallTable.{Act, Brings, Call, First, More, Nothing, Hears, turn}
+use Rattle.giop_end.specs.Hearing.Decoding.{heard_call}
+use Rattle.giop_end.specs.Hearing.Heard.{behind_id, silently}
+use Rattle.giop_session.specs.Runs.LeftToSend.{IsLeft, ServerPlans}
+use Rattle.giop_table.specs.Sending.{left_in, entry_of, sending_step, settled_by, unsent_after, unsent_of}
 use Rattle.giop_session.proofs.OnRuns.FollowedLemmas.{behind, event_left}
-use Rattle.giop_session.specs.Hearing.ServerHears.{befalls_by, breaks_by, comes, continued, continues, gathered_kind, server_befalls, server_breaks}
+use Rattle.giop_end.specs.Hearing.ServerHears.{act_by_kind, breaks_by, comes, gathered_kind, server_act, server_breaks, server_pieces}
+use Rattle.giop_end.specs.Hearing.Pieces.{continued, continues}
 
 -- so many are left where a step is accepted
 abbrev Leaves : ServerStep → Plan → List Msg → Type 0
@@ -274,47 +275,47 @@ own_left slot (event.More in_order) plan so is = absurd so
 own_left slot (event.Last in_order call) plan so is = absurd so
 own_left slot event.Cancel plan so is = absurd so
 
--- ---- what befalls a call by a message
+-- ---- what a message does to a call
 
 pub record IsKept (act : Act ServerEvent) : Type 0 where
   pub e : ServerEvent
   pub brings : Brings
   pub of : IsOfMessage e
-  pub same : act ≡ Hears (kept e) brings
+  pub same : act ≡ Hears (silently e) brings
 
 came : (interface : Interface) (kind : CallKind) (m : Msg) → IsKept (comes interface kind m)
 came interface kind m = by_more m.more
   where
-    by_more : (b : Bool) → IsKept (cond b (Hears (kept (event.First kind)) (First m.order m.payload))
-        (Hears (kept (event.Whole (heard_call interface kind m.version m.order m.payload))) Nothing))
+    by_more : (b : Bool) → IsKept (cond b (Hears (silently (event.First kind)) (First m.order m.payload))
+        (Hears (silently (event.Whole (heard_call interface kind m.version m.order m.payload))) Nothing))
     by_more true = record { e = event.First kind; brings = First m.order m.payload; of = tt; same = refl }
     by_more false = record { e = _; brings = Nothing; of = tt; same = refl }
 
 continues_kept : (interface : Interface) (m : Msg) (pieces : Option (CallKind × List ℕ))
-    → IsKept (continues interface m pieces)
+    → IsKept (continues server_pieces interface m pieces)
 continues_kept interface m None =
     record { e = event.More false; brings = Nothing; of = tt; same = refl }
 continues_kept interface m (Some pieces) = by_more m.more
   where
     by_more : (b : Bool) → IsKept (cond b
-        (Hears (kept (event.More true)) (More (behind_id m)))
-        (Hears (kept (event.Last true (heard_call interface pieces.0 m.version m.order
+        (Hears (silently (event.More true)) (More (behind_id m)))
+        (Hears (silently (event.Last true (heard_call interface pieces.0 m.version m.order
         (pieces.1 ++ behind_id m)))) (More (behind_id m))))
     by_more true = record { e = event.More true; brings = _; of = tt; same = refl }
     by_more false = record { e = _; brings = _; of = tt; same = refl }
 
-befalls_kept : (interface : Interface) (m : Msg) (call : Call ServerEntry) (of_kind : Kind)
-    → breaks_by of_kind ≡ None → IsKept (befalls_by interface m call of_kind)
-befalls_kept interface m call message.Request sound = came interface kind.Request m
-befalls_kept interface m call message.LocateRequest sound = came interface kind.Locate m
-befalls_kept interface m call message.Fragment sound =
+act_is_silent : (interface : Interface) (m : Msg) (call : Call ServerEntry) (of_kind : Kind)
+    → breaks_by of_kind ≡ None → IsKept (act_by_kind interface m call of_kind)
+act_is_silent interface m call message.Request sound = came interface kind.Request m
+act_is_silent interface m call message.LocateRequest sound = came interface kind.Locate m
+act_is_silent interface m call message.Fragment sound =
     continues_kept interface m (continued m.order (gathered_kind call.slot) call.pieces)
-befalls_kept interface m call message.CancelRequest sound =
+act_is_silent interface m call message.CancelRequest sound =
     record { e = event.Cancel; brings = Nothing; of = tt; same = refl }
-befalls_kept interface m call message.Reply sound = absurd cc
-befalls_kept interface m call message.LocateReply sound = absurd cc
-befalls_kept interface m call message.CloseConnection sound = absurd cc
-befalls_kept interface m call message.MessageError sound = absurd cc
+act_is_silent interface m call message.Reply sound = absurd cc
+act_is_silent interface m call message.LocateReply sound = absurd cc
+act_is_silent interface m call message.CloseConnection sound = absurd cc
+act_is_silent interface m call message.MessageError sound = absurd cc
 
 -- ---- as `followed` wants them
 
@@ -326,15 +327,15 @@ own_of slot planned so is = own_left slot planned.event planned.plan so is
 
 pub heard_of : (interface : Interface) (m : Msg) (call : Call ServerEntry)
     → server_breaks m ≡ None → IsLeft left_of call.slot
-    → IsOk (turn server_step is_closed is_gathering call (server_befalls interface m call))
+    → IsOk (turn server_step is_closed is_gathering call (server_act interface m call))
     → IsLeft left_of (behind server_step is_closed is_gathering left_of call
-    (server_befalls interface m call)).slot
-heard_of interface m call sound is = by_act (server_befalls interface m call)
-    (befalls_kept interface m call m.kind sound)
+    (server_act interface m call)).slot
+heard_of interface m call sound is = by_act (server_act interface m call)
+    (act_is_silent interface m call m.kind sound)
   where
     by_act : (act : Act ServerEvent) → IsKept act
         → IsOk (turn server_step is_closed is_gathering call act)
         → IsLeft left_of (behind server_step is_closed is_gathering left_of call act).slot
     by_act act told = rw told.same
-        (λ ok. event_left server_step is_closed is_gathering left_of call (kept told.e) told.brings
+        (λ ok. event_left server_step is_closed is_gathering left_of call (silently told.e) told.brings
         ok (heard_left call.slot told.e told.of is))

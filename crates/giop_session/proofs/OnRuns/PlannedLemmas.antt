@@ -7,10 +7,10 @@ use Rattle.giop_msg.specs.declared.version.Version.{Version}
 use Rattle.giop_msg.specs.declared.version.Version.TheVariants.{V12}
 use Rattle.giop_msg.specs.Cut.{AreFragments, IsCut}
 use Rattle.giop_msg.specs.Version.{has_fragments}
-use Rattle.giop_session.specs.declared.acts.form.Form.{Form}
-use Rattle.giop_session.specs.declared.calls.plan.Planned.{Planned}
-use Rattle.giop_session.specs.declared.calls.plan.Plan.TheVariants.{Put}
-use Rattle.giop_session.specs.Acts.Sent.{IsSent}
+use Rattle.giop_end.specs.declared.acts.form.Form.{Form}
+use Rattle.giop_table.specs.declared.plan.Planned.{Planned}
+use Rattle.giop_table.specs.declared.plan.Plan.TheVariants.{Put}
+use Rattle.giop_end.specs.Acts.Sent.{IsSent}
 
 fragments_once : (one other : List Msg) (order : Order) (id : List ℕ) (piece : ℕ) (octets : List ℕ) → AreFragments order id piece octets one
     → AreFragments order id piece octets other → one ≡ other

@@ -2,19 +2,20 @@
 use Rattle.std.proofs.Common.{◌≡◌, ◌≢◌, ◌⊎◌, ℕ, List, Option, Some, None, Result, Ok, Err, IfOk, refl, ap, subst, sym, inl, inr, ◌∙◌}
 use Rattle.std.proofs.lemmas.Result.{IfOk-weaker}
 use Rattle.giop_types.specs.declared.json.interface.Interface.{Interface}
-use Rattle.giop_session.specs.declared.end.End.{End}
+use Rattle.giop_end.specs.declared.end.End.{End}
 use Rattle.giop_session.specs.declared.laws.inputs.Answered.{Answered}
 use Rattle.giop_session.specs.declared.laws.inputs.Answered.TheVariants as answer
-use Rattle.giop_session.specs.declared.limits.Limits.{Limits}
-use Rattle.giop_session.specs.declared.calls.plan.Planned.{Planned}
-use Rattle.giop_session.specs.declared.session_fault.SessionFault.{SessionFault}
-use Rattle.giop_session.specs.declared.session_fault.SessionFault.TheVariants.{NoMemory}
-use Rattle.giop_session.specs.Acts.Putting.{Puts}
-use Rattle.giop_session.specs.Calls.CallTable.{Held}
-use Rattle.giop_session.specs.Ends.View.{IsActedOn, IsDriven, state_of}
-use Rattle.giop_session.specs.Hearing.Feeding.{Fed, standing, with_octets}
-use Rattle.giop_session.specs.Hearing.Heard.{SideOf, hears, rules_at}
-use Rattle.giop_session.specs.Runs.Driven.{Deed, EndRuns, EndState, Feeds, InTurn, IsDoneBy, IsGiven, IsGivenBy, PutsOut, answer_of, new_end}
+use Rattle.giop_end.specs.declared.limits.Limits.{Limits}
+use Rattle.giop_table.specs.declared.plan.Planned.{Planned}
+use Rattle.giop_end.specs.declared.session_fault.SessionFault.{SessionFault}
+use Rattle.giop_end.specs.declared.session_fault.SessionFault.TheVariants.{NoMemory}
+use Rattle.giop_end.specs.Acts.Putting.{Puts}
+use Rattle.giop_table.specs.CallTable.{Held}
+use Rattle.giop_end.specs.Ends.View.{IsActedOn, IsDriven, state_of}
+use Rattle.giop_end.specs.Hearing.Feeding.{Fed, standing, with_octets}
+use Rattle.giop_end.specs.Hearing.Heard.{SideOf, hears, rules_at}
+use Rattle.giop_session.specs.Runs.Driven.{Deed, EndRuns, Feeds, InTurn, IsDoneBy, IsGiven, IsGivenBy, PutsOut, answer_of}
+use Rattle.giop_end.specs.Ends.Begun.{EndState, new_end}
 use Rattle.giop_session.proofs.OnRuns.DrivenLemmas.{in_turn_seen, puts_given}
 
 module _ {R E V A F I : Type 0} (side : Interface → SideOf R E V A F) (deed : Interface → Limits → Held R E → I → Deed V F) where

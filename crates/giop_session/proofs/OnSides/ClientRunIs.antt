@@ -11,12 +11,12 @@ use Rattle.giop_calls.specs.declared.client.event.ClientEvent.TheVariants as eve
 use Rattle.giop_calls.specs.declared.client.rule.ClientRule.{ClientRule}
 use Rattle.giop_session.specs.declared.laws.inputs.ClientInput.{ClientInput}
 use Rattle.giop_session.specs.declared.laws.inputs.ClientInput.TheVariants as input
-use Rattle.giop_session.specs.declared.limits.Limits.{Limits}
-use Rattle.giop_session.specs.declared.calls.plan.Planned.{Planned}
-use Rattle.giop_session.specs.Acts.ClientCalls.{IsCall, IsCancel, IsLocate, call_fault, cancel_fault, locate_fault, locate_octets, open_version, request_octets}
-use Rattle.giop_session.specs.Calls.CallTable.{Held, at}
-use Rattle.giop_session.specs.Calls.Sending.{entry_of}
-use Rattle.giop_session.specs.Runs.ClientRuns.{at_client, client_deed, client_entry, client_named, client_run}
+use Rattle.giop_end.specs.declared.limits.Limits.{Limits}
+use Rattle.giop_table.specs.declared.plan.Planned.{Planned}
+use Rattle.giop_end.specs.Acts.ClientCalls.{IsCall, IsCancel, IsLocate, call_fault, cancel_fault, locate_fault, locate_octets, open_version, request_octets}
+use Rattle.giop_table.specs.CallTable.{Held, at, entry_at}
+use Rattle.giop_table.specs.Sending.{entry_of}
+use Rattle.giop_session.specs.Runs.ClientRuns.{at_client, client_deed, client_named, client_run}
 use Rattle.giop_session.specs.Runs.Driven.{PutsOut}
 use Rattle.giop_session.proofs.OnItems.ClientHeldLemmas.{is_own, owns, client_said}
 use Rattle.giop_session.proofs.OnItems.ClientItemLemmas.{client_item_leaves}
@@ -40,7 +40,7 @@ once interface limits h (input.Call request form) =
 once interface limits h (input.Locate request form) =
     λ one other is also. sent_once request.version message.LocateRequest form.form (locate_octets request form.form.order)
     (event.Call (asked.Locate request)) one other is.sent also.sent
-once interface limits h (input.Cancel id order) = λ one other is also. cancelled_once id order (open_version (client_entry h id)) one other is also
+once interface limits h (input.Cancel id order) = λ one other is also. cancelled_once id order (open_version (entry_at h id)) one other is also
 once interface limits h (input.Send id) = λ one other is also. is ∙ sym also
 once interface limits h (input.Take id) = tt
 once interface limits h input.Close = tt
@@ -56,8 +56,8 @@ is_deed interface limits h (input.Take id) = (refl, refl)
 is_deed interface limits h input.Close = (refl, refl)
 
 -- an end that holds the same of an id has the same entry for it
-same_entry : (h k : Held ClientRule ClientEntry) (id named : ℕ) → named ≡ id → at h id ≡ at k id → client_entry h named ≡ client_entry k named
-same_entry h k id named is same = subst (λ q. client_entry h q ≡ client_entry k q) (sym is) (ap (λ call. entry_of call.slot) same)
+same_entry : (h k : Held ClientRule ClientEntry) (id named : ℕ) → named ≡ id → at h id ≡ at k id → entry_at h named ≡ entry_at k named
+same_entry h k id named is same = subst (λ q. entry_at h q ≡ entry_at k q) (sym is) (ap (λ call. entry_of call.slot) same)
 
 same_deed : (interface : Interface) (limits : Limits) (h k : Held ClientRule ClientEntry) (given : ClientInput) (id : ℕ)
     → client_named given ≡ Some id → at h id ≡ at k id → client_deed interface limits h given ≡ client_deed interface limits k given

@@ -8,16 +8,17 @@ use Rattle.giop_msg.specs.Stream.{Unread}
 use Rattle.giop_mux.specs.Runs.{Happening}
 use Rattle.giop_mux.specs.Runs as mux
 use Rattle.giop_session.specs.declared.laws.inputs.Answered.{Answered}
-use Rattle.giop_session.specs.declared.limits.Limits.{Limits}
-use Rattle.giop_session.specs.Calls.Begun.{no_calls}
-use Rattle.giop_session.specs.Calls.CallTable.{Call, Held, at, entry_at}
-use Rattle.giop_session.specs.Calls.Sending.{entry_of}
-use Rattle.giop_session.specs.Hearing.Heard.{turn_at}
+use Rattle.giop_end.specs.declared.limits.Limits.{Limits}
+use Rattle.giop_end.specs.Ends.Begun.{no_calls, EndState, new_end}
+use Rattle.giop_table.specs.CallTable.{Call, Held, at, entry_at}
+use Rattle.giop_table.specs.Sending.{entry_of}
+use Rattle.giop_end.specs.Hearing.Heard.{turn_at}
 use Rattle.giop_session.specs.Items.Carries.{Carries, Item, behind_all}
-use Rattle.giop_session.specs.Runs.Driven.{EndState, Feeds, IsAct, NoneRefused, id_of, item_answers, new_end, own_answers}
+use Rattle.giop_session.specs.Runs.Driven.{Feeds, IsAct, NoneRefused, id_of, item_answers, own_answers}
 use Rattle.giop_session.specs.Runs.Events.{Event, Follows, Meets, no_call, own_events}
 use Rattle.giop_session.specs.Runs.Fits.{Fits, IsAsAlone, IsAsSaid, KeepsCallsApart, SaysAlone, Stands, history_of, only}
-use Rattle.giop_session.specs.Runs.Inputs.{Input, nothing_unread}
+use Rattle.giop_session.specs.Runs.Inputs.{Input}
+use Rattle.giop_end.specs.Hearing.Feeding.{nothing_unread}
 use Rattle.giop_session.specs.Runs.Met.{given_alone}
 use Rattle.giop_session.specs.Runs.RunLimits.{NoneForALimit}
 use Rattle.giop_session.specs.Runs.SideRuns.{ActsHold, EntriesAre, RunOf, SameEntries, SideHolds, SideRuns, SideTakes, SideTakesAs, SideTakesItems}
@@ -52,11 +53,11 @@ pub record IsRun {R E V A F I T Message : Type 0} (run : RunOf R E V A F I T Mes
   -- no entry is known at first
   pub first : run.entry_in run.unknown ≡ None
   -- an item leaves what is said
-  pub leaves : ItemLeaves (turn_at run.side run.rule) run.side.befalls run.telling (λ t call. entry_of call.slot ≡ run.entry_in t)
+  pub leaves : ItemLeaves (turn_at run.side run.rule) run.side.act_by run.telling (λ t call. entry_of call.slot ≡ run.entry_in t)
   -- some items say whatever a call follows
   pub said : (limits : Limits) (call k : Call E) (events : List (Event V)) → entry_of call.slot ≡ None
       → Each (IsTakenEvent limits.message run.side.breaks own) events
-      → Follows (turn_at run.side run.rule) run.side.befalls call events k
+      → Follows (turn_at run.side run.rule) run.side.act_by call events k
       → (items : List (Item Message V)) × Carries run.telling run.unknown items events
 
 module _ {R E V A F I T Message : Type 0} (run : RunOf R E V A F I T Message) (is : IsRun run) (limits : Limits) where
@@ -78,7 +79,7 @@ module _ {R E V A F I T Message : Type 0} (run : RunOf R E V A F I T Message) (i
       → Carries run.telling run.unknown items (own_events id events)
       → entry_at k id ≡ run.entry_in (behind_all run.telling run.unknown items)
   joined events k items id met carries =
-      items_leave (turn_at run.side run.rule) run.side.befalls run.telling (λ t call. entry_of call.slot ≡ run.entry_in t) is.leaves
+      items_leave (turn_at run.side run.rule) run.side.act_by run.telling (λ t call. entry_of call.slot ≡ run.entry_in t) is.leaves
       items run.unknown (at begun id) (at k id) (own_events id events) (none_stored id ∙ sym is.first) carries
       (each_follows run.side begun k events id met)
 
@@ -107,7 +108,7 @@ module _ {R E V A F I T Message : Type 0} (run : RunOf R E V A F I T Message) (i
       (nothing_unread limits.message) left begun k held.taken in
       let same = same_events held.acts (nothing_unread limits.message) held.holds.1 left held.holds.0 met.0 held.holds.2 met.1 in
       met.3 id
-      ∙ items_answer (turn_at run.side run.rule) run.side.befalls run.telling run.entry_in is.leaves
+      ∙ items_answer (turn_at run.side run.rule) run.side.act_by run.telling run.entry_in is.leaves
       (calls id) run.unknown (at begun id) (at k id) (own_events id met.0) (none_stored id ∙ sym is.first)
       (subst (λ events. Carries run.telling run.unknown (calls id) (own_events id events)) same (held.holds.3 id))
       (each_follows run.side begun k met.0 id met.2)
@@ -149,10 +150,10 @@ module _ {R E V A F I T Message : Type 0} (run : RunOf R E V A F I T Message) (i
       (nothing_unread limits.message) left begun k held.taken in
       let same = same_events held.acts (nothing_unread limits.message) held.holds.1 left held.holds.0 met.0 held.holds.2 met.1 in
       let follows = each_follows run.side begun k met.0 id met.2 in
-      let own = subst (λ events. Follows (turn_at run.side run.rule) run.side.befalls (at begun id) (own_events id events) (at k id)) (sym same) follows in
-      let found = follows_steps (run.side.next run.rule) (run.side.closed run.rule) run.side.gathering run.side.befalls
+      let own = subst (λ events. Follows (turn_at run.side run.rule) run.side.act_by (at begun id) (own_events id events) (at k id)) (sym same) follows in
+      let found = follows_steps (run.side.next run.rule) (run.side.closed run.rule) run.side.gathering run.side.act_by
       (own_events id held.holds.0) no_call (at k id)
-      (subst (λ call. Follows (turn_at run.side run.rule) run.side.befalls call (own_events id held.holds.0) (at k id)) (none_yet id) own) in
+      (subst (λ call. Follows (turn_at run.side run.rule) run.side.act_by call (own_events id held.holds.0) (at k id)) (none_yet id) own) in
       record {
         as_said = joined met.0 k (calls id) id met.2
             (subst (λ events. Carries run.telling run.unknown (calls id) (own_events id events)) same (held.holds.3 id));

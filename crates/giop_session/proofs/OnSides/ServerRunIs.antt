@@ -10,16 +10,16 @@ use Rattle.giop_calls.specs.declared.server.entry.ServerEntry.{ServerEntry}
 use Rattle.giop_calls.specs.declared.server.event.ServerEvent.{ServerEvent}
 use Rattle.giop_calls.specs.declared.server.event.ServerEvent.TheVariants as event
 use Rattle.giop_calls.specs.declared.server.rule.ServerRule.{ServerRule}
-use Rattle.giop_session.specs.declared.acts.form.Form.{Form}
+use Rattle.giop_end.specs.declared.acts.form.Form.{Form}
 use Rattle.giop_session.specs.declared.laws.inputs.ServerInput.{ServerInput}
 use Rattle.giop_session.specs.declared.laws.inputs.ServerInput.TheVariants as input
-use Rattle.giop_session.specs.declared.limits.Limits.{Limits}
-use Rattle.giop_session.specs.declared.calls.plan.Planned.{Planned}
-use Rattle.giop_session.specs.Acts.ServerAnswers.{IsAnswer, IsLocateAnswer, answer_fault, locate_of, question_of, reply_octets}
-use Rattle.giop_session.specs.Calls.CallTable.{Held, at}
-use Rattle.giop_session.specs.Calls.Sending.{entry_of}
+use Rattle.giop_end.specs.declared.limits.Limits.{Limits}
+use Rattle.giop_table.specs.declared.plan.Planned.{Planned}
+use Rattle.giop_end.specs.Acts.ServerAnswers.{IsAnswer, IsLocateAnswer, answer_fault, locate_of, question_of, reply_octets}
+use Rattle.giop_table.specs.CallTable.{Held, at, entry_at}
+use Rattle.giop_table.specs.Sending.{entry_of}
 use Rattle.giop_session.specs.Runs.Driven.{PutsOut}
-use Rattle.giop_session.specs.Runs.ServerRuns.{at_server, server_deed, server_entry, server_named, server_run}
+use Rattle.giop_session.specs.Runs.ServerRuns.{at_server, server_deed, server_named, server_run}
 use Rattle.giop_session.proofs.OnItems.ServerHeldLemmas.{is_own, owns, server_said}
 use Rattle.giop_session.proofs.OnItems.ServerItemLemmas.{server_item_leaves}
 use Rattle.giop_session.proofs.OnLimits.ServerRunLimitLemmas.{server_run_free}
@@ -43,9 +43,9 @@ once : (interface : Interface) (limits : Limits) (h : Held ServerRule ServerEntr
     → IsPlannedOnce (server_deed interface limits h given)
 once interface limits h (input.Feed octets) = tt
 once interface limits h (input.Answer reply form) =
-    λ one other is also. answered_once interface (question_of (server_entry h reply.id)) reply form.form one other is also
+    λ one other is also. answered_once interface (question_of (entry_at h reply.id)) reply form.form one other is also
 once interface limits h (input.AnswerLocate id here order) =
-    λ one other is also. located_once id here order (locate_of here (server_entry h id)) one other is also
+    λ one other is also. located_once id here order (locate_of here (entry_at h id)) one other is also
 once interface limits h (input.Send id) = λ one other is also. is ∙ sym also
 once interface limits h (input.Take id) = tt
 once interface limits h input.Close = tt
@@ -60,8 +60,8 @@ is_deed interface limits h (input.Take id) = (refl, refl)
 is_deed interface limits h input.Close = (refl, refl)
 
 -- an end that holds the same of an id has the same entry for it
-same_entry : (h k : Held ServerRule ServerEntry) (id named : ℕ) → named ≡ id → at h id ≡ at k id → server_entry h named ≡ server_entry k named
-same_entry h k id named is same = subst (λ q. server_entry h q ≡ server_entry k q) (sym is) (ap (λ call. entry_of call.slot) same)
+same_entry : (h k : Held ServerRule ServerEntry) (id named : ℕ) → named ≡ id → at h id ≡ at k id → entry_at h named ≡ entry_at k named
+same_entry h k id named is same = subst (λ q. entry_at h q ≡ entry_at k q) (sym is) (ap (λ call. entry_of call.slot) same)
 
 same_deed : (interface : Interface) (limits : Limits) (h k : Held ServerRule ServerEntry) (given : ServerInput) (id : ℕ)
     → server_named given ≡ Some id → at h id ≡ at k id → server_deed interface limits h given ≡ server_deed interface limits k given

@@ -20,23 +20,24 @@ use Rattle.giop_calls.specs.declared.server.event.ServerEvent.{ServerEvent}
 use Rattle.giop_calls.specs.declared.server.rule.ServerRule.{ServerRule}
 use Rattle.giop_session.specs.declared.laws.inputs.Answered.{Answered}
 use Rattle.giop_session.specs.declared.laws.inputs.Answered.TheVariants as answer
-use Rattle.giop_session.specs.declared.limits.Limits.{Limits}
-use Rattle.giop_session.specs.declared.calls.plan.Planned.{Planned}
-use Rattle.giop_session.specs.declared.calls.sending.Sends.{Sends}
-use Rattle.giop_session.specs.declared.session_fault.SessionFault.{SessionFault}
-use Rattle.giop_session.specs.declared.calls.table_fault.TableFault.{TableFault}
+use Rattle.giop_end.specs.declared.limits.Limits.{Limits}
+use Rattle.giop_table.specs.declared.plan.Planned.{Planned}
+use Rattle.giop_table.specs.declared.sending.Sends.{Sends}
+use Rattle.giop_end.specs.declared.session_fault.SessionFault.{SessionFault}
+use Rattle.giop_table.specs.declared.table_fault.TableFault.{TableFault}
 use Rattle.giop_session.specs.Acts.Acting.{IsAccepted}
 use Rattle.giop_session.specs.Runs.Alone.{own_messages}
-use Rattle.giop_session.specs.Calls.CallTable.{Call, Held, Hears, Nothing, at, event_reply, rules_of, turn}
-use Rattle.giop_session.specs.Calls.Sending.{message_of, unsent_of}
-use Rattle.giop_session.specs.Hearing.ClientHears.{client_breaks, client_side}
-use Rattle.giop_session.specs.Hearing.Heard.{SideOf, in_call, rules_at}
-use Rattle.giop_session.specs.Runs.Driven.{EndState, IsDoneBy, IsGiven, IsGivenBy, PutsOut}
+use Rattle.giop_table.specs.CallTable.{Call, Held, Hears, Nothing, at, event_reply, rules_of, turn}
+use Rattle.giop_table.specs.Sending.{message_of, unsent_of}
+use Rattle.giop_end.specs.Hearing.ClientHears.{client_breaks, client_side}
+use Rattle.giop_end.specs.Hearing.Heard.{SideOf, in_call, rules_at}
+use Rattle.giop_session.specs.Runs.Driven.{IsDoneBy, IsGiven, IsGivenBy, PutsOut}
+use Rattle.giop_end.specs.Ends.Begun.{EndState}
 use Rattle.giop_session.specs.Worlds.Coding.{coding}
 use Rattle.giop_session.specs.Worlds.LaneAtEnds.{seen}
 use Rattle.giop_session.specs.Worlds.OnTheWay.{Names}
-use Rattle.giop_session.specs.Acts.Putting.{Puts, octets_of}
-use Rattle.giop_session.specs.Hearing.ServerHears.{server_breaks, server_side}
+use Rattle.giop_end.specs.Acts.Putting.{Puts, octets_of}
+use Rattle.giop_end.specs.Hearing.ServerHears.{server_breaks, server_side}
 use Rattle.giop_session.specs.Worlds.Tracks.{ClientShows, IsToClient, IsToServer, ServerShows, Shows}
 use Rattle.giop_session.specs.Worlds.World.{WorldState}
 use Rattle.giop_ids.specs.Runs.{left}
@@ -77,14 +78,14 @@ module _ {R E V A F : Type 0} (next : Option E → V → Step E A F) (closed gat
       → ((k ≡ h) × (out' ≡ out)) ⊎ Acted id refusal Plans h out k out'
   comes_to id refusal Plans h k out out' result (inl (wanting, calls, is)) = inl (calls, is)
   comes_to id (Some why) Plans h k out out' result (inr (told, calls, is)) = inl (calls, is)
-  comes_to id None Plans h k out out' (Err why) (inr (planned, plans, befell)) =
-      inl (refused next closed gathering of_rule id planned h out why k out' befell)
-  comes_to id None Plans h k out out' (Ok done) (inr (planned, plans, befell)) = inr (record {
+  comes_to id None Plans h k out out' (Err why) (inr (planned, plans, on_call)) =
+      inl (refused next closed gathering of_rule id planned h out why k out' on_call)
+  comes_to id None Plans h k out out' (Ok done) (inr (planned, plans, on_call)) = inr (record {
     planned = planned;
     unrefused = refl;
     plans = plans;
-    is = accepted next closed gathering of_rule id planned h out k out' befell;
-    beside = beside id planned h k befell.answered befell.does;
+    is = accepted next closed gathering of_rule id planned h out k out' on_call;
+    beside = beside id planned h k on_call.answered on_call.does;
   })
 
 -- what an end's program does leaves it as it was, or is an act that is accepted; so whatever holds of it as it was, and behind such an act, holds

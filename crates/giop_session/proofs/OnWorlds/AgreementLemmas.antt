@@ -16,16 +16,16 @@ use Rattle.giop_calls.specs.declared.client.entry.ClientEntry.{ClientEntry}
 use Rattle.giop_calls.specs.declared.server.entry.ServerEntry.{ServerEntry}
 use Rattle.giop_session.specs.declared.laws.inputs.WorldEvent.{WorldEvent}
 use Rattle.giop_session.specs.declared.laws.inputs.WorldEvent.TheVariants as event
-use Rattle.giop_session.specs.declared.limits.Limits.{Limits}
+use Rattle.giop_end.specs.declared.limits.Limits.{Limits}
 use Rattle.giop_session.specs.Worlds.Agreement.{Agreed, FailsByLimits}
-use Rattle.giop_session.specs.Calls.Begun.{no_calls}
-use Rattle.giop_session.specs.Calls.CallTable.{Call}
+use Rattle.giop_end.specs.Ends.Begun.{no_calls}
+use Rattle.giop_table.specs.CallTable.{Call}
 use Rattle.giop_session.specs.Worlds.Coding.{coding}
 use Rattle.giop_session.specs.Runs.Driven.{InTurn}
-use Rattle.giop_session.specs.Runs.Inputs.{nothing_unread}
+use Rattle.giop_end.specs.Hearing.Feeding.{nothing_unread}
 use Rattle.giop_session.specs.Worlds.LaneAtEnds.{seen}
 use Rattle.giop_session.specs.Worlds.OnTheWay.{OnTheWay}
-use Rattle.giop_session.specs.Calls.Sending.{entry_of, unsent_of}
+use Rattle.giop_table.specs.Sending.{entry_of, unsent_of}
 use Rattle.giop_session.specs.Runs.Alone.{own_messages}
 use Rattle.giop_session.specs.Worlds.Tracks.{ClientShows, IsToClient, IsToServer, ServerShows}
 use Rattle.giop_session.specs.Worlds.World.{Happens, Returned, WorldRuns, WorldState, new_world}

@@ -11,19 +11,20 @@ use Rattle.giop_calls.specs.declared.client.rule.ClientRule.{ClientRule}
 use Rattle.giop_calls.specs.declared.server.entry.ServerEntry.{ServerEntry}
 use Rattle.giop_calls.specs.declared.server.rule.ServerRule.{ServerRule}
 use Rattle.giop_session.specs.declared.laws.inputs.Answered.{Answered}
-use Rattle.giop_session.specs.declared.limits.Limits.{Limits}
-use Rattle.giop_session.specs.declared.session_fault.SessionFault.{SessionFault}
-use Rattle.giop_session.specs.declared.session_fault.SessionFault.TheVariants.{NoMemory}
+use Rattle.giop_end.specs.declared.limits.Limits.{Limits}
+use Rattle.giop_end.specs.declared.session_fault.SessionFault.{SessionFault}
+use Rattle.giop_end.specs.declared.session_fault.SessionFault.TheVariants.{NoMemory}
 use Rattle.giop_session.specs.Runs.Alone.{own_messages}
-use Rattle.giop_session.specs.Calls.CallTable.{Held, at}
-use Rattle.giop_session.specs.Hearing.ClientHears.{client_side}
+use Rattle.giop_table.specs.CallTable.{Held, at}
+use Rattle.giop_end.specs.Hearing.ClientHears.{client_side}
 use Rattle.giop_session.specs.Worlds.Coding.{coding}
-use Rattle.giop_session.specs.Hearing.Feeding.{standing}
-use Rattle.giop_session.specs.Hearing.Heard.{SideOf, hears}
-use Rattle.giop_session.specs.Runs.Driven.{EndState, Feeds, IsGiven}
+use Rattle.giop_end.specs.Hearing.Feeding.{standing}
+use Rattle.giop_end.specs.Hearing.Heard.{SideOf, hears}
+use Rattle.giop_session.specs.Runs.Driven.{Feeds, IsGiven}
+use Rattle.giop_end.specs.Ends.Begun.{EndState}
 use Rattle.giop_session.specs.Worlds.LaneAtEnds.{seen}
 use Rattle.giop_session.specs.Worlds.OnTheWay.{IsFramed}
-use Rattle.giop_session.specs.Hearing.ServerHears.{server_side}
+use Rattle.giop_end.specs.Hearing.ServerHears.{server_side}
 use Rattle.giop_session.specs.Worlds.Tracks.{ClientShows, ServerShows, Shows}
 use Rattle.giop_session.specs.Worlds.World.{ArriveAtClient, ArriveAtServer, Returned, WorldState}
 use Rattle.giop_session.proofs.OnWorlds.Acted.{client_shows_as, server_shows_as}

@@ -25,20 +25,19 @@ use Rattle.giop_calls.specs.declared.fault.CallFault.{CallFault}
 use Rattle.giop_calls.specs.declared.fault.CallFault.TheVariants.{IdInUse}
 use Rattle.giop_session.specs.declared.laws.inputs.CheckedForm.{CheckedForm}
 use Rattle.giop_session.specs.declared.laws.inputs.ClientInput.TheVariants as given
-use Rattle.giop_session.specs.declared.limits.Limits.{Limits}
-use Rattle.giop_session.specs.declared.calls.plan.Plan.TheVariants.{Next}
-use Rattle.giop_session.specs.declared.calls.plan.Planned.{Planned}
+use Rattle.giop_end.specs.declared.limits.Limits.{Limits}
+use Rattle.giop_table.specs.declared.plan.Plan.TheVariants.{Next}
+use Rattle.giop_table.specs.declared.plan.Planned.{Planned}
 use Rattle.giop_session.specs.Acts.Acting.{IsAccepted}
-use Rattle.giop_session.specs.Calls.CallTable.{Held, at}
-use Rattle.giop_session.specs.Acts.ClientCalls.{IsCall, IsCancel, IsLocate, call_fault, cancel_fault, locate_fault, open_version}
-use Rattle.giop_session.specs.Runs.ClientRuns.{client_entry}
+use Rattle.giop_table.specs.CallTable.{Held, at, entry_at}
+use Rattle.giop_end.specs.Acts.ClientCalls.{IsCall, IsCancel, IsLocate, call_fault, cancel_fault, locate_fault, open_version}
 use Rattle.giop_session.specs.Worlds.LaneAtEnds.{seen}
 use Rattle.giop_session.specs.Worlds.OnTheWay.{id_of}
 use Rattle.giop_session.specs.Worlds.OwnLane.{PlansCall, sends_cut}
-use Rattle.giop_session.specs.Calls.Sending.{entry_of, message_of, slot_of, unsent_after, unsent_of}
-use Rattle.giop_session.specs.Acts.Sent.{cancel_request, sends_one}
+use Rattle.giop_table.specs.Sending.{entry_of, message_of, slot_of, unsent_after, unsent_of}
+use Rattle.giop_end.specs.Acts.Sent.{cancel_request, sends_one}
 use Rattle.giop_session.specs.Worlds.Tracks.{ClientShows, IsToServer}
-use Rattle.giop_session.specs.Calls.Unsent.{first_of}
+use Rattle.giop_table.specs.Unsent.{first_of}
 use Rattle.giop_session.specs.Worlds.World.{AtClient, Returned, WorldState}
 use Rattle.giop_session.proofs.OnWorlds.Acted.{ClientActs, client_puts_on, listed}
 use Rattle.giop_session.proofs.OnLanes.CodingLemmas.{call_read, own_suits}
@@ -153,14 +152,14 @@ module _ (interface : Interface) (id : ℕ) (h k : Held ClientRule ClientEntry) 
   accepts_too : (one : ClientEvent) → IsOk (client_step (entry_of (finite.get h.table id)) one).outcome → IsOk (client_step lane.client.entry one).outcome
   accepts_too one ok = subst (λ entry. IsOk (client_step entry one).outcome) shows.entry ok
 
-  calls_cut : (call : Call) (cut : Cut) → id_of call ≡ id → PlansCall interface (client_entry h id) call (sends_cut (at_client.Call call) cut)
+  calls_cut : (call : Call) (cut : Cut) → id_of call ≡ id → PlansCall interface (entry_at h id) call (sends_cut (at_client.Call call) cut)
       → IsAccepted client_step id (sends_cut (at_client.Call call) cut) h out k out'
       → ClientActs interface id lane k (cut.first ∷ [])
   calls_cut call cut named plans is =
       let ok = accepts_too (at_client.Call call (count cut)) is.outcome in
       let step = client_step lane.client.entry (at_client.Call call (count cut)) in
-      let sees = call_seen interface (client_entry h id) call cut plans in
-      let each = subst (λ n. AllByRecursion (IsToServer n) (pieces_of cut)) named (call_for interface (client_entry h id) call cut plans) in
+      let sees = call_seen interface (entry_at h id) call cut plans in
+      let each = subst (λ n. AllByRecursion (IsToServer n) (pieces_of cut)) named (call_for interface (entry_at h id) call cut plans) in
       let after : Lane = record lane {
         client = record lane.client { entry = step.entry; uses = lane.client.uses + 1 };
         to_server = lane.to_server ++ lanes.Opens (lanes.kind_of call) (lanes.version_of call) (is_last cut.rest) cut.first ∷ [];
@@ -179,12 +178,12 @@ module _ (interface : Interface) (id : ℕ) (h k : Held ClientRule ClientEntry) 
         each = (each.0, tt);
       }
 
-  pub calls : (call : Call) (planned : Planned ClientEvent) → id_of call ≡ id → PlansCall interface (client_entry h id) call planned
+  pub calls : (call : Call) (planned : Planned ClientEvent) → id_of call ≡ id → PlansCall interface (entry_at h id) call planned
       → IsAccepted client_step id planned h out k out' → ClientActs interface id lane k (listed (message_of planned.plan slot_before))
   calls call planned named plans is =
-      let found = call_read interface (client_entry h id) call planned plans in
+      let found = call_read interface (entry_at h id) call planned plans in
       subst (λ one. ClientActs interface id lane k (listed (message_of one.plan slot_before))) (sym found.1)
-      (calls_cut call found.0 named (subst (PlansCall interface (client_entry h id) call) found.1 plans)
+      (calls_cut call found.0 named (subst (PlansCall interface (entry_at h id) call) found.1 plans)
       (subst (λ one. IsAccepted client_step id one h out k out') found.1 is))
 
   pub sends : (planned : Planned ClientEvent) → planned ≡ record { event = at_client.Send; plan = Next }
@@ -253,7 +252,7 @@ module _ (interface : Interface) (client_limits server_limits : Limits) where
       → AtClient interface client_limits server_limits w (given.Call q form) told v → Tracked v
   client_calls w v q form told tracks (answered, is, tells, same) =
       let id = q.head.id in
-      let entry = client_entry w.client.calls id in
+      let entry = entry_at w.client.calls id in
       client_puts_on interface client_limits server_limits w v
       id (call_fault interface client_limits entry q form.form) (IsCall interface q form.form) answered tracks is same
       (λ acted. calls interface id w.client.calls v.client.calls w.client.outgoing v.client.outgoing (tracks.shows id).lane (tracks.shows id).client
@@ -265,7 +264,7 @@ module _ (interface : Interface) (client_limits server_limits : Limits) where
       → Tracked w → AtClient interface client_limits server_limits w (given.Locate q form) told v → Tracked v
   client_locates w v q form told tracks (answered, is, tells, same) =
       let id = q.id in
-      let entry = client_entry w.client.calls id in
+      let entry = entry_at w.client.calls id in
       client_puts_on interface client_limits server_limits w v
       id (locate_fault client_limits entry q form.form) (IsLocate q form.form) answered tracks is same
       (λ acted. calls interface id w.client.calls v.client.calls w.client.outgoing v.client.outgoing (tracks.shows id).lane (tracks.shows id).client
@@ -276,7 +275,7 @@ module _ (interface : Interface) (client_limits server_limits : Limits) where
   pub client_cancels : (w v : WorldState) (id : ℕ) (order : Order) (told : Returned) → Tracked w
       → AtClient interface client_limits server_limits w (given.Cancel id order) told v → Tracked v
   client_cancels w v id order told tracks (answered, is, tells, same) =
-      let version = open_version (client_entry w.client.calls id) in
+      let version = open_version (entry_at w.client.calls id) in
       client_puts_on interface client_limits server_limits w v
       id (cancel_fault version) (IsCancel id order version) answered tracks is same
       (λ acted. cancels interface id w.client.calls v.client.calls w.client.outgoing v.client.outgoing (tracks.shows id).lane (tracks.shows id).client

@@ -8,12 +8,12 @@ use Rattle.giop_msg.specs.declared.fault.WireFault.{WireFault}
 use Rattle.giop_msg.specs.declared.fault.WireKind.TheVariants.{TooLarge}
 use Rattle.giop_msg.specs.declared.msg.Msg.{Msg}
 use Rattle.giop_msg.proofs.StreamLemmas.{each_head, each_one, each_tail, fault_stands, length-message_octets, same_message}
-use Rattle.giop_session.specs.declared.limits.Limits.{Limits}
-use Rattle.giop_session.specs.declared.session_fault.SessionFault.{SessionFault}
-use Rattle.giop_session.specs.declared.session_fault.SessionFault.TheVariants as why
+use Rattle.giop_end.specs.declared.limits.Limits.{Limits}
+use Rattle.giop_end.specs.declared.session_fault.SessionFault.{SessionFault}
+use Rattle.giop_end.specs.declared.session_fault.SessionFault.TheVariants as why
 use Rattle.giop_session.specs.Worlds.Agreement.{IsMet}
-use Rattle.giop_session.specs.Calls.CallTable.{Held}
-use Rattle.giop_session.specs.Hearing.Feeding.{Fed, Stops, Through, standing, with_octets}
+use Rattle.giop_table.specs.CallTable.{Held}
+use Rattle.giop_end.specs.Hearing.Feeding.{Fed, Stops, Through, standing, with_octets}
 use Rattle.giop_session.specs.Worlds.OnTheWay.{IsFramed, OnTheWay}
 use Rattle.giop_session.proofs.OnLanes.NextHeard.{IsFull}
 use Rattle.giop_session.proofs.OnLanes.OnTheWayLemmas.{framed_by, refused_by_size, within_limit}

@@ -18,15 +18,15 @@ use Rattle.giop_calls.specs.declared.client.call.Call.TheVariants as asked
 use Rattle.giop_calls.specs.declared.client.entry.ClientEntry.{ClientEntry}
 use Rattle.giop_calls.specs.declared.client.event.ClientEvent.TheVariants as at_client
 use Rattle.giop_calls.specs.declared.server.event.ServerEvent.TheVariants as at_server
-use Rattle.giop_session.specs.declared.session_fault.SessionFault.{SessionFault}
-use Rattle.giop_session.specs.Acts.ClientCalls.{IsCancel, locate_octets, request_octets}
-use Rattle.giop_session.specs.Hearing.ClientHears as client_hears
+use Rattle.giop_end.specs.declared.session_fault.SessionFault.{SessionFault}
+use Rattle.giop_end.specs.Acts.ClientCalls.{IsCancel, locate_octets, request_octets}
+use Rattle.giop_end.specs.Hearing.ClientHears as client_hears
 use Rattle.giop_session.specs.Worlds.OnTheWay.{IsFramed, Names, id_of}
 use Rattle.giop_session.specs.Worlds.OwnLane.{PlansCall, PlansReply, sends_cut}
 use Rattle.giop_session.specs.Acts.PutOut.{AreOf}
-use Rattle.giop_session.specs.Acts.Sent.{cancel_request, sends_one}
-use Rattle.giop_session.specs.Acts.ServerAnswers.{IsLocateAnswer, located, reply_octets}
-use Rattle.giop_session.specs.Hearing.ServerHears as server_hears
+use Rattle.giop_end.specs.Acts.Sent.{cancel_request, sends_one}
+use Rattle.giop_end.specs.Acts.ServerAnswers.{IsLocateAnswer, located, reply_octets}
+use Rattle.giop_end.specs.Hearing.ServerHears as server_hears
 use Rattle.giop_session.specs.Worlds.Tracks.{IsFor, IsToClient, IsToServer}
 use Rattle.giop_session.proofs.OnActs.WrittenLemmas.{locate_written, reply_written, request_written}
 use Rattle.giop_session.proofs.OnLanes.CodingLemmas.{same_piece}

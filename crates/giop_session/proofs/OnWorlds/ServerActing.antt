@@ -23,23 +23,22 @@ use Rattle.giop_calls.specs.declared.server.event.ServerEvent.TheVariants as at_
 use Rattle.giop_calls.specs.declared.server.question.Question.TheVariants as question
 use Rattle.giop_calls.specs.declared.server.rule.ServerRule.{ServerRule}
 use Rattle.giop_calls.specs.declared.server.undecoded.UndecodedCall.{UndecodedCall}
-use Rattle.giop_session.specs.declared.acts.form.Form.{Form}
+use Rattle.giop_end.specs.declared.acts.form.Form.{Form}
 use Rattle.giop_session.specs.declared.laws.inputs.Answered.{Answered}
 use Rattle.giop_session.specs.declared.laws.inputs.CheckedForm.{CheckedForm}
 use Rattle.giop_session.specs.declared.laws.inputs.ServerInput.TheVariants as given
-use Rattle.giop_session.specs.declared.limits.Limits.{Limits}
-use Rattle.giop_session.specs.declared.calls.plan.Plan.TheVariants.{Next}
-use Rattle.giop_session.specs.declared.calls.plan.Planned.{Planned}
+use Rattle.giop_end.specs.declared.limits.Limits.{Limits}
+use Rattle.giop_table.specs.declared.plan.Plan.TheVariants.{Next}
+use Rattle.giop_table.specs.declared.plan.Planned.{Planned}
 use Rattle.giop_session.specs.Acts.Acting.{IsAccepted}
-use Rattle.giop_session.specs.Calls.CallTable.{Held, at}
+use Rattle.giop_table.specs.CallTable.{Held, at, entry_at}
 use Rattle.giop_session.specs.Worlds.Coding.{coding}
-use Rattle.giop_session.specs.Hearing.Heard.{kept}
+use Rattle.giop_end.specs.Hearing.Heard.{silently}
 use Rattle.giop_session.specs.Worlds.LaneAtEnds.{seen}
 use Rattle.giop_session.specs.Worlds.OwnLane.{PlansLocated, PlansReply, sends_cut}
-use Rattle.giop_session.specs.Calls.Sending.{entry_of, message_of, slot_of, unsent_after, unsent_of}
-use Rattle.giop_session.specs.Acts.Sent.{sends_one}
-use Rattle.giop_session.specs.Acts.ServerAnswers.{IsAnswer, IsLocateAnswer, answer_fault, locate_of, located, question_of}
-use Rattle.giop_session.specs.Runs.ServerRuns.{server_entry}
+use Rattle.giop_table.specs.Sending.{entry_of, message_of, slot_of, unsent_after, unsent_of}
+use Rattle.giop_end.specs.Acts.Sent.{sends_one}
+use Rattle.giop_end.specs.Acts.ServerAnswers.{IsAnswer, IsLocateAnswer, answer_fault, locate_of, located, question_of}
 use Rattle.giop_session.specs.Worlds.Tracks.{IsToClient, ServerShows}
 use Rattle.giop_session.specs.Worlds.World.{AtServer, Returned, WorldState}
 use Rattle.giop_session.proofs.OnWorlds.Acted.{ServerActs, listed, server_puts_on}
@@ -108,7 +107,7 @@ record IsReplyTo (interface : Interface) (limits : Limits) (entry : Option Serve
   plans : IsAnswer interface (Some (Some q)) r form planned
 
 -- what is planned where none is asked is refused
-refused_so : (entry : Option ServerEntry) (event : ServerEvent) (planned : Planned ServerEvent) → planned ≡ kept event
+refused_so : (entry : Option ServerEntry) (event : ServerEvent) (planned : Planned ServerEvent) → planned ≡ silently event
     → IsOk (server_step entry planned.event).outcome → IsOk (server_step entry event).outcome
 refused_so entry event planned is ok = subst (λ one. IsOk (server_step entry one.event).outcome) is ok
 
@@ -299,7 +298,7 @@ module _ (interface : Interface) (client_limits server_limits : Limits) (are_sou
   Tracked = Tracks interface client_limits server_limits
 
   -- no call that a world has at its server couldn't be decoded
-  pub all_decoded : (w : WorldState) (tracks : Tracked w) (id : ℕ) → IsDecoded (server_entry w.server.calls id)
+  pub all_decoded : (w : WorldState) (tracks : Tracked w) (id : ℕ) → IsDecoded (entry_at w.server.calls id)
   all_decoded w tracks id call is =
       let s = tracks.shows id in
       (read_of (coding interface) s.lane (are_sound s.acts s.lane s.runs)).1 call (sym s.server.entry ∙ is)
@@ -308,7 +307,7 @@ module _ (interface : Interface) (client_limits server_limits : Limits) (are_sou
       → AtServer interface client_limits server_limits w (given.Answer r form) told v → Tracked v
   server_answers w v r form told tracks (answered, is, tells, same) =
       let id = r.id in
-      let entry = server_entry w.server.calls id in
+      let entry = entry_at w.server.calls id in
       server_puts_on interface client_limits server_limits w v
       id (answer_fault interface server_limits (question_of entry) r form.form) (IsAnswer interface (question_of entry) r form.form)
       answered tracks is same (λ acted.
@@ -327,7 +326,7 @@ module _ (interface : Interface) (client_limits server_limits : Limits) (are_sou
   pub server_locates : (w v : WorldState) (id : ℕ) (here : Bool) (order : Order) (told : Returned) → Tracked w
       → AtServer interface client_limits server_limits w (given.AnswerLocate id here order) told v → Tracked v
   server_locates w v id here order told tracks (answered, is, tells, same) =
-      let entry = server_entry w.server.calls id in
+      let entry = entry_at w.server.calls id in
       server_puts_on interface client_limits server_limits w v
       id None (IsLocateAnswer id here order (locate_of here entry)) answered tracks is same (λ acted.
       let found = locates_it id here order entry acted.planned (all_decoded w tracks id) acted.plans acted.is.outcome in

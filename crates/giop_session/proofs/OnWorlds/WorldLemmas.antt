@@ -18,23 +18,23 @@ use Rattle.giop_session.specs.declared.laws.inputs.ServerInput.{ServerInput}
 use Rattle.giop_session.specs.declared.laws.inputs.ServerInput.TheVariants as server
 use Rattle.giop_session.specs.declared.laws.inputs.WorldEvent.{WorldEvent}
 use Rattle.giop_session.specs.declared.laws.inputs.WorldEvent.TheVariants as event
-use Rattle.giop_session.specs.declared.limits.Limits.{Limits}
-use Rattle.giop_session.specs.declared.calls.plan.Planned.{Planned}
-use Rattle.giop_session.specs.declared.session_fault.SessionFault.{SessionFault}
-use Rattle.giop_session.specs.declared.session_fault.SessionFault.TheVariants.{Closed}
-use Rattle.giop_session.specs.declared.calls.table_fault.TableFault.{TableFault}
-use Rattle.giop_session.specs.Calls.CallTable.{Act, Call, Held, Reply}
-use Rattle.giop_session.specs.Hearing.ClientHears.{client_side}
+use Rattle.giop_end.specs.declared.limits.Limits.{Limits}
+use Rattle.giop_table.specs.declared.plan.Planned.{Planned}
+use Rattle.giop_end.specs.declared.session_fault.SessionFault.{SessionFault}
+use Rattle.giop_end.specs.declared.session_fault.SessionFault.TheVariants.{Closed}
+use Rattle.giop_table.specs.declared.table_fault.TableFault.{TableFault}
+use Rattle.giop_table.specs.CallTable.{Act, Call, Held, Reply}
+use Rattle.giop_end.specs.Hearing.ClientHears.{client_side}
 use Rattle.giop_session.specs.Runs.ClientRuns.{client_deed, client_run}
 use Rattle.giop_session.specs.Runs.ServerRuns.{server_deed, server_run}
 use Rattle.giop_session.specs.Runs.SideRuns.{SideIsGiven, SideRunsFrom}
-use Rattle.giop_session.specs.Runs.Driven.{Closes, Deed, EndState, Feeds, InTurn, IsDoneBy, IsGiven, IsGivenBy, PutsOut, TakesOut}
-use Rattle.giop_session.specs.Hearing.Heard.{SideOf}
-use Rattle.giop_session.specs.Acts.Putting.{Puts, put_out}
-use Rattle.giop_session.specs.Acts.Sent.{close_connection}
-use Rattle.giop_session.specs.Hearing.ServerHears.{server_side}
-use Rattle.giop_session.specs.Worlds.World.{AreJoined, ArriveAtClient, ArriveAtServer, AtClient, AtServer, Happens, Returned, WorldRuns, WorldState}
-use Rattle.giop_session.specs.Worlds.World.{fed_to_client, fed_to_server, new_world}
+use Rattle.giop_session.specs.Runs.Driven.{Closes, Deed, Feeds, InTurn, IsDoneBy, IsGiven, IsGivenBy, PutsOut, TakesOut}
+use Rattle.giop_end.specs.Ends.Begun.{EndState}
+use Rattle.giop_end.specs.Hearing.Heard.{SideOf}
+use Rattle.giop_end.specs.Acts.Putting.{Puts, put_out}
+use Rattle.giop_end.specs.Acts.Sent.{close_connection}
+use Rattle.giop_end.specs.Hearing.ServerHears.{server_side}
+use Rattle.giop_session.specs.Worlds.World.{AreJoined, ArriveAtClient, ArriveAtServer, AtClient, AtServer, Happens, Returned, WorldRuns, WorldState, fed_to_client, fed_to_server, new_world}
 use Rattle.giop_session.proofs.OnActs.SidesPutOut.{client_puts_out, server_puts_out}
 
 -- an end with octets before those that are outgoing
@@ -47,14 +47,14 @@ module _ {R E V A F : Type 0} (side : SideOf R E V A F) where
       → Puts rules side.of_rule id refusal Plans h out result k out' → Puts rules side.of_rule id refusal Plans h (d ++ out) result k (d ++ out')
   puts_behind rules id refusal Plans h k d out out' result (inl (wanting, calls, is)) = inl (wanting, calls, ap (λ l. d ++ l) is)
   puts_behind rules id (Some why) Plans h k d out out' result (inr (refused, calls, is)) = inr (refused, calls, ap (λ l. d ++ l) is)
-  puts_behind rules id None Plans h k d out out' result (inr (planned, plans, befell)) = inr (
+  puts_behind rules id None Plans h k d out out' result (inr (planned, plans, on_call)) = inr (
     planned,
     plans,
     record {
-      answered = befell.answered;
-      does = befell.does;
-      told = befell.told;
-      puts = ap (λ l. d ++ l) befell.puts ∙ sym (append_assoc d out (put_out befell.answered));
+      answered = on_call.answered;
+      does = on_call.does;
+      returned = on_call.returned;
+      puts = ap (λ l. d ++ l) on_call.puts ∙ sym (append_assoc d out (put_out on_call.answered));
     },
   )
 

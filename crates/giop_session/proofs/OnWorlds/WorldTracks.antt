@@ -10,10 +10,10 @@ use Rattle.giop_msg.specs.Msg.{message_octets}
 use Rattle.giop_msg.specs.Stream.{Unread}
 use Rattle.giop_msg.specs.declared.msg.Msg.{Msg}
 use Rattle.giop_calls.specs.Lane.{Act, Codec, IsRead, IsSound, Lane, Runs, Suits, new, step}
-use Rattle.giop_session.specs.declared.limits.Limits.{Limits}
-use Rattle.giop_session.specs.declared.session_fault.SessionFault.{SessionFault}
+use Rattle.giop_end.specs.declared.limits.Limits.{Limits}
+use Rattle.giop_end.specs.declared.session_fault.SessionFault.{SessionFault}
 use Rattle.giop_session.specs.Worlds.Agreement.{IsMet}
-use Rattle.giop_session.specs.Calls.CallTable.{Call, Held, at, put_call}
+use Rattle.giop_table.specs.CallTable.{Call, Held, at, put_call}
 use Rattle.giop_session.specs.Worlds.Coding.{coding}
 use Rattle.giop_session.specs.Worlds.OnTheWay.{IsFramed, Names, OnTheWay}
 use Rattle.giop_session.specs.Worlds.Tracks.{IsFor, IsToClient, IsToServer, Shows}

@@ -2,13 +2,13 @@
 use Rattle.std.specs.Prelude.{◌≡◌, ◌≢◌, ℕ, ◌++◌, List, Option, IsOk}
 use Rattle.std.specs.FinMap as finite
 use Rattle.giop_mux.specs.declared.step.Step.{Step}
-use Rattle.giop_session.specs.declared.calls.plan.Planned.{Planned}
-use Rattle.giop_session.specs.Calls.CallTable.{Held}
-use Rattle.giop_session.specs.Acts.Putting.{octets_of}
-use Rattle.giop_session.specs.Calls.Sending.{entry_of, message_of, slot_of, unsent_after, unsent_of}
+use Rattle.giop_table.specs.declared.plan.Planned.{Planned}
+use Rattle.giop_table.specs.CallTable.{Held}
+use Rattle.giop_end.specs.Acts.Putting.{octets_of}
+use Rattle.giop_table.specs.Sending.{entry_of, message_of, slot_of, unsent_after, unsent_of}
 
--- an event befell the call of an id by the rule of these steps: it is accepted, and leaves the entry
--- of the step, and the messages that the plan leaves unsent; each other id has what it had; and the
+-- an event acted on the call of an id by the rule of these steps: it is accepted, and leaves the
+-- entry of the step, and the messages that the plan leaves unsent; each other id has what it had; and the
 -- message that the plan sends, if it sends one, is outgoing behind what was
 pub record IsAccepted {R E V A F : Type 0} (next : Option E → V → Step E A F) (id : ℕ)
     (planned : Planned V) (h : Held R E) (out : List ℕ) (k : Held R E) (out' : List ℕ)

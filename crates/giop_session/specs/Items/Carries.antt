@@ -13,8 +13,7 @@ use Rattle.giop_msg.specs.Messages.Outcome.{joined_into}
 use Rattle.giop_mux.specs.Runs.{Happening}
 use Rattle.giop_mux.specs.Runs.{Hears as IsTold, IsTaken as TakesOut}
 use Rattle.giop_calls.specs.declared.kind.CallKind.{CallKind}
-use Rattle.giop_session.specs.Runs.Events.{Event, Comes, Local}
-use Rattle.giop_session.specs.Runs.Events.{Does as DoesTo}
+use Rattle.giop_session.specs.Runs.Events.{Event, Comes, Local, Does as DoesTo}
 
 -- a message of this kind and the Fragments behind it, all in one version and one byte order: more
 -- are announced by each but the last; and by the last, where some are still to come (9.4.1)

@@ -29,7 +29,7 @@ use Rattle.giop_calls.specs.declared.kind.CallKind.TheVariants as kind
 use Rattle.giop_calls.specs.ClientTable.{client_step, settles}
 use Rattle.giop_session.specs.Runs.Events.{Comes}
 use Rattle.giop_session.specs.Items.Carries.{CarriesItem, IsWrittenAs, Item, Telling, Got, Bad, Begun, Rest, Cancel, Did}
-use Rattle.giop_session.specs.Hearing.ClientHears.{heard_reply}
+use Rattle.giop_end.specs.Hearing.ClientHears.{heard_reply}
 
 -- what is said of one call at a client
 abbrev pub ClientItem : Type 0

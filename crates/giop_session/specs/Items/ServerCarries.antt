@@ -24,7 +24,7 @@ use Rattle.giop_calls.specs.declared.server.heard.HeardCall.TheVariants as heard
 use Rattle.giop_calls.specs.ServerTable.{arrived, server_step}
 use Rattle.giop_session.specs.Runs.Events.{Comes}
 use Rattle.giop_session.specs.Items.Carries.{CarriesItem, IsWrittenAs, Item, Telling, Got, Bad, Begun, Rest, Cancel, Did}
-use Rattle.giop_session.specs.Hearing.Decoding.{heard_call}
+use Rattle.giop_end.specs.Hearing.Decoding.{heard_call}
 
 -- what is said of one call at a server
 abbrev pub ServerItem : Type 0

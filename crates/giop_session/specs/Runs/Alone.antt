@@ -5,8 +5,8 @@ use Rattle.giop_msg.specs.declared.msg.Msg.{Msg}
 use Rattle.giop_msg.specs.RequestId.{request_id_of}
 use Rattle.giop_ids.specs.declared.addressed.Addressed.{Addressed}
 use Rattle.giop_ids.specs.Runs.{MeetsNoLimit, Rules, Runs, addressed, left, own}
-use Rattle.giop_session.specs.declared.calls.table_fault.TableFault.{TableFault}
-use Rattle.giop_session.specs.Calls.CallTable.{Act, Call, Held, Reply, Turned, at, is_of_call}
+use Rattle.giop_table.specs.declared.table_fault.TableFault.{TableFault}
+use Rattle.giop_table.specs.CallTable.{Act, Call, Held, Reply, Turned, at, is_of_call}
 
 -- whether a message names an id
 abbrev pub names_by : Option (Result ℕ CdrFault) → ℕ → Bool
@@ -51,10 +51,10 @@ abbrev pub MeetNone : {E V A F : Type 0} → List (Addressed (Act V))
 MeetNone acts results = (id : ℕ) → MeetsNone id acts results
 
 module _ {E V A F : Type 0} (turn : Call E → Act V → Turned E A F)
-    (befalls : Msg → Call E → Act V) where
+    (act_by : Msg → Call E → Act V) where
   -- what a message leaves of the call that it names
   abbrev pub call_after : Msg → Call E → Call E
-  call_after m call = left call (turn call (befalls m call))
+  call_after m call = left call (turn call (act_by m call))
 
   -- what these leave of it, one after another
   abbrev pub alone_heard : Call E → List Msg → Call E
@@ -68,8 +68,8 @@ abbrev pub RunsFreely : {R E V A F : Type 0}
 RunsFreely rules h acts results k = Runs rules h acts results k × MeetNone acts results
 
 module _ {R E V A F : Type 0} (turn : Call E → Act V → Turned E A F)
-    (befalls : Msg → Call E → Act V) where
+    (act_by : Msg → Call E → Act V) where
   -- what is stored for an id is what its own of these messages leave of what was
   abbrev pub IsHeardAlone : Held R E → List Msg → Held R E → ℕ → Type 0
   IsHeardAlone h messages k id =
-      at k id ≡ alone_heard turn befalls (at h id) (own_messages id messages)
+      at k id ≡ alone_heard turn act_by (at h id) (own_messages id messages)

@@ -1,6 +1,5 @@
 -- What a client's end is given in a run, and what an input is to it.
 use Rattle.std.specs.Prelude.{◌≡◌, ℕ, List, Option, None, Some}
-use Rattle.std.specs.FinMap as finite
 use Rattle.giop_types.specs.declared.json.interface.Interface.{Interface}
 use Rattle.giop_calls.specs.declared.fault.CallFault.{CallFault}
 use Rattle.giop_calls.specs.declared.client.entry.ClientEntry.{ClientEntry}
@@ -11,21 +10,16 @@ use Rattle.giop_calls.specs.declared.client.rule.ClientRule.{ClientRule}
 use Rattle.giop_calls.specs.ClientStanding.{standing}
 use Rattle.giop_session.specs.declared.laws.inputs.ClientInput.{ClientInput}
 use Rattle.giop_session.specs.declared.laws.inputs.ClientInput.TheVariants as input
-use Rattle.giop_session.specs.declared.limits.Limits.{Limits}
-use Rattle.giop_session.specs.declared.calls.plan.Plan.TheVariants.{Next}
-use Rattle.giop_session.specs.Calls.CallTable.{Held}
-use Rattle.giop_session.specs.Acts.ClientCalls.{IsCall, IsCancel, IsLocate, call_fault, cancel_fault, locate_fault, open_version}
+use Rattle.giop_end.specs.declared.limits.Limits.{Limits}
+use Rattle.giop_table.specs.declared.plan.Plan.TheVariants.{Next}
+use Rattle.giop_table.specs.CallTable.{Held, entry_at}
+use Rattle.giop_end.specs.Acts.ClientCalls.{IsCall, IsCancel, IsLocate, call_fault, cancel_fault, locate_fault, open_version}
 use Rattle.giop_session.specs.Items.ClientCarries.{Known, client_telling, unknown}
-use Rattle.giop_session.specs.Hearing.ClientHears.{client_side}
+use Rattle.giop_end.specs.Hearing.ClientHears.{client_side}
 use Rattle.giop_session.specs.Runs.Driven.{Closes, Deed, Feeds, PutsOut, TakesOut}
 use Rattle.giop_session.specs.Runs.Met.{Sorting}
 use Rattle.giop_session.specs.Runs.RunLimits.{ClientIsGivenWithin}
 use Rattle.giop_session.specs.Runs.SideRuns.{RunOf}
-use Rattle.giop_session.specs.Calls.Sending.{entry_of}
-
--- what is stored for an id
-abbrev pub client_entry : Held ClientRule ClientEntry → ℕ → Option ClientEntry
-client_entry h id = entry_of (finite.get h.table id)
 
 -- the id whose call an input is about, if it is about one
 abbrev pub client_named : ClientInput → Option ℕ
@@ -42,14 +36,14 @@ abbrev pub client_deed : Interface → Limits → Held ClientRule ClientEntry �
     → Deed ClientEvent CallFault
 client_deed interface limits h (input.Feed octets) = Feeds octets
 client_deed interface limits h (input.Call request form) = PutsOut request.head.id
-    (call_fault interface limits (client_entry h request.head.id) request form.form)
+    (call_fault interface limits (entry_at h request.head.id) request form.form)
     (IsCall interface request form.form)
 client_deed interface limits h (input.Locate request form) = PutsOut request.id
-    (locate_fault limits (client_entry h request.id) request form.form)
+    (locate_fault limits (entry_at h request.id) request form.form)
     (IsLocate request form.form)
 client_deed interface limits h (input.Cancel id order) = PutsOut id
-    (cancel_fault (open_version (client_entry h id)))
-    (IsCancel id order (open_version (client_entry h id)))
+    (cancel_fault (open_version (entry_at h id)))
+    (IsCancel id order (open_version (entry_at h id)))
 client_deed interface limits h (input.Send id) = PutsOut id None
     (λ planned. planned ≡ record { event = event.Send; plan = Next })
 client_deed interface limits h (input.Take id) = TakesOut id

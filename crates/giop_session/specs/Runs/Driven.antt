@@ -11,20 +11,18 @@ use Rattle.giop_mux.specs.Runs.{Happening}
 use Rattle.giop_mux.specs.Runs.{Hears as IsTold, IsTaken as IsTakenOut}
 use Rattle.giop_session.specs.declared.laws.inputs.Answered.{Answered}
 use Rattle.giop_session.specs.declared.laws.inputs.Answered.TheVariants as answer
-use Rattle.giop_session.specs.declared.limits.Limits.{Limits}
-use Rattle.giop_session.specs.declared.calls.plan.Planned.{Planned}
-use Rattle.giop_session.specs.declared.session_fault.SessionFault.{SessionFault}
-use Rattle.giop_session.specs.declared.session_fault.SessionFault.TheVariants.{Closed, NoMemory, StillOpen}
-use Rattle.giop_session.specs.Calls.Begun.{no_calls}
-use Rattle.giop_session.specs.Calls.CallTable.{Gives, Held, IsTaken}
+use Rattle.giop_table.specs.declared.plan.Planned.{Planned}
+use Rattle.giop_end.specs.declared.session_fault.SessionFault.{SessionFault}
+use Rattle.giop_end.specs.declared.session_fault.SessionFault.TheVariants.{Closed, NoMemory, StillOpen}
+use Rattle.giop_end.specs.Ends.Begun.{EndState}
+use Rattle.giop_table.specs.CallTable.{Gives, Held, IsTaken}
 use Rattle.giop_session.specs.Items.Carries.{Bad, Begun, Cancel, Did, Got, Item, Rest, Telling}
-use Rattle.giop_session.specs.Hearing.Feeding.{Fed, standing, with_octets}
-use Rattle.giop_session.specs.Hearing.Heard.{SideOf, rules_at, hears}
-use Rattle.giop_session.specs.Runs.Inputs.{Input, Takes, nothing_unread}
-use Rattle.giop_session.specs.Runs.Inputs.{Reads, Does as DoesTo}
-use Rattle.giop_session.specs.Acts.Putting.{Puts}
-use Rattle.giop_session.specs.Calls.Sending.{entry_of}
-use Rattle.giop_session.specs.Acts.Sent.{close_connection}
+use Rattle.giop_end.specs.Hearing.Feeding.{Fed, standing, with_octets}
+use Rattle.giop_end.specs.Hearing.Heard.{SideOf, rules_at, hears}
+use Rattle.giop_session.specs.Runs.Inputs.{Input, Takes, Reads, Does as DoesTo}
+use Rattle.giop_end.specs.Acts.Putting.{Puts}
+use Rattle.giop_table.specs.Sending.{entry_of}
+use Rattle.giop_end.specs.Acts.Sent.{close_connection}
 
 -- something is given inputs in turn, and answers each; a step says what one input does to it
 module _ {S I A : Type 0} (Steps : S → I → A → S → Type 0) where
@@ -35,30 +33,12 @@ module _ {S I A : Type 0} (Steps : S → I → A → S → Type 0) where
   InTurn s (input ∷ inputs) (answered ∷ answers) t =
       (mid : S) × Steps s input answered mid × InTurn mid inputs answers t
 
--- an end: the octets that are unread, its calls, the octets that are outgoing, and the fault that
--- stands
-pub record EndState (H : Type 0) : Type 0 where
-  pub unread : Unread
-  pub calls : H
-  pub outgoing : List ℕ
-  pub fault : Option SessionFault
-
--- an end's state from its parts
-abbrev pub end_state : {H : Type 0} → Unread → H → List ℕ → Option SessionFault → EndState H
-end_state unread calls outgoing fault =
-    record { unread = unread; calls = calls; outgoing = outgoing; fault = fault }
-
--- a new end, by this rule and within these limits
-abbrev pub new_end : {R E : Type 0} → R → Limits → EndState (Held R E)
-new_end rule limits =
-    end_state (nothing_unread limits.message) (no_calls rule limits) [] None
-
 -- what an input is to an end
 pub data Deed (V F : Type 0) : Type 1 where
   -- octets of the peer are fed
   Feeds : List ℕ → Deed V F
   -- its program does something to the call of an id: that is refused for this, or else an event
-  -- that is planned so befalls the call
+  -- that is planned so acts on the call
   PutsOut : ℕ → Option F → (Planned V → Type 0) → Deed V F
   -- its program takes the entry of an id out
   TakesOut : ℕ → Deed V F

@@ -6,10 +6,10 @@ use Rattle.giop_ids.specs.Runs.{Does as DoesAct}
 use Rattle.giop_msg.specs.declared.msg.Msg.{Msg}
 use Rattle.giop_mux.specs.Runs.{Happening}
 use Rattle.giop_mux.specs.Runs.{Hears as IsTold, IsTaken as TakesOut}
-use Rattle.giop_session.specs.declared.calls.plan.Planned.{Planned}
+use Rattle.giop_table.specs.declared.plan.Planned.{Planned}
 use Rattle.giop_session.specs.Runs.Alone.{names}
-use Rattle.giop_session.specs.Calls.CallTable.{Act, Call, Held, Hears, IsTaken, Nothing, Reply, Turned, at}
-use Rattle.giop_session.specs.Hearing.Heard.{SideOf, hears, rules_at, turn_at}
+use Rattle.giop_table.specs.CallTable.{Act, Call, Held, Hears, IsTaken, Nothing, Reply, Turned, at}
+use Rattle.giop_end.specs.Hearing.Heard.{SideOf, hears, rules_at, turn_at}
 
 -- an act of an end on one of its calls: an event of its own, with the messages that are sent for
 -- it, or that it takes the entry out
@@ -59,10 +59,10 @@ module _ {R E V A F : Type 0} (side : SideOf R E V A F) where
   Meets h (e ∷ events) k = (mid : Held R E) × Accepts e h mid × Meets mid events k
 
 module _ {E V A F : Type 0} (turn : Call E → Act V → Turned E A F)
-    (befalls : Msg → Call E → Act V) where
+    (act_by : Msg → Call E → Act V) where
   -- what an event is to the call that it names
   abbrev pub what : Event V → Call E → Act V
-  what (Comes m) call = befalls m call
+  what (Comes m) call = act_by m call
   what (Does id act) call = act_of act
 
   -- one call meets these events, one after another; none is refused, and this is left of it
@@ -81,4 +81,4 @@ module _ {R E V A F : Type 0} (side : SideOf R E V A F) where
   -- each call follows its own events, one after another, and none of them is refused
   abbrev pub EachFollows : Held R E → List (Event V) → Held R E → Type 0
   EachFollows h events k = (id : ℕ)
-      → Follows (turn_at side h.rule) side.befalls (at h id) (own_events id events) (at k id)
+      → Follows (turn_at side h.rule) side.act_by (at h id) (own_events id events) (at k id)

@@ -6,13 +6,15 @@ use Rattle.giop_ids.specs.Runs.{alone as all_steps}
 use Rattle.giop_msg.specs.Stream.{Unread}
 use Rattle.giop_mux.specs.Runs.{Happening, turn}
 use Rattle.giop_session.specs.declared.laws.inputs.Answered.{Answered}
-use Rattle.giop_session.specs.declared.limits.Limits.{Limits}
-use Rattle.giop_session.specs.Calls.CallTable.{Held, at, entry_at}
-use Rattle.giop_session.specs.Hearing.Heard.{turn_at}
+use Rattle.giop_end.specs.declared.limits.Limits.{Limits}
+use Rattle.giop_table.specs.CallTable.{Held, at, entry_at}
+use Rattle.giop_end.specs.Hearing.Heard.{turn_at}
 use Rattle.giop_session.specs.Items.Carries.{Item, behind_all}
-use Rattle.giop_session.specs.Runs.Driven.{EndState, NoneRefused, item_answers, own_answers}
+use Rattle.giop_session.specs.Runs.Driven.{NoneRefused, item_answers, own_answers}
+use Rattle.giop_end.specs.Ends.Begun.{EndState}
 use Rattle.giop_session.specs.Runs.Events.{Event, history, no_call, own_events}
-use Rattle.giop_session.specs.Runs.Inputs.{Input, nothing_unread}
+use Rattle.giop_session.specs.Runs.Inputs.{Input}
+use Rattle.giop_end.specs.Hearing.Feeding.{nothing_unread}
 use Rattle.giop_session.specs.Runs.Met.{AreMet, IsOfCall, Met, given_alone}
 use Rattle.giop_session.specs.Runs.RunLimits.{NoneForALimit}
 use Rattle.giop_session.specs.Runs.SideRuns.{HasAnswers, HasEntries, RunOf, SideHolds, SideRuns, SideTakesAs}
@@ -71,7 +73,7 @@ module _ {R E V A F I T M : Type 0} (run : RunOf R E V A F I T M) where
   -- comes, and acts
   abbrev pub history_of : ℕ → List (Event V) → List (Happening V)
   history_of id events =
-      history (turn_at run.side run.rule) run.side.befalls no_call (own_events id events)
+      history (turn_at run.side run.rule) run.side.act_by no_call (own_events id events)
 
   -- what is stored for an id is what was said of its calls; it is what the table's steps come to by
   -- their own messages and acts; and it is what stands by those of the latest call, without steps

@@ -3,21 +3,16 @@
 use Rattle.std.specs.Prelude.{◌≡◌, ℕ, List, [], ◌∷◌, ◌++◌, map, Ok}
 use Rattle.giop_msg.specs.declared.msg.Msg.{Msg}
 use Rattle.giop_msg.specs.Stream.{TakesMessages, Unread, Waits}
-use Rattle.giop_session.specs.Calls.CallTable.{Held}
+use Rattle.giop_table.specs.CallTable.{Held}
 use Rattle.giop_session.specs.Items.Carries.{Carries, Item, Telling}
-use Rattle.giop_session.specs.Runs.Events.{Accepts, Event, Comes, Local, own_events}
-use Rattle.giop_session.specs.Runs.Events.{Does as DoesTo}
-use Rattle.giop_session.specs.Hearing.Feeding.{Fed, with_octets}
-use Rattle.giop_session.specs.Hearing.Heard.{SideOf, hears}
+use Rattle.giop_session.specs.Runs.Events.{Accepts, Event, Comes, Local, own_events, Does as DoesTo}
+use Rattle.giop_end.specs.Hearing.Feeding.{Fed, nothing_unread, with_octets}
+use Rattle.giop_end.specs.Hearing.Heard.{SideOf, hears}
 
 -- octets are read, or the end itself does something to the call of an id
 pub data Input (V : Type 0) : Type 0 where
   Reads : List ℕ → Input V
   Does : ℕ → Local V → Input V
-
--- no octet is unread, where messages may be of this size
-abbrev pub nothing_unread : ℕ → Unread
-nothing_unread limit = record { limit = limit; octets = [] }
 
 module _ {V : Type 0} where
   -- behind unread octets these inputs are these events, and leave these octets unread

@@ -1,25 +1,25 @@
 -- As many messages of a call are still to be sent as its entry says (CORBA 3.3 Part 2, 9.4.9).
-use Rattle.std.specs.Prelude.{◌≡◌, ℕ, List, [], ◌∷◌, length, Option, Some, None}
+use Rattle.std.specs.Prelude.{◌≡◌, ℕ, List, [], ◌∷◌, length, Option}
 use Rattle.giop_mux.specs.Runs.{Hears as IsTold, IsTaken as TakesOut}
 use Rattle.giop_calls.specs.declared.client.event.ClientEvent.{ClientEvent}
 use Rattle.giop_calls.specs.declared.client.event.ClientEvent.TheVariants as client
 use Rattle.giop_calls.specs.declared.server.event.ServerEvent.{ServerEvent}
 use Rattle.giop_calls.specs.declared.server.event.ServerEvent.TheVariants as server
-use Rattle.giop_session.specs.declared.calls.plan.Plan.{Plan}
-use Rattle.giop_session.specs.declared.calls.plan.Plan.TheVariants.{Put, Next}
-use Rattle.giop_session.specs.declared.calls.slot.Slot.{Slot}
+use Rattle.giop_table.specs.declared.plan.Plan.{Plan}
+use Rattle.giop_table.specs.declared.plan.Plan.TheVariants.{Put, Next}
+use Rattle.giop_table.specs.declared.slot.Slot.{Slot}
 use Rattle.giop_types.specs.declared.json.interface.Interface.{Interface}
 use Rattle.giop_calls.specs.declared.client.entry.ClientEntry.{ClientEntry}
 use Rattle.giop_calls.specs.declared.client.rule.ClientRule.{ClientRule}
 use Rattle.giop_calls.specs.declared.server.entry.ServerEntry.{ServerEntry}
 use Rattle.giop_calls.specs.declared.server.rule.ServerRule.{ServerRule}
-use Rattle.giop_session.specs.declared.limits.Limits.{Limits}
-use Rattle.giop_session.specs.Calls.Begun.{no_calls}
-use Rattle.giop_session.specs.Calls.CallTable.{Held}
-use Rattle.giop_session.specs.Hearing.ClientHears.{client_side}
-use Rattle.giop_session.specs.Hearing.ServerHears.{server_side}
+use Rattle.giop_end.specs.declared.limits.Limits.{Limits}
+use Rattle.giop_end.specs.Ends.Begun.{no_calls}
+use Rattle.giop_table.specs.CallTable.{Held}
+use Rattle.giop_end.specs.Hearing.ClientHears.{client_side}
+use Rattle.giop_end.specs.Hearing.ServerHears.{server_side}
 use Rattle.giop_session.specs.Runs.Events.{Event, Comes, Does, Meets}
-use Rattle.giop_session.specs.Calls.Sending.{entry_of, unsent_of}
+use Rattle.giop_table.specs.Sending.{entry_of, left_in, unsent_of}
 
 -- what a server's own events do to the messages of their calls: a Reply is sent in as many as its
 -- event says, a LocateReply in one, and a further piece is the next
@@ -44,11 +44,6 @@ ArePlanned plans (Comes m ∷ events) = ArePlanned plans events
 ArePlanned plans (Does id (IsTold planned) ∷ events) =
     plans planned.event planned.plan × ArePlanned plans events
 ArePlanned plans (Does id TakesOut ∷ events) = ArePlanned plans events
-
--- how many messages of a call its entry says to be left
-abbrev pub left_in : {E : Type 0} → (E → ℕ) → Option E → ℕ
-left_in left None = 0
-left_in left (Some entry) = left entry
 
 -- so many are left
 abbrev pub IsLeft : {E : Type 0} → (E → ℕ) → Option (Slot E) → Type 0

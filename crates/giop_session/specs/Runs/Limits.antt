@@ -13,16 +13,16 @@ use Rattle.giop_calls.specs.declared.client.event.ClientEvent.{ClientEvent}
 use Rattle.giop_calls.specs.declared.client.event.ClientEvent.TheVariants as client
 use Rattle.giop_calls.specs.declared.server.event.ServerEvent.{ServerEvent}
 use Rattle.giop_calls.specs.declared.server.event.ServerEvent.TheVariants as server
-use Rattle.giop_session.specs.declared.limits.Limits.{Limits}
-use Rattle.giop_session.specs.declared.session_fault.SessionFault.{SessionFault}
-use Rattle.giop_session.specs.declared.session_fault.SessionFault.TheVariants.{GatherFull, TooManyCalls}
-use Rattle.giop_session.specs.declared.calls.table_fault.TableFault.{TableFault}
-use Rattle.giop_session.specs.Calls.Begun.{no_calls}
+use Rattle.giop_end.specs.declared.limits.Limits.{Limits}
+use Rattle.giop_end.specs.declared.session_fault.SessionFault.{SessionFault}
+use Rattle.giop_end.specs.declared.session_fault.SessionFault.TheVariants.{GatherFull, TooManyCalls}
+use Rattle.giop_table.specs.declared.table_fault.TableFault.{TableFault}
+use Rattle.giop_end.specs.Ends.Begun.{no_calls}
 use Rattle.giop_session.specs.Runs.Alone.{names}
-use Rattle.giop_session.specs.Calls.CallTable.{Held}
+use Rattle.giop_table.specs.CallTable.{Held}
 use Rattle.giop_session.specs.Runs.Events.{Event, Comes, Does, Meets, act_of}
-use Rattle.giop_session.specs.Hearing.Heard.{behind_id, SideOf, rules_at, hears}
-use Rattle.giop_session.specs.Calls.SessionFaults.{of_table}
+use Rattle.giop_end.specs.Hearing.Heard.{behind_id, SideOf, rules_at, hears}
+use Rattle.giop_end.specs.Ends.SessionFaults.{of_table}
 
 -- how many octets a message of this kind brings to be gathered: a Fragment those behind its request
 -- id, any other, where more is to come, all that it has

@@ -5,7 +5,7 @@ use Rattle.giop_msg.specs.declared.msg.Msg.{Msg}
 use Rattle.giop_msg.specs.Msg.{message_octets}
 use Rattle.giop_msg.specs.RequestId.{request_id_of}
 use Rattle.giop_msg.specs.Stream.{TakesMessages, Unread, Waits}
-use Rattle.giop_session.specs.Hearing.Feeding.{with_octets}
+use Rattle.giop_end.specs.Hearing.Feeding.{with_octets}
 use Rattle.giop_session.specs.Runs.Alone.{names}
 use Rattle.giop_session.specs.Runs.Driven.{is_named}
 

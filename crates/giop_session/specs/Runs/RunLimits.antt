@@ -9,8 +9,8 @@ use Rattle.giop_session.specs.declared.laws.inputs.ClientInput.{ClientInput}
 use Rattle.giop_session.specs.declared.laws.inputs.ClientInput.TheVariants as client
 use Rattle.giop_session.specs.declared.laws.inputs.ServerInput.{ServerInput}
 use Rattle.giop_session.specs.declared.laws.inputs.ServerInput.TheVariants as server
-use Rattle.giop_session.specs.declared.limits.Limits.{Limits}
-use Rattle.giop_session.specs.declared.session_fault.SessionFault.TheVariants.{TooManyCalls, GatherFull}
+use Rattle.giop_end.specs.declared.limits.Limits.{Limits}
+use Rattle.giop_end.specs.declared.session_fault.SessionFault.TheVariants.{TooManyCalls, GatherFull}
 use Rattle.giop_session.specs.Runs.Alone.{names}
 use Rattle.giop_session.specs.Runs.Limits.{OpenAtMost, is_asking, octets_with}
 

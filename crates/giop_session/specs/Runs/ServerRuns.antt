@@ -1,6 +1,5 @@
 -- What a server's end is given in a run, and what an input is to it.
 use Rattle.std.specs.Prelude.{◌≡◌, ℕ, List, Option, None, Some}
-use Rattle.std.specs.FinMap as finite
 use Rattle.giop_types.specs.declared.json.interface.Interface.{Interface}
 use Rattle.giop_calls.specs.declared.fault.CallFault.{CallFault}
 use Rattle.giop_calls.specs.declared.server.entry.ServerEntry.{ServerEntry}
@@ -11,21 +10,16 @@ use Rattle.giop_calls.specs.declared.server.rule.ServerRule.{ServerRule}
 use Rattle.giop_calls.specs.ServerStanding.{standing}
 use Rattle.giop_session.specs.declared.laws.inputs.ServerInput.{ServerInput}
 use Rattle.giop_session.specs.declared.laws.inputs.ServerInput.TheVariants as input
-use Rattle.giop_session.specs.declared.limits.Limits.{Limits}
-use Rattle.giop_session.specs.declared.calls.plan.Plan.TheVariants.{Next}
-use Rattle.giop_session.specs.Calls.CallTable.{Held}
+use Rattle.giop_end.specs.declared.limits.Limits.{Limits}
+use Rattle.giop_table.specs.declared.plan.Plan.TheVariants.{Next}
+use Rattle.giop_table.specs.CallTable.{Held, entry_at}
 use Rattle.giop_session.specs.Runs.Driven.{Closes, Deed, Feeds, PutsOut, TakesOut}
 use Rattle.giop_session.specs.Runs.Met.{Sorting}
 use Rattle.giop_session.specs.Runs.RunLimits.{ServerIsGivenWithin}
 use Rattle.giop_session.specs.Runs.SideRuns.{RunOf}
-use Rattle.giop_session.specs.Calls.Sending.{entry_of}
-use Rattle.giop_session.specs.Acts.ServerAnswers.{IsAnswer, IsLocateAnswer, answer_fault, locate_of, question_of}
+use Rattle.giop_end.specs.Acts.ServerAnswers.{IsAnswer, IsLocateAnswer, answer_fault, locate_of, question_of}
 use Rattle.giop_session.specs.Items.ServerCarries.{server_telling}
-use Rattle.giop_session.specs.Hearing.ServerHears.{server_side}
-
--- what is stored for an id
-abbrev pub server_entry : Held ServerRule ServerEntry → ℕ → Option ServerEntry
-server_entry h id = entry_of (finite.get h.table id)
+use Rattle.giop_end.specs.Hearing.ServerHears.{server_side}
 
 -- the id whose call an input is about, if it is about one
 abbrev pub server_named : ServerInput → Option ℕ
@@ -41,10 +35,10 @@ abbrev pub server_deed : Interface → Limits → Held ServerRule ServerEntry �
     → Deed ServerEvent CallFault
 server_deed interface limits h (input.Feed octets) = Feeds octets
 server_deed interface limits h (input.Answer reply form) = PutsOut reply.id
-    (answer_fault interface limits (question_of (server_entry h reply.id)) reply form.form)
-    (IsAnswer interface (question_of (server_entry h reply.id)) reply form.form)
+    (answer_fault interface limits (question_of (entry_at h reply.id)) reply form.form)
+    (IsAnswer interface (question_of (entry_at h reply.id)) reply form.form)
 server_deed interface limits h (input.AnswerLocate id here order) = PutsOut id None
-    (IsLocateAnswer id here order (locate_of here (server_entry h id)))
+    (IsLocateAnswer id here order (locate_of here (entry_at h id)))
 server_deed interface limits h (input.Send id) = PutsOut id None
     (λ planned. planned ≡ record { event = event.Send; plan = Next })
 server_deed interface limits h (input.Take id) = TakesOut id

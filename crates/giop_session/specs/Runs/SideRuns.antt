@@ -4,13 +4,14 @@ use Rattle.std.specs.Prelude.{◌≡◌, ℕ, List, Option}
 use Rattle.giop_msg.specs.Stream.{Unread}
 use Rattle.giop_mux.specs.Runs.{Happening}
 use Rattle.giop_session.specs.declared.laws.inputs.Answered.{Answered}
-use Rattle.giop_session.specs.declared.limits.Limits.{Limits}
-use Rattle.giop_session.specs.Calls.Begun.{no_calls}
-use Rattle.giop_session.specs.Calls.CallTable.{Held, entry_at}
-use Rattle.giop_session.specs.Hearing.Heard.{SideOf}
+use Rattle.giop_end.specs.declared.limits.Limits.{Limits}
+use Rattle.giop_end.specs.Ends.Begun.{no_calls, EndState, new_end}
+use Rattle.giop_table.specs.CallTable.{Held, entry_at}
+use Rattle.giop_end.specs.Hearing.Heard.{SideOf}
 use Rattle.giop_session.specs.Items.Carries.{Item, Telling, behind_all}
-use Rattle.giop_session.specs.Runs.Driven.{Deed, EndRuns, EndState, IsGiven, TakesAs, item_answers, new_end, own_answers}
-use Rattle.giop_session.specs.Runs.Inputs.{Holds, Input, Takes, nothing_unread}
+use Rattle.giop_session.specs.Runs.Driven.{Deed, EndRuns, IsGiven, TakesAs, item_answers, own_answers}
+use Rattle.giop_session.specs.Runs.Inputs.{Holds, Input, Takes}
+use Rattle.giop_end.specs.Hearing.Feeding.{nothing_unread}
 use Rattle.giop_session.specs.Runs.Met.{Sorting}
 
 -- what is a run of a side: what its inputs are to an end, and what is said of its calls there
@@ -67,6 +68,11 @@ module _ {R E V A F I T Message : Type 0} (run : RunOf R E V A F I T Message) wh
       pub acts : List (Input V)
       pub taken : SideTakesAs inputs answers acts left k
       pub holds : ActsHold acts calls
+
+    -- and they hold some items for each id
+    abbrev pub SideHoldsSome : List I → List (Answered E) → Unread → Held R E → Type 0
+    SideHoldsSome inputs answers left k =
+        (calls : ℕ → List (Item Message V)) × SideHolds inputs answers left k calls
 
     -- whatever items they hold, the entry of each id is what is said of it
     abbrev pub HasEntries : List I → List (Answered E) → Unread → Held R E → Type 0

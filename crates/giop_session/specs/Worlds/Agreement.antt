@@ -17,20 +17,18 @@ use Rattle.giop_calls.specs.declared.client.entry.ClientEntry.TheVariants.{Done,
 use Rattle.giop_calls.specs.declared.outcome.Outcome.{Outcome}
 use Rattle.giop_calls.specs.declared.server.entry.ServerEntry.TheVariants.{Answered, LocateAnswered}
 use Rattle.giop_calls.specs.declared.server.question.Question.TheVariants as question
-use Rattle.giop_session.specs.declared.limits.Limits.{Limits}
-use Rattle.giop_session.specs.declared.session_fault.SessionFault.{SessionFault}
-use Rattle.giop_session.specs.declared.session_fault.SessionFault.TheVariants.{GatherFull, TooManyCalls, Wire}
-use Rattle.giop_session.specs.Calls.CallTable.{Held}
-use Rattle.giop_session.specs.Runs.ClientRuns.{client_entry}
-use Rattle.giop_session.specs.Runs.ServerRuns.{server_entry}
+use Rattle.giop_end.specs.declared.limits.Limits.{Limits}
+use Rattle.giop_end.specs.declared.session_fault.SessionFault.{SessionFault}
+use Rattle.giop_end.specs.declared.session_fault.SessionFault.TheVariants.{GatherFull, TooManyCalls, Wire}
+use Rattle.giop_table.specs.CallTable.{Held, entry_at}
 use Rattle.giop_session.specs.Worlds.World.{WorldState}
 
 -- what the call of an id came to, at either end of a world
 abbrev pub client_outcome : WorldState → ℕ → Option (Outcome Reply)
-client_outcome w id = option_map client_table.outcome (client_entry w.client.calls id)
+client_outcome w id = option_map client_table.outcome (entry_at w.client.calls id)
 
 abbrev pub server_outcome : WorldState → ℕ → Option (Outcome Reply)
-server_outcome w id = option_map server_table.outcome (server_entry w.server.calls id)
+server_outcome w id = option_map server_table.outcome (entry_at w.server.calls id)
 
 -- both ends agree: once nothing is on its way, each call came to the same at both; and at any time
 -- a Reply that the client has is the one that the server gave to this Request, all of which is
@@ -39,12 +37,12 @@ pub record Agreed (w : WorldState) : Type 0 where
   pub outcomes : w.client.outgoing ≡ [] → w.server.outgoing ≡ [] → (id : ℕ)
       → client_outcome w id ≡ server_outcome w id
   pub replied : (id : ℕ) (q : Request) (r : Reply)
-      → client_entry w.client.calls id ≡ Some (Done q r)
-      → server_entry w.server.calls id ≡ Some (Answered (question.Request q) r 0)
+      → entry_at w.client.calls id ≡ Some (Done q r)
+      → entry_at w.server.calls id ≡ Some (Answered (question.Request q) r 0)
   pub located : (id : ℕ) (q : AnyLocateRequest) (r : LocateReply)
-      → client_entry w.client.calls id ≡ Some (LocateDone q r)
+      → entry_at w.client.calls id ≡ Some (LocateDone q r)
       → (here : Bool)
-      × (server_entry w.server.calls id ≡ Some (LocateAnswered (Some q.target) here))
+      × (entry_at w.server.calls id ≡ Some (LocateAnswered (Some q.target) here))
       × (r.head.status ≡ (if here then 1 else 0)) × (r.rest ≡ [])
 
 -- a limit of an end is met, for which it fails so: the header of a message that is too large stands

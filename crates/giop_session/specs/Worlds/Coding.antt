@@ -15,8 +15,8 @@ use Rattle.giop_calls.specs.declared.kind.CallKind.{CallKind}
 use Rattle.giop_calls.specs.declared.kind.CallKind.TheVariants as kind
 use Rattle.giop_calls.specs.declared.server.heard.HeardCall.{HeardCall}
 use Rattle.giop_calls.specs.Lane.{Codec, Piece}
-use Rattle.giop_session.specs.Hearing.ClientHears.{heard_reply}
-use Rattle.giop_session.specs.Hearing.Decoding.{heard_call}
+use Rattle.giop_end.specs.Hearing.ClientHears.{heard_reply}
+use Rattle.giop_end.specs.Hearing.Decoding.{heard_call}
 
 -- the piece that comes last, behind a first one
 abbrev pub last_piece : Piece → List Piece → Piece

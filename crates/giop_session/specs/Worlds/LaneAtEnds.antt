@@ -11,9 +11,9 @@ use Rattle.giop_msg.specs.declared.version.Version.{Version}
 use Rattle.giop_calls.specs.Lane.{Continues, Cut, Message, Opens, Stops, fragments, is_last, pieces_of}
 use Rattle.giop_calls.specs.declared.kind.CallKind.{CallKind}
 use Rattle.giop_calls.specs.declared.kind.CallKind.TheVariants as kind
-use Rattle.giop_session.specs.declared.session_fault.SessionFault.{SessionFault}
-use Rattle.giop_session.specs.declared.session_fault.SessionFault.TheVariants.{GatherFull, NoMemory, TooManyCalls}
-use Rattle.giop_session.specs.Calls.CallTable.{Call, Held}
+use Rattle.giop_end.specs.declared.session_fault.SessionFault.{SessionFault}
+use Rattle.giop_end.specs.declared.session_fault.SessionFault.TheVariants.{GatherFull, NoMemory, TooManyCalls}
+use Rattle.giop_table.specs.CallTable.{Call, Held}
 
 -- a message of this type and version, of which more is announced or not; the two that name no id
 -- are on no lane

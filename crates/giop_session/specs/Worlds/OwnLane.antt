@@ -19,15 +19,15 @@ use Rattle.giop_calls.specs.declared.fault.CallFault.{CallFault}
 use Rattle.giop_calls.specs.declared.server.entry.ServerEntry.TheVariants.{Asked, LocateAsked}
 use Rattle.giop_calls.specs.declared.server.event.ServerEvent.{ServerEvent}
 use Rattle.giop_calls.specs.declared.server.event.ServerEvent.TheVariants as at_server
-use Rattle.giop_session.specs.declared.acts.form.Form.{Form}
-use Rattle.giop_session.specs.declared.limits.Limits.{Limits}
-use Rattle.giop_session.specs.declared.calls.plan.Plan.TheVariants.{Put}
-use Rattle.giop_session.specs.declared.calls.plan.Planned.{Planned}
-use Rattle.giop_session.specs.Acts.ClientCalls.{IsCall, IsLocate, call_fault, locate_fault}
+use Rattle.giop_end.specs.declared.acts.form.Form.{Form}
+use Rattle.giop_end.specs.declared.limits.Limits.{Limits}
+use Rattle.giop_table.specs.declared.plan.Plan.TheVariants.{Put}
+use Rattle.giop_table.specs.declared.plan.Planned.{Planned}
+use Rattle.giop_end.specs.Acts.ClientCalls.{IsCall, IsLocate, call_fault, locate_fault}
 use Rattle.giop_session.specs.Worlds.Coding.{coding}
-use Rattle.giop_session.specs.Acts.Form.{IsForm}
-use Rattle.giop_session.specs.Acts.Sent.{sends_one}
-use Rattle.giop_session.specs.Acts.ServerAnswers.{IsAnswer, IsLocateAnswer, answer_fault}
+use Rattle.giop_end.specs.Acts.Form.{IsForm}
+use Rattle.giop_end.specs.Acts.Sent.{sends_one}
+use Rattle.giop_end.specs.Acts.ServerAnswers.{IsAnswer, IsLocateAnswer, answer_fault}
 
 -- an event that sends a message in these pieces, and tells how many
 abbrev pub sends_cut : {V : Type 0} → (ℕ → V) → Cut → Planned V

@@ -13,17 +13,17 @@ use Rattle.giop_calls.specs.declared.kind.CallKind.{CallKind}
 use Rattle.giop_calls.specs.declared.server.entry.ServerEntry.{ServerEntry}
 use Rattle.giop_calls.specs.declared.server.entry.ServerEntry.TheVariants as server
 use Rattle.giop_calls.specs.declared.server.rule.ServerRule.{ServerRule}
-use Rattle.giop_session.specs.declared.session_fault.SessionFault.{SessionFault}
+use Rattle.giop_end.specs.declared.session_fault.SessionFault.{SessionFault}
 use Rattle.giop_session.specs.Runs.Alone.{own_messages}
-use Rattle.giop_session.specs.Calls.CallTable.{Call, Held, at}
-use Rattle.giop_session.specs.Hearing.ClientHears.{client_breaks, client_side}
-use Rattle.giop_session.specs.Hearing.Heard.{SideOf, hears}
+use Rattle.giop_table.specs.CallTable.{Call, Held, at}
+use Rattle.giop_end.specs.Hearing.ClientHears.{client_breaks, client_side}
+use Rattle.giop_end.specs.Hearing.Heard.{SideOf, hears}
 use Rattle.giop_session.specs.Worlds.Coding.{coding}
 use Rattle.giop_session.specs.Worlds.LaneAtEnds.{IsOfLimit, gathered_in, seen}
 use Rattle.giop_session.specs.Worlds.OnTheWay.{IsFramed, Names}
-use Rattle.giop_session.specs.Calls.Sending.{entry_of, unsent_of}
+use Rattle.giop_table.specs.Sending.{entry_of, unsent_of}
 use Rattle.giop_session.specs.Items.ServerCarries.{asks}
-use Rattle.giop_session.specs.Hearing.ServerHears.{server_breaks, server_side}
+use Rattle.giop_end.specs.Hearing.ServerHears.{server_breaks, server_side}
 
 -- a message of the call of an id, to an end that such messages don't break off
 pub record IsFor (breaks : Msg → Option SessionFault) (id : ℕ) (m : Msg) : Type 0 where

@@ -16,14 +16,15 @@ use Rattle.giop_session.specs.declared.laws.inputs.ServerInput.TheVariants as se
 use Rattle.giop_session.specs.declared.laws.inputs.WorldEvent.{WorldEvent}
 use Rattle.giop_session.specs.declared.laws.inputs.WorldEvent.TheVariants as event
 use Rattle.giop_session.specs.declared.laws.world.World.{World}
-use Rattle.giop_session.specs.declared.limits.Limits.{Limits}
-use Rattle.giop_session.specs.declared.session_fault.SessionFault.{SessionFault}
-use Rattle.giop_session.specs.Calls.CallTable.{Held}
+use Rattle.giop_end.specs.declared.limits.Limits.{Limits}
+use Rattle.giop_end.specs.declared.session_fault.SessionFault.{SessionFault}
+use Rattle.giop_table.specs.CallTable.{Held}
 use Rattle.giop_session.specs.Runs.ClientRuns.{client_run}
 use Rattle.giop_session.specs.Runs.ServerRuns.{server_run}
 use Rattle.giop_session.specs.Runs.SideRuns.{SideIsGiven, SideRuns}
-use Rattle.giop_session.specs.Ends.View.{state_of}
-use Rattle.giop_session.specs.Runs.Driven.{EndState, InTurn, new_end}
+use Rattle.giop_end.specs.Ends.View.{state_of}
+use Rattle.giop_session.specs.Runs.Driven.{InTurn}
+use Rattle.giop_end.specs.Ends.Begun.{EndState, new_end}
 use Rattle.giop_session.specs.Acts.PutOut.{ArePutOut, is_of_client, is_of_server}
 
 -- both ends, as they stand

@@ -4,11 +4,10 @@
 //! specs/Runs/ServerRuns.antt and `client_deed` in specs/Runs/ClientRuns.antt; and what an event
 //! does is `Happens` in specs/Worlds/World.antt.
 ghost use Rattle.std.specs.Prelude.{◌≡◌, ◌↔◌, IfSome, IsSome};
-ghost use Rattle.giop_session.specs.Acts.Form.{IsForm};
+ghost use Rattle.giop_end.specs.Acts.Form.{IsForm};
 
-use crate::acts::form::Form;
-use crate::session_fault::SessionFault;
 use giop_cdr::{OctetList, Order};
+use giop_end::{Form, SessionFault};
 use giop_msg::{LocateRequest, Reply, Request};
 
 /// A form in which messages can be sent.

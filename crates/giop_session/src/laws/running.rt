@@ -1,13 +1,13 @@
 //! An end is made and given a list of inputs: `run_server` and `run_client`, whose contracts are
 //! the headline (docs/HEADLINE.md) of functions that run. Both say the same, each of a run of its
-//! side, `server_run` or `client_run`: what is told of a run is specs/Runs/SideRuns.antt, and what
+//! side, `server_run` or `client_run`: what is said of a run is specs/Runs/SideRuns.antt, and what
 //! it keeps apart specs/Runs/Fits.antt.
 ghost use Rattle.std.specs.Prelude.{◌≡◌, ◌≢◌, ◌≤◌, ◌^◌, ◌↔◌, Err, IfOk, IsErr};
 ghost use Rattle.giop_session.specs.declared.laws.inputs.Answered.TheVariants.{Refused};
-ghost use Rattle.giop_session.specs.declared.session_fault.SessionFault.TheVariants.{NoMemory};
+ghost use Rattle.giop_end.specs.declared.session_fault.SessionFault.TheVariants.{NoMemory};
 ghost use Rattle.giop_session.specs.Acts.PutOut.{ArePutOut, is_of_client, is_of_server};
-ghost use Rattle.giop_session.specs.Ends.View.{IsDriven, state_of};
-ghost use Rattle.giop_session.specs.Hearing.Heard.{side_of};
+ghost use Rattle.giop_end.specs.Ends.View.{IsDriven, state_of};
+ghost use Rattle.giop_end.specs.Hearing.Heard.{side_of};
 ghost use Rattle.giop_session.specs.Runs.ClientRuns.{client_run};
 ghost use Rattle.giop_session.specs.Runs.Driven.{answer_of, Closes, Feeds, InTurn, IsGiven, TakesOut};
 ghost use Rattle.giop_session.specs.Runs.Fits.{KeepsCallsApart};
@@ -15,11 +15,8 @@ ghost use Rattle.giop_session.specs.Runs.ServerRuns.{server_run};
 ghost use Rattle.giop_session.specs.Runs.SideRuns.{SideRuns};
 
 use super::inputs::{Answered, ClientInput, ServerInput};
-use crate::end::{ClientEnd, End, ServerEnd};
-use crate::hearing::Hearing;
-use crate::limits::Limits;
-use crate::session_fault::SessionFault;
 use giop_calls::{ClientEntry, ClientRule, ServerEntry, ServerRule};
+use giop_end::{ClientEnd, End, Hearing, Limits, ServerEnd, SessionFault};
 use giop_types::Interface;
 use std::alloc::{AllocError, Global};
 
@@ -124,11 +121,11 @@ impl<'a> Driven for End<'a, ServerRule> {
     fn take_input(&mut self, input: ServerInput) -> Result<Answered<ServerEntry>, AllocError> {
         match input {
             ServerInput::Feed(octets) => feed_to(self, octets.as_slice()),
-            ServerInput::Answer { reply, form } => answered(self.answer(reply, form.form)),
+            ServerInput::Answer { reply, form } => answer_of(self.answer(reply, form.form)),
             ServerInput::AnswerLocate { id, here, order } => {
-                answered(self.answer_locate(id, here, order))
+                answer_of(self.answer_locate(id, here, order))
             }
-            ServerInput::Send(id) => answered(self.send(id)),
+            ServerInput::Send(id) => answer_of(self.send(id)),
             ServerInput::Take(id) => take_from(self, id),
             ServerInput::Close => close_end(self),
         }
@@ -151,10 +148,10 @@ impl<'a> Driven for End<'a, ClientRule> {
     fn take_input(&mut self, input: ClientInput) -> Result<Answered<ClientEntry>, AllocError> {
         match input {
             ClientInput::Feed(octets) => feed_to(self, octets.as_slice()),
-            ClientInput::Call { request, form } => answered(self.call(request, form.form)),
-            ClientInput::Locate { request, form } => answered(self.locate(request, form.form)),
-            ClientInput::Cancel { id, order } => answered(self.cancel(id, order)),
-            ClientInput::Send(id) => answered(self.send(id)),
+            ClientInput::Call { request, form } => answer_of(self.call(request, form.form)),
+            ClientInput::Locate { request, form } => answer_of(self.locate(request, form.form)),
+            ClientInput::Cancel { id, order } => answer_of(self.cancel(id, order)),
+            ClientInput::Send(id) => answer_of(self.send(id)),
             ClientInput::Take(id) => take_from(self, id),
             ClientInput::Close => close_end(self),
         }
@@ -186,7 +183,7 @@ pub(super) fn feed_to<R: Hearing>(
         (Feeds octets.now) (state_of end.old) answered (state_of end.new)) }
     ensures others { IsDriven end.old end.new }
 {
-    answered(end.feed(octets))
+    answer_of(end.feed(octets))
 }
 
 // An entry is taken out of an end, where its call is over, and is the answer.
@@ -208,17 +205,17 @@ fn close_end<R: Hearing>(end: &mut End<'_, R>) -> Result<Answered<R::Entry>, All
         Closes (state_of end.old) answered (state_of end.new)) }
     ensures others { IsDriven end.old end.new }
 {
-    answered(end.close())
+    answer_of(end.close())
 }
 
 // What is answered to an input, by what the call for it returned. AllocError where that was out of
 // memory.
-fn answered<E>(told: Result<(), SessionFault>) -> Result<Answered<E>, AllocError>
-    ensures value { IfOk result (λ answered. (answered ≡ answer_of told)
+fn answer_of<E>(outcome: Result<(), SessionFault>) -> Result<Answered<E>, AllocError>
+    ensures value { IfOk result (λ answered. (answered ≡ answer_of outcome)
         × (answered ≢ Refused NoMemory)) }
-    ensures err { IsErr result ↔ (told ≡ Err NoMemory) }
+    ensures err { IsErr result ↔ (outcome ≡ Err NoMemory) }
 {
-    match told {
+    match outcome {
         Ok(()) => Ok(Answered::Done),
         Err(SessionFault::NoMemory) => Err(AllocError),
         Err(why) => Ok(Answered::Refused(why)),

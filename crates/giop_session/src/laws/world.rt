@@ -3,16 +3,13 @@
 //! `Agreed` and `FailsByLimits` in specs/Worlds/Agreement.antt: change both.
 ghost use Rattle.std.specs.Prelude.{◌≡◌, ◌≤◌, ◌^◌, IfOk, length, None, take, drop};
 ghost use Rattle.giop_session.specs.Worlds.Agreement.{Agreed, FailsByLimits};
-ghost use Rattle.giop_session.specs.Worlds.World.{AreJoined, ArriveAtClient, ArriveAtServer, AtClient, AtServer, IsStep};
-ghost use Rattle.giop_session.specs.Worlds.World.{ends_of, GoesBy, returned_for, WorldRuns};
+ghost use Rattle.giop_session.specs.Worlds.World.{AreJoined, ArriveAtClient, ArriveAtServer, AtClient, AtServer, IsStep, ends_of, GoesBy, returned_for, WorldRuns};
 
 use super::inputs::{Answered, ClientInput, ServerInput, WorldEvent};
 use super::running::{Driven, feed_to, take_all};
 use super::two_ends::two_ends_agree;
-use crate::end::{ClientEnd, End, ServerEnd};
-use crate::limits::Limits;
-use crate::session_fault::SessionFault;
 use giop_calls::{ClientRule, ServerRule};
+use giop_end::{ClientEnd, End, Limits, ServerEnd, SessionFault};
 use giop_types::Interface;
 use std::alloc::{AllocError, Global};
 
@@ -66,8 +63,8 @@ pub fn run_world<'a>(
         client: End::<ClientRule>::new(alloc, interface, client_limits),
         server: End::<ServerRule>::new(alloc, interface, server_limits),
     };
-    let told = take_all(alloc, &mut world, schedule)?;
-    Ok((world, told))
+    let returned = take_all(alloc, &mut world, schedule)?;
+    Ok((world, returned))
 }
 
 impl<'a> Driven for World<'a> {
@@ -77,8 +74,8 @@ impl<'a> Driven for World<'a> {
 
     type Answer = Result<(), SessionFault>;
 
-    ghost is_given = { λ world event told after. IsStep (λ interface client server w. Happens
-        interface client server w event told) world after };
+    ghost is_given = { λ world event returned after. IsStep (λ interface client server w. Happens
+        interface client server w event returned) world after };
 
     fn take_input(&mut self, event: WorldEvent) -> Result<Result<(), SessionFault>, AllocError> {
         match event {
@@ -109,10 +106,10 @@ fn at_client(
     world: &mut World<'_>,
     given: ClientInput,
 ) -> Result<Result<(), SessionFault>, AllocError>
-    ensures { IfOk result (λ told. IsStep (λ interface client server w. AtClient interface client
-        server w given told) world.old world.new) }
+    ensures { IfOk result (λ returned. IsStep (λ interface client server w. AtClient interface client
+        server w given returned) world.old world.new) }
 {
-    Ok(told_of(world.client.take_input(given)?))
+    Ok(result_of(world.client.take_input(given)?))
 }
 
 // The server's program does something at its end.
@@ -120,34 +117,34 @@ fn at_server(
     world: &mut World<'_>,
     given: ServerInput,
 ) -> Result<Result<(), SessionFault>, AllocError>
-    ensures { IfOk result (λ told. IsStep (λ interface client server w. AtServer interface client
-        server w given told) world.old world.new) }
+    ensures { IfOk result (λ returned. IsStep (λ interface client server w. AtServer interface client
+        server w given returned) world.old world.new) }
 {
-    Ok(told_of(world.server.take_input(given)?))
+    Ok(result_of(world.server.take_input(given)?))
 }
 
 // Up to so many octets that the client put out arrive at the server's end.
 fn to_server(world: &mut World<'_>, n: usize) -> Result<Result<(), SessionFault>, AllocError>
-    ensures { IfOk result (λ told. IsStep (λ interface client server w. ArriveAtServer interface
-        client server w n told) world.old world.new) }
+    ensures { IfOk result (λ returned. IsStep (λ interface client server w. ArriveAtServer interface
+        client server w n returned) world.old world.new) }
 {
     let octets = front(world.client.outgoing(), n);
     let count = octets.len();
     let answered = feed_to(&mut world.server, octets)?;
     world.client.wrote(count);
-    Ok(told_of(answered))
+    Ok(result_of(answered))
 }
 
 // Up to so many octets that the server put out arrive at the client's end.
 fn to_client(world: &mut World<'_>, n: usize) -> Result<Result<(), SessionFault>, AllocError>
-    ensures { IfOk result (λ told. IsStep (λ interface client server w. ArriveAtClient interface
-        client server w n told) world.old world.new) }
+    ensures { IfOk result (λ returned. IsStep (λ interface client server w. ArriveAtClient interface
+        client server w n returned) world.old world.new) }
 {
     let octets = front(world.server.outgoing(), n);
     let count = octets.len();
     let answered = feed_to(&mut world.client, octets)?;
     world.server.wrote(count);
-    Ok(told_of(answered))
+    Ok(result_of(answered))
 }
 
 // Up to so many octets, the first of these.
@@ -160,7 +157,7 @@ fn front(octets: &[u8], n: usize) -> &[u8]
 }
 
 // Whether an end did what it was given, or why it refused.
-fn told_of<E: Drop>(answered: Answered<E>) -> Result<(), SessionFault>
+fn result_of<E: Drop>(answered: Answered<E>) -> Result<(), SessionFault>
     ensures { result ≡ returned_for answered }
 {
     match answered {

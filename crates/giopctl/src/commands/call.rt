@@ -4,15 +4,12 @@ ghost use Rattle.std.specs.Prelude.{◌≡◌};
 
 mod asked;
 mod following;
-mod help;
 mod lines;
 mod places;
-pub mod words;
 
 use crate::commands::call::asked::{Asked, asked_in, calls_given};
 use crate::commands::call::following::call_and_follow;
 use crate::commands::call::lines::call_lines;
-use crate::commands::call::words::CallWords;
 use crate::connection::connect;
 use crate::connection::target::{endpoint_of, peer_of, target_text};
 use crate::files::OUTPUT_BUFFER;
@@ -20,11 +17,11 @@ use crate::files::interfaces::{NOTHING, Offered, interface_of_each, own_of, read
 use crate::report;
 use giop_commands::call::calls::CallLine;
 use giop_commands::call::streaming::call_stream;
-use giop_commands::failure::Failure;
-use giop_commands::serve::given::Telling;
-use giop_commands::status::Status;
 use giop_commands::{Calling, Ending, Endpoint, call_over};
+use giop_show::failure::Failure;
+use giop_show::status::Status;
 use giop_types::Interface;
+use giop_words::{CallWords, Telling};
 use std::io;
 use std::io::{BufWriter, Write};
 

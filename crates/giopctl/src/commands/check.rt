@@ -1,17 +1,15 @@
 //! `check` over files and the standard output. What it prints is giop_commands' check.rt, over any
 //! reader and writer.
 
-mod help;
-pub mod words;
-
-use crate::commands::check::words::CheckWords;
 use crate::files::OUTPUT_BUFFER;
 use crate::files::interfaces::{By, Joined, join_offers, read_each};
 use crate::report::texts;
 use crate::{files, report};
-use giop_commands::failure::Failure;
-use giop_commands::status::Status;
-use giop_commands::{BehindFault, check_stream, check_text};
+use giop_commands::{check_stream, check_text};
+use giop_show::BehindFault;
+use giop_show::failure::Failure;
+use giop_show::status::Status;
+use giop_words::CheckWords;
 use std::io;
 use std::io::{BufWriter, Read, Write};
 

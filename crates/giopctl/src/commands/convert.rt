@@ -2,19 +2,17 @@
 //! convert/reference.rt and convert/described.rt, over any writer.
 
 mod faults;
-mod help;
-pub mod words;
 
 use crate::commands::convert::faults::{print_ior_fault, print_value_fault};
-use crate::commands::convert::words::ConvertKind;
 use crate::files::{OUTPUT_BUFFER, read};
 use crate::report;
 use crate::report::texts;
 use giop_cdr::Order;
-use giop_commands::convert::unended;
-use giop_commands::failure::Failure;
-use giop_commands::status::Status;
-use giop_commands::{LineForm, Way, convert_corbaloc, convert_ior, convert_value};
+use giop_show::convert::unended;
+use giop_show::failure::Failure;
+use giop_show::status::Status;
+use giop_show::{LineForm, Way, convert_corbaloc, convert_ior, convert_value};
+use giop_words::ConvertKind;
 use std::io;
 use std::io::{BufWriter, Write};
 

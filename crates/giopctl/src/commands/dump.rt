@@ -1,16 +1,13 @@
 //! `dump` over files and the standard output. What it prints is giop_commands' dump.rt, over any
 //! reader and writer.
 
-mod help;
-pub mod words;
-
-use crate::commands::dump::words::DumpWords;
 use crate::files::OUTPUT_BUFFER;
 use crate::report::texts;
 use crate::{files, report};
-use giop_commands::failure::Failure;
-use giop_commands::status::Status;
-use giop_commands::{BehindFault, dump_stream, dump_text};
+use giop_show::failure::Failure;
+use giop_show::status::Status;
+use giop_show::{BehindFault, dump_stream, dump_text};
+use giop_words::DumpWords;
 use std::io;
 use std::io::{BufWriter, Read, Write};
 

@@ -2,10 +2,7 @@
 //! 9.4.5). What is sent and told is giop_commands' call/locating.rt.
 
 mod following;
-mod help;
-pub mod words;
 
-use crate::cli::object_words::ObjectWords;
 use crate::commands::locate::following::locate_and_follow;
 use crate::commands::object::{calling_at, object_interface};
 use crate::connection::connect;
@@ -13,10 +10,11 @@ use crate::connection::target::{endpoint_of, peer_of, target_text};
 use crate::files::OUTPUT_BUFFER;
 use crate::report;
 use giop_commands::call::locating::locate_over;
-use giop_commands::failure::Failure;
-use giop_commands::status::Status;
 use giop_commands::{Ending, Endpoint};
-use giop_session::Limits;
+use giop_end::Limits;
+use giop_show::failure::Failure;
+use giop_show::status::Status;
+use giop_words::ObjectWords;
 use std::io;
 use std::io::{BufWriter, Write};
 

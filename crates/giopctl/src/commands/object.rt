@@ -2,12 +2,12 @@
 ghost use Rattle.std.specs.Prelude.{◌≡◌};
 ghost use Rattle.giop_commands.specs.Check.{AreLimits};
 
-use crate::cli::object_words::ObjectWords;
 use giop_cdr::Order;
-use giop_commands::failure::Failure;
 use giop_commands::{Calling, Endpoint};
-use giop_session::{Form, Limits};
+use giop_end::{Form, Limits};
+use giop_show::failure::Failure;
 use giop_types::Interface;
+use giop_words::ObjectWords;
 use std::alloc::Global;
 
 /// The operation by which a client asks whether an object is there (CORBA 3.3 Part 2, 9.4.2.1).

@@ -2,20 +2,17 @@
 //! which a client asks whether an object is there (CORBA 3.3 Part 2, 9.4.2.1), and tells how long
 //! that took.
 
-mod help;
-pub mod words;
-
-use crate::cli::object_words::ObjectWords;
 use crate::commands::object::{NON_EXISTENT, calling_at, object_interface};
 use crate::connection::connect;
 use crate::connection::target::{endpoint_of, peer_of, target_text};
 use crate::files::OUTPUT_BUFFER;
 use crate::report;
 use giop_commands::call::words::call_from_words;
-use giop_commands::failure::Failure;
-use giop_commands::status::Status;
 use giop_commands::{Ending, Endpoint, call_over};
-use giop_session::Limits;
+use giop_end::Limits;
+use giop_show::failure::Failure;
+use giop_show::status::Status;
+use giop_words::ObjectWords;
 use std::io;
 use std::io::{BufWriter, Write};
 use std::time::Instant;

@@ -1,27 +1,25 @@
 //! `serve` over files, connections and the standard output. What it reads, sends and prints is
 //! giop_commands' serve.rt, over any reader and writer.
 
-mod help;
 mod listening;
 mod object_operations;
 mod objects;
 mod places;
-pub mod words;
 
 use crate::commands::serve::listening::{HERE, listen};
 use crate::commands::serve::objects::{Asked, objects_of, read_answers};
-use crate::commands::serve::words::ServeWords;
 use crate::connection::door::Door;
 use crate::connection::link::Link;
 use crate::files::OUTPUT_BUFFER;
 use crate::files::interfaces::{interface_of_each, read_each};
 use crate::report;
-use giop_commands::failure::Failure;
-use giop_commands::serve::given::{KeyWord, ServedObject, Telling};
+use giop_commands::serve::given::ServedObject;
 use giop_commands::serve::in_turn::Passed;
 use giop_commands::serve::streaming::stream_over;
-use giop_commands::status::Status;
 use giop_commands::{Ending, Serving, serve_over};
+use giop_show::failure::Failure;
+use giop_show::status::Status;
+use giop_words::{KeyWord, ServeWords, Telling};
 use std::io;
 use std::io::{BufWriter, Write};
 use std::net::TcpStream;

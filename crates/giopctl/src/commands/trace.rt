@@ -1,17 +1,14 @@
 //! `trace` over files and the standard output. What it prints is giop_commands' trace.rt, over any
 //! readers and writer.
 
-mod help;
-pub mod words;
-
-use crate::commands::trace::words::TraceWords;
 use crate::files::OUTPUT_BUFFER;
 use crate::files::interfaces::{By, Joined, join_offers, read_each};
 use crate::report::texts;
 use crate::{files, report};
-use giop_commands::failure::Failure;
-use giop_commands::status::Status;
-use giop_commands::{Heard, trace_stream, trace_text};
+use giop_show::failure::Failure;
+use giop_show::status::Status;
+use giop_show::{Heard, trace_stream, trace_text};
+use giop_words::TraceWords;
 use std::io;
 use std::io::{BufWriter, Read, Write};
 

@@ -3,11 +3,12 @@
 use crate::files::read_or_report;
 use crate::report;
 use crate::report::refusals::refuse;
-use giop_commands::convert::unended;
-use giop_commands::failure::Failure;
-use giop_commands::status::Status;
-use giop_commands::{Endpoint, LineForm, Targeted, target_of};
+use giop_commands::{Endpoint, Targeted, target_of};
 use giop_lines::EscapedText;
+use giop_show::LineForm;
+use giop_show::convert::unended;
+use giop_show::failure::Failure;
+use giop_show::status::Status;
 
 /// The text of a target: itself, or behind `@` that of a file, of which a newline at the end is
 /// dropped.

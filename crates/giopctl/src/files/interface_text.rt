@@ -1,8 +1,8 @@
 //! The text of an interface's file: as it was given, and in the plain form, in which no type has a
 //! name. `Interface::from_json` reads the latter.
 
-use giop_commands::failure::Failure;
 use giop_names::plain_interface;
+use giop_show::failure::Failure;
 use giop_types::FormFault;
 use std::alloc::Global;
 

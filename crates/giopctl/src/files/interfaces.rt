@@ -1,13 +1,13 @@
 //! The files of interfaces: of all objects, and of single ones by their keys.
 
-use crate::cli::file_words::FileWord;
 use crate::files::interface_text::InterfaceText;
 use crate::report::refusals::refuse_interface;
 use crate::{files, report};
-use giop_commands::LineForm;
-use giop_commands::failure::Failure;
-use giop_commands::status::Status;
+use giop_show::LineForm;
+use giop_show::failure::Failure;
+use giop_show::status::Status;
 use giop_types::{FormFault, Interface};
+use giop_words::FileWord;
 use std::alloc::{AllocError, Global};
 
 /// The text of an interface of an object that offers nothing.

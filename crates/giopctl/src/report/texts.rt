@@ -4,7 +4,7 @@
 use crate::files::interface_text::InterfaceText;
 use crate::places;
 use crate::report::path_shown::PathShown;
-use giop_commands::status::Limit;
+use giop_show::status::Limit;
 use giop_types::{FormFault, Interface};
 use giop_where::{Place, Role};
 use hex::FromHexError;

@@ -1,6 +1,6 @@
 use Rattle.std.proofs.Common.{◌≡◌, true, false, Err, refl, sym, inl, inr, arith}
 use Rattle.std.proofs.lemmas.Result.{err_from_is_err_and}
-use Rattle.giop_session.specs.Pumping.{between}
+use Rattle.giop_end.specs.Pumping.{between}
 use Rattle.giop_commands.proofs.ActLemmas.{turned_on, turned_interface}
 use Rattle.giop_commands.proofs.StepLemmas.{counted_none, counted_more}
 use Rattle.giop_commands.proofs.TurnLemmas.{waited}

@@ -1,5 +1,5 @@
 use Rattle.std.proofs.Common.{◌≡◌}
-use Rattle.giop_session.specs.Pumping.{between}
+use Rattle.giop_end.specs.Pumping.{between}
 use Rattle.giop_commands.specs.Calling.{are_over, client_hears}
 use Rattle.giop_commands.specs.Turns.{WaitsOn}
 use Rattle.giop_commands.proofs.StepLemmas.{Counted}

@@ -1,8 +1,8 @@
 use Rattle.std.proofs.Common.{ap, sym}
 use Rattle.giop_calls.specs.ServerTable.{server_step, is_closed, is_gathering}
-use Rattle.giop_session.specs.Calls.CallTable.{rules_of}
-use Rattle.giop_session.specs.Hearing.Heard.{in_call}
-use Rattle.giop_session.specs.Acts.ServerAnswers.{IsAnswer, answer_fault, question_in}
+use Rattle.giop_table.specs.CallTable.{rules_of}
+use Rattle.giop_end.specs.Hearing.Heard.{in_call}
+use Rattle.giop_end.specs.Acts.ServerAnswers.{IsAnswer, answer_fault, question_in}
 use Rattle.giop_commands.specs.declared.serve.answering.Due.TheVariants.{Reply}
 use Rattle.giop_commands.specs.Acts.{outbox}
 use Rattle.giop_commands.specs.Answering.{reply_of}

@@ -1,5 +1,5 @@
 use Rattle.std.proofs.Common.{◌∙◌, Some, None, refl}
-use Rattle.giop_session.specs.Pumping.{between}
+use Rattle.giop_end.specs.Pumping.{between}
 use Rattle.giop_commands.specs.Acts.{outbox}
 use Rattle.giop_commands.specs.Serving.{desk, served_of, session}
 use Rattle.giop_commands.proofs.ActLemmas.{acted_on, same_fault, same_unread, turned_interface, turned_limits, turned_on}

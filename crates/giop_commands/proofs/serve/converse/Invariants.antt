@@ -1,5 +1,5 @@
 use Rattle.std.proofs.Common.{◌≡◌, None}
-use Rattle.giop_session.specs.Pumping.{between}
+use Rattle.giop_end.specs.Pumping.{between}
 use Rattle.giop_commands.specs.Serving.{TurnAnswers, served_of, session}
 use Rattle.giop_commands.proofs.StepLemmas.{Counted}
 use Rattle.giop_commands.proofs.serve.converse.Given as goal

@@ -1,4 +1,4 @@
-use Rattle.giop_session.specs.Pumping.{between}
+use Rattle.giop_end.specs.Pumping.{between}
 use Rattle.giop_commands.specs.Serving.{Served, served_of}
 use Rattle.giop_commands.proofs.SessionsLemmas.{served}
 use Rattle.giop_commands.proofs.serve.serve_over.Goals as goal

@@ -1,4 +1,4 @@
-use Rattle.giop_session.specs.Pumping.{between}
+use Rattle.giop_end.specs.Pumping.{between}
 use Rattle.giop_commands.proofs.TurnLemmas.{broke_off}
 use Rattle.giop_commands.proofs.session.goes_on.Goals as goal
 

@@ -12,11 +12,11 @@ use crate::call::given::Calling;
 use crate::call::lines::CallLines;
 use crate::call::streaming::turns::{CallTurn, turn_of_calls};
 use crate::call::streaming::{tell_end, tell_open};
-use crate::failure::Failure;
-use crate::form::LineForm;
 use crate::session::TURNS;
 use crate::session::ending::Ending;
-use giop_session::{ClientEnd, SessionFault};
+use giop_end::{ClientEnd, SessionFault};
+use giop_show::failure::{Failure, Failure};
+use giop_show::form::{LineForm, LineForm};
 use giop_types::Interface;
 use std::alloc::Global;
 use std::io::{Read, Write};
@@ -41,7 +41,10 @@ pub fn call_fed<S: Read + Drop, R: Read, W: Write, O: Write>(
     writer: &mut W,
     out: &mut O,
 ) -> Result<Ending, Failure>
-    ensures { IfOk result (FedEndOver calling.entry lines source.old.waits (feed_at (S.remaining source.old.source) source.old) (feed_at (S.remaining source.new.source) source.new) (change R.remaining reader.old reader.new) (change W.contents writer.old writer.new) (change O.contents out.old out.new)) }
+    ensures { IfOk result (FedEndOver calling.entry lines source.old.waits (feed_at
+        (S.remaining source.old.source) source.old) (feed_at (S.remaining source.new.source)
+        source.new) (change R.remaining reader.old reader.new)
+        (change W.contents writer.old writer.new) (change O.contents out.old out.new)) }
 {
     let mut end = ClientEnd::new(alloc, calling.interface, calling.limits);
     let mut well = true;
@@ -102,11 +105,10 @@ fn converse<S: Read + Drop, R: Read, W: Write, O: Write>(
     requires limits { end.old.limits ≡ calling.limits }
     requires fault { end.old.fault ≡ None }
     ensures { IfOk result (λ refused. FedStreams (asked_of calling.entry []) lines source.old.waits
-        (fed_of (R.remaining reader.old) (W.contents writer.old) (O.contents out.old)
-        (feed_at (S.remaining source.old.source) source.old) end.old well.old)
-        refused
-        (fed_of (R.remaining reader.new) (W.contents writer.new) (O.contents out.new)
-        (feed_at (S.remaining source.new.source) source.new) end.new well.new)) }
+        (fed_of (R.remaining reader.old) (W.contents writer.old) (O.contents out.old) (feed_at
+        (S.remaining source.old.source) source.old) end.old well.old) refused (fed_of
+        (R.remaining reader.new) (W.contents writer.new) (O.contents out.new) (feed_at
+        (S.remaining source.new.source) source.new) end.new well.new)) }
 {
     'turns: for done in 0..TURNS {
         feed_next(alloc, end, calling.interface, source)?;
@@ -135,9 +137,9 @@ fn feed_next<S: Read + Drop>(
     interface: &Interface,
     source: &mut LineFeed<S>,
 ) -> Result<(), Failure>
-    ensures feeds { OnOk result (Feeds interface.now source.old.waits end.now.calls
-        (feed_at (S.remaining source.old.source) source.old)
-        (feed_at (S.remaining source.new.source) source.new)) }
+    ensures feeds { OnOk result (Feeds interface.now source.old.waits end.now.calls (feed_at
+        (S.remaining source.old.source) source.old) (feed_at (S.remaining source.new.source)
+        source.new)) }
     ensures waits { source.new.waits ≡ source.old.waits }
 {
     if source.waits && !end.ids(alloc)?.is_empty() {

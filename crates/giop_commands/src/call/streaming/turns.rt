@@ -3,7 +3,7 @@
 //! specs/CallStreaming.antt: change both.
 ghost use Rattle.std.specs.Prelude.{◌≡◌, ◌&&◌, None, IfOk, OnOk};
 ghost use Rattle.std.specs.Io.KnownBytes.{Appends};
-ghost use Rattle.giop_session.specs.Ends.View.{IsActedOn, IsTurned};
+ghost use Rattle.giop_end.specs.Ends.View.{IsActedOn, IsTurned};
 ghost use Rattle.giop_calls.specs.ClientTable.{is_closed};
 ghost use Rattle.giop_commands.specs.Acts.{outbox_of};
 ghost use Rattle.giop_commands.specs.Calling.{asked_of};
@@ -15,12 +15,12 @@ use crate::call::call_one;
 use crate::call::calls::CallLine;
 use crate::call::given::Calling;
 use crate::call::well::{all_over_well, are_over};
-use crate::failure::Failure;
-use crate::form::LineForm;
 use crate::session::sending::send_all;
 use crate::session::streaming::tell_over;
 use crate::session::{TURNS, goes_on, write_all_out};
-use giop_session::{ClientEnd, Limits, SessionFault};
+use giop_end::{ClientEnd, Limits, SessionFault};
+use giop_show::failure::Failure;
+use giop_show::form::LineForm;
 use giop_types::Interface;
 use std::alloc::{AllocError, Global};
 use std::collections::VecDeque;
@@ -57,10 +57,8 @@ pub fn turn_of_calls<R: Read, W: Write, O: Write>(
     requires fault { end.old.fault ≡ None }
     ensures goes { (all : _) → IfOk result (λ turn. Goes (asked_of calling.entry all) lines
         (course_of (R.remaining reader.old) (W.contents writer.old) (O.contents out.old) end.old
-        left.old.items well.old)
-        turn
-        (course_of (R.remaining reader.new) (W.contents writer.new) (O.contents out.new) end.new
-        left.new.items well.new)) }
+        left.old.items well.old) turn (course_of (R.remaining reader.new) (W.contents writer.new)
+        (O.contents out.new) end.new left.new.items well.new)) }
     ensures fault { IfOk result (λ turn. turn ≡ CallTurn.GoesOn → end.new.fault ≡ None) }
     ensures others { IsTurned end.old end.new }
 {
@@ -99,8 +97,7 @@ fn call_next(
     requires interface { end.old.interface.now ≡ calling.interface.now }
     requires limits { end.old.limits ≡ calling.limits }
     ensures calls { (all : _) → IfOk result (λ refused. CallsNext (asked_of calling.entry all)
-        end.old.fault left.old.items left.new.items (outbox_of end.old) refused
-        (outbox_of end.new)) }
+        end.old.fault left.old.items left.new.items (outbox_of end.old) refused (outbox_of end.new)) }
     ensures others { IsActedOn end.old end.new }
 {
     if let Some(fault) = make_calls(alloc, end, calling, left)? {
@@ -120,8 +117,7 @@ fn make_calls(
     requires interface { end.old.interface.now ≡ calling.interface.now }
     requires limits { end.old.limits ≡ calling.limits }
     ensures calls { (all : _) → IfOk result (λ refused. Makes (asked_of calling.entry all)
-        end.old.fault left.old.items left.new.items (outbox_of end.old) refused
-        (outbox_of end.new)) }
+        end.old.fault left.old.items left.new.items (outbox_of end.old) refused (outbox_of end.new)) }
     ensures others { IsActedOn end.old end.new }
 {
     'calls: for done in 0..TURNS {
@@ -142,8 +138,8 @@ fn next_call(
     end: &ClientEnd<'_>,
     left: &mut VecDeque<CallLine>,
 ) -> Result<Option<CallLine>, AllocError>
-    ensures { IfOk result (λ next. TakesNext limits left.old.items
-        (outbox_of end.now) next left.new.items) }
+    ensures { IfOk result (λ next. TakesNext limits left.old.items (outbox_of end.now) next
+        left.new.items) }
 {
     if !next_has_room(alloc, limits, end, left)? {
         return Ok(None);
@@ -158,8 +154,7 @@ fn next_has_room(
     end: &ClientEnd<'_>,
     left: &VecDeque<CallLine>,
 ) -> Result<bool, AllocError>
-    ensures { IfOk result (λ room. room
-        ≡ next_has_room limits left.now.items (outbox_of end.now)) }
+    ensures { IfOk result (λ room. room ≡ next_has_room limits left.now.items (outbox_of end.now)) }
 {
     match left.front() {
         Some(call) => has_room(alloc, limits, end, call),
@@ -175,8 +170,7 @@ fn has_room(
     end: &ClientEnd<'_>,
     call: &CallLine,
 ) -> Result<bool, AllocError>
-    ensures { IfOk result (λ room. room
-        ≡ has_room limits call.now (outbox_of end.now)) }
+    ensures { IfOk result (λ room. room ≡ has_room limits call.now (outbox_of end.now)) }
 {
     let open = end.ids(alloc)?.len();
     Ok(
@@ -195,8 +189,9 @@ fn take_turn<R: Read, W: Write>(
     reader: &mut R,
     writer: &mut W,
 ) -> Result<bool, Failure>
-    ensures turns { IfOk result (λ goes. TurnsAt end.old.interface.now (R.remaining reader.old) (W.contents writer.old) end.old goes
-        (R.remaining reader.new) (W.contents writer.new) end.new) }
+    ensures turns { IfOk result (λ goes. TurnsAt end.old.interface.now (R.remaining reader.old)
+        (W.contents writer.old) end.old goes (R.remaining reader.new) (W.contents writer.new)
+        end.new) }
     ensures others { IsTurned end.old end.new }
 {
     let ids = end.ids(alloc)?;

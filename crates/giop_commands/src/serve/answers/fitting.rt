@@ -79,7 +79,8 @@ fn member_fits(
     json: &Json,
 ) -> Result<bool, FormFault>
     ensures { Shows (λ fit. fit) result
-        (member_fits interface.now sending name.now outs.now (view json.now) (as_array (view json.now))) }
+        (member_fits interface.now sending name.now outs.now (view json.now) (as_array (view
+        json.now))) }
 {
     match json.as_array() {
         None => fits_outs(alloc, interface, sending, name, outs, json),
@@ -139,7 +140,8 @@ fn fits_outs(
     outs: &[Parameter],
     json: &Json,
 ) -> Result<bool, FormFault>
-    ensures { Shows (λ fit. fit) result (fits_outs interface.now sending name.now outs.now (view json.now)) }
+    ensures { Shows (λ fit. fit) result (fits_outs interface.now sending name.now outs.now (view
+        json.now)) }
 {
     match given_of(alloc, interface.general(), outs, json)? {
         Some(given) => Ok(is_let_out(alloc, interface, sending, name, given)?),

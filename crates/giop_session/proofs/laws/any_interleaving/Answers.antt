@@ -1,8 +1,8 @@
 use Rattle.std.proofs.Common.{sym, ap, ◌∙◌}
 use Rattle.giop_ids.specs.Runs.{alone}
 use Rattle.giop_ids.proofs.RunLemmas.{at-run}
-use Rattle.giop_session.specs.Calls.CallTable.{at, is_of_call, rules_of, turn}
-use Rattle.giop_session.proofs.OnCalls.TableLemmas.{table_apart, told_apart}
+use Rattle.giop_table.specs.CallTable.{at, is_of_call, rules_of, turn}
+use Rattle.giop_table.proofs.TableLemmas.{table_apart, told_apart}
 use Rattle.giop_session.proofs.laws.any_interleaving.Goals as goal
 
 pub returns : goal.returns

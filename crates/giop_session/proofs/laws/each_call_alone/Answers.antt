@@ -1,6 +1,6 @@
 use Rattle.giop_ids.proofs.RunLemmas.{at-run}
-use Rattle.giop_session.specs.Calls.CallTable.{is_of_call, rules_of}
-use Rattle.giop_session.proofs.OnCalls.TableLemmas.{table_apart, told_apart}
+use Rattle.giop_table.specs.CallTable.{is_of_call, rules_of}
+use Rattle.giop_table.proofs.TableLemmas.{table_apart, told_apart}
 use Rattle.giop_session.proofs.laws.each_call_alone.Goals as goal
 
 pub returns-clause-value : goal.returns-clause-value

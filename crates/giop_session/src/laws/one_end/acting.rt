@@ -2,8 +2,8 @@
 //! empty, and no program calls these.
 ghost use Rattle.std.specs.Prelude.{◌≡◌, Err, Ok};
 ghost use Rattle.giop_session.specs.Acts.Acting.{IsAccepted};
-ghost use Rattle.giop_session.specs.Calls.CallTable.{rules_by};
-ghost use Rattle.giop_session.specs.Acts.Putting.{Befell};
+ghost use Rattle.giop_table.specs.CallTable.{rules_by};
+ghost use Rattle.giop_end.specs.Acts.Putting.{ActsOnCall};
 
 use crate::Side;
 
@@ -13,9 +13,9 @@ use crate::Side;
 /// that the plan sends, and leaves each other id. A refused one leaves all.
 pub fn what_an_own_act_leaves<R: Side>(rule: &R)
     ensures accepted { (of_rule id planned h k out out' : _)
-        → Befell (rules_by R.Side rule.now) of_rule id planned h out (Ok tt) k out'
+        → ActsOnCall (rules_by R.Side rule.now) of_rule id planned h out (Ok tt) k out'
         → IsAccepted (R.next rule.now) id planned h out k out' }
     ensures refused { (of_rule id planned h k out out' why : _)
-        → Befell (rules_by R.Side rule.now) of_rule id planned h out (Err why) k out'
+        → ActsOnCall (rules_by R.Side rule.now) of_rule id planned h out (Err why) k out'
         → (k ≡ h) × (out' ≡ out) }
 {}

@@ -1,7 +1,8 @@
 //! What feeding an end comes to, in whatever reads its octets come. A function's contract is a
-//! law; the body is empty, and no program calls it. Its meaning is `Feeds` in specs/Pumping.antt.
-ghost use Rattle.giop_session.specs.Hearing.Heard.{hears_in};
-ghost use Rattle.giop_session.specs.Pumping.{AreOneRead, StaysRefused};
+//! law; the body is empty, and no program calls it. Its words stand in specs/Pumping.antt of
+//! giop_end.
+ghost use Rattle.giop_end.specs.Hearing.Heard.{hears_in};
+ghost use Rattle.giop_end.specs.Pumping.{AreOneRead, StaysRefused};
 
 use crate::Hearing;
 

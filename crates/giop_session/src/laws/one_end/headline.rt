@@ -11,7 +11,7 @@ ghost use Rattle.giop_session.specs.Runs.ServerRuns.{server_run};
 ghost use Rattle.giop_session.specs.Runs.SideRuns.{EntriesAre, SameEntries, SideTakesItems};
 ghost use Rattle.giop_session.specs.Runs.Events.{EachFollows, Meets};
 ghost use Rattle.giop_session.specs.Items.ServerCarries.{CarryCall, IsRequestIn, IsLocateRequestIn};
-ghost use Rattle.giop_session.specs.Hearing.Heard.{side_of};
+ghost use Rattle.giop_end.specs.Hearing.Heard.{side_of};
 
 use crate::Hearing;
 
@@ -69,10 +69,10 @@ pub fn what_is_cut_is_carried()
     ensures locate { (interface version order asked piece sent entry : _)
         → IsLocateRequestIn version order asked piece sent
         → CarryCall interface entry (call.Locate asked) sent }
-    ensures reply { (interface version order asked told piece sent known : _)
-        → AwaitsReply known asked → IsReplyIn interface asked version order told piece sent
-        → CarryReply interface known (answer.Reply told) sent }
-    ensures located { (interface version order asked told piece sent known : _)
-        → AwaitsLocateReply known asked → IsLocateReplyIn version order told piece sent
-        → CarryReply interface known (answer.Locate told) sent }
+    ensures reply { (interface version order asked reply piece sent known : _)
+        → AwaitsReply known asked → IsReplyIn interface asked version order reply piece sent
+        → CarryReply interface known (answer.Reply reply) sent }
+    ensures located { (interface version order asked reply piece sent known : _)
+        → AwaitsLocateReply known asked → IsLocateReplyIn version order reply piece sent
+        → CarryReply interface known (answer.Locate reply) sent }
 {}

@@ -4,9 +4,9 @@ ghost use Rattle.std.specs.Prelude.{ℕ, Some};
 ghost use Rattle.std.specs.FinMap as finite;
 ghost use Rattle.giop_calls.specs.ClientTable as client;
 ghost use Rattle.giop_calls.specs.ServerTable as server;
-ghost use Rattle.giop_session.specs.Acts.ClientCalls.{IsCall, IsCancel, IsLocate};
+ghost use Rattle.giop_end.specs.Acts.ClientCalls.{IsCall, IsCancel, IsLocate};
 ghost use Rattle.giop_session.specs.Runs.LeftToSend.{ArePlanned, ClientPlans, IsLeft, ServerPlans, ServerMeets, ClientMeets};
-ghost use Rattle.giop_session.specs.Acts.ServerAnswers.{IsAnswer, IsLocateAnswer};
+ghost use Rattle.giop_end.specs.Acts.ServerAnswers.{IsAnswer, IsLocateAnswer};
 
 /// A server's end hears messages and acts itself, and none of this is refused. It plans a Reply in
 /// as many messages as its event says, a LocateReply in one, and a further piece as the next one:

@@ -1,10 +1,10 @@
 //! Limits in any order: events that are within the limits of an end meet none. Each function's
 //! contract is a law; the bodies are empty, and no program calls these.
 ghost use Rattle.std.specs.Prelude.{◌≤◌, length, sum_by};
-ghost use Rattle.giop_session.specs.declared.limits.Limits.{Limits};
-ghost use Rattle.giop_session.specs.Hearing.ClientHears.{client_side};
+ghost use Rattle.giop_end.specs.declared.limits.Limits.{Limits};
+ghost use Rattle.giop_end.specs.Hearing.ClientHears.{client_side};
 ghost use Rattle.giop_session.specs.Runs.Limits.{AreWithinAtClient, AreWithinAtServer, MeetNoLimit, payload_of};
-ghost use Rattle.giop_session.specs.Hearing.ServerHears.{server_side};
+ghost use Rattle.giop_end.specs.Hearing.ServerHears.{server_side};
 
 /// Let a server's Requests and LocateRequests have at most as many distinct ids as its limit
 /// `calls`, and all pieces of fragmented messages at most as many octets as its limit `gathered`.

@@ -13,11 +13,11 @@ use super::coding::own_ends_of_one_lane_agree;
 /// And an end fails for its own limits alone: at a message that is too large, for want of room for
 /// one more call, or of room to gather.
 pub fn two_ends_agree()
-    ensures agreed { (interface client_limits server_limits schedule told w : _)
-        → WorldRuns interface client_limits server_limits schedule told w → w.client.fault ≡ None
+    ensures agreed { (interface client_limits server_limits schedule returned w : _)
+        → WorldRuns interface client_limits server_limits schedule returned w → w.client.fault ≡ None
         → w.server.fault ≡ None → Agreed w }
-    ensures fails { (interface client_limits server_limits schedule told w : _)
-        → WorldRuns interface client_limits server_limits schedule told w
+    ensures fails { (interface client_limits server_limits schedule returned w : _)
+        → WorldRuns interface client_limits server_limits schedule returned w
         → FailsByLimits client_limits server_limits w }
 {
     own_ends_of_one_lane_agree();

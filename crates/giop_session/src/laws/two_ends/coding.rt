@@ -10,18 +10,18 @@ ghost use Rattle.giop_calls.specs.declared.client.event.ClientEvent.TheVariants 
 ghost use Rattle.giop_calls.specs.declared.kind.CallKind.TheVariants as kind;
 ghost use Rattle.giop_calls.specs.declared.server.entry.ServerEntry.TheVariants as server;
 ghost use Rattle.giop_calls.specs.declared.server.event.ServerEvent.TheVariants as at_server;
-ghost use Rattle.giop_session.specs.Calls.CallTable.{brought, First, Hears, More, Nothing};
+ghost use Rattle.giop_table.specs.CallTable.{brought, First, Hears, More, Nothing};
 ghost use Rattle.giop_session.specs.Items.ClientCarries.{replies};
-ghost use Rattle.giop_session.specs.Hearing.ClientHears.{awaited, client_befalls};
+ghost use Rattle.giop_end.specs.Hearing.ClientHears.{awaited, begins as begins_reply, client_act, client_pieces};
 ghost use Rattle.giop_session.specs.Worlds.Coding.{coding};
-ghost use Rattle.giop_session.specs.Hearing.Heard.{behind_id, kept};
+ghost use Rattle.giop_end.specs.Hearing.Heard.{behind_id};
+ghost use Rattle.giop_end.specs.Hearing.Pieces.{goes_on};
 ghost use Rattle.giop_session.specs.Worlds.LaneAtEnds.{carried, gathered_in, gathers, seen};
-ghost use Rattle.giop_session.specs.Worlds.OwnLane.{BringsClient, located_run, OwnRuns, PlansCall, PlansLocated, SendsCall, SendsLocated, SendsReply, IsAnswerable, IsReplied, IsLocated};
-ghost use Rattle.giop_session.specs.Worlds.OwnLane.{PlansReply, replied_run, sends_cut};
-ghost use Rattle.giop_session.specs.Acts.Sent.{sends_one};
+ghost use Rattle.giop_session.specs.Worlds.OwnLane.{BringsClient, located_run, OwnRuns, PlansCall, PlansLocated, SendsCall, SendsLocated, SendsReply, IsAnswerable, IsReplied, IsLocated, PlansReply, replied_run, sends_cut};
+ghost use Rattle.giop_end.specs.Acts.Sent.{sends_one};
 ghost use Rattle.giop_session.specs.Items.ServerCarries.{asks};
-ghost use Rattle.giop_session.specs.Hearing.ServerHears.{server_befalls};
-ghost use Rattle.giop_session.specs.Worlds.Reading.{IsContinuedBy, whole_call, last_of_call, whole_reply, first_of_reply, last_of_reply};
+ghost use Rattle.giop_end.specs.Hearing.ServerHears.{begins as begins_call, server_act, server_pieces};
+ghost use Rattle.giop_session.specs.Worlds.Reading.{IsContinuedBy, whole_call, last_of_call, whole_reply, last_of_reply};
 
 use giop_calls::laws::ends_of_one_lane_agree;
 
@@ -37,8 +37,8 @@ pub fn what_is_sent_is_read()
         → (cut : Cut) × (planned ≡ sends_cut (at_server.Answer r) cut)
         × CutsReply (coding interface) q r (pieces_of cut) }
     ensures located { (interface q here planned : _) → PlansLocated q here planned
-        → (piece told : _) × (planned ≡ sends_one (at_server.AnswerLocate here) piece)
-        × CutsLocated (coding interface) q here piece told }
+        → (piece reply : _) × (planned ≡ sends_one (at_server.AnswerLocate here) piece)
+        × CutsLocated (coding interface) q here piece reply }
 {}
 
 /// `coding` is how a server's end reads: a Request or a LocateRequest, whole or as its last
@@ -46,31 +46,30 @@ pub fn what_is_sent_is_read()
 /// last one are gathered.
 pub fn servers_read_as_coding()
     ensures whole { (interface k m call : _) → m.kind ≡ asks k → m.more ≡ false
-        → server_befalls interface m call ≡ Hears (whole_call interface m) Nothing }
+        → server_act interface m call ≡ Hears (whole_call interface m) Nothing }
     ensures first { (interface k m call : _) → m.kind ≡ asks k → m.more ≡ true
-        → server_befalls interface m call
-        ≡ Hears (kept (at_server.First k)) (First m.order m.payload) }
+        → server_act interface m call ≡ begins_call k m }
     ensures more { (interface k cut m unsent : _) → IsContinuedBy cut m → m.more ≡ true
-        → server_befalls interface m (gathers (server.Gathering k) unsent cut)
-        ≡ Hears (kept (at_server.More true)) (More (behind_id m)) }
+        → server_act interface m (gathers (server.Gathering k) unsent cut)
+        ≡ goes_on server_pieces m }
     ensures last { (interface k cut m unsent : _) → cut.first.kind ≡ asks k → IsContinuedBy cut m
-        → m.more ≡ false → server_befalls interface m (gathers (server.Gathering k) unsent cut)
+        → m.more ≡ false → server_act interface m (gathers (server.Gathering k) unsent cut)
         ≡ last_of_call interface cut m }
 {}
 
 /// And how a client's end reads the reply to a call that waits for it, or whose reply it gathers.
 pub fn clients_read_as_coding()
     ensures whole { (interface k q m call : _) → m.kind ≡ replies k → m.more ≡ false
-        → awaited k m.version call.slot ≡ Some q → client_befalls interface m call
+        → awaited k m.version call.slot ≡ Some q → client_act interface m call
         ≡ Hears (whole_reply interface k q m) Nothing }
     ensures first { (interface k q m call : _) → m.kind ≡ replies k → m.more ≡ true
-        → awaited k m.version call.slot ≡ Some q → client_befalls interface m call
-        ≡ first_of_reply k m }
+        → awaited k m.version call.slot ≡ Some q → client_act interface m call
+        ≡ begins_reply k m }
     ensures more { (interface q cut m unsent : _) → IsContinuedBy cut m → m.more ≡ true
-        → client_befalls interface m (gathers (client.Gathering q) unsent cut)
-        ≡ Hears (kept (at_client.More true)) (More (behind_id m)) }
+        → client_act interface m (gathers (client.Gathering q) unsent cut)
+        ≡ goes_on client_pieces m }
     ensures last { (interface q cut m unsent : _) → IsContinuedBy cut m → m.more ≡ false
-        → client_befalls interface m (gathers (client.Gathering q) unsent cut)
+        → client_act interface m (gathers (client.Gathering q) unsent cut)
         ≡ last_of_reply interface q cut m }
 {}
 
@@ -114,6 +113,6 @@ pub fn own_lanes_come_to_replies()
         → IsReplied interface q r one other → BringsClient interface (replied_run q r one other)
         (client.Done q r) }
     ensures located { (interface q here one other : _) → IsLocated interface q here one other
-        → (told : _) × BringsClient interface (located_run q here one other) (client.LocateDone q
-        told) }
+        → (reply : _) × BringsClient interface (located_run q here one other) (client.LocateDone q
+        reply) }
 {}

@@ -5,15 +5,15 @@ ghost use Rattle.giop_msg.specs.declared.kind.Kind.TheVariants as message;
 ghost use Rattle.giop_calls.specs.Lane.{pieces_of};
 ghost use Rattle.giop_calls.specs.declared.client.entry.ClientEntry.TheVariants as client;
 ghost use Rattle.giop_calls.specs.declared.server.entry.ServerEntry.TheVariants as server;
-ghost use Rattle.giop_session.specs.Calls.CallTable.{More, Nothing};
+ghost use Rattle.giop_table.specs.CallTable.{More, Nothing};
 ghost use Rattle.giop_session.specs.Items.ClientCarries.{replies};
-ghost use Rattle.giop_session.specs.Hearing.ClientHears.{awaited};
-ghost use Rattle.giop_session.specs.Hearing.Heard.{behind_id};
+ghost use Rattle.giop_end.specs.Hearing.ClientHears.{awaited};
+ghost use Rattle.giop_end.specs.Hearing.Heard.{behind_id};
 ghost use Rattle.giop_session.specs.Worlds.LaneAtEnds.{gathers};
 ghost use Rattle.giop_session.specs.Items.ServerCarries.{asks};
 ghost use Rattle.giop_session.specs.Worlds.Reading.{IsContinuedBy, ServerHearsEvent, ClientHearsEvent, IsGathering};
 
-/// What befalls a call at a server's end is the event that its lane has of the message: of what
+/// What a message does to a call at a server's end is the event that its lane has of it: of what
 /// opens a call, of a Fragment in the byte order of what is gathered, and of a CancelRequest.
 pub fn servers_hear_the_lanes_event()
     ensures opens { (interface k m call pieces : _) → m.kind ≡ asks k

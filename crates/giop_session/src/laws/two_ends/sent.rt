@@ -14,13 +14,13 @@ ghost use Rattle.giop_calls.specs.declared.client.event.ClientEvent.TheVariants 
 ghost use Rattle.giop_calls.specs.declared.client.heard.HeardReply.TheVariants as answer;
 ghost use Rattle.giop_calls.specs.declared.server.event.ServerEvent.TheVariants as at_server;
 ghost use Rattle.giop_calls.specs.declared.server.heard.HeardCall.TheVariants as call;
-ghost use Rattle.giop_session.specs.Acts.ClientCalls.{IsCancel};
+ghost use Rattle.giop_end.specs.Acts.ClientCalls.{IsCancel};
 ghost use Rattle.giop_session.specs.Items.ClientCarries.{CarryReply, AwaitsReply, AwaitsLocateReply};
 ghost use Rattle.giop_session.specs.Items.ServerCarries.{CarryCall};
 ghost use Rattle.giop_session.specs.Worlds.OnTheWay.{id_of, IsFramed, Names, OnTheWay};
 ghost use Rattle.giop_session.specs.Worlds.OwnLane.{SendsCall, SendsLocated, SendsReply, SaysWhether};
-ghost use Rattle.giop_session.specs.Acts.Sent.{sends_one};
-ghost use Rattle.giop_session.specs.Acts.ServerAnswers.{IsLocateAnswer};
+ghost use Rattle.giop_end.specs.Acts.Sent.{sends_one};
+ghost use Rattle.giop_end.specs.Acts.ServerAnswers.{IsLocateAnswer};
 
 use crate::laws::one_end::what_is_cut_is_carried;
 
@@ -64,12 +64,12 @@ pub fn what_is_sent_is_an_item()
     ensures locate { (interface entry asked cut there : _)
         → SendsCall interface entry (question.Locate asked) cut
         → CarryCall interface there (call.Locate asked) (pieces_of cut) }
-    ensures reply { (interface asked told cut known : _) → AwaitsReply known asked
-        → SendsReply interface asked told cut → CarryReply interface known (answer.Reply told)
+    ensures reply { (interface asked reply cut known : _) → AwaitsReply known asked
+        → SendsReply interface asked reply cut → CarryReply interface known (answer.Reply reply)
         (pieces_of cut) }
     ensures located { (interface asked here m known : _) → AwaitsLocateReply known asked
-        → SendsLocated asked here m → (told : _) × CarryReply interface known (answer.Locate told)
-        (m ∷ []) × SaysWhether here told }
+        → SendsLocated asked here m → (reply : _) × CarryReply interface known (answer.Locate reply)
+        (m ∷ []) × SaysWhether here reply }
 {
     what_is_cut_is_carried();
 }

@@ -2,17 +2,16 @@
 
 use crate::commands::call::Object;
 use crate::commands::call::places::{each_json, of_calls, of_words};
-use crate::commands::call::words::CallWords;
 use crate::files::FileFront;
 use crate::files::interfaces::Offered;
 use crate::report::refusals::{refuse_form, refuse_words};
 use crate::{files, report};
 use giop_commands::call::calls::{CallLine, calls_from_json};
 use giop_commands::call::words::call_from_words;
-use giop_commands::failure::Failure;
-use giop_commands::serve::given::Telling;
-use giop_commands::status::Status;
+use giop_show::failure::Failure;
+use giop_show::status::Status;
 use giop_types::{FormFault, Interface};
+use giop_words::{CallWords, Telling};
 use std::io::ErrorKind;
 
 /// Where the calls stand.

@@ -3,7 +3,6 @@
 ghost use Rattle.std.specs.Prelude.{◌≡◌};
 
 use crate::commands::call::asked::{Given, calls_given};
-use crate::commands::call::words::CallWords;
 use crate::commands::call::{Object, calling_of};
 use crate::connection::connect;
 use crate::connection::forwards::{MOST_FORWARDS, place_text};
@@ -13,12 +12,13 @@ use crate::report;
 use giop_commands::Endpoint;
 use giop_commands::call::calls::CallLine;
 use giop_commands::call::following::{Forward, call_at, calls_of, forwards_of, tell_followed};
-use giop_commands::failure::Failure;
 use giop_commands::session::ending::ending_of;
 use giop_commands::session::told;
-use giop_commands::status::Status;
-use giop_session::{ClientEnd, SessionFault};
+use giop_end::{ClientEnd, SessionFault};
+use giop_show::failure::Failure;
+use giop_show::status::Status;
 use giop_types::Interface;
+use giop_words::CallWords;
 use std::alloc::{AllocError, Global};
 use std::io;
 use std::io::{BufWriter, Write};

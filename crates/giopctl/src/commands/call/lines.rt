@@ -1,7 +1,6 @@
 //! `call` of a call a line, which are read as they are called.
 
 use crate::commands::call::places::of_call;
-use crate::commands::call::words::CallWords;
 use crate::commands::call::{Object, calling_of};
 use crate::connection::connect;
 use crate::connection::target::peer_of;
@@ -11,10 +10,11 @@ use crate::report::refusals::refuse_form;
 use giop_commands::call::feed::LineFeed;
 use giop_commands::call::lines::CallLines;
 use giop_commands::call::streaming::feeding::call_fed;
-use giop_commands::failure::Failure;
-use giop_commands::status::Status;
 use giop_commands::{Calling, Ending, Endpoint};
+use giop_show::failure::Failure;
+use giop_show::status::Status;
 use giop_types::FormFault;
+use giop_words::CallWords;
 use std::io;
 use std::io::{BufWriter, Cursor, Read, Write};
 

@@ -3,7 +3,6 @@
 ghost use Rattle.std.specs.Prelude.{◌≡◌};
 ghost use Rattle.giop_commands.specs.Check.{AreLimits};
 
-use crate::cli::object_words::ObjectWords;
 use crate::commands::object::{calling_at, object_interface};
 use crate::connection::connect;
 use crate::connection::forwards::{MOST_FORWARDS, place_text};
@@ -12,12 +11,13 @@ use crate::files::OUTPUT_BUFFER;
 use crate::report;
 use giop_commands::call::locate_following::{locate_at, located_place};
 use giop_commands::call::locating::tell_located;
-use giop_commands::failure::Failure;
 use giop_commands::session::write_session;
-use giop_commands::status::Status;
 use giop_commands::{Ending, Endpoint};
-use giop_session::{ClientEnd, Limits, SessionFault};
+use giop_end::{ClientEnd, Limits, SessionFault};
+use giop_show::failure::Failure;
+use giop_show::status::Status;
 use giop_types::Interface;
+use giop_words::ObjectWords;
 use std::io;
 use std::io::{BufWriter, Write};
 

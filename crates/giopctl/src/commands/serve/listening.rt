@@ -1,10 +1,10 @@
 //! The port at which `serve` listens, and the file of the reference of its object.
 
-use crate::commands::serve::words::ServeWords;
 use crate::report;
-use giop_commands::failure::Failure;
 use giop_commands::serve::reference::reference_text;
-use giop_commands::status::Status;
+use giop_show::failure::Failure;
+use giop_show::status::Status;
+use giop_words::ServeWords;
 use std::net::{Ipv4Addr, TcpListener};
 use std::{fs, io};
 

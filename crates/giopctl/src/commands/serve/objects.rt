@@ -1,23 +1,22 @@
 //! The objects that `serve` serves: that of --key, and those of which a file of interfaces or
 //! answers names the key. Each has an interface and answers, its own or those of all others.
 
-use crate::cli::file_words::FileWord;
 use crate::commands::serve::object_operations::{Texts, texts_of};
 use crate::commands::serve::places::{WIDE, of_answers};
-use crate::commands::serve::words::ServeWords;
 use crate::files::interface_text::InterfaceText;
 use crate::files::interfaces::{NOTHING, Offered, own_of};
 use crate::files::read_or_report;
 use crate::report;
 use crate::report::refusals::{refuse_form, refuse_unsent};
 use crate::report::texts;
-use giop_commands::failure::Failure;
 use giop_commands::serve::answers::{Answers, answers_from_json};
 use giop_commands::serve::given::Sending;
-use giop_commands::status::{Limit, Status};
+use giop_end::Limits;
 use giop_names::interface_id;
-use giop_session::Limits;
+use giop_show::failure::Failure;
+use giop_show::status::{Limit, Status};
 use giop_types::{FormFault, Interface};
+use giop_words::{FileWord, ServeWords};
 use std::alloc::{AllocError, Global};
 
 /// A file of answers that was read.

@@ -7,7 +7,7 @@ use Rattle.giop_msg.specs.declared.version.Version.TheVariants.{V12}
 use Rattle.giop_calls.specs.ServerTable as server
 use Rattle.giop_calls.specs.declared.fault.CallFault.TheVariants.{NotOpen}
 use Rattle.giop_calls.specs.declared.server.entry.ServerEntry.TheVariants.{LocateAnswered}
-use Rattle.giop_session.specs.declared.session_fault.SessionFault.TheVariants.{Call as InCall, TooManyCalls, Wire}
+use Rattle.giop_session.specs.declared.SessionFault.TheVariants.{Call as InCall, TooManyCalls, Wire}
 use Rattle.laws_in_use.specs.Asking.{here}
 use Rattle.laws_in_use.specs.Exchange.{ping}
 use Rattle.laws_in_use.specs.Framed.{refusing}

@@ -4,8 +4,8 @@ use Rattle.giop_msg.specs.declared.msg.Msg.{Msg}
 use Rattle.giop_msg.specs.Header.{header_fault}
 use Rattle.giop_msg.specs.Msg.{IsMessage, message_octets}
 use Rattle.giop_msg.specs.Stream.{BeginsWithFault}
-use Rattle.giop_session.specs.declared.session_fault.SessionFault.{SessionFault}
-use Rattle.giop_session.specs.declared.session_fault.SessionFault.TheVariants.{NoMemory, Wire}
+use Rattle.giop_session.specs.declared.SessionFault.{SessionFault}
+use Rattle.giop_session.specs.declared.SessionFault.TheVariants.{NoMemory, Wire}
 use Rattle.giop_session.specs.Pumping.{Feeds}
 use Rattle.laws_in_use.specs.Feeding.{bad_magic, no_header, state_of}
 use Rattle.laws_in_use.specs.Limited.{new_server}

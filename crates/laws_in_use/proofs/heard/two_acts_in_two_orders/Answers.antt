@@ -9,7 +9,7 @@ use Rattle.giop_calls.specs.declared.server.event.ServerEvent.{ServerEvent}
 use Rattle.giop_calls.specs.ServerTable.{is_closed, is_gathering, server_step}
 use Rattle.giop_session.specs.Calls.CallTable.{at, is_of_call, turn}
 use Rattle.giop_session.specs.Runs.Events.{Comes, Follows, own_events}
-use Rattle.giop_session.specs.Hearing.ServerHears.{server_befalls}
+use Rattle.giop_session.specs.Hearing.ServerHears.{server_act}
 use Rattle.laws_in_use.specs.Heard.{asks, begins, silence}
 use Rattle.laws_in_use.specs.Locating.{door_begins, key_little, limits}
 use Rattle.laws_in_use.proofs.LocatingRuns.{asked_act, begun_act, new, none_at, one_1, one_2}
@@ -66,6 +66,6 @@ own_is = refl
 
 pub returns-clause-met : goal.returns-clause-met
 returns-clause-met c = λ interface k met.
-    let follows = subst (λ events. Follows (turn server_step is_closed is_gathering) (server_befalls interface) (at (new limits) 7) events (at k 7)) own_is
+    let follows = subst (λ events. Follows (turn server_step is_closed is_gathering) (server_act interface) (at (new limits) 7) events (at k 7)) own_is
     (c.each_call_of_a_run.ensures interface (new limits) k (Comes door_begins ∷ Comes key_little ∷ []) met 7) in
-    follows.1 ∙ ap (λ call. left call (turn server_step is_closed is_gathering call (server_befalls interface door_begins call))) (none_at limits 7)
+    follows.1 ∙ ap (λ call. left call (turn server_step is_closed is_gathering call (server_act interface door_begins call))) (none_at limits 7)

@@ -9,7 +9,7 @@ use Rattle.giop_calls.specs.ServerTable.{is_closed, is_gathering, server_step}
 use Rattle.giop_session.specs.Runs.Alone.{alone_heard, own_messages}
 use Rattle.giop_session.specs.Calls.CallTable.{at, turn}
 use Rattle.giop_session.specs.Runs.Events.{Comes}
-use Rattle.giop_session.specs.Hearing.ServerHears.{server_befalls}
+use Rattle.giop_session.specs.Hearing.ServerHears.{server_act}
 use Rattle.laws_in_use.specs.Heard.{asked_and_begun, begun_and_asked}
 use Rattle.laws_in_use.specs.Locating.{door_begins, door_ends, key_little, limits}
 use Rattle.laws_in_use.proofs.LocatingReads as read
@@ -45,8 +45,8 @@ returns-clause-heard c = λ interface. (one_2 interface, (one_1 interface, begun
 pub returns-clause-seven : goal.returns-clause-seven
 returns-clause-seven c = λ interface k through.
     c.own_messages_alone.ensures interface (new limits) k begun_and_asked 7 through
-    ∙ ap (λ messages. alone_heard (turn server_step is_closed is_gathering) (server_befalls interface) (at (new limits) 7) messages) (one_own 7)
-    ∙ ap (λ call. alone_heard (turn server_step is_closed is_gathering) (server_befalls interface) call (door_begins ∷ [])) (none_at limits 7)
+    ∙ ap (λ messages. alone_heard (turn server_step is_closed is_gathering) (server_act interface) (at (new limits) 7) messages) (one_own 7)
+    ∙ ap (λ call. alone_heard (turn server_step is_closed is_gathering) (server_act interface) call (door_begins ∷ [])) (none_at limits 7)
 
 pub returns-clause-same : goal.returns-clause-same
 returns-clause-same c = λ id. one_own id ∙ same_by (id == 7) (id == 9) (apart id) ∙ sym (other_own id)

@@ -3,8 +3,8 @@ use Rattle.giop_calls.specs.declared.fault.CallFault.TheVariants.{NotOpen}
 use Rattle.giop_calls.specs.declared.server.entry.ServerEntry.{ServerEntry}
 use Rattle.giop_calls.specs.declared.server.event.ServerEvent.TheVariants as event
 use Rattle.giop_calls.specs.ServerTable.{is_closed, is_gathering, server_step}
-use Rattle.giop_session.specs.declared.session_fault.SessionFault.TheVariants.{Call as InCall}
-use Rattle.giop_session.specs.declared.calls.table_fault.TableFault.TheVariants.{Rule}
+use Rattle.giop_session.specs.declared.SessionFault.TheVariants.{Call as InCall}
+use Rattle.giop_session.specs.declared.TableFault.TheVariants.{Rule}
 use Rattle.giop_session.specs.Calls.CallTable.{Call, Hears, Nothing, rules_of, turn}
 use Rattle.giop_session.specs.Hearing.Heard.{in_call}
 use Rattle.giop_session.specs.Calls.Sending.{entry_of, slot_of}
@@ -20,12 +20,12 @@ returns-clause-accepted c = λ interface out. (
   one_4 interface,
   one_5 interface,
   ap (λ (call : Call ServerEntry). entry_of call.slot) (at_4 interface),
-  record { answered = Ok (record { answer = tt; message = Some here_big }); does = answered interface; told = refl; puts = refl },
+  record { answered = Ok (record { answer = tt; message = Some here_big }); does = answered interface; returned = refl; puts = refl },
 )
 
 pub returns-clause-answered : goal.returns-clause-answered
-returns-clause-answered c = λ h k out out' was befell.
-    let left = c.what_an_own_act_leaves.ensures.accepted in_call 7 (sends (event.AnswerLocate true) (here_big ∷ [])) h k out out' befell in (
+returns-clause-answered c = λ h k out out' was on_call.
+    let left = c.what_an_own_act_leaves.ensures.accepted in_call 7 (sends (event.AnswerLocate true) (here_big ∷ [])) h k out out' on_call in (
       ap entry_of left.slot ∙ ap (λ entry. entry_of (slot_of (server_step entry (event.AnswerLocate true)).entry [])) was,
       left.puts,
       left.others,
@@ -39,10 +39,10 @@ returns-clause-refused c = record {
       (record { id = 7; what = Hears (sends (event.AnswerLocate true) (here_big ∷ [])) Nothing }) (Rule NotOpen)
       (ap (λ (call : Call ServerEntry). turn server_step is_closed is_gathering call (Hears (sends (event.AnswerLocate true) (here_big ∷ [])) Nothing))
       (none_at limits 7));
-  told = refl;
+  returned = refl;
   puts = refl;
 }
 
 pub returns-clause-kept : goal.returns-clause-kept
-returns-clause-kept c = λ h k out out' befell.
-    c.what_an_own_act_leaves.ensures.refused in_call 7 (sends (event.AnswerLocate true) (here_big ∷ [])) h k out out' (InCall 7 NotOpen) befell
+returns-clause-kept c = λ h k out out' on_call.
+    c.what_an_own_act_leaves.ensures.refused in_call 7 (sends (event.AnswerLocate true) (here_big ∷ [])) h k out out' (InCall 7 NotOpen) on_call

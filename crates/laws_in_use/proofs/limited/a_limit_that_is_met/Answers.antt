@@ -8,7 +8,7 @@ use Rattle.giop_ids.specs.ById.{is_listed}
 use Rattle.giop_msg.specs.RequestId.{request_id_layout}
 use Rattle.giop_session.specs.Runs.Events.{Comes}
 use Rattle.giop_session.specs.Runs.Limits.{begins_at_server, is_asking, opens}
-use Rattle.giop_session.specs.declared.session_fault.SessionFault.TheVariants.{TooManyCalls}
+use Rattle.giop_session.specs.declared.SessionFault.TheVariants.{TooManyCalls}
 use Rattle.laws_in_use.specs.Limited.{all, asked, one_call, two_calls}
 use Rattle.laws_in_use.specs.Locating.{door_begins, door_whole, key_little, limits}
 use Rattle.laws_in_use.proofs.LocatingRuns.{begun, one_1}

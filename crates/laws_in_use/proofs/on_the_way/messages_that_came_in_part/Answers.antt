@@ -2,7 +2,7 @@ use Rattle.std.proofs.Common.{[], ◌∷◌, refl, arith}
 use Rattle.std.proofs.lemmas.List.Elements.{All-cons, All-nil}
 use Rattle.giop_msg.specs.Header.{header_octets, header_of, header_fault}
 use Rattle.giop_msg.proofs.FramerLemmas.{waits_for_header}
-use Rattle.giop_session.specs.Runs.Inputs.{nothing_unread}
+use Rattle.giop_session.specs.Hearing.Feeding.{nothing_unread}
 use Rattle.giop_session.specs.Worlds.OnTheWay.{IsFramed}
 use Rattle.laws_in_use.specs.Asking.{here_begins, here_ends}
 use Rattle.laws_in_use.specs.Locating.{door_begins}

@@ -2,7 +2,7 @@ use Rattle.std.proofs.Common.{[], ◌∷◌, ap, ◌∙◌}
 use Rattle.std.specs.Option.{option_map}
 use Rattle.giop_calls.specs.ServerTable as server
 use Rattle.giop_calls.specs.declared.fault.CallFault.TheVariants.{NotOpen}
-use Rattle.giop_session.specs.declared.session_fault.SessionFault.TheVariants.{Call as InCall}
+use Rattle.giop_session.specs.declared.SessionFault.TheVariants.{Call as InCall}
 use Rattle.giop_session.specs.Hearing.Heard.{in_call}
 use Rattle.laws_in_use.specs.Left.{new_client}
 use Rattle.laws_in_use.specs.Limited.{new_server}
@@ -17,7 +17,7 @@ returns-clause-refused c = λ given. unasked_told_by c.args.interface.now c.args
 pub returns-clause-asked : goal.returns-clause-asked
 returns-clause-asked c = λ forms given told.
     asked_stands_by c.args.interface.now
-    (λ planned k out befell. c.what_an_own_act_leaves.ensures.accepted in_call 9 planned (new_client limits) k [] out befell)
+    (λ planned k out on_call. c.what_an_own_act_leaves.ensures.accepted in_call 9 planned (new_client limits) k [] out on_call)
     c.one_split.ensures
     (λ k through. c.own_messages_alone.ensures c.args.interface.now (new_server limits) k (key_little ∷ []) 9 through)
     forms c.args.schedule.items _ _ c.in_ok-run_world.ensures.value given told

@@ -1,5 +1,5 @@
 use Rattle.std.proofs.Common.{◌∙◌}
-use Rattle.giop_session.specs.Pumping.{between}
+use Rattle.giop_end.specs.Pumping.{between}
 use Rattle.giop_commands.specs.Acts.{outbox}
 use Rattle.giop_commands.specs.Calling.{asked_of}
 use Rattle.giop_commands.proofs.ActLemmas.{acted_on, same_fault, same_interface, same_unread, turned_on}

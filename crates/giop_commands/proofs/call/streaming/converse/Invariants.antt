@@ -1,5 +1,5 @@
 use Rattle.std.proofs.Common.{◌≡◌, None}
-use Rattle.giop_session.specs.Ends.View.{IsTurned}
+use Rattle.giop_end.specs.Ends.View.{IsTurned}
 use Rattle.giop_commands.specs.Calling.{asked_of}
 use Rattle.giop_commands.specs.CallStreaming.{TurnTells, course_of}
 use Rattle.giop_commands.proofs.StepLemmas.{Counted}

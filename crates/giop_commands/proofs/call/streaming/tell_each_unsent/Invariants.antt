@@ -1,7 +1,7 @@
 use Rattle.std.proofs.Common.{take}
 use Rattle.std.specs.List.{flat_map}
 use Rattle.std.specs.Io.KnownBytes.{Appends}
-use Rattle.giop_commands.specs.Dump.{ended}
+use Rattle.giop_show.specs.Dump.{ended}
 use Rattle.giop_commands.specs.CallStreaming.{unsent_in}
 use Rattle.giop_commands.proofs.call.streaming.tell_each_unsent.Given as goal
 

@@ -1,5 +1,5 @@
 use Rattle.std.proofs.Common.{◌≡◌}
-use Rattle.giop_session.specs.Pumping.{between}
+use Rattle.giop_end.specs.Pumping.{between}
 use Rattle.giop_commands.specs.Serving.{served_of, session}
 use Rattle.giop_commands.specs.Streaming.{TurnTells, shown}
 use Rattle.giop_commands.proofs.StepLemmas.{Counted}

@@ -1,4 +1,4 @@
-use Rattle.giop_commands.proofs.DumpLemmas.{Appends-kept}
+use Rattle.giop_show.proofs.DumpLemmas.{Appends-kept}
 use Rattle.giop_commands.proofs.serve.streaming.tell_begin.Goals as goal
 
 pub returns : goal.returns

@@ -1,7 +1,7 @@
 use Rattle.std.proofs.Common.{◌≡◌}
-use Rattle.giop_session.specs.Ends.View.{state_of}
-use Rattle.giop_session.specs.Hearing.ClientHears.{client_side}
-use Rattle.giop_session.specs.Runs.Driven.{end_state}
+use Rattle.giop_end.specs.Ends.View.{state_of}
+use Rattle.giop_end.specs.Hearing.ClientHears.{client_side}
+use Rattle.giop_end.specs.Ends.Begun.{end_state}
 use Rattle.giop_session.specs.Runs.ClientRuns.{client_deed, client_run}
 use Rattle.giop_session.specs.Runs.SideRuns.{SideRuns}
 use Rattle.giop_session.proofs.OnActs.SidesPutOut.{client_puts_out}

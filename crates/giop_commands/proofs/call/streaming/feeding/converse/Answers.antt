@@ -1,5 +1,5 @@
 use Rattle.std.proofs.Common.{◌∙◌, [], refl}
-use Rattle.giop_session.specs.Ends.View.{end_between}
+use Rattle.giop_end.specs.Ends.View.{end_between}
 use Rattle.giop_commands.specs.CallFeeding.{fed_of}
 use Rattle.giop_commands.specs.CallLines.{feed_at}
 use Rattle.giop_commands.specs.Calling.{asked_of}

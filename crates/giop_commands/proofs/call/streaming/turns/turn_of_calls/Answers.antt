@@ -1,5 +1,5 @@
 use Rattle.std.proofs.Common.{◌∙◌, sym}
-use Rattle.giop_session.specs.Ends.View.{end_between}
+use Rattle.giop_end.specs.Ends.View.{end_between}
 use Rattle.giop_commands.specs.Acts.{outbox_of}
 use Rattle.giop_commands.specs.Calling.{asked_of}
 use Rattle.giop_commands.proofs.ActLemmas.{acted_on, same_fault, same_interface, same_unread, turned_on}

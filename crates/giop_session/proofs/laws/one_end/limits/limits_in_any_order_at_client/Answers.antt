@@ -1,6 +1,6 @@
 use Rattle.std.proofs.Common.{false}
 use Rattle.giop_session.specs.Runs.Limits.{begins_at_client}
-use Rattle.giop_session.specs.Hearing.ClientHears.{client_side}
+use Rattle.giop_end.specs.Hearing.ClientHears.{client_side}
 use Rattle.giop_session.proofs.OnLimits.FewLemmas.{few_within}
 use Rattle.giop_session.proofs.OnLimits.LimitLemmas.{in_any_order}
 use Rattle.giop_session.proofs.OnLimits.ClientLimitLemmas.{begins_only, broken, own, small}

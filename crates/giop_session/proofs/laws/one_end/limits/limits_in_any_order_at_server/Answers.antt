@@ -1,5 +1,5 @@
 use Rattle.giop_session.specs.Runs.Limits.{begins_at_server, is_asking}
-use Rattle.giop_session.specs.Hearing.ServerHears.{server_side}
+use Rattle.giop_end.specs.Hearing.ServerHears.{server_side}
 use Rattle.giop_session.proofs.OnLimits.FewLemmas.{few_within}
 use Rattle.giop_session.proofs.OnLimits.LimitLemmas.{in_any_order}
 use Rattle.giop_session.proofs.OnLimits.ServerLimitLemmas.{begins_only, broken, own, small}

@@ -1,8 +1,8 @@
 use Rattle.std.proofs.Common.{IfOk, subst, sym}
-use Rattle.giop_session.specs.Acts.ClientCalls.{IsCall, call_fault}
-use Rattle.giop_session.specs.Calls.CallTable.{entry_at}
-use Rattle.giop_session.specs.Ends.View.{IsDriven, state_of}
-use Rattle.giop_session.specs.Hearing.ClientHears.{client_side}
+use Rattle.giop_end.specs.Acts.ClientCalls.{IsCall, call_fault}
+use Rattle.giop_table.specs.CallTable.{entry_at}
+use Rattle.giop_end.specs.Ends.View.{IsDriven, state_of}
+use Rattle.giop_end.specs.Hearing.ClientHears.{client_side}
 use Rattle.giop_session.specs.Runs.ClientRuns.{client_run}
 use Rattle.giop_session.specs.Runs.SideRuns.{SideIsGiven}
 use Rattle.giop_session.proofs.OnRuns.SeenLemmas.{acted_given}
@@ -15,9 +15,9 @@ returns-in-Call c =
     let request = c.in-Call.request in
     let form = c.in-Call.form.form in
     let told = c.call.ensures in
-    subst (λ given. IfOk c.answered.result (λ answered.
+    subst (λ given. IfOk c.answer_of.result (λ answered.
     SideIsGiven (client_run before.interface.now) before.limits (state_of before) given answered (state_of after) × IsDriven before after)) (sym c.in-Call.is)
     (acted_given (client_side before.interface.now) before after request.head.id
     (call_fault before.interface.now before.limits (entry_at before.calls request.head.id) request form)
     (IsCall before.interface.now request form)
-    c.call.result c.answered.result told.failed told.called told.others c.answered.ensures.value)
+    c.call.result c.answer_of.result told.failed told.called told.others c.answer_of.ensures.value)

@@ -1,7 +1,7 @@
 use Rattle.std.proofs.Common.{[], ◌∷◌, refl}
 use Rattle.giop_calls.specs.Lane.{pieces_of}
 use Rattle.giop_session.proofs.OnActs.WrittenLemmas.{locate_written, located_written, reply_written, request_written}
-use Rattle.giop_session.proofs.OnLanes.CodingLemmas.{told_of}
+use Rattle.giop_session.proofs.OnLanes.CodingLemmas.{result_of}
 use Rattle.giop_session.proofs.laws.two_ends.sent.what_is_sent_is_an_item.Goals as goal
 
 pub returns-clause-request : goal.returns-clause-request
@@ -21,8 +21,8 @@ returns-clause-reply c = λ interface asked told cut known waits is.
 
 pub returns-clause-located : goal.returns-clause-located
 returns-clause-located c = λ interface asked here m known waits (id, order, is). (
-  told_of asked.version id here,
-  c.what_is_cut_is_carried.ensures.located interface asked.version order asked (told_of asked.version id here) 24 (m ∷ []) known waits
+  result_of asked.version id here,
+  c.what_is_cut_is_carried.ensures.located interface asked.version order asked (result_of asked.version id here) 24 (m ∷ []) known waits
       (located_written id here order asked.version m is),
   (refl, refl),
 )

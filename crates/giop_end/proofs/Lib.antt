@@ -1,0 +1,3 @@
+pub mod OnActs
+pub mod OnHearing
+mod PumpingLemmas

@@ -1,0 +1,6 @@
+-- What an end's own acts rest on.
+pub mod CutLemmas
+pub mod LastLemmas
+pub mod LocalLemmas
+pub mod LocatedLemmas
+pub mod QuietLemmas

@@ -1,0 +1,5 @@
+-- What hearing a message rests on.
+pub mod ServerLemmas
+pub mod FeedingLemmas
+pub mod HeardLemmas
+pub mod ClientLemmas

@@ -1,0 +1,4 @@
+pub mod Acts
+pub mod Ends
+pub mod Hearing
+pub mod Pumping

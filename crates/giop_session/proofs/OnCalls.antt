@@ -1,4 +1,0 @@
--- What the table of calls rests on.
-pub mod TableLemmas
-pub mod UnsentLemmas
-pub mod CutLemmas

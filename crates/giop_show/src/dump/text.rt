@@ -1,0 +1,42 @@
+//! `dump` with bodies, by the text of an interface. Its meaning is `DumpsText` in
+//! specs/DumpBodies.antt: change both.
+ghost use Rattle.std.specs.Prelude.{◌≡◌, ◌≤◌, ◌^◌, IfOk};
+ghost use Rattle.std.specs.Io.KnownBytes.{IsAtEnd};
+ghost use Rattle.giop_show.specs.DumpBodies.{DumpsText};
+
+use crate::convert::value::form_refusal;
+use crate::dump::teller::Teller;
+use crate::dump::{BehindFault, dump_by};
+use crate::failure::Failure;
+use crate::form::{LineForm, refuse_in};
+use crate::status::Status;
+use giop_types::Interface;
+use std::alloc::Global;
+use std::io::{Read, Write};
+
+/// Writes what `dump_stream` writes, and the bodies of Requests by an interface in JSON, those in
+/// pieces at their last one. No more octets of pieces are gathered than `gathered`. Where the text
+/// is no interface, the line of its fault is written, and nothing is read; `Refused`.
+pub fn dump_text<R: Read, W: Write>(
+    alloc: Global,
+    interface: &[u8],
+    limit: u32,
+    gathered: u64,
+    form: LineForm,
+    reader: &mut R,
+    writer: &mut W,
+    behind: BehindFault,
+) -> Result<Status, Failure>
+    requires { gathered ≤ 2 ^ 62 }
+    ensures text { IfOk result (DumpsText interface.now limit gathered form
+        (R.remaining reader.old) (W.contents writer.old) (W.contents writer.new)) }
+    ensures done { IfOk result (λ status. status ≡ Status.Done → IsAtEnd (R.remaining reader.new)) }
+{
+    match Interface::from_json(alloc, interface) {
+        Ok(interface) => {
+            let mut teller = Teller::of_bodies(alloc, &interface, gathered as usize, form);
+            dump_by(alloc, &mut teller, limit, reader, writer, behind)
+        }
+        Err(fault) => refuse_in(form, form_refusal(fault)?, writer),
+    }
+}

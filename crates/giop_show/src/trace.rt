@@ -1,0 +1,407 @@
+//! `trace`: both directions of one connection, a line for each call when it is over.
+ghost use Rattle.std.specs.Prelude.{◌≡◌, ◌↔◌, ℕ, List, [], ◌∷◌, ◌++◌, None, IfNone, IfSome, IfOk, OnOk, false, true};
+ghost use Rattle.std.specs.FinMap as finite;
+ghost use Rattle.std.specs.Io.KnownBytes.{Appends, IsAtEnd, Keeps};
+ghost use Rattle.giop_msg.specs.declared.msg.Msg.{Msg};
+ghost use Rattle.giop_trace.specs.Observing.{heard, left};
+ghost use Rattle.giop_show.specs.Trace.{status_of_both};
+ghost use Rattle.giop_show.specs.Incoming.{EndsWith, IsLast, Passes, unheard};
+ghost use Rattle.giop_show.specs.TracedRuns.{HearsBoth, HearsClient, HearsServer, SameForm, waiting};
+ghost use Rattle.giop_show.specs.TracedText.{AreMessages, Traces, all_open, flow_line, heard_lines, is_alone, over_as, still_open};
+
+mod answer_part;
+mod answered;
+mod asked;
+mod asked_part;
+pub mod call_line;
+mod incoming;
+mod json;
+mod message_part;
+pub mod text;
+
+use crate::failure::Failure;
+use crate::form::LineForm;
+use crate::status::Status;
+use crate::trace::call_line::{Unanswered, write_call};
+use crate::trace::incoming::{Brought, Incoming};
+use giop_trace::{Direction, Flow, Observer};
+use giop_types::Interface;
+use std::alloc::{AllocError, Global};
+use std::io;
+use std::io::{ErrorKind, Read, Write};
+
+/// Which directions of a connection are heard.
+#[derive(Clone, Copy, Debug, PartialEq, Eq)]
+pub enum Heard {
+    /// What the client sent, alone.
+    Client,
+    /// What both sent.
+    Both,
+}
+
+// The observer of a connection, what is left of each direction, and a message of the server that
+// waits for its request.
+#[derive(Drop)]
+struct Tracing {
+    form: LineForm,
+    observer: Observer,
+    client: Incoming,
+    server: Incoming,
+    held: Option<Brought>,
+}
+
+impl Tracing {
+    // Gives the memory of a call that is over back to the directions that brought its messages.
+    #[inline(always)]
+    fn give_back(&mut self, flow: &mut Option<Flow>)
+        ensures { self.new ≡ self.old }
+    {
+        let Some(flow) = flow else {
+            return;
+        };
+        if let Some(message) = flow.asked.take() {
+            self.client.reuse(message);
+        }
+        if let Some(message) = flow.answer.take() {
+            self.server.reuse(message);
+        }
+    }
+}
+
+/// Writes a line for each call of a connection when it is over, then one for each that is open, by
+/// the octets that two readers give: what the client sent, and what the server sent. Where the
+/// client alone is heard, nothing is read from the other reader, and a call is over when its
+/// request is whole. The last lines are how many octets of each direction are left, or the fault
+/// that ends it. It is `Done` where none are left, `LimitPassed` where a message is larger than the
+/// limit, else `Refused`. Each line has this form.
+///
+/// After each message of the client, those of the server are read up to the first Reply whose
+/// request isn't whole yet; that one waits. At the end of the client's, what is left of the
+/// server's is read. No more is held than a message and a piece of each, and the calls that are
+/// open.
+pub fn trace_stream<C: Read, S: Read, W: Write>(
+    alloc: Global,
+    interface: &Interface,
+    limit: u32,
+    form: LineForm,
+    heard: Heard,
+    client: &mut C,
+    server: &mut S,
+    writer: &mut W,
+) -> Result<Status, Failure>
+    ensures client { IfOk result (λ status. status ≡ Status.Done
+        → IsAtEnd (C.remaining client.new)) }
+    ensures server { IfOk result (λ status. status ≡ Status.Done → heard ≡ Heard.Both
+        → IsAtEnd (S.remaining server.new)) }
+    ensures alone { heard ≡ Heard.Client → S.remaining server.new ≡ S.remaining server.old }
+    ensures text { OnOk result (Traces form interface.now limit heard
+        (C.remaining client.old) (S.remaining server.old)
+        (W.contents writer.old) (W.contents writer.new)) }
+{
+    let mut tracing = begun(alloc, limit, form, heard)?;
+    match heard {
+        Heard::Client => {
+            hear_client(alloc, interface, &mut tracing, client, writer)?;
+            write_open(alloc, interface, &tracing, writer)?;
+            tracing.client.write_end(form, Direction::Client, writer)
+        }
+        Heard::Both => {
+            hear_both(alloc, interface, &mut tracing, client, server, writer)?;
+            write_open(alloc, interface, &tracing, writer)?;
+            let client = tracing.client.write_end(form, Direction::Client, writer)?;
+            let server = tracing.server.write_end(form, Direction::Server, writer)?;
+            Ok(status_of_both(client, server))
+        }
+    }
+}
+
+// Nothing of a connection is read. Messages of both directions may have this size.
+fn begun(alloc: Global, limit: u32, form: LineForm, heard: Heard) -> Result<Tracing, AllocError>
+    ensures client { IfOk result (λ tracing. tracing.client.framer.limit ≡ limit) }
+    ensures server { IfOk result (λ tracing. tracing.server.framer.limit ≡ limit) }
+    ensures form { IfOk result (λ tracing. tracing.form ≡ form) }
+    ensures unread { IfOk result (λ tracing. (tracing.client.framer.octets ≡ [])
+        × (tracing.server.framer.octets ≡ [])) }
+    ensures held { IfOk result (λ tracing. tracing.held ≡ None) }
+    ensures calls { IfOk result (λ tracing. tracing.observer.calls.entries ≡ finite.empty) }
+    ensures alone { IfOk result (λ tracing. tracing.observer.alone ≡ is_alone heard) }
+{
+    Ok(Tracing {
+        form,
+        observer: Observer::new(alloc, heard == Heard::Client),
+        client: Incoming::new(alloc, limit)?,
+        server: Incoming::new(alloc, limit)?,
+        held: None,
+    })
+}
+
+// The status of two directions: done exactly where both are; a limit that was passed is told before
+// a refusal.
+fn status_of_both(client: Status, server: Status) -> Status
+    ensures value { result ≡ status_of_both client server }
+    ensures done { (result ≡ Status.Done) ↔ ((client ≡ Status.Done) × (server ≡ Status.Done)) }
+{
+    match (client, server) {
+        (Status::Done, _) => server,
+        (Status::Refused, Status::LimitPassed(_)) => server,
+        _ => client,
+    }
+}
+
+// Hears all messages of the client.
+fn hear_client<C: Read, W: Write>(
+    alloc: Global,
+    interface: &Interface,
+    tracing: &mut Tracing,
+    client: &mut C,
+    writer: &mut W,
+) -> Result<(), Failure>
+    requires { tracing.old.observer.alone ≡ true }
+    ensures end { OnOk result (tracing.new.client.fault ≡ None
+        → IsAtEnd (C.remaining client.new)) }
+    ensures same { OnOk result (SameForm tracing.old tracing.new) }
+    ensures text { OnOk result ((messages : List Msg) (rest : List ℕ)
+        → AreMessages tracing.old.client.framer.limit
+        (unheard tracing.old.client.framer (C.remaining client.old)) messages rest
+        → HearsClient tracing.old.form interface.now tracing.old.observer.calls.entries
+        tracing.new.observer.calls.entries (W.contents writer.old) (W.contents writer.new)
+        tracing.old.client.framer.limit tracing.new.client.fault
+        tracing.new.client.framer.octets messages rest) }
+{
+    'messages: for _ in 0..u64::MAX {
+        let Some(message) = tracing.client.next(client, writer)? else {
+            return Ok(());
+        };
+        tell(
+            alloc,
+            interface,
+            tracing,
+            Direction::Client,
+            message,
+            writer,
+        )?;
+    }
+    Err(too_long())
+}
+
+// Hears all messages of both.
+fn hear_both<C: Read, S: Read, W: Write>(
+    alloc: Global,
+    interface: &Interface,
+    tracing: &mut Tracing,
+    client: &mut C,
+    server: &mut S,
+    writer: &mut W,
+) -> Result<(), Failure>
+    requires alone { tracing.old.observer.alone ≡ false }
+    requires limit { tracing.old.server.framer.limit ≡ tracing.old.client.framer.limit }
+    ensures client { OnOk result (tracing.new.client.fault ≡ None
+        → IsAtEnd (C.remaining client.new)) }
+    ensures server { OnOk result (tracing.new.server.fault ≡ None
+        → IsAtEnd (S.remaining server.new)) }
+    ensures same { OnOk result (SameForm tracing.old tracing.new) }
+    ensures text { OnOk result ((asked answered : List Msg) (rest left_over : List ℕ)
+        → AreMessages tracing.old.client.framer.limit
+        (unheard tracing.old.client.framer (C.remaining client.old)) asked rest
+        → AreMessages tracing.old.client.framer.limit
+        (unheard tracing.old.server.framer (S.remaining server.old)) answered left_over
+        → HearsBoth tracing.old.form interface.now tracing.old.observer.calls.entries
+        tracing.new.observer.calls.entries (W.contents writer.old) (W.contents writer.new)
+        tracing.old.client.framer.limit tracing.new.client.fault tracing.new.server.fault
+        tracing.new.client.framer.octets tracing.new.server.framer.octets asked
+        (waiting tracing.old.held ++ answered) rest left_over) }
+{
+    'messages: for _ in 0..u64::MAX {
+        let Some(message) = tracing.client.next(client, writer)? else {
+            return hear_server(alloc, interface, tracing, false, server, writer);
+        };
+        tell(
+            alloc,
+            interface,
+            tracing,
+            Direction::Client,
+            message,
+            writer,
+        )?;
+        hear_server(alloc, interface, tracing, true, server, writer)?;
+    }
+    Err(too_long())
+}
+
+// Hears the messages of the server: to their end, or up to the first whose request isn't whole yet.
+fn hear_server<S: Read, W: Write>(
+    alloc: Global,
+    interface: &Interface,
+    tracing: &mut Tracing,
+    waits: bool,
+    server: &mut S,
+    writer: &mut W,
+) -> Result<(), Failure>
+    requires { tracing.old.observer.alone ≡ false }
+    ensures end { OnOk result (waits ≡ false → tracing.new.server.fault ≡ None
+        → IsAtEnd (S.remaining server.new)) }
+    ensures client { tracing.new.client ≡ tracing.old.client }
+    ensures same { OnOk result (SameForm tracing.old tracing.new) }
+    ensures text { OnOk result ((messages : List Msg) (rest : List ℕ)
+        → AreMessages tracing.old.server.framer.limit
+        (unheard tracing.old.server.framer (S.remaining server.old)) messages rest
+        → HearsServer tracing.old.form interface.now waits tracing.old.observer.calls.entries
+        tracing.new.observer.calls.entries (W.contents writer.old) (W.contents writer.new)
+        tracing.old.server.framer.limit
+        (unheard tracing.new.server.framer (S.remaining server.new)) (waiting tracing.new.held)
+        (waiting tracing.old.held ++ messages) rest) }
+    ensures last { OnOk result (waits ≡ false → (messages : List Msg) (rest : List ℕ)
+        → AreMessages tracing.old.server.framer.limit
+        (unheard tracing.old.server.framer (S.remaining server.old)) messages rest
+        → EndsWith tracing.old.server.framer.limit rest tracing.new.server.fault
+        tracing.new.server.framer.octets) }
+{
+    'messages: for _ in 0..u64::MAX {
+        let Some(message) = next_of_server(tracing, server, writer)? else {
+            return Ok(());
+        };
+        if waits && tracing.observer.is_early(&message.message) {
+            tracing.held = Some(message);
+            return Ok(());
+        }
+        tell(
+            alloc,
+            interface,
+            tracing,
+            Direction::Server,
+            message,
+            writer,
+        )?;
+    }
+    Err(too_long())
+}
+
+// The message of the server that waits, or else the next one.
+fn next_of_server<S: Read, W: Write>(
+    tracing: &mut Tracing,
+    server: &mut S,
+    writer: &mut W,
+) -> Result<Option<Brought>, Failure>
+    ensures end { IfOk result (λ o. IfNone o (tracing.new.server.fault ≡ None
+        → IsAtEnd (S.remaining server.new))) }
+    ensures client { tracing.new.client ≡ tracing.old.client }
+    ensures observer { tracing.new.observer ≡ tracing.old.observer }
+    ensures same { OnOk result (SameForm tracing.old tracing.new) }
+    ensures held { OnOk result (tracing.new.held ≡ None) }
+    ensures text { OnOk result (Keeps (W.contents writer.old) (W.contents writer.new)) }
+    ensures found { IfOk result (λ o. IfSome o (λ brought. (messages : List Msg) (rest : List ℕ)
+        → AreMessages tracing.old.server.framer.limit
+        (unheard tracing.old.server.framer (S.remaining server.old)) messages rest
+        → Passes tracing.old.server.framer.limit
+        (unheard tracing.new.server.framer (S.remaining server.new))
+        (λ later. brought.message ∷ later) (waiting tracing.old.held ++ messages) rest)) }
+    ensures none { IfOk result (λ o. IfNone o (tracing.old.held ≡ None)) }
+    ensures last { IfOk result (λ o. IfNone o (IsLast tracing.old.server.framer.limit
+        (unheard tracing.old.server.framer (S.remaining server.old))
+        (unheard tracing.new.server.framer (S.remaining server.new)) tracing.new.server.fault
+        tracing.new.server.framer.octets)) }
+{
+    match tracing.held.take() {
+        Some(message) => Ok(Some(message)),
+        None => tracing.server.next(server, writer),
+    }
+}
+
+// Writes the lines of the calls that are over by a message.
+fn tell<W: Write>(
+    alloc: Global,
+    interface: &Interface,
+    tracing: &mut Tracing,
+    direction: Direction,
+    brought: Brought,
+    writer: &mut W,
+) -> Result<(), Failure>
+    ensures client { tracing.new.client ≡ tracing.old.client }
+    ensures server { tracing.new.server ≡ tracing.old.server }
+    ensures held { tracing.new.held ≡ tracing.old.held }
+    ensures same { OnOk result (SameForm tracing.old tracing.new) }
+    ensures calls { OnOk result (tracing.new.observer.calls.entries
+        ≡ left tracing.old.observer.alone tracing.old.observer.calls.entries direction
+        brought.message) }
+    ensures text { OnOk result (Appends (W.contents writer.old) (W.contents writer.new)
+        (heard_lines tracing.old.form interface.now tracing.old.observer.alone
+        (heard tracing.old.observer.alone tracing.old.observer.calls.entries direction
+        brought.message))) }
+{
+    let (form, alone) = (tracing.form, tracing.observer.alone);
+    let mut told = tracing.observer.hear(direction, brought.message)?;
+    let open = still_open(alone);
+    write_flow(alloc, interface, form, told.id, open, &told.earlier, writer)?;
+    let over = over_as(alone, told.id);
+    write_flow(alloc, interface, form, told.id, over, &told.over, writer)?;
+    tracing.give_back(&mut told.earlier);
+    tracing.give_back(&mut told.over);
+    Ok(())
+}
+
+// Writes the line of a call, if there is one.
+#[inline(always)]
+fn write_flow<W: Write>(
+    alloc: Global,
+    interface: &Interface,
+    form: LineForm,
+    id: Option<u32>,
+    unanswered: Unanswered,
+    flow: &Option<Flow>,
+    writer: &mut W,
+) -> Result<(), Failure>
+    ensures { OnOk result (Appends (W.contents writer.old) (W.contents writer.new)
+        (flow_line form interface.now id unanswered flow.now)) }
+{
+    match flow {
+        Some(flow) => write_call(alloc, interface, form, id, flow, unanswered, writer),
+        None => Ok(()),
+    }
+}
+
+// Writes the lines of the calls that are open at the end, in ascending order of their ids.
+fn write_open<W: Write>(
+    alloc: Global,
+    interface: &Interface,
+    tracing: &Tracing,
+    writer: &mut W,
+) -> Result<(), Failure>
+    ensures { OnOk result (Appends (W.contents writer.old) (W.contents writer.new)
+        (all_open tracing.now.form interface.now tracing.now.observer.alone
+        tracing.now.observer.calls.entries)) }
+{
+    let (observer, form) = (&tracing.observer, tracing.form);
+    let ids = observer.ids(alloc)?;
+    let open = still_open(observer.alone);
+    for id in &ids {
+        if let Some(flow) = observer.flow(*id) {
+            write_call(alloc, interface, form, Some(*id), flow, open, writer)?;
+        }
+    }
+    Ok(())
+}
+
+// What is said of a call without an answer that is open at its end.
+fn still_open(alone: bool) -> Unanswered
+    ensures { result ≡ still_open alone }
+{
+    if alone {
+        Unanswered::Untold
+    } else {
+        Unanswered::NoAnswer
+    }
+}
+
+// What is said of a call without an answer that is over, by its id: no reply is expected.
+fn over_as(alone: bool, id: Option<u32>) -> Unanswered
+    ensures { result ≡ over_as alone id }
+{
+    match id {
+        Some(_) if !alone => Unanswered::Oneway,
+        _ => still_open(alone),
+    }
+}
+
+fn too_long() -> Failure {
+    Failure::Input(io::Error::from(ErrorKind::FileTooLarge))
+}

@@ -1,0 +1,4 @@
+pub mod Unsent
+pub mod Sending
+pub mod CallTable
+pub mod Codes

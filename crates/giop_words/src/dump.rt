@@ -1,0 +1,71 @@
+//! The words of `dump`. A change here is one in docs/giopctl.md and tests/program too.
+ghost use Rattle.std.specs.Prelude.{◌≤◌, ◌^◌};
+
+mod help;
+
+use crate::dump::help::DUMP_HELP;
+use crate::file_words::apart;
+use crate::form_words::{lines_of, with_lines};
+use crate::limit_words::{
+    gathered_limit_of, gathered_limit_option, message_limit_of, message_limit_option,
+};
+use crate::task::Task;
+use clap::{Arg, ArgMatches, Command};
+use giop_show::LineForm;
+use std::alloc::{AllocError, Global};
+
+/// What `dump` is asked for.
+#[derive(Clone, Copy, Debug)]
+pub struct DumpWords<'a> {
+    /// The name of the interface's file, or `-` for the standard input; `None` where heads alone
+    /// are shown.
+    pub interface: Option<&'a str>,
+    /// The file's name, or `-` for the standard input.
+    pub file: &'a str,
+    /// The greatest message size, the header not counted.
+    pub limit: u32,
+    /// The most octets of all Requests of which a piece is still to come.
+    pub gathered: u64,
+    /// The form of its lines.
+    pub form: LineForm,
+    pub ghost bounded: { gathered ≤ 2 ^ 62 },
+}
+
+/// The command `dump`.
+pub(crate) fn dump_command<'a>(alloc: Global) -> Result<Command<'a>, AllocError> {
+    let file = Arg::new(alloc, "FILE")
+        .required(true)
+        .help("A file of GIOP messages, or - for the standard input");
+    let interface = Arg::new(alloc, "interface")
+        .long("interface")
+        .value_name("FILE")
+        .help("The file of an interface, in JSON, by which bodies of Requests are shown");
+    let command = Command::new(alloc, "dump")
+        .about("Shows each message of a file")
+        .after_help(DUMP_HELP)
+        .arg(interface)?;
+    with_lines(alloc, command)?
+        .arg(message_limit_option(alloc))?
+        .arg(gathered_limit_option(alloc))?
+        .arg(file)
+}
+
+/// What `dump` is asked for, or what is wrong with a word.
+pub(crate) fn dump_task<'a>(matches: &ArgMatches<'a>) -> Result<Option<Task<'a>>, &'static str> {
+    let limit = message_limit_of(matches)?;
+    let gathered = gathered_limit_of(matches)?;
+    let Some(file) = matches.get_str("FILE") else {
+        return Ok(None);
+    };
+    let interface = matches.get_str("interface");
+    if let Some(interface) = interface {
+        apart(interface, file)?;
+    }
+    Ok(Some(Task::Dump(DumpWords {
+        interface,
+        file,
+        limit,
+        gathered,
+        form: lines_of(matches),
+    })))
+}

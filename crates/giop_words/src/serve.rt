@@ -1,0 +1,197 @@
+//! The words of `serve`. A change here is one in docs/giopctl.md and tests/program too.
+ghost use Rattle.giop_end.specs.Acts.Form.{IsForm};
+ghost use Rattle.std.specs.Prelude.{◌≤◌, ◌^◌};
+
+mod help;
+
+use crate::file_words::{FileWord, Files, answers_option, apart_from, interface_option};
+use crate::form_words::{lines_of, with_lines};
+use crate::limit_words::limits_of;
+use crate::number_words::{number_option, short_number_of};
+use crate::serve::help::SERVE_HELP;
+use crate::session_words::{Telling, message_form_of, stream_option, telling_of, with_sending};
+use crate::task::Task;
+use clap::builder::ValueParser;
+use clap::{Arg, ArgGroup, ArgMatches, Command};
+use giop_end::{Form, Limits};
+use giop_show::LineForm;
+use std::alloc::{AllocError, Global};
+
+/// An object key, as it stands on the command line.
+#[derive(Clone, Copy, Debug)]
+pub enum KeyWord<'a> {
+    /// Pairs of hexadecimal digits.
+    Hex(&'a str),
+    /// A text, whose octets are the key.
+    Text(&'a str),
+}
+
+/// What `serve` is asked for.
+#[derive(Debug, Drop)]
+pub struct ServeWords<'a> {
+    /// The port, 1 to 65,535; 0 for one that is free.
+    pub port: u16,
+    /// The files of interfaces.
+    pub interfaces: Vec<FileWord<'a>>,
+    /// The files of answers.
+    pub answers: Vec<FileWord<'a>>,
+    /// The object key.
+    pub key: KeyWord<'a>,
+    /// The name of the file that the object's reference is written to, if one is given.
+    pub ior_file: Option<&'a str>,
+    /// The object's type id, if one is given; it may be empty.
+    pub type_id: Option<&'a str>,
+    /// How many connections are served, 1 to 65,535.
+    pub connections: u32,
+    /// When the calls are told.
+    pub telling: Telling,
+    /// The form of their lines.
+    pub lines: LineForm,
+    /// How Replies are sent.
+    pub form: Form,
+    /// What the end of each connection holds at most.
+    pub limits: Limits,
+    pub ghost sent: { IsForm form },
+    pub ghost bounded: { limits.gathered ≤ 2 ^ 62 },
+}
+
+/// The command `serve`.
+pub(crate) fn serve_command<'a>(alloc: Global) -> Result<Command<'a>, AllocError> {
+    let port = number_option(
+        alloc,
+        "port",
+        "The port that is listened at, on 127.0.0.1; 0 for one that is free",
+    )
+    .required(true)
+    .value_parser(ValueParser::Unsigned(0, 65_535));
+    let connections = number_option(
+        alloc,
+        "connections",
+        "How many connections are served, one after the other",
+    )
+    .default_value("1")
+    .value_parser(ValueParser::Unsigned(1, 65_535));
+    let command = Command::new(alloc, "serve")
+        .about("Answers the calls of one object")
+        .after_help(SERVE_HELP)
+        .arg(port)?
+        .arg(interface_option(alloc))?
+        .arg(answers_option(alloc))?;
+    let command = with_reference(alloc, with_key(alloc, command)?)?.arg(connections)?;
+    let command = with_lines(alloc, command)?.arg(stream_option(alloc))?;
+    with_sending(alloc, command)
+}
+
+// A command with the options of the object's key.
+fn with_key<'a>(alloc: Global, command: Command<'a>) -> Result<Command<'a>, AllocError> {
+    command
+        .arg(key_option(alloc))?
+        .arg(key_text_option(alloc))?
+        .group(key_group(alloc)?)
+}
+
+// A command with the options of the object's reference.
+fn with_reference<'a>(alloc: Global, command: Command<'a>) -> Result<Command<'a>, AllocError> {
+    let ior_file = Arg::new(alloc, "ior-file")
+        .long("ior-file")
+        .value_name("FILE")
+        .help("The file that the object's reference is written to");
+    let type_id = Arg::new(alloc, "type-id")
+        .long("type-id")
+        .value_name("ID")
+        .help("The object's type id, in place of the id that the interface has");
+    command.arg(ior_file)?.arg(type_id)
+}
+
+fn key_option<'a>(alloc: Global) -> Arg<'a> {
+    Arg::new(alloc, "key")
+        .long("key")
+        .value_name("HEX")
+        .help("The object key, in hexadecimal digits")
+}
+
+fn key_text_option<'a>(alloc: Global) -> Arg<'a> {
+    Arg::new(alloc, "key-text")
+        .long("key-text")
+        .value_name("TEXT")
+        .help("The object key, as a text, in place of --key")
+}
+
+// One of both is wanted, and no more.
+fn key_group<'a>(alloc: Global) -> Result<ArgGroup<'a>, AllocError> {
+    ArgGroup::new(alloc, "one-key")
+        .required(true)
+        .arg("key")?
+        .arg("key-text")
+}
+
+/// What `serve` is asked for with these files, or what is wrong with a word.
+pub(crate) fn serve_task<'a>(
+    matches: &ArgMatches<'a>,
+    interfaces: Files<'a>,
+    answers: Files<'a>,
+) -> Result<Option<Task<'a>>, &'static str> {
+    Ok(Some(Task::Serve(serve_words(matches, interfaces?, answers?)?)))
+}
+
+fn serve_words<'a>(
+    matches: &ArgMatches<'a>,
+    interfaces: Vec<FileWord<'a>>,
+    answers: Vec<FileWord<'a>>,
+) -> Result<ServeWords<'a>, &'static str> {
+    let form = message_form_of(matches)?;
+    let limits = limits_of(matches)?;
+    let Some(port) = port_of(matches) else {
+        return Err("--port is a number from 0 to 65535, in decimal digits");
+    };
+    let Some(connections) = connections_of(matches) else {
+        return Err("--connections is a number from 1 to 65535, in decimal digits");
+    };
+    for answer in &answers {
+        apart_from(interfaces.as_slice(), answer.file)?;
+    }
+    apart_from(answers.as_slice(), "")?;
+    Ok(ServeWords {
+        port,
+        interfaces,
+        answers,
+        key: key_of(matches)?,
+        ior_file: matches.get_str("ior-file"),
+        type_id: matches.get_str("type-id"),
+        connections,
+        telling: telling_of(matches),
+        lines: lines_of(matches),
+        form,
+        limits,
+    })
+}
+
+// The object key, of which there is one word.
+fn key_of<'a>(matches: &ArgMatches<'a>) -> Result<KeyWord<'a>, &'static str> {
+    match (matches.get_str("key"), matches.get_str("key-text")) {
+        (Some(digits), None) if is_hexadecimal(digits) => Ok(KeyWord::Hex(digits)),
+        (Some(_), None) => Err("--key is pairs of hexadecimal digits"),
+        (None, Some(text)) => Ok(KeyWord::Text(text)),
+        _ => Err("one of --key and --key-text is wanted"),
+    }
+}
+
+fn port_of(matches: &ArgMatches) -> Option<u16> {
+    u16::try_from(short_number_of(matches, "port")?).ok()
+}
+
+fn connections_of(matches: &ArgMatches) -> Option<u32> {
+    match short_number_of(matches, "connections")? {
+        connections if connections > 0 && connections <= 65_535 => Some(connections),
+        _ => None,
+    }
+}
+
+// Whether a text is pairs of hexadecimal digits.
+fn is_hexadecimal(text: &str) -> bool {
+    text.len() % 2 == 0
+        && text
+            .as_bytes()
+            .iter()
+            .all(|octet| octet.is_ascii_hexdigit())
+}
