@@ -32,7 +32,7 @@ use crate::session::ending::{Ending, ending_of};
 use crate::session::sending::send_all;
 use crate::session::{TURNS, goes_on, told, told_of, write_all_out, write_session};
 use giop_cdr::OctetList;
-use giop_end::{ClientEnd, ClientEnd, Form, SessionFault, SessionFault};
+use giop_end::{ClientEnd, SessionFault};
 use giop_msg::{Request, RequestHead, ServiceContexts, Target, Version};
 use giop_show::failure::Failure;
 use giop_show::form::LineForm;

@@ -21,7 +21,7 @@ use crate::session::streaming::{Streamed, tell_left};
 use crate::session::table::Tabled;
 use crate::session::{TURNS, told, write_fault};
 use giop_calls::{ClientEntry, ClientRule};
-use giop_end::{ClientEnd, ClientEnd, Limits, SessionFault, SessionFault};
+use giop_end::{ClientEnd, SessionFault};
 use giop_lines::{UnsentJson, UnsentLine};
 use giop_show::failure::Failure;
 use giop_show::form::{LineForm, write_line};

@@ -60,7 +60,7 @@ pub fn turn_of_calls<R: Read, W: Write, O: Write>(
         left.old.items well.old) turn (course_of (R.remaining reader.new) (W.contents writer.new)
         (O.contents out.new) end.new left.new.items well.new)) }
     ensures fault { IfOk result (λ turn. turn ≡ CallTurn.GoesOn → end.new.fault ≡ None) }
-    ensures others { IsTurned end.old end.new }
+    ensures others { OnOk result (IsTurned end.old end.new) }
 {
     if is_done(alloc, end, left)? {
         return Ok(CallTurn::Ends(None));

@@ -20,5 +20,5 @@ turns-preserved g c = record {
       c.turns.left.items c.turns.well)
       _ c.turns.invariant.streamed (rw c.in_default.is at (c.in_ok-turn_of_calls.ensures.goes c.args.left.now.items));
   fault = c.in_ok-turn_of_calls.ensures.fault c.in_default.is;
-  others = turned_on c.args.end.now c.turns.end c.turn_of_calls.new.end c.turns.invariant.others c.turn_of_calls.ensures.others;
+  others = turned_on c.args.end.now c.turns.end c.turn_of_calls.new.end c.turns.invariant.others c.in_ok-turn_of_calls.ensures.others;
 }

@@ -37,5 +37,5 @@ turns-preserved g c =
           (rw c.turns.invariant.waits at c.in_ok-feed_next.ensures.feeds) (rw c.in_default.is at (c.in_ok-turn_of_calls.ensures.goes [])));
       waits = c.in_ok-feed_next.ensures.waits ∙ c.turns.invariant.waits;
       fault = c.in_ok-turn_of_calls.ensures.fault c.in_default.is;
-      others = turned_on c.args.end.now c.turns.end c.turn_of_calls.new.end c.turns.invariant.others c.turn_of_calls.ensures.others;
+      others = turned_on c.args.end.now c.turns.end c.turn_of_calls.new.end c.turns.invariant.others c.in_ok-turn_of_calls.ensures.others;
     }
