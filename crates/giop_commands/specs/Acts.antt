@@ -4,14 +4,16 @@ use Rattle.std.specs.Prelude.{◌≡◌, ◌≢◌, ◌⊎◌, ℕ, ◌<◌, max
 use Rattle.std.specs.FinMap as finite
 use Rattle.giop_ids.specs.Runs.{Rules}
 use Rattle.giop_mux.specs.declared.step.Step.{Step}
+use Rattle.giop_end.specs.declared.end.End.{End}
 use Rattle.giop_table.specs.declared.plan.Plan.TheVariants.{Next}
 use Rattle.giop_table.specs.declared.plan.Planned.{Planned}
 use Rattle.giop_end.specs.declared.session_fault.SessionFault.{SessionFault}
 use Rattle.giop_end.specs.declared.session_fault.SessionFault.TheVariants.{NoMemory}
 use Rattle.giop_table.specs.declared.table_fault.TableFault.{TableFault}
 use Rattle.giop_table.specs.CallTable.{Act, Call, Held, Reply, rules_of}
-use Rattle.giop_table.specs.Sending.{left_in, entry_of}
+use Rattle.giop_table.specs.Sending.{left_in}
 use Rattle.giop_end.specs.Acts.Putting.{Puts}
+use Rattle.giop_table.specs.Sending.{entry_of}
 use Rattle.giop_commands.specs.Check.{answer_of}
 use Rattle.giop_commands.specs.Steps.{Times, Upto}
 
@@ -23,6 +25,10 @@ pub record Outbox (S : Type 0) : Type 0 where
 -- what an act changes, from its parts
 abbrev pub outbox : {S : Type 0} → S → List ℕ → Outbox S
 outbox calls outgoing = record { calls = calls; outgoing = outgoing }
+
+-- what it changes, at an end
+abbrev pub outbox_of : {R E V A F : Type 0} → End R E V A F → Outbox (Held R E)
+outbox_of end = outbox end.calls end.outgoing
 
 module _ {R E V A F : Type 0} (rules : Rules (Held R E) (Call E) (Act V) (Reply E A) (TableFault F))
     (of_rule : ℕ → F → SessionFault) where

@@ -1,21 +1,23 @@
 -- What `call --stream` does at its end with calls that come as lines: they are read as the session
 -- goes on, and each is made, told and taken out as any other of a stream.
-use Rattle.std.specs.Prelude.{◌≡◌, ℕ, ◌<◌, ◌==◌, ◌&&◌, ◌||◌, not, Bool, true, false, List, length, Option}
+use Rattle.std.specs.Prelude.{◌≡◌, ℕ, ◌<◌, ◌==◌, ◌&&◌, ◌||◌, not, Bool, true, false, List, [], length, Option}
 use Rattle.std.specs.FinMap as finite
 use Rattle.std.specs.Io.KnownBytes.{Appends}
 use Rattle.giop_calls.specs.ClientTable.{is_closed}
 use Rattle.giop_msg.specs.Stream.{Unread}
 use Rattle.giop_types.specs.declared.json.interface.Interface.{Interface}
 use Rattle.giop_end.specs.declared.session_fault.SessionFault.{SessionFault}
+use Rattle.giop_end.specs.Ends.View.{end_between}
 use Rattle.giop_end.specs.Pumping.{Between, between}
 use Rattle.giop_commands.specs.declared.call.calls.CallLine.{CallLine}
+use Rattle.giop_commands.specs.declared.call.given.Calling.{Calling}
 use Rattle.giop_show.specs.declared.form.LineForm.{LineForm}
 use Rattle.giop_commands.specs.declared.session.ending.Ending.{Ending}
 use Rattle.giop_commands.specs.CallLines.{Feed, ReadsOn}
 use Rattle.giop_commands.specs.CallStreaming.{CourseEnds, TurnTells, all_done, course, left_text, new_client, stream_status}
-use Rattle.giop_commands.specs.Calling.{Asked, ClientCalls}
+use Rattle.giop_commands.specs.Calling.{Asked, ClientCalls, ClientSide, asked_of}
 use Rattle.giop_commands.specs.Endings.{Ends}
-use Rattle.giop_commands.specs.Sessions.{Wire, told}
+use Rattle.giop_commands.specs.Sessions.{Change, Wire, told, wire}
 use Rattle.giop_commands.specs.Steps.{Each}
 use Rattle.giop_commands.specs.Turns.{most_turns}
 
@@ -41,6 +43,10 @@ pub record Fed : Type 0 where
 
 abbrev pub fed : Between ClientCalls → Option (List ℕ) → Feed → Bool → Fed
 fed end text feed well = record { end = end; text = text; feed = feed; well = well }
+
+-- of an end between a reader and a writer of these octets, and what is printed
+abbrev pub fed_of : (input output text : Option (List ℕ)) → Feed → ClientSide → Bool → Fed
+fed_of input output text feed end = fed (end_between input output end) text feed
 
 -- the same lines with other calls that aren't made yet
 abbrev pub with_calls : Feed → List CallLine → Feed
@@ -97,3 +103,10 @@ pub record FedEnd (asked : Asked) (lines : LineForm) (waits : Bool) (first last 
       ≡ stream_status refused fault
       (all_done (well && last.so_far.is_over) still last.so_far.calls)
   pub ends : Ends is_closed (told refused fault) still.table unread ending
+
+-- over a reader, a writer and what is printed, which changed so
+abbrev pub FedEndOver : Calling → LineForm → Bool → (first last : Feed)
+    → (input output text : Change) → Ending → Type 0
+FedEndOver calling lines waits first last input output text =
+    FedEnd (asked_of calling []) lines waits first last (wire input.before output.before)
+    (wire input.after output.after) text.before text.after

@@ -6,6 +6,7 @@ use Rattle.std.specs.Io.KnownBytes.{Consumes, IsAtEnd}
 use Rattle.giop_types.specs.declared.json.form_fault.FormFault.{FormFault}
 use Rattle.giop_types.specs.declared.json.interface.Interface.{Interface}
 use Rattle.giop_commands.specs.declared.call.calls.CallLine.{CallLine}
+use Rattle.giop_commands.specs.declared.call.feed.LineFeed.{LineFeed}
 use Rattle.giop_commands.specs.declared.call.lines.CallLines.{CallLines}
 use Rattle.giop_commands.specs.CallForms.{one_call_in}
 use Rattle.giop_commands.specs.Steps.{Each}
@@ -87,6 +88,10 @@ pub record Feed : Type 0 where
 
 abbrev pub feed : Option (List ℕ) → SoFar → Feed
 feed input so_far = record { input = input; so_far = so_far }
+
+-- of what brings lines, whose source will still give these octets
+abbrev pub feed_at : {S : Type 0} → Option (List ℕ) → LineFeed S → Feed
+feed_at input source = feed input (so_far source.lines)
 
 module _ (interface : Interface) where
   -- it is read once, to the end of the text only where that is reached

@@ -14,23 +14,26 @@ use Rattle.giop_end.specs.declared.limits.Limits.{Limits}
 use Rattle.giop_end.specs.declared.session_fault.SessionFault.{SessionFault}
 use Rattle.giop_end.specs.Ends.Begun.{no_calls}
 use Rattle.giop_table.specs.Sending.{entry_of}
+use Rattle.giop_end.specs.Ends.View.{end_between}
 use Rattle.giop_end.specs.Pumping.{Between, between}
 use Rattle.giop_lines.specs.SessionJson.{unsent_json}
 use Rattle.giop_lines.specs.TableLines.{unsent_line}
 use Rattle.giop_commands.specs.declared.call.calls.CallLine.{CallLine}
+use Rattle.giop_commands.specs.declared.call.streaming.turns.CallTurn.{CallTurn}
+use Rattle.giop_commands.specs.declared.call.streaming.turns.CallTurn.TheVariants.{Ends, GoesOn as goes_on}
 use Rattle.giop_show.specs.declared.failure.Failure.{Failure}
 use Rattle.giop_show.specs.declared.form.LineForm.{LineForm}
 use Rattle.giop_show.specs.declared.status.Status.{Status}
 use Rattle.giop_show.specs.declared.status.Status.TheVariants.{Done}
 use Rattle.giop_commands.specs.Acts.{Outbox, outbox}
-use Rattle.giop_commands.specs.Calling.{Asked, CallsOne, CallsSent, ClientCalls, are_over, client_hears, entry_at}
+use Rattle.giop_commands.specs.Calling.{Asked, CallsOne, CallsSent, ClientCalls, ClientSide, are_over, client_hears, entry_at}
 use Rattle.giop_commands.specs.Check.{nothing_read}
 use Rattle.giop_show.specs.Dump.{ended}
 use Rattle.giop_show.specs.Forms.{line_in}
 use Rattle.giop_commands.specs.Sessions.{Wire, all_well, fault_text, is_well, told, unwell_status}
 use Rattle.giop_commands.specs.BrokenStatus.{broken_status}
 use Rattle.giop_commands.specs.Steps.{AndThen, Each}
-use Rattle.giop_commands.specs.Streaming.{ended_at, over_text, without_over}
+use Rattle.giop_commands.specs.Streaming.{has_ended, over_text, without_over}
 use Rattle.giop_commands.specs.Table.{client_entry_in, table_text}
 use Rattle.giop_commands.specs.Turns.{GoesOn, WritesOut, most_turns}
 
@@ -120,14 +123,20 @@ abbrev pub Turns : Interface → Between ClientCalls → Bool → Between Client
 Turns interface s =
     TurnsIf interface (are_over (finite.keys s.state.calls.table) s.state.calls) s
 
--- whether the call of an id went well, where it is over
-abbrev pub is_over_well : ById (Slot ClientEntry) → ℕ → Bool
-is_over_well table id =
-    if ended_at is_closed table id then is_well (entry_of (finite.get table id)) else true
+-- at an end between a reader and a writer of these octets
+abbrev pub TurnsAt : Interface → (input output : Option (List ℕ)) → ClientSide → Bool
+    → (input' output' : Option (List ℕ)) → ClientSide → Type 0
+TurnsAt interface input output e goes input' output' e' =
+    Turns interface (end_between input output e) goes (end_between input' output' e')
+
+-- whether the call that is stored went well, where it is over
+abbrev pub is_over_well : Option ClientEntry → Bool
+is_over_well entry = if has_ended is_closed entry then is_well entry else true
 
 -- whether all that are over did
 abbrev pub all_over_well : ById (Slot ClientEntry) → Bool
-all_over_well table = list_all (is_over_well table) (finite.keys table)
+all_over_well table =
+    list_all (λ id. is_over_well (entry_of (finite.get table id))) (finite.keys table)
 
 -- the same calls without those that are over
 abbrev pub still_open : ClientCalls → ClientCalls
@@ -150,6 +159,11 @@ pub record Course : Type 0 where
 
 abbrev pub course : Between ClientCalls → Option (List ℕ) → List CallLine → Bool → Course
 course end text left well = record { end = end; text = text; left = left; well = well }
+
+-- of an end between a reader and a writer of these octets, and what is printed
+abbrev pub course_of : (input output text : Option (List ℕ)) → ClientSide → List CallLine → Bool
+    → Course
+course_of input output text end = course (end_between input output end) text
 
 -- whether no call is left to be made, and none is open
 abbrev pub is_done : List CallLine → ClientCalls → Bool
@@ -195,6 +209,11 @@ module _ (asked : Asked) (lines : LineForm) where
   abbrev pub CourseEnds : Course → Option SessionFault → Course → Type 0
   CourseEnds s None t = EndsDone s t ⊎ EndsOff s t
   CourseEnds s (Some why) t = EndsRefused s why t
+
+  -- what a turn comes to: the session goes on, or ends
+  abbrev pub Goes : Course → CallTurn → Course → Type 0
+  Goes s goes_on t = TurnTells s t
+  Goes s (Ends refused) t = CourseEnds s refused t
 
   -- so it goes, turn by turn
   pub record Streams (s : Course) (refused : Option SessionFault) (t : Course) : Type 0 where

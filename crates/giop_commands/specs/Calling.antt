@@ -9,10 +9,13 @@ use Rattle.giop_msg.specs.declared.target.Target.TheVariants.{Key}
 use Rattle.giop_msg.specs.declared.version.Version.{Version}
 use Rattle.giop_types.specs.declared.json.interface.Interface.{Interface}
 use Rattle.giop_calls.specs.declared.client.entry.ClientEntry.{ClientEntry}
+use Rattle.giop_calls.specs.declared.client.event.ClientEvent.{ClientEvent}
 use Rattle.giop_calls.specs.declared.client.event.ClientEvent.TheVariants as event
 use Rattle.giop_calls.specs.declared.client.rule.ClientRule.{ClientRule}
+use Rattle.giop_calls.specs.declared.fault.CallFault.{CallFault}
 use Rattle.giop_calls.specs.ClientTable.{client_step, is_closed, is_gathering, left_of}
 use Rattle.giop_end.specs.declared.acts.form.Form.{Form}
+use Rattle.giop_end.specs.declared.end.End.{End}
 use Rattle.giop_end.specs.declared.limits.Limits.{Limits}
 use Rattle.giop_end.specs.declared.session_fault.SessionFault.{SessionFault}
 use Rattle.giop_end.specs.Ends.Begun.{no_calls}
@@ -20,14 +23,16 @@ use Rattle.giop_table.specs.CallTable.{Held, rules_of}
 use Rattle.giop_end.specs.Acts.ClientCalls.{IsCall, call_fault}
 use Rattle.giop_end.specs.Hearing.ClientHears.{client_act, client_breaks}
 use Rattle.giop_end.specs.Hearing.Heard.{hears_by, in_call}
+use Rattle.giop_end.specs.Ends.View.{end_between}
 use Rattle.giop_end.specs.Pumping.{Between, between}
 use Rattle.giop_table.specs.Sending.{entry_of}
 use Rattle.giop_commands.specs.declared.call.calls.CallLine.{CallLine}
 use Rattle.giop_commands.specs.declared.call.given.Calling.{Calling}
+use Rattle.giop_show.specs.declared.failure.Failure.{Failure}
 use Rattle.giop_commands.specs.Acts.{ActsOrTells, Outbox, SendsAll, outbox}
 use Rattle.giop_commands.specs.Check.{nothing_read}
 use Rattle.giop_commands.specs.Steps.{AndThen, Upto}
-use Rattle.giop_commands.specs.Turns.{Waits, WritesOut}
+use Rattle.giop_commands.specs.Turns.{Waits, WaitsAt, WritesOut}
 
 -- a Request of a call: to the object of a key, for a reply unless the operation is oneway
 abbrev pub request_of : CallLine → List ℕ → Version → Request
@@ -46,6 +51,10 @@ request_of call key version = record {
 -- the calls of a client
 abbrev pub ClientCalls : Type 0
 ClientCalls = Held ClientRule ClientEntry
+
+-- a client's end, as contracts see it
+abbrev pub ClientSide : Type 0
+ClientSide = End ClientRule ClientEntry ClientEvent (Unit {0}) CallFault
 
 -- what is stored for an id
 abbrev pub entry_at : ClientCalls → ℕ → Option ClientEntry
@@ -107,6 +116,11 @@ client_hears interface =
     hears_by (λ rule. client_step) (λ rule. is_closed) is_gathering in_call client_breaks
     (client_act interface)
 
+-- turns are taken until the calls of these ids are over
+abbrev pub WaitsFor : Interface → List ℕ → (input output : Option (List ℕ)) → ClientSide
+    → Result (Unit {0}) Failure → (input' output' : Option (List ℕ)) → ClientSide → Type 0
+WaitsFor interface ids = WaitsAt (client_hears interface) (are_over ids)
+
 -- what is outgoing is written, and replies are read until all calls are over; nothing is read where
 -- they are over at first
 abbrev pub ConversesIf : Interface → Bool → Between ClientCalls → Between ClientCalls → Type 0
@@ -123,6 +137,17 @@ abbrev pub Talks : Interface → Option SessionFault → Between ClientCalls →
     → Type 0
 Talks interface None s t = Converses interface s t
 Talks interface (Some why) s t = t ≡ s
+
+-- so it goes at an end between a reader and a writer of these octets
+abbrev pub ConversesAt : Interface → (input output : Option (List ℕ)) → ClientSide
+    → (input' output' : Option (List ℕ)) → ClientSide → Type 0
+ConversesAt interface input output e input' output' e' =
+    Converses interface (end_between input output e) (end_between input' output' e')
+
+abbrev pub TalksAt : Interface → Option SessionFault → (input output : Option (List ℕ))
+    → ClientSide → (input' output' : Option (List ℕ)) → ClientSide → Type 0
+TalksAt interface refused input output e input' output' e' =
+    Talks interface refused (end_between input output e) (end_between input' output' e')
 
 -- a new end with these limits, of which nothing is outgoing
 abbrev pub new_box : Limits → Outbox ClientCalls

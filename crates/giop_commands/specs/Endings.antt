@@ -9,15 +9,19 @@ use Rattle.giop_calls.specs.ServerTable as server
 use Rattle.giop_msg.specs.Stream.{Unread}
 use Rattle.giop_table.specs.declared.slot.Slot.{Slot}
 use Rattle.giop_end.specs.declared.session_fault.SessionFault.{SessionFault}
+use Rattle.giop_commands.specs.declared.call.calls.CallLine.{CallLine}
+use Rattle.giop_commands.specs.declared.call.given.Calling.{Calling}
+use Rattle.giop_commands.specs.declared.serve.given.Serving.{Serving}
 use Rattle.giop_commands.specs.declared.serve.in_turn.AnswerName.{AnswerName}
+use Rattle.giop_commands.specs.declared.serve.in_turn.Passed.{Passed}
 use Rattle.giop_show.specs.declared.failure.Failure.{Failure}
 use Rattle.giop_show.specs.declared.form.LineForm.{LineForm}
 use Rattle.giop_commands.specs.declared.session.ending.Ending.{Ending}
 use Rattle.giop_show.specs.declared.status.Status.{Status}
 use Rattle.giop_commands.specs.CallStreaming as calling
-use Rattle.giop_commands.specs.Calling.{Asked}
-use Rattle.giop_commands.specs.Serving.{Served}
-use Rattle.giop_commands.specs.Sessions.{IsCalled, IsServed, Wire, told}
+use Rattle.giop_commands.specs.Calling.{Asked, asked_of}
+use Rattle.giop_commands.specs.Serving.{Served, served_of}
+use Rattle.giop_commands.specs.Sessions.{Change, IsCalled, IsServed, Wire, told, wire}
 use Rattle.giop_show.specs.Status.{failure_status}
 use Rattle.giop_commands.specs.Streaming as serving
 use Rattle.giop_commands.specs.Streaming.{ended_at}
@@ -79,3 +83,29 @@ pub record ServesStreamEnd (number : ℕ) (it : Served) (lines : LineForm) (befo
   pub ends :
       Ends server.is_closed (told streamed.refused streamed.fault) streamed.left.table
       streamed.unread ending
+
+-- ---- over a reader, a writer and what is printed, which changed so
+
+abbrev pub CallsEndOver : Calling → List CallLine → LineForm → (input output text : Change)
+    → Ending → Type 0
+CallsEndOver calling calls lines input output text =
+    CallsEnd (asked_of calling calls) lines (wire input.before output.before)
+    (wire input.after output.after) text.before text.after
+
+abbrev pub CallsStreamEndOver : Calling → List CallLine → LineForm → (input output text : Change)
+    → Ending → Type 0
+CallsStreamEndOver calling calls lines input output text =
+    CallsStreamEnd (asked_of calling calls) lines (wire input.before output.before)
+    (wire input.after output.after) text.before text.after
+
+abbrev pub ServesEndOver : ℕ → Serving → LineForm → (input output : Change) → (old new : Passed)
+    → (text : Change) → Ending → Type 0
+ServesEndOver number serving lines input output old new text =
+    ServesEnd number (served_of serving) lines (wire input.before output.before)
+    (wire input.after output.after) old.names.items new.names.items text.before text.after
+
+abbrev pub ServesStreamEndOver : ℕ → Serving → LineForm → (input output : Change)
+    → (old new : Passed) → (text : Change) → Ending → Type 0
+ServesStreamEndOver number serving lines input output old new text =
+    ServesStreamEnd number (served_of serving) lines (wire input.before output.before)
+    (wire input.after output.after) old.names.items new.names.items text.before text.after

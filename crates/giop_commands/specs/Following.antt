@@ -6,22 +6,20 @@ use Rattle.std.specs.List.{flat_map, fold, filter, list_all, list_any}
 use Rattle.std.specs.Option.{option_or}
 use Rattle.giop_calls.specs.declared.client.entry.ClientEntry.{ClientEntry}
 use Rattle.giop_calls.specs.declared.client.entry.ClientEntry.TheVariants.{Done as done}
-use Rattle.giop_calls.specs.declared.client.event.ClientEvent.{ClientEvent}
-use Rattle.giop_calls.specs.declared.client.rule.ClientRule.{ClientRule}
-use Rattle.giop_calls.specs.declared.fault.CallFault.{CallFault}
 use Rattle.giop_msg.specs.declared.messages.reply_body.ReplyBody.{ReplyBody}
 use Rattle.giop_msg.specs.declared.messages.reply_body.ReplyBody.TheVariants.{Forward as forward, ForwardPerm}
 use Rattle.giop_types.specs.declared.json.interface.Interface.{Interface}
-use Rattle.giop_end.specs.declared.end.End.{End}
 use Rattle.giop_end.specs.declared.session_fault.SessionFault.{SessionFault}
+use Rattle.giop_end.specs.Ends.View.{end_between}
 use Rattle.giop_end.specs.Pumping.{Between}
 use Rattle.giop_commands.specs.declared.call.calls.CallLine.{CallLine}
 use Rattle.giop_commands.specs.declared.call.following.Forward.{Forward}
+use Rattle.giop_commands.specs.declared.call.given.Calling.{Calling}
 use Rattle.giop_show.specs.declared.form.LineForm.{LineForm}
 use Rattle.giop_commands.specs.declared.session.target.Endpoint.{Endpoint}
 use Rattle.giop_commands.specs.Acts.{Outbox}
 use Rattle.giop_commands.specs.CallStreaming.{box_of, with_box}
-use Rattle.giop_commands.specs.Calling.{Asked, CallsAll, ClientCalls, Talks, entry_at}
+use Rattle.giop_commands.specs.Calling.{Asked, CallsAll, ClientCalls, ClientSide, Talks, asked_of, entry_at}
 use Rattle.giop_commands.specs.Sessions.{fault_text, is_well}
 use Rattle.giop_commands.specs.Table.{client_entry_in, entry_text}
 use Rattle.giop_commands.specs.Target.{place_in}
@@ -40,10 +38,6 @@ entry_place (done request reply) = body_place reply.body
 entry_place _ = None
 
 -- ---- sessions, one after the other
-
--- a client's end, as contracts see it
-abbrev pub ClientSide : Type 0
-ClientSide = End ClientRule ClientEntry ClientEvent (Unit {0}) CallFault
 
 -- what the call of an id came to where it was made last
 abbrev pub latest : List ClientSide → ℕ → Option ClientEntry
@@ -80,6 +74,13 @@ module _ (asked : Asked) where
     pub box : Outbox ClientCalls
     pub calls : CallsAll asked s.state.fault (box_of s) refused box
     pub talks : Talks asked.interface refused (with_box s box) t
+
+-- between a reader and a writer of these octets
+abbrev pub CallsBetween : Calling → List CallLine → (input output : Option (List ℕ)) → ClientSide
+    → Option SessionFault → (input' output' : Option (List ℕ)) → ClientSide → Type 0
+CallsBetween calling calls input output e refused input' output' e' =
+    CallsAt (asked_of calling calls) (end_between input output e) refused
+    (end_between input' output' e')
 
 -- ---- what is told
 

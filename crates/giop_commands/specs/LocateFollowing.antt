@@ -10,11 +10,13 @@ use Rattle.giop_ior.specs.Ior.{Reference, ior_layout}
 use Rattle.giop_calls.specs.declared.client.entry.ClientEntry.{ClientEntry}
 use Rattle.giop_calls.specs.declared.client.entry.ClientEntry.TheVariants.{LocateDone}
 use Rattle.giop_end.specs.declared.session_fault.SessionFault.{SessionFault}
+use Rattle.giop_end.specs.Ends.View.{end_between}
 use Rattle.giop_end.specs.Pumping.{Between}
+use Rattle.giop_commands.specs.declared.call.given.Calling.{Calling}
 use Rattle.giop_commands.specs.declared.session.target.Endpoint.{Endpoint}
 use Rattle.giop_commands.specs.Acts.{Outbox}
 use Rattle.giop_commands.specs.CallStreaming.{box_of, with_box}
-use Rattle.giop_commands.specs.Calling.{Asked, ClientCalls, Talks}
+use Rattle.giop_commands.specs.Calling.{Asked, ClientCalls, ClientSide, Talks, asked_of}
 use Rattle.giop_commands.specs.Locating.{Locates}
 use Rattle.giop_commands.specs.Target.{place_in}
 
@@ -52,3 +54,10 @@ module _ (asked : Asked) where
     pub box : Outbox ClientCalls
     pub locates : Locates asked s.state.fault (box_of s) refused box
     pub talks : Talks asked.interface refused (with_box s box) t
+
+-- between a reader and a writer of these octets
+abbrev pub LocatesBetween : Calling → (input output : Option (List ℕ)) → ClientSide
+    → Option SessionFault → (input' output' : Option (List ℕ)) → ClientSide → Type 0
+LocatesBetween calling input output e refused input' output' e' =
+    LocatesAt (asked_of calling []) (end_between input output e) refused
+    (end_between input' output' e')

@@ -1,6 +1,6 @@
 -- What the program of `locate` does at its end: it asks where the object of a key is, and waits for
 -- the answer (CORBA 3.3 Part 2, 9.4.5, 9.4.6).
-use Rattle.std.specs.Prelude.{◌≡◌, ℕ, ◌==◌, if◌then◌else◌, Bool, true, false, List, Option, Some, None}
+use Rattle.std.specs.Prelude.{◌≡◌, ℕ, ◌==◌, if◌then◌else◌, Bool, true, false, List, [], Option, Some, None}
 use Rattle.std.specs.FinMap as finite
 use Rattle.std.specs.Io.KnownBytes.{Appends}
 use Rattle.giop_ids.specs.ById.{ById}
@@ -18,14 +18,15 @@ use Rattle.giop_table.specs.CallTable.{rules_of}
 use Rattle.giop_table.specs.Sending.{entry_of}
 use Rattle.giop_end.specs.Hearing.Heard.{in_call}
 use Rattle.giop_end.specs.Pumping.{between}
+use Rattle.giop_commands.specs.declared.call.given.Calling.{Calling}
 use Rattle.giop_show.specs.declared.form.LineForm.{LineForm}
 use Rattle.giop_commands.specs.declared.session.ending.Ending.{Ending}
 use Rattle.giop_show.specs.declared.status.Status.{Status}
 use Rattle.giop_show.specs.declared.status.Status.TheVariants.{Done}
 use Rattle.giop_commands.specs.Acts.{ActsOrTells, Outbox}
-use Rattle.giop_commands.specs.Calling.{Asked, CallsSent, ClientCalls, Talks, begun, entry_at, new_box}
+use Rattle.giop_commands.specs.Calling.{Asked, CallsSent, ClientCalls, Talks, asked_of, begun, entry_at, new_box}
 use Rattle.giop_commands.specs.Endings.{Ends}
-use Rattle.giop_commands.specs.Sessions.{Wire, session_text, told, unwell_status}
+use Rattle.giop_commands.specs.Sessions.{Change, Wire, session_text, told, unwell_status, wire}
 use Rattle.giop_commands.specs.BrokenStatus.{broken_status}
 use Rattle.giop_commands.specs.Steps.{AndThen}
 use Rattle.giop_commands.specs.Table.{client_entry_in}
@@ -77,3 +78,9 @@ pub record LocatesEnd (asked : Asked) (lines : LineForm) (before after : Wire)
       (session_text lines (client_entry_in lines asked.interface) left.table (told refused fault))
   pub is : ending.status ≡ locate_status refused fault left.table
   pub ends : Ends is_closed (told refused fault) left.table unread ending
+
+-- over a reader, a writer and what is printed, which changed so
+abbrev pub LocatesEndOver : Calling → LineForm → (input output text : Change) → Ending → Type 0
+LocatesEndOver calling lines input output text =
+    LocatesEnd (asked_of calling []) lines (wire input.before output.before)
+    (wire input.after output.after) text.before text.after

@@ -5,15 +5,19 @@ use Rattle.std.specs.FinMap as finite
 use Rattle.giop_types.specs.declared.json.interface.Interface.{Interface}
 use Rattle.giop_msg.specs.declared.messages.reply.Reply.{Reply as AnyReply}
 use Rattle.giop_calls.specs.declared.server.entry.ServerEntry.{ServerEntry}
+use Rattle.giop_calls.specs.declared.fault.CallFault.{CallFault}
+use Rattle.giop_calls.specs.declared.server.event.ServerEvent.{ServerEvent}
 use Rattle.giop_calls.specs.declared.server.event.ServerEvent.TheVariants as event
 use Rattle.giop_calls.specs.declared.server.rule.ServerRule.{ServerRule}
 use Rattle.giop_calls.specs.ServerTable.{server_step, is_closed, is_gathering, left_of}
 use Rattle.giop_end.specs.declared.acts.form.Form.{Form}
+use Rattle.giop_end.specs.declared.end.End.{End}
 use Rattle.giop_end.specs.declared.limits.Limits.{Limits}
 use Rattle.giop_end.specs.declared.session_fault.SessionFault.{SessionFault}
 use Rattle.giop_end.specs.Ends.Begun.{no_calls}
 use Rattle.giop_table.specs.CallTable.{Held, rules_of}
 use Rattle.giop_end.specs.Hearing.Heard.{in_call}
+use Rattle.giop_end.specs.Ends.View.{end_between}
 use Rattle.giop_end.specs.Pumping.{Between, between}
 use Rattle.giop_table.specs.Sending.{entry_of}
 use Rattle.giop_end.specs.Acts.ServerAnswers.{IsAnswer, IsLocateAnswer, answer_fault, locate_in, question_in}
@@ -21,7 +25,8 @@ use Rattle.giop_commands.specs.declared.serve.answering.Due.{Due}
 use Rattle.giop_commands.specs.declared.serve.answering.Due.TheVariants.{Nothing, Locate, Reply}
 use Rattle.giop_commands.specs.declared.serve.given.Serving.{Serving}
 use Rattle.giop_commands.specs.declared.serve.in_turn.AnswerName.{AnswerName}
-use Rattle.giop_commands.specs.Acts.{ActsOrTells, Outbox, SendsAll, outbox}
+use Rattle.giop_commands.specs.declared.serve.in_turn.Passed.{Passed}
+use Rattle.giop_commands.specs.Acts.{ActsOrTells, Outbox, SendsAll, outbox, outbox_of}
 use Rattle.giop_commands.specs.Answering.{due_to, reply_of}
 use Rattle.giop_commands.specs.Check.{nothing_read, server_hears}
 use Rattle.giop_commands.specs.InTurn.{passed_behind}
@@ -32,6 +37,10 @@ use Rattle.giop_commands.specs.Turns.{GoesOn, most_turns}
 -- the calls of a server
 abbrev pub ServerCalls : Type 0
 ServerCalls = Held ServerRule ServerEntry
+
+-- a server's end, as contracts see it
+abbrev pub ServerSide : Type 0
+ServerSide = End ServerRule ServerEntry ServerEvent (Unit {0}) CallFault
 
 -- the pieces that are left of all answers are put out
 abbrev pub AnswersSent : Option SessionFault → Outbox ServerCalls → Option SessionFault
@@ -61,6 +70,10 @@ pub record Desk : Type 0 where
 
 abbrev pub desk : Outbox ServerCalls → List AnswerName → Desk
 desk box passed = record { box = box; passed = passed }
+
+-- at an end
+abbrev pub desk_at : ServerSide → Passed → Desk
+desk_at end passed = desk (outbox_of end) passed.names.items
 
 -- an end with these limits, at which this fault stands, if one does
 module _ (served : Served) (limits : Limits) (fault : Option SessionFault) where
@@ -108,6 +121,10 @@ pub record Session : Type 0 where
 
 abbrev pub session : Between ServerCalls → List AnswerName → Session
 session end passed = record { end = end; passed = passed }
+
+-- between a reader and a writer of these octets
+abbrev pub session_at : (input output : Option (List ℕ)) → ServerSide → Passed → Session
+session_at input output end passed = session (end_between input output end) passed.names.items
 
 -- its calls and its outgoing octets, and what is passed
 abbrev pub desk_of : Between ServerCalls → List AnswerName → Desk

@@ -16,19 +16,23 @@ use Rattle.giop_end.specs.Pumping.{between}
 use Rattle.giop_table.specs.Sending.{entry_of}
 use Rattle.giop_lines.specs.SessionJson.{connection_json}
 use Rattle.giop_lines.specs.TableLines.{connection_line}
+use Rattle.giop_commands.specs.declared.call.calls.CallLine.{CallLine}
+use Rattle.giop_commands.specs.declared.call.given.Calling.{Calling}
+use Rattle.giop_commands.specs.declared.serve.given.Serving.{Serving}
 use Rattle.giop_commands.specs.declared.serve.in_turn.AnswerName.{AnswerName}
+use Rattle.giop_commands.specs.declared.serve.in_turn.Passed.{Passed}
 use Rattle.giop_show.specs.declared.form.LineForm.{LineForm}
 use Rattle.giop_types.specs.declared.json.number_form.NumberForm.TheVariants.{Plain}
 use Rattle.giop_show.specs.declared.form.LineForm.TheVariants.{Text}
 use Rattle.giop_show.specs.declared.status.Status.{Status}
 use Rattle.giop_show.specs.declared.status.Status.TheVariants.{Done, Refused, InputOutput, Memory}
 use Rattle.giop_commands.specs.Acts.{Outbox}
-use Rattle.giop_commands.specs.Calling.{Asked, CallsAll, ClientCalls, Talks, begun, new_box}
+use Rattle.giop_commands.specs.Calling.{Asked, CallsAll, ClientCalls, Talks, asked_of, begun, new_box}
 use Rattle.giop_commands.specs.Check.{fault_status}
 use Rattle.giop_show.specs.Dump.{ended}
 use Rattle.giop_show.specs.Forms.{line_in}
 use Rattle.giop_commands.specs.Serving as serving
-use Rattle.giop_commands.specs.Serving.{Served, ServerCalls, new_server, session}
+use Rattle.giop_commands.specs.Serving.{Served, ServerCalls, new_server, served_of, session}
 use Rattle.giop_commands.specs.SessionLines.{session_fault_in}
 use Rattle.giop_commands.specs.BrokenStatus.{broken_status}
 use Rattle.giop_commands.specs.Table.{client_entry_in, server_entry_in, table_text}
@@ -92,6 +96,15 @@ pub record Wire : Type 0 where
 abbrev pub wire : Option (List ℕ) → Option (List ℕ) → Wire
 wire input output = record { input = input; output = output }
 
+-- what is known of a reader or a writer before a call, and behind it
+pub record Change : Type 0 where
+  pub before : Option (List ℕ)
+  pub after : Option (List ℕ)
+
+-- of a value that a call changes, as it was and is, by what is known of such a value
+abbrev pub change : {A : Type 0} → (A → Option (List ℕ)) → A → A → Change
+change known old new = record { before = known old; after = known new }
+
 -- these calls were made at a new client's end, which then talked over the wire; and what is printed
 -- of them in a form is the table that its calls are left with, its fault, and this status
 pub record IsCalled (asked : Asked) (lines : LineForm) (before after : Wire)
@@ -115,6 +128,12 @@ abbrev pub Calls : Asked → Wire → Wire → Option (List ℕ) → Option (Lis
 Calls asked before after old new InputOutput = ⊤
 Calls asked before after old new Memory = ⊤
 Calls asked before after old new status = IsCalled asked (Text Plain) before after old new status
+
+-- what it did over a reader, a writer and what is printed, which changed so
+abbrev pub CallsOver : Calling → List CallLine → (input output text : Change) → Status → Type 0
+CallsOver calling calls input output text =
+    Calls (asked_of calling calls) (wire input.before output.before)
+    (wire input.after output.after) text.before text.after
 
 -- ---- the connection of a server
 
@@ -149,3 +168,10 @@ Serves number served before after old_passed new_passed old new InputOutput = �
 Serves number served before after old_passed new_passed old new Memory = ⊤
 Serves number served before after old_passed new_passed old new status =
     IsServed number served (Text Plain) before after old_passed new_passed old new status
+
+-- what it did over a reader, a writer and what is printed, which changed so
+abbrev pub ServesOver : ℕ → Serving → (input output : Change) → (old new : Passed)
+    → (text : Change) → Status → Type 0
+ServesOver number serving input output old new text =
+    Serves number (served_of serving) (wire input.before output.before)
+    (wire input.after output.after) old.names.items new.names.items text.before text.after

@@ -6,9 +6,12 @@ use Rattle.std.specs.declared.io.Error.{Error}
 use Rattle.std.specs.declared.io.ErrorKind.TheVariants.{OutOfMemory}
 use Rattle.std.specs.Io.KnownBytes.{Appends}
 use Rattle.giop_msg.specs.declared.msg.Msg.{Msg}
+use Rattle.giop_end.specs.declared.end.End.{End}
 use Rattle.giop_end.specs.declared.pump_fault.PumpFault.TheVariants as turn
 use Rattle.giop_end.specs.declared.session_fault.SessionFault.{SessionFault}
 use Rattle.giop_end.specs.declared.session_fault.SessionFault.TheVariants.{NoMemory}
+use Rattle.giop_table.specs.CallTable.{Held}
+use Rattle.giop_end.specs.Ends.View.{end_between}
 use Rattle.giop_end.specs.Pumping.{Between, Turned, Writes}
 use Rattle.giop_end.specs.Ends.SessionFaults.{error_message_of}
 use Rattle.giop_show.specs.declared.failure.Failure.{Failure}
@@ -103,3 +106,19 @@ module _ {S : Type 0} (Hears : Msg → S → Result (Unit {0}) SessionFault → 
       pub mid : Between S
       pub each : Each WaitsOn turns s mid
       pub ends : WaitEnds (length turns) mid result t
+
+-- ---- of an end between a reader and a writer of these octets
+
+module _ {R E V A F : Type 0}
+    (Hears : Msg → Held R E → Result (Unit {0}) SessionFault → Held R E → Type 0) where
+  -- a turn, and whether the session continues
+  abbrev pub GoesOnAt : (input output : Option (List ℕ)) → End R E V A F → Result Bool Failure
+      → (input' output' : Option (List ℕ)) → End R E V A F → Type 0
+  GoesOnAt input output e result input' output' e' =
+      GoesOn Hears (end_between input output e) result (end_between input' output' e')
+
+  -- the turns of a client, which continue until its calls are over
+  abbrev pub WaitsAt : (Held R E → Bool) → (input output : Option (List ℕ)) → End R E V A F
+      → Result (Unit {0}) Failure → (input' output' : Option (List ℕ)) → End R E V A F → Type 0
+  WaitsAt are_over input output e result input' output' e' =
+      Waits Hears are_over (end_between input output e) result (end_between input' output' e')

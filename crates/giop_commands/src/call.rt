@@ -1,20 +1,16 @@
 //! `call`: a client's end between a reader and a writer. Its meaning is specs/Calling.antt, and
 //! specs/Sessions.antt for what is printed: change both.
-ghost use Rattle.std.specs.Prelude.{◌≡◌, [], ◌∷◌, IfOk, None, OnOk, option_copied};
-ghost use Rattle.std.specs.FinMap as finite;
+ghost use Rattle.std.specs.Prelude.{◌≡◌, [], ◌∷◌, IfOk, None, OnOk};
 ghost use Rattle.std.specs.Io.KnownBytes.{Appends};
-ghost use Rattle.std.specs.List.{list_all};
-ghost use Rattle.giop_end.specs.Acts.Form.{IsForm};
-ghost use Rattle.giop_table.specs.Sending.{entry_of};
 ghost use Rattle.giop_end.specs.Pumping.{between};
+ghost use Rattle.giop_end.specs.Ends.View.{IsActedOn, IsTurned};
+ghost use Rattle.giop_commands.specs.Acts.{outbox_of};
 ghost use Rattle.giop_calls.specs.ClientTable.{is_closed};
-ghost use Rattle.giop_commands.specs.Acts.{outbox};
-ghost use Rattle.giop_commands.specs.Calling.{CallsAll, CallsOne, Converses, Talks, are_over, asked_of, client_hears, is_over, request_of};
-ghost use Rattle.giop_commands.specs.Endings.{CallsEnd, Ends};
-ghost use Rattle.giop_commands.specs.Sessions.{Calls, all_well, call_status, is_well, session_text, told, wire};
+ghost use Rattle.giop_commands.specs.Calling.{CallsAll, CallsOne, ConversesAt, TalksAt, WaitsFor, asked_of, request_of};
+ghost use Rattle.giop_commands.specs.Endings.{CallsEndOver, Ends};
+ghost use Rattle.giop_commands.specs.Sessions.{call_status, Calls, CallsOver, change, session_text, told};
 ghost use Rattle.giop_commands.specs.Steps.{Upto};
 ghost use Rattle.giop_commands.specs.Table.{client_entry_in};
-ghost use Rattle.giop_commands.specs.Turns.{Waits};
 
 pub mod calls;
 pub mod feed;
@@ -25,17 +21,18 @@ pub mod locate_following;
 pub mod locating;
 pub mod streaming;
 pub mod table;
+mod well;
 pub mod words;
 
 use crate::call::calls::CallLine;
 use crate::call::given::Calling;
+use crate::call::well::{all_well, are_over};
 use crate::session::broken::broken_status;
 use crate::session::ending::{Ending, ending_of};
 use crate::session::sending::send_all;
 use crate::session::{TURNS, goes_on, told, told_of, write_all_out, write_session};
-use giop_calls::ClientEntry;
 use giop_cdr::OctetList;
-use giop_end::{ClientEnd, Form, SessionFault};
+use giop_end::{ClientEnd, SessionFault};
 use giop_msg::{Request, RequestHead, ServiceContexts, Target, Version};
 use giop_show::failure::Failure;
 use giop_show::form::LineForm;
@@ -66,10 +63,8 @@ pub fn call_session<R: Read, W: Write, O: Write>(
     writer: &mut W,
     out: &mut O,
 ) -> Status
-    ensures { Calls (asked_of calling.entry calls.items)
-        (wire (R.remaining reader.old) (W.contents writer.old))
-        (wire (R.remaining reader.new) (W.contents writer.new))
-        (O.contents out.old) (O.contents out.new) result }
+    ensures { CallsOver calling.entry calls.items (change R.remaining reader.old reader.new)
+        (change W.contents writer.old writer.new) (change O.contents out.old out.new) result }
 {
     let lines = LineForm::Text(NumberForm::Plain);
     match call_over(alloc, calling, calls, lines, reader, writer, out) {
@@ -90,14 +85,12 @@ pub fn call_over<R: Read, W: Write, O: Write>(
     writer: &mut W,
     out: &mut O,
 ) -> Result<Ending, Failure>
-    ensures { IfOk result (CallsEnd (asked_of calling.entry calls.items) lines
-        (wire (R.remaining reader.old) (W.contents writer.old))
-        (wire (R.remaining reader.new) (W.contents writer.new))
-        (O.contents out.old) (O.contents out.new)) }
+    ensures { IfOk result (CallsEndOver calling.entry calls.items lines
+        (change R.remaining reader.old reader.new) (change W.contents writer.old writer.new)
+        (change O.contents out.old out.new)) }
 {
     let mut end = ClientEnd::new(alloc, calling.interface, calling.limits);
-    let (key, version, form) = (calling.key, calling.version, calling.form);
-    let refused = call_all(alloc, &mut end, calls, key, version, form)?;
+    let refused = call_all(alloc, &mut end, calling, calls)?;
     match talk(alloc, &mut end, refused, reader, writer) {
         Ok(()) => tell(alloc, lines, calling.interface, &end, refused, out),
         Err(Failure::Memory) => Err(Failure::Memory),
@@ -137,28 +130,16 @@ fn tell<O: Write>(
 fn call_all(
     alloc: Global,
     end: &mut ClientEnd<'_>,
+    calling: Calling<'_>,
     calls: Vec<CallLine>,
-    key: &[u8],
-    version: Version,
-    form: Form,
 ) -> Result<Option<SessionFault>, Failure>
-    requires { IsForm form }
-    ensures calls { IfOk result (λ refused. CallsAll (record {
-      interface = end.old.interface.now;
-      calls = calls.items;
-      key = key.now;
-      version = version;
-      form = form;
-      limits = end.old.limits;
-    })
-        end.old.fault (outbox end.old.calls end.old.outgoing) refused
-        (outbox end.new.calls end.new.outgoing)) }
-    ensures others { end.new ≡ record end.old {
-      calls = end.new.calls;
-      outgoing = end.new.outgoing;
-    } }
+    requires interface { end.old.interface.now ≡ calling.interface.now }
+    requires limits { end.old.limits ≡ calling.limits }
+    ensures calls { IfOk result (λ refused. CallsAll (asked_of calling.entry calls.items)
+        end.old.fault (outbox_of end.old) refused (outbox_of end.new)) }
+    ensures others { IsActedOn end.old end.new }
 {
-    if let Some(fault) = call_each(alloc, end, calls, key, version, form)? {
+    if let Some(fault) = call_each(alloc, end, calling, calls)? {
         return Ok(Some(fault));
     }
     send_all(alloc, end)
@@ -168,29 +149,17 @@ fn call_all(
 fn call_each(
     alloc: Global,
     end: &mut ClientEnd<'_>,
+    calling: Calling<'_>,
     calls: Vec<CallLine>,
-    key: &[u8],
-    version: Version,
-    form: Form,
 ) -> Result<Option<SessionFault>, Failure>
-    requires { IsForm form }
-    ensures calls { IfOk result (λ refused. Upto (CallsOne (record {
-      interface = end.old.interface.now;
-      calls = calls.items;
-      key = key.now;
-      version = version;
-      form = form;
-      limits = end.old.limits;
-    })
-        end.old.fault) calls.items (outbox end.old.calls end.old.outgoing) refused
-        (outbox end.new.calls end.new.outgoing)) }
-    ensures others { end.new ≡ record end.old {
-      calls = end.new.calls;
-      outgoing = end.new.outgoing;
-    } }
+    requires interface { end.old.interface.now ≡ calling.interface.now }
+    requires limits { end.old.limits ≡ calling.limits }
+    ensures calls { IfOk result (λ refused. Upto (CallsOne (asked_of calling.entry calls.items)
+        end.old.fault) calls.items (outbox_of end.old) refused (outbox_of end.new)) }
+    ensures others { IsActedOn end.old end.new }
 {
     'calls: for call in calls {
-        if let Some(fault) = call_one(alloc, end, call, key, version, form)? {
+        if let Some(fault) = call_one(alloc, end, calling, call)? {
             return Ok(Some(fault));
         }
     }
@@ -201,29 +170,17 @@ fn call_each(
 fn call_one(
     alloc: Global,
     end: &mut ClientEnd<'_>,
+    calling: Calling<'_>,
     call: CallLine,
-    key: &[u8],
-    version: Version,
-    form: Form,
 ) -> Result<Option<SessionFault>, Failure>
-    requires { IsForm form }
-    ensures calls { IfOk result (λ refused. CallsOne (record {
-      interface = end.old.interface.now;
-      calls = call ∷ [];
-      key = key.now;
-      version = version;
-      form = form;
-      limits = end.old.limits;
-    })
-        end.old.fault call (outbox end.old.calls end.old.outgoing) refused
-        (outbox end.new.calls end.new.outgoing)) }
-    ensures others { end.new ≡ record end.old {
-      calls = end.new.calls;
-      outgoing = end.new.outgoing;
-    } }
+    requires interface { end.old.interface.now ≡ calling.interface.now }
+    requires limits { end.old.limits ≡ calling.limits }
+    ensures calls { IfOk result (λ refused. CallsOne (asked_of calling.entry (call ∷ []))
+        end.old.fault call (outbox_of end.old) refused (outbox_of end.new)) }
+    ensures others { IsActedOn end.old end.new }
 {
-    let request = request_of(alloc, call, key, version)?;
-    told_of(end.call(request, form))
+    let request = request_of(alloc, call, calling.key, calling.version)?;
+    told_of(end.call(request, calling.form))
 }
 
 // The Request of a call.
@@ -256,17 +213,9 @@ fn talk<R: Read, W: Write>(
     reader: &mut R,
     writer: &mut W,
 ) -> Result<(), Failure>
-    ensures talks { OnOk result (Talks end.old.interface.now refused
-        (between (R.remaining reader.old) (W.contents writer.old) end.old.outgoing end.old.framer
-        end.old.calls end.old.fault)
-        (between (R.remaining reader.new) (W.contents writer.new) end.new.outgoing end.new.framer
-        end.new.calls end.new.fault)) }
-    ensures others { end.new ≡ record end.old {
-      outgoing = end.new.outgoing;
-      framer = end.new.framer;
-      calls = end.new.calls;
-      fault = end.new.fault;
-    } }
+    ensures talks { OnOk result (TalksAt end.old.interface.now refused (R.remaining reader.old)
+        (W.contents writer.old) end.old (R.remaining reader.new) (W.contents writer.new) end.new) }
+    ensures others { IsTurned end.old end.new }
 {
     match refused {
         Some(_) => Ok(()),
@@ -282,17 +231,9 @@ fn converse<R: Read, W: Write>(
     reader: &mut R,
     writer: &mut W,
 ) -> Result<(), Failure>
-    ensures converses { OnOk result (Converses end.old.interface.now
-        (between (R.remaining reader.old) (W.contents writer.old) end.old.outgoing end.old.framer
-        end.old.calls end.old.fault)
-        (between (R.remaining reader.new) (W.contents writer.new) end.new.outgoing end.new.framer
-        end.new.calls end.new.fault)) }
-    ensures others { end.new ≡ record end.old {
-      outgoing = end.new.outgoing;
-      framer = end.new.framer;
-      calls = end.new.calls;
-      fault = end.new.fault;
-    } }
+    ensures converses { OnOk result (ConversesAt end.old.interface.now (R.remaining reader.old)
+        (W.contents writer.old) end.old (R.remaining reader.new) (W.contents writer.new) end.new) }
+    ensures others { IsTurned end.old end.new }
 {
     let ids = end.ids(alloc)?;
     if are_over(end, ids.as_slice()) {
@@ -308,18 +249,10 @@ fn wait<R: Read, W: Write>(
     reader: &mut R,
     writer: &mut W,
 ) -> Result<(), Failure>
-    ensures waits { Waits (client_hears end.old.interface.now) (are_over ids.now)
-        (between (R.remaining reader.old) (W.contents writer.old) end.old.outgoing end.old.framer
-        end.old.calls end.old.fault)
-        result
-        (between (R.remaining reader.new) (W.contents writer.new) end.new.outgoing end.new.framer
-        end.new.calls end.new.fault) }
-    ensures others { end.new ≡ record end.old {
-      outgoing = end.new.outgoing;
-      framer = end.new.framer;
-      calls = end.new.calls;
-      fault = end.new.fault;
-    } }
+    ensures waits { WaitsFor end.old.interface.now ids.now (R.remaining reader.old)
+        (W.contents writer.old) end.old result (R.remaining reader.new) (W.contents writer.new)
+        end.new }
+    ensures others { IsTurned end.old end.new }
 {
     'turns: for done in 0..TURNS {
         if !goes_on(end, reader, writer)? {
@@ -330,30 +263,6 @@ fn wait<R: Read, W: Write>(
         }
     }
     Err(Failure::TurnsSpent)
-}
-
-// Whether the calls of all ids are over.
-fn are_over(end: &ClientEnd<'_>, ids: &[u32]) -> bool
-    ensures { result ≡ are_over ids.now end.now.calls }
-{
-    ids.iter().all(|id| is_over_at(end, *id))
-}
-
-// Whether the call of an id is over.
-fn is_over_at(end: &ClientEnd<'_>, id: u32) -> bool
-    ensures { result ≡ is_over (entry_of (finite.get end.now.calls.table id)) }
-{
-    is_over(end.entry(id))
-}
-
-// Whether the call of an entry is over; it is where there is no entry.
-fn is_over(entry: Option<&ClientEntry>) -> bool
-    ensures { result ≡ is_over (option_copied entry.entry) }
-{
-    match entry {
-        Some(entry) => entry.is_closed(),
-        None => true,
-    }
 }
 
 // The status of the calls: whether one was refused, and what the others came to.
@@ -382,39 +291,4 @@ fn own_status(alloc: Global, end: &ClientEnd<'_>) -> Result<Status, Failure>
         Some(fault) => broken_status(fault),
         None => Status::Refused,
     })
-}
-
-// Whether all calls went well.
-fn all_well(alloc: Global, end: &ClientEnd<'_>) -> Result<bool, AllocError>
-    ensures { IfOk result (λ well. well ≡ all_well end.now.calls.table) }
-{
-    let ids = end.ids(alloc)?;
-    Ok(are_well(end, ids.as_slice()))
-}
-
-// Whether the calls of all ids went well.
-fn are_well(end: &ClientEnd<'_>, ids: &[u32]) -> bool
-    ensures { result
-        ≡ list_all (λ id. is_well (entry_of (finite.get end.now.calls.table id))) ids.now }
-{
-    ids.iter().all(|id| is_well_at(end, *id))
-}
-
-// Whether the call of an id went well.
-fn is_well_at(end: &ClientEnd<'_>, id: u32) -> bool
-    ensures { result ≡ is_well (entry_of (finite.get end.now.calls.table id)) }
-{
-    is_well(end.entry(id))
-}
-
-// Whether the call of an entry went well: it got a result, or is sent and expects no reply. It did
-// where there is no entry.
-fn is_well(entry: Option<&ClientEntry>) -> bool
-    ensures { result ≡ is_well (option_copied entry.entry) }
-{
-    match entry {
-        Some(ClientEntry::Done { reply, .. }) => reply.body.status() == 0,
-        Some(ClientEntry::OnewaySent { .. }) | None => true,
-        Some(_) => false,
-    }
 }

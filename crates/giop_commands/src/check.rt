@@ -2,7 +2,7 @@
 ghost use Rattle.std.specs.Prelude.{◌≡◌, ◌≢◌, [], IfOk, OnOk, Some, None, length};
 ghost use Rattle.std.specs.Io.KnownBytes.{Appends, IsAtEnd};
 ghost use Rattle.giop_end.specs.declared.session_fault.SessionFault.TheVariants.{NoMemory};
-ghost use Rattle.giop_end.specs.Hearing.Heard.{hears_by};
+ghost use Rattle.giop_end.specs.Hearing.Heard.{hears_in};
 ghost use Rattle.giop_commands.specs.Check.{AreLimits, Checks, ChecksKnown, HeardKnown, default_limits, fault_status, last_status};
 ghost use Rattle.giop_show.specs.Dump.{ended};
 ghost use Rattle.giop_commands.specs.SessionLines.{last_in, session_fault_in};
@@ -39,7 +39,8 @@ pub fn check_octets<W: Write>(
     octets: &[u8],
     writer: &mut W,
 ) -> Status
-    ensures { Checks interface.now default_limits octets.now (W.contents writer.old) (W.contents writer.new)
+    ensures { Checks interface.now default_limits octets.now (W.contents writer.old) (W.contents
+        writer.new)
         result }
 {
     let mut left = octets;
@@ -93,9 +94,9 @@ fn hear<S: Hearing, R: Read>(
 ) -> Result<(), Failure>
     requires begins { end.old.framer.octets ≡ [] }
     requires sound { end.old.fault ≡ None }
-    ensures heard { OnOk result (HeardKnown (hears_by S.next S.closed S.gathering S.in_call
-        S.breaks (S.act_by end.old.interface.now)) (R.remaining reader.old)
-        end.old.framer end.old.calls end.new.fault end.new.framer end.new.calls) }
+    ensures heard { OnOk result (HeardKnown (hears_in S.Hearing end.old.interface.now)
+        (R.remaining reader.old) end.old.framer end.old.calls end.new.fault end.new.framer
+        end.new.calls) }
     ensures memory { OnOk result (end.new.fault ≢ Some NoMemory) }
     ensures end { OnOk result (behind ≡ BehindFault.Read → IsAtEnd (R.remaining reader.new)) }
 {

@@ -3,12 +3,12 @@
 ghost use Rattle.std.specs.Prelude.{◌≡◌, ◌++◌, IfOk, OnOk};
 ghost use Rattle.std.specs.Io.KnownBytes.{Appends};
 ghost use Rattle.giop_end.specs.Pumping.{between};
+ghost use Rattle.giop_end.specs.Ends.View.{IsActedOn, IsTurned};
 ghost use Rattle.giop_calls.specs.ServerTable.{is_closed};
-ghost use Rattle.giop_commands.specs.Acts.{outbox};
 ghost use Rattle.giop_show.specs.Dump.{ended};
-ghost use Rattle.giop_commands.specs.Endings.{Ends, ServesEnd};
-ghost use Rattle.giop_commands.specs.Serving.{AnswersAll, AnswersOne, Converses, desk, served_of, session};
-ghost use Rattle.giop_commands.specs.Sessions.{Serves, connection_in, serve_status, session_text, wire};
+ghost use Rattle.giop_commands.specs.Endings.{Ends, ServesEndOver};
+ghost use Rattle.giop_commands.specs.Serving.{AnswersAll, AnswersOne, Converses, desk_at, served_of, session, session_at};
+ghost use Rattle.giop_commands.specs.Sessions.{change, connection_in, serve_status, Serves, ServesOver, session_text};
 ghost use Rattle.giop_commands.specs.Steps.{Upto};
 ghost use Rattle.giop_commands.specs.Table.{server_entry_in};
 
@@ -69,11 +69,9 @@ pub fn serve_session<R: Read, W: Write, O: Write>(
     writer: &mut W,
     out: &mut O,
 ) -> Status
-    ensures { Serves number (served_of serving.entry)
-        (wire (R.remaining reader.old) (W.contents writer.old))
-        (wire (R.remaining reader.new) (W.contents writer.new))
-        passed.old.names.items passed.new.names.items
-        (O.contents out.old) (O.contents out.new) result }
+    ensures { ServesOver number serving.entry (change R.remaining reader.old reader.new)
+        (change W.contents writer.old writer.new) passed.old passed.new
+        (change O.contents out.old out.new) result }
 {
     let lines = LineForm::Text(NumberForm::Plain);
     match serve_over(alloc, number, serving, passed, lines, reader, writer, out) {
@@ -96,11 +94,9 @@ pub fn serve_over<R: Read, W: Write, O: Write>(
     writer: &mut W,
     out: &mut O,
 ) -> Result<Ending, Failure>
-    ensures { IfOk result (ServesEnd number (served_of serving.entry) lines
-        (wire (R.remaining reader.old) (W.contents writer.old))
-        (wire (R.remaining reader.new) (W.contents writer.new))
-        passed.old.names.items passed.new.names.items
-        (O.contents out.old) (O.contents out.new)) }
+    ensures { IfOk result (ServesEndOver number serving.entry lines
+        (change R.remaining reader.old reader.new) (change W.contents writer.old writer.new)
+        passed.old passed.new (change O.contents out.old out.new)) }
 {
     let interface = serving.interface;
     let mut end = ServerEnd::new(alloc, interface, serving.limits);
@@ -178,17 +174,9 @@ fn converse<R: Read, W: Write>(
 ) -> Result<Option<SessionFault>, Failure>
     requires { end.old.interface.now ≡ serving.interface.now }
     ensures converses { IfOk result (λ refused. Converses (served_of serving.entry) end.old.limits
-        (session (between (R.remaining reader.old) (W.contents writer.old) end.old.outgoing
-        end.old.framer end.old.calls end.old.fault) passed.old.names.items)
-        refused
-        (session (between (R.remaining reader.new) (W.contents writer.new) end.new.outgoing
-        end.new.framer end.new.calls end.new.fault) passed.new.names.items)) }
-    ensures others { end.new ≡ record end.old {
-      outgoing = end.new.outgoing;
-      framer = end.new.framer;
-      calls = end.new.calls;
-      fault = end.new.fault;
-    } }
+        (session_at (R.remaining reader.old) (W.contents writer.old) end.old passed.old) refused
+        (session_at (R.remaining reader.new) (W.contents writer.new) end.new passed.new)) }
+    ensures others { IsTurned end.old end.new }
 {
     'turns: for done in 0..TURNS {
         if !goes_on(end, reader, writer)? {
@@ -211,12 +199,8 @@ fn answer_all(
 ) -> Result<Option<SessionFault>, Failure>
     requires { end.old.interface.now ≡ serving.interface.now }
     ensures answers { IfOk result (λ refused. AnswersAll (served_of serving.entry) end.old.limits
-        end.old.fault (desk (outbox end.old.calls end.old.outgoing) passed.old.names.items) refused
-        (desk (outbox end.new.calls end.new.outgoing) passed.new.names.items)) }
-    ensures others { end.new ≡ record end.old {
-      calls = end.new.calls;
-      outgoing = end.new.outgoing;
-    } }
+        end.old.fault (desk_at end.old passed.old) refused (desk_at end.new passed.new)) }
+    ensures others { IsActedOn end.old end.new }
 {
     let ids = end.ids(alloc)?;
     if let Some(fault) = answer_each(alloc, end, serving, passed, ids.as_slice())? {
@@ -235,13 +219,10 @@ fn answer_each(
     ids: &[u32],
 ) -> Result<Option<SessionFault>, Failure>
     requires { end.old.interface.now ≡ serving.interface.now }
-    ensures answers { IfOk result (λ refused. Upto (AnswersOne (served_of serving.entry) end.old.limits
-        end.old.fault) ids.now (desk (outbox end.old.calls end.old.outgoing) passed.old.names.items) refused
-        (desk (outbox end.new.calls end.new.outgoing) passed.new.names.items)) }
-    ensures others { end.new ≡ record end.old {
-      calls = end.new.calls;
-      outgoing = end.new.outgoing;
-    } }
+    ensures answers { IfOk result (λ refused. Upto (AnswersOne (served_of serving.entry)
+        end.old.limits end.old.fault) ids.now (desk_at end.old passed.old) refused
+        (desk_at end.new passed.new)) }
+    ensures others { IsActedOn end.old end.new }
 {
     'ids: for id in ids {
         if let Some(fault) = answer(alloc, end, serving, passed, *id)? {
@@ -262,12 +243,8 @@ fn answer(
 ) -> Result<Option<SessionFault>, Failure>
     requires { end.old.interface.now ≡ serving.interface.now }
     ensures answers { IfOk result (λ refused. AnswersOne (served_of serving.entry) end.old.limits
-        end.old.fault id (desk (outbox end.old.calls end.old.outgoing) passed.old.names.items) refused
-        (desk (outbox end.new.calls end.new.outgoing) passed.new.names.items)) }
-    ensures others { end.new ≡ record end.old {
-      calls = end.new.calls;
-      outgoing = end.new.outgoing;
-    } }
+        end.old.fault id (desk_at end.old passed.old) refused (desk_at end.new passed.new)) }
+    ensures others { IsActedOn end.old end.new }
 {
     let Some(entry) = end.entry(id) else {
         return Ok(None);

@@ -4,15 +4,16 @@
 ghost use Rattle.std.specs.Prelude.{◌≡◌, ◌≢◌, ◌⊎◌, [], false, Some, None, Ok, Err, IfOk, IfErr, OnOk};
 ghost use Rattle.std.specs.Io.KnownBytes.{Appends};
 ghost use Rattle.giop_end.specs.declared.session_fault.SessionFault.TheVariants.{NoMemory};
-ghost use Rattle.giop_end.specs.Hearing.Heard.{hears_by};
-ghost use Rattle.giop_end.specs.Pumping.{Writes, between};
+ghost use Rattle.giop_end.specs.Pumping.{Writes};
 ghost use Rattle.giop_end.specs.Ends.SessionFaults.{error_message_of};
+ghost use Rattle.giop_end.specs.Hearing.Heard.{hears_in};
+ghost use Rattle.giop_end.specs.Ends.View.{IsTurned};
 ghost use Rattle.giop_show.specs.declared.failure.Failure.TheVariants.{Memory};
 ghost use Rattle.giop_commands.specs.Check.{answer_of};
 ghost use Rattle.giop_show.specs.Dump.{ended};
 ghost use Rattle.giop_commands.specs.SessionLines.{session_fault_in};
 ghost use Rattle.giop_commands.specs.Sessions.{fault_text, session_text, told};
-ghost use Rattle.giop_commands.specs.Turns.{GoesOn, IsOfConnection, peer_octets};
+ghost use Rattle.giop_commands.specs.Turns.{GoesOnAt, IsOfConnection, peer_octets};
 
 pub mod ahead;
 pub mod broken;
@@ -46,19 +47,10 @@ pub fn goes_on<R: Hearing, I: Read, W: Write>(
     reader: &mut I,
     writer: &mut W,
 ) -> Result<bool, Failure>
-    ensures goes { GoesOn (hears_by R.next R.closed R.gathering R.in_call R.breaks
-        (R.act_by end.old.interface.now))
-        (between (I.remaining reader.old) (W.contents writer.old) end.old.outgoing end.old.framer
-        end.old.calls end.old.fault)
-        result
-        (between (I.remaining reader.new) (W.contents writer.new) end.new.outgoing end.new.framer
-        end.new.calls end.new.fault) }
-    ensures others { end.new ≡ record end.old {
-      outgoing = end.new.outgoing;
-      framer = end.new.framer;
-      calls = end.new.calls;
-      fault = end.new.fault;
-    } }
+    ensures goes { GoesOnAt (hears_in R.Hearing end.old.interface.now) (I.remaining reader.old)
+        (W.contents writer.old) end.old result (I.remaining reader.new) (W.contents writer.new)
+        end.new }
+    ensures others { IsTurned end.old end.new }
 {
     match turn(end, reader, writer) {
         Ok(read) => Ok(read > 0),

@@ -63,19 +63,28 @@ abbrev pub locate_reply_text : LineForm → ℕ → Result (LocateReplyHead × �
 locate_reply_text form end (Ok head) = locate_reply_in form head.0 (end - head.1)
 locate_reply_text form end (Err e) = head_fault_in form e
 
+-- what a message begins with behind its header: the head of its kind and where its body is, or the
+-- first fault
+abbrev pub request_head_of : Msg → Result (Head × ℕ) CdrFault
+request_head_of m =
+    head_of_joined (request_head m.version) (body_place m.version) m.order m.payload
+
+abbrev pub reply_head_of : Msg → Result (AnyReplyHead × ℕ) CdrFault
+reply_head_of m = head_of_joined (reply_head m.version) (body_place m.version) m.order m.payload
+
+abbrev pub locate_request_of : Msg → Result AnyLocateRequest CdrFault
+locate_request_of m = whole_of_joined (locate_request m.version) m.order m.payload
+
+abbrev pub locate_reply_head_of : Msg → Result (LocateReplyHead × ℕ) CdrFault
+locate_reply_head_of m =
+    head_of_joined (locate_reply_head m.version) right_behind m.order m.payload
+
 -- what the head of a message of a kind says, where it has one
 unfoldable pub second_text : LineForm → Kind → Msg → List ℕ
-second_text form Request m =
-    request_text form (end_of m)
-    (head_of_joined (request_head m.version) (body_place m.version) m.order m.payload)
-second_text form Reply m =
-    reply_text form (end_of m)
-    (head_of_joined (reply_head m.version) (body_place m.version) m.order m.payload)
-second_text form LocateRequest m =
-    locate_request_text form (whole_of_joined (locate_request m.version) m.order m.payload)
-second_text form LocateReply m =
-    locate_reply_text form (end_of m)
-    (head_of_joined (locate_reply_head m.version) right_behind m.order m.payload)
+second_text form Request m = request_text form (end_of m) (request_head_of m)
+second_text form Reply m = reply_text form (end_of m) (reply_head_of m)
+second_text form LocateRequest m = locate_request_text form (locate_request_of m)
+second_text form LocateReply m = locate_reply_text form (end_of m) (locate_reply_head_of m)
 second_text form _ m = []
 
 -- a message that begins at an offset of the file, but for its body and the end of its JSON line; of a

@@ -1,7 +1,7 @@
 //! Lines of calls are read, as many octets as one read gives, until a call is there. Its meaning is
 //! specs/CallLines.antt: change both.
 ghost use Rattle.std.specs.Prelude.{◌≡◌, OnOk, IfOk};
-ghost use Rattle.giop_commands.specs.CallLines.{ReadsOn, ReadsPiece, feed, none_taken, so_far};
+ghost use Rattle.giop_commands.specs.CallLines.{feed_at, none_taken, ReadsOn, ReadsPiece, so_far};
 
 use crate::call::lines::CallLines;
 use giop_show::failure::Failure;
@@ -40,9 +40,8 @@ impl<S: Read + Drop> LineFeed<S> {
 
     /// Reads until a call is there, or the text is over, or a line is refused.
     pub fn read_on(&mut self, alloc: Global, interface: &Interface) -> Result<(), Failure>
-        ensures reads { OnOk result (ReadsOn interface.now
-            (feed (S.remaining self.old.source) (so_far self.old.lines))
-            (feed (S.remaining self.new.source) (so_far self.new.lines))) }
+        ensures reads { OnOk result (ReadsOn interface.now (feed_at (S.remaining self.old.source)
+            self.old) (feed_at (S.remaining self.new.source) self.new)) }
         ensures waits { self.new.waits ≡ self.old.waits }
     {
         'reads: for done in 0..u64::MAX {
@@ -56,9 +55,8 @@ impl<S: Read + Drop> LineFeed<S> {
 
     // Reads once.
     fn read_once(&mut self, alloc: Global, interface: &Interface) -> Result<(), Failure>
-        ensures reads { OnOk result (ReadsPiece interface.now
-            (feed (S.remaining self.old.source) (so_far self.old.lines))
-            (feed (S.remaining self.new.source) (so_far self.new.lines))) }
+        ensures reads { OnOk result (ReadsPiece interface.now (feed_at (S.remaining self.old.source)
+            self.old) (feed_at (S.remaining self.new.source) self.new)) }
         ensures waits { self.new.waits ≡ self.old.waits }
     {
         let piece = self.buffer.fill(&mut self.source)?;

@@ -5,16 +5,16 @@ ghost use Rattle.std.specs.Prelude.{◌≡◌, ◌++◌, ◌∷◌, [], IfOk, On
 ghost use Rattle.std.specs.FinMap as finite;
 ghost use Rattle.std.specs.List.{flat_map, list_all};
 ghost use Rattle.std.specs.Io.KnownBytes.{Appends};
-ghost use Rattle.giop_end.specs.Pumping.{between};
 ghost use Rattle.giop_commands.specs.CallStreaming.{stream_status};
-ghost use Rattle.giop_commands.specs.Calling.{asked_of};
-ghost use Rattle.giop_commands.specs.Following.{CallsAt, body_place, calls_of, entry_place, followed_text, forward_at, forwards_of, ids_of, is_one_of, latest, latest_at, latest_well};
+ghost use Rattle.giop_commands.specs.Following.{CallsBetween, body_place, calls_of, entry_place, followed_text, forward_at, forwards_of, ids_of, is_one_of, latest, latest_at, latest_well};
 ghost use Rattle.giop_commands.specs.Sessions.{is_well, told};
+ghost use Rattle.giop_end.specs.Ends.View.{IsTurned};
 
 use crate::call::calls::CallLine;
 use crate::call::given::Calling;
 use crate::call::streaming::stream_status;
-use crate::call::{call_all, is_well, talk};
+use crate::call::well::is_well;
+use crate::call::{call_all, talk};
 use crate::session::table::Tabled;
 use crate::session::target::{Endpoint, place_in};
 use crate::session::{told, write_fault};
@@ -49,21 +49,12 @@ pub fn call_at<R: Read, W: Write>(
 ) -> Result<Option<SessionFault>, Failure>
     requires interface { end.old.interface.now ≡ calling.interface.now }
     requires limits { end.old.limits ≡ calling.limits }
-    ensures calls { IfOk result (λ refused. CallsAt (asked_of calling.entry calls.items)
-        (between (R.remaining reader.old) (W.contents writer.old) end.old.outgoing end.old.framer
-        end.old.calls end.old.fault)
-        refused
-        (between (R.remaining reader.new) (W.contents writer.new) end.new.outgoing end.new.framer
-        end.new.calls end.new.fault)) }
-    ensures others { end.new ≡ record end.old {
-      outgoing = end.new.outgoing;
-      framer = end.new.framer;
-      calls = end.new.calls;
-      fault = end.new.fault;
-    } }
+    ensures calls { IfOk result (λ refused. CallsBetween calling.entry calls.items
+        (R.remaining reader.old) (W.contents writer.old) end.old refused (R.remaining reader.new)
+        (W.contents writer.new) end.new) }
+    ensures others { IsTurned end.old end.new }
 {
-    let (key, version, form) = (calling.key, calling.version, calling.form);
-    let refused = call_all(alloc, end, calls, key, version, form)?;
+    let refused = call_all(alloc, end, calling, calls)?;
     talk(alloc, end, refused, reader, writer)?;
     Ok(refused)
 }

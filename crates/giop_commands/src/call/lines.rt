@@ -111,7 +111,9 @@ impl CallLines {
     // An octet more of the line.
     fn hold(&mut self, octet: u8) -> Result<(), AllocError>
         ensures { OnOk result
-            (so_far self.new ≡ record (so_far self.old) { line = self.old.line.items ++ octet ∷ [] }) }
+            (so_far self.new ≡ record (so_far self.old) {
+              line = self.old.line.items ++ octet ∷ [];
+            }) }
     {
         self.line.push(octet)?;
         Ok(())

@@ -2,9 +2,9 @@
 //! session of its own (CORBA 3.3 Part 2, 9.4.6). Its meaning is specs/LocateFollowing.antt: change
 //! both.
 ghost use Rattle.std.specs.Prelude.{◌≡◌, ◌≤◌, ◌^◌, [], IfOk, length, option_copied};
-ghost use Rattle.giop_end.specs.Pumping.{between};
-ghost use Rattle.giop_commands.specs.Calling.{asked_of, entry_at};
-ghost use Rattle.giop_commands.specs.LocateFollowing.{LocatesAt, is_elsewhere, located_place, place_behind, place_by};
+ghost use Rattle.giop_commands.specs.Calling.{entry_at};
+ghost use Rattle.giop_commands.specs.LocateFollowing.{LocatesBetween, is_elsewhere, located_place, place_behind, place_by};
+ghost use Rattle.giop_end.specs.Ends.View.{IsTurned};
 
 use crate::call::given::Calling;
 use crate::call::locating::{ID, locate_all};
@@ -36,18 +36,10 @@ pub fn locate_at<R: Read, W: Write>(
 ) -> Result<Option<SessionFault>, Failure>
     requires interface { end.old.interface.now ≡ calling.interface.now }
     requires limits { end.old.limits ≡ calling.limits }
-    ensures located { IfOk result (λ refused. LocatesAt (asked_of calling.entry [])
-        (between (R.remaining reader.old) (W.contents writer.old) end.old.outgoing end.old.framer
-        end.old.calls end.old.fault)
-        refused
-        (between (R.remaining reader.new) (W.contents writer.new) end.new.outgoing end.new.framer
-        end.new.calls end.new.fault)) }
-    ensures others { end.new ≡ record end.old {
-      outgoing = end.new.outgoing;
-      framer = end.new.framer;
-      calls = end.new.calls;
-      fault = end.new.fault;
-    } }
+    ensures located { IfOk result (λ refused. LocatesBetween calling.entry (R.remaining reader.old)
+        (W.contents writer.old) end.old refused (R.remaining reader.new) (W.contents writer.new)
+        end.new) }
+    ensures others { IsTurned end.old end.new }
 {
     let refused = locate_all(alloc, end, calling)?;
     talk(alloc, end, refused, reader, writer)?;

@@ -4,11 +4,12 @@ ghost use Rattle.std.specs.Prelude.{◌≡◌, [], IfOk, OnOk, option_copied};
 ghost use Rattle.std.specs.Io.KnownBytes.{Appends};
 ghost use Rattle.giop_calls.specs.ClientTable.{is_closed};
 ghost use Rattle.giop_end.specs.Acts.Form.{IsForm};
-ghost use Rattle.giop_commands.specs.Acts.{outbox};
+ghost use Rattle.giop_end.specs.Ends.View.{IsActedOn};
+ghost use Rattle.giop_commands.specs.Acts.{outbox_of};
 ghost use Rattle.giop_commands.specs.Calling.{asked_of};
 ghost use Rattle.giop_commands.specs.Endings.{Ends};
-ghost use Rattle.giop_commands.specs.Locating.{Locates, LocatesEnd, LocatesOne, is_here, locate_of, locate_status};
-ghost use Rattle.giop_commands.specs.Sessions.{session_text, told, wire};
+ghost use Rattle.giop_commands.specs.Locating.{is_here, locate_of, locate_status, Locates, LocatesEndOver, LocatesOne};
+ghost use Rattle.giop_commands.specs.Sessions.{change, session_text, told};
 ghost use Rattle.giop_commands.specs.Table.{client_entry_in};
 
 use crate::call::given::Calling;
@@ -46,10 +47,9 @@ pub fn locate_over<R: Read, W: Write, O: Write>(
     writer: &mut W,
     out: &mut O,
 ) -> Result<Ending, Failure>
-    ensures { IfOk result (LocatesEnd (asked_of calling.entry []) lines
-        (wire (R.remaining reader.old) (W.contents writer.old))
-        (wire (R.remaining reader.new) (W.contents writer.new))
-        (O.contents out.old) (O.contents out.new)) }
+    ensures { IfOk result (LocatesEndOver calling.entry lines
+        (change R.remaining reader.old reader.new) (change W.contents writer.old writer.new)
+        (change O.contents out.old out.new)) }
 {
     let mut end = ClientEnd::new(alloc, calling.interface, calling.limits);
     let refused = locate_all(alloc, &mut end, calling)?;
@@ -72,12 +72,8 @@ pub fn locate_all(
 ) -> Result<Option<SessionFault>, Failure>
     requires { end.old.limits ≡ calling.limits }
     ensures locates { IfOk result (λ refused. Locates (asked_of calling.entry []) end.old.fault
-        (outbox end.old.calls end.old.outgoing) refused
-        (outbox end.new.calls end.new.outgoing)) }
-    ensures others { end.new ≡ record end.old {
-      calls = end.new.calls;
-      outgoing = end.new.outgoing;
-    } }
+        (outbox_of end.old) refused (outbox_of end.new)) }
+    ensures others { IsActedOn end.old end.new }
 {
     if let Some(fault) = locate_one(alloc, end, calling)? {
         return Ok(Some(fault));
@@ -93,12 +89,8 @@ fn locate_one(
 ) -> Result<Option<SessionFault>, Failure>
     requires { end.old.limits ≡ calling.limits }
     ensures locates { IfOk result (λ refused. LocatesOne (asked_of calling.entry []) end.old.fault
-        (outbox end.old.calls end.old.outgoing) refused
-        (outbox end.new.calls end.new.outgoing)) }
-    ensures others { end.new ≡ record end.old {
-      calls = end.new.calls;
-      outgoing = end.new.outgoing;
-    } }
+        (outbox_of end.old) refused (outbox_of end.new)) }
+    ensures others { IsActedOn end.old end.new }
 {
     let request = request_of(alloc, calling.key, calling.version)?;
     told_of(end.locate(request, calling.form))

@@ -1,33 +1,27 @@
 //! `call --stream`: calls are made as there is room for them, and told as soon as they are over.
 //! Its meaning is specs/CallStreaming.antt: change both.
-ghost use Rattle.std.specs.Prelude.{◌≡◌, ◌&&◌, ◌==◌, None, Some, Ok, true, IfOk, OnOk, length};
-ghost use Rattle.std.specs.FinMap as finite;
-ghost use Rattle.std.specs.List.{list_all};
+ghost use Rattle.std.specs.Prelude.{◌≡◌, None, IfOk, OnOk};
 ghost use Rattle.std.specs.Io.KnownBytes.{Appends};
-ghost use Rattle.giop_end.specs.Acts.Form.{IsForm};
-ghost use Rattle.giop_end.specs.Pumping.{between};
 ghost use Rattle.giop_calls.specs.ClientTable.{is_closed};
-ghost use Rattle.giop_commands.specs.Acts.{outbox};
-ghost use Rattle.giop_commands.specs.CallStreaming.{CallsNext, Makes, Streams, TakesNext, Turns, all_done, all_over_well, course, has_room, is_done, is_over_well, left_text, next_has_room, still_open, stream_status, unsent_text};
+ghost use Rattle.giop_commands.specs.CallStreaming.{Streams, all_done, course_of, left_text, stream_status, unsent_text};
 ghost use Rattle.giop_commands.specs.Calling.{asked_of};
-ghost use Rattle.giop_commands.specs.Endings.{CallsStreamEnd, Ends};
-ghost use Rattle.giop_commands.specs.Sessions.{told, wire};
-ghost use Rattle.giop_commands.specs.Streaming.{over_text};
-ghost use Rattle.giop_commands.specs.Table.{client_entry_in};
+ghost use Rattle.giop_commands.specs.Endings.{CallsStreamEndOver, Ends};
+ghost use Rattle.giop_commands.specs.Sessions.{change, told};
 
 pub mod feeding;
+mod turns;
 
 use crate::call::calls::CallLine;
 use crate::call::given::Calling;
-use crate::call::{all_well, are_over, call_one, is_well_at};
+use crate::call::streaming::turns::{CallTurn, turn_of_calls};
+use crate::call::well::all_well;
 use crate::session::broken::broken_status;
 use crate::session::ending::{Ending, ending_of};
-use crate::session::sending::send_all;
-use crate::session::streaming::{Streamed, tell_left, tell_over};
+use crate::session::streaming::{Streamed, tell_left};
 use crate::session::table::Tabled;
-use crate::session::{TURNS, goes_on, told, write_all_out, write_fault};
+use crate::session::{TURNS, told, write_fault};
 use giop_calls::{ClientEntry, ClientRule};
-use giop_end::{ClientEnd, Limits, SessionFault};
+use giop_end::{ClientEnd, SessionFault};
 use giop_lines::{UnsentJson, UnsentLine};
 use giop_show::failure::Failure;
 use giop_show::form::{LineForm, write_line};
@@ -36,9 +30,6 @@ use giop_types::Interface;
 use std::alloc::{AllocError, Global};
 use std::collections::VecDeque;
 use std::io::{Read, Write};
-
-// Another call is made while fewer octets are outgoing: as many as one read may give.
-const MOST_OUTGOING: usize = 4_096;
 
 impl Streamed for ClientRule {
     ghost use Rattle.giop_commands.specs.Table.{client_entry_in};
@@ -80,10 +71,9 @@ pub fn call_stream<R: Read, W: Write, O: Write>(
     writer: &mut W,
     out: &mut O,
 ) -> Result<Ending, Failure>
-    ensures { IfOk result (CallsStreamEnd (asked_of calling.entry calls.items) lines
-        (wire (R.remaining reader.old) (W.contents writer.old))
-        (wire (R.remaining reader.new) (W.contents writer.new))
-        (O.contents out.old) (O.contents out.new)) }
+    ensures { IfOk result (CallsStreamEndOver calling.entry calls.items lines
+        (change R.remaining reader.old reader.new) (change W.contents writer.old writer.new)
+        (change O.contents out.old out.new)) }
 {
     let mut end = ClientEnd::new(alloc, calling.interface, calling.limits);
     let mut left = VecDeque::from(calls);
@@ -125,216 +115,18 @@ fn converse<R: Read, W: Write, O: Write>(
     requires limits { end.old.limits ≡ calling.limits }
     requires fault { end.old.fault ≡ None }
     ensures { IfOk result (λ refused. Streams (asked_of calling.entry left.old.items) lines
-        (course (between (R.remaining reader.old) (W.contents writer.old) end.old.outgoing
-        end.old.framer end.old.calls end.old.fault) (O.contents out.old) left.old.items well.old)
-        refused
-        (course (between (R.remaining reader.new) (W.contents writer.new) end.new.outgoing
-        end.new.framer end.new.calls end.new.fault) (O.contents out.new) left.new.items well.new)) }
+        (course_of (R.remaining reader.old) (W.contents writer.old) (O.contents out.old) end.old
+        left.old.items well.old) refused (course_of (R.remaining reader.new) (W.contents writer.new)
+        (O.contents out.new) end.new left.new.items well.new)) }
 {
     'turns: for done in 0..TURNS {
-        if is_done(alloc, end, left)? {
-            return Ok(None);
-        }
-        if let Some(fault) = call_next(alloc, end, calling, left)? {
-            return Ok(Some(fault));
-        }
-        if !take_turn(alloc, end, reader, writer)? {
-            return Ok(None);
-        }
-        *well = tell_turn(alloc, lines, calling.interface, end, *well, out)?;
-    }
-    Err(Failure::TurnsSpent)
-}
-
-// Whether no call is left to be made, and none is open.
-fn is_done(
-    alloc: Global,
-    end: &ClientEnd<'_>,
-    left: &VecDeque<CallLine>,
-) -> Result<bool, AllocError>
-    ensures { IfOk result (λ done. done ≡ is_done left.now.items end.now.calls) }
-{
-    Ok(left.is_empty() && end.ids(alloc)?.is_empty())
-}
-
-// Makes the calls that there is room for, and puts out the pieces that are left of them. Returns
-// the fault of a refused one, at which it stops.
-fn call_next(
-    alloc: Global,
-    end: &mut ClientEnd<'_>,
-    calling: Calling<'_>,
-    left: &mut VecDeque<CallLine>,
-) -> Result<Option<SessionFault>, Failure>
-    requires interface { end.old.interface.now ≡ calling.interface.now }
-    requires limits { end.old.limits ≡ calling.limits }
-    ensures calls { (all : _) → IfOk result (λ refused. CallsNext (asked_of calling.entry all)
-        end.old.fault left.old.items left.new.items (outbox end.old.calls end.old.outgoing) refused
-        (outbox end.new.calls end.new.outgoing)) }
-    ensures others { end.new ≡ record end.old {
-      calls = end.new.calls;
-      outgoing = end.new.outgoing;
-    } }
-{
-    if let Some(fault) = make_calls(alloc, end, calling, left)? {
-        return Ok(Some(fault));
-    }
-    send_all(alloc, end)
-}
-
-// Makes calls while there is room for the next. Returns the fault of a refused one, at which it
-// stops.
-fn make_calls(
-    alloc: Global,
-    end: &mut ClientEnd<'_>,
-    calling: Calling<'_>,
-    left: &mut VecDeque<CallLine>,
-) -> Result<Option<SessionFault>, Failure>
-    requires interface { end.old.interface.now ≡ calling.interface.now }
-    requires limits { end.old.limits ≡ calling.limits }
-    ensures calls { (all : _) → IfOk result (λ refused. Makes (asked_of calling.entry all)
-        end.old.fault left.old.items left.new.items (outbox end.old.calls end.old.outgoing) refused
-        (outbox end.new.calls end.new.outgoing)) }
-    ensures others { end.new ≡ record end.old {
-      calls = end.new.calls;
-      outgoing = end.new.outgoing;
-    } }
-{
-    'calls: for done in 0..TURNS {
-        let Some(call) = next_call(alloc, calling.limits, end, left)? else {
-            return Ok(None);
-        };
-        let (key, version, form) = (calling.key, calling.version, calling.form);
-        if let Some(fault) = call_one(alloc, end, call, key, version, form)? {
-            return Ok(Some(fault));
+        if let CallTurn::Ends(refused) = turn_of_calls(
+            alloc, end, calling, lines, left, well, reader, writer, out,
+        )? {
+            return Ok(refused);
         }
     }
     Err(Failure::TurnsSpent)
-}
-
-// Takes the next call, where there is room for it.
-fn next_call(
-    alloc: Global,
-    limits: Limits,
-    end: &ClientEnd<'_>,
-    left: &mut VecDeque<CallLine>,
-) -> Result<Option<CallLine>, AllocError>
-    ensures { IfOk result (λ next. TakesNext limits left.old.items
-        (outbox end.now.calls end.now.outgoing) next left.new.items) }
-{
-    if !next_has_room(alloc, limits, end, left)? {
-        return Ok(None);
-    }
-    Ok(left.pop_front())
-}
-
-// Whether there is a next call, and room for it.
-fn next_has_room(
-    alloc: Global,
-    limits: Limits,
-    end: &ClientEnd<'_>,
-    left: &VecDeque<CallLine>,
-) -> Result<bool, AllocError>
-    ensures { IfOk result (λ room. room
-        ≡ next_has_room limits left.now.items (outbox end.now.calls end.now.outgoing)) }
-{
-    match left.front() {
-        Some(call) => has_room(alloc, limits, end, call),
-        None => Ok(false),
-    }
-}
-
-// Whether there is room for a call: none is open; or fewer than the limit are, none under its id,
-// and little is outgoing.
-fn has_room(
-    alloc: Global,
-    limits: Limits,
-    end: &ClientEnd<'_>,
-    call: &CallLine,
-) -> Result<bool, AllocError>
-    ensures { IfOk result (λ room. room
-        ≡ has_room limits call.now (outbox end.now.calls end.now.outgoing)) }
-{
-    let open = end.ids(alloc)?.len();
-    Ok(
-        open == 0
-            || open < limits.calls as usize
-                && end.entry(call.id).is_none()
-                && end.outgoing().len() < MOST_OUTGOING,
-    )
-}
-
-// Writes what is outgoing, and reads once unless all calls are over. Returns whether the session
-// continues.
-fn take_turn<R: Read, W: Write>(
-    alloc: Global,
-    end: &mut ClientEnd<'_>,
-    reader: &mut R,
-    writer: &mut W,
-) -> Result<bool, Failure>
-    ensures turns { IfOk result (λ goes. Turns end.old.interface.now
-        (between (R.remaining reader.old) (W.contents writer.old) end.old.outgoing end.old.framer
-        end.old.calls end.old.fault)
-        goes
-        (between (R.remaining reader.new) (W.contents writer.new) end.new.outgoing end.new.framer
-        end.new.calls end.new.fault)) }
-    ensures others { end.new ≡ record end.old {
-      outgoing = end.new.outgoing;
-      framer = end.new.framer;
-      calls = end.new.calls;
-      fault = end.new.fault;
-    } }
-{
-    let ids = end.ids(alloc)?;
-    if are_over(end, ids.as_slice()) {
-        write_all_out(end, writer)?;
-        return Ok(true);
-    }
-    goes_on(end, reader, writer)
-}
-
-// Tells the calls that are over and takes them out. Returns whether they and all before went well.
-fn tell_turn<O: Write>(
-    alloc: Global,
-    lines: LineForm,
-    interface: &Interface,
-    end: &mut ClientEnd<'_>,
-    well: bool,
-    out: &mut O,
-) -> Result<bool, Failure>
-    requires { end.old.fault ≡ None }
-    ensures well { IfOk result (λ all. all ≡ (well && all_over_well end.old.calls.table)) }
-    ensures text { OnOk result (Appends (O.contents out.old) (O.contents out.new)
-        (over_text is_closed (client_entry_in lines interface.now) end.old.calls.table)) }
-    ensures left { OnOk result (end.new ≡ record end.old { calls = still_open end.old.calls }) }
-{
-    let over_well = all_over_well(alloc, end)?;
-    tell_over(alloc, lines, interface, end, out)?;
-    Ok(well && over_well)
-}
-
-// Whether all calls that are over went well.
-fn all_over_well(alloc: Global, end: &ClientEnd<'_>) -> Result<bool, AllocError>
-    ensures { IfOk result (λ well. well ≡ all_over_well end.now.calls.table) }
-{
-    let ids = end.ids(alloc)?;
-    Ok(are_over_well(end, ids.as_slice()))
-}
-
-// Whether those of all ids whose calls are over went well.
-fn are_over_well(end: &ClientEnd<'_>, ids: &[u32]) -> bool
-    ensures { result ≡ list_all (is_over_well end.now.calls.table) ids.now }
-{
-    ids.iter().all(|id| is_over_well(end, *id))
-}
-
-// Whether the call of an id went well, where it is over.
-fn is_over_well(end: &ClientEnd<'_>, id: u32) -> bool
-    ensures { result ≡ is_over_well end.now.calls.table id }
-{
-    match end.entry(id) {
-        Some(entry) if entry.is_closed() => is_well_at(end, id),
-        _ => true,
-    }
 }
 
 // Writes what is left, and returns what the session came to.

@@ -3,13 +3,12 @@
 ghost use Rattle.std.specs.Prelude.{◌≡◌, ◌++◌, IfOk, None, OnOk, length};
 ghost use Rattle.std.specs.Io.KnownBytes.{Appends};
 ghost use Rattle.std.specs.String.{string_bytes};
-ghost use Rattle.giop_end.specs.Pumping.{between};
 ghost use Rattle.giop_calls.specs.ServerTable.{is_closed};
 ghost use Rattle.giop_show.specs.Dump.{ended};
-ghost use Rattle.giop_commands.specs.Endings.{Ends, ServesStreamEnd};
-ghost use Rattle.giop_commands.specs.Serving.{served_of, session};
+ghost use Rattle.giop_commands.specs.Endings.{Ends, ServesStreamEndOver};
+ghost use Rattle.giop_commands.specs.Serving.{served_of, session, session_at};
 ghost use Rattle.giop_commands.specs.SessionLines.{last_in};
-ghost use Rattle.giop_commands.specs.Sessions.{connection_in, serve_status, wire};
+ghost use Rattle.giop_commands.specs.Sessions.{change, connection_in, serve_status};
 ghost use Rattle.giop_commands.specs.StreamLines.{answered_in, question_brought, question_ins, server_told_in};
 ghost use Rattle.giop_commands.specs.Streaming.{Streams, shown};
 ghost use Rattle.giop_commands.specs.Table.{table_text};
@@ -144,11 +143,9 @@ pub fn stream_over<R: Read, W: Write, O: Write>(
     writer: &mut W,
     out: &mut O,
 ) -> Result<Ending, Failure>
-    ensures { IfOk result (ServesStreamEnd number (served_of serving.entry) lines
-        (wire (R.remaining reader.old) (W.contents writer.old))
-        (wire (R.remaining reader.new) (W.contents writer.new))
-        passed.old.names.items passed.new.names.items
-        (O.contents out.old) (O.contents out.new)) }
+    ensures { IfOk result (ServesStreamEndOver number serving.entry lines
+        (change R.remaining reader.old reader.new) (change W.contents writer.old writer.new)
+        passed.old passed.new (change O.contents out.old out.new)) }
 {
     let interface = serving.interface;
     tell_begin(lines, number, out)?;
@@ -230,13 +227,10 @@ fn converse<R: Read, W: Write, O: Write>(
     out: &mut O,
 ) -> Result<Option<SessionFault>, Failure>
     requires { end.old.interface.now ≡ serving.interface.now }
-    ensures { IfOk result (λ refused. Streams (served_of serving.entry) end.old.limits lines
-        (shown (session (between (R.remaining reader.old) (W.contents writer.old) end.old.outgoing
-        end.old.framer end.old.calls end.old.fault) passed.old.names.items) (O.contents out.old))
-        refused
-        (shown (session (between (R.remaining reader.new) (W.contents writer.new) end.new.outgoing
-        end.new.framer end.new.calls end.new.fault) passed.new.names.items)
-        (O.contents out.new))) }
+    ensures { IfOk result (λ refused. Streams (served_of serving.entry) end.old.limits lines (shown
+        (session_at (R.remaining reader.old) (W.contents writer.old) end.old passed.old)
+        (O.contents out.old)) refused (shown (session_at (R.remaining reader.new)
+        (W.contents writer.new) end.new passed.new) (O.contents out.new))) }
 {
     'turns: for done in 0..TURNS {
         if !goes_on(end, reader, writer)? {

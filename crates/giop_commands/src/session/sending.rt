@@ -1,7 +1,8 @@
 //! Pieces of calls and of answers (CORBA 3.3 Part 2, 9.4.9) are put out, one of each id in turn.
 //! The order is `SendsAll` in specs/Acts.antt: change both.
 ghost use Rattle.std.specs.Prelude.{◌≡◌, map, max, IfOk};
-ghost use Rattle.giop_commands.specs.Acts.{SendsAll, SendsNext, SendsRound, left_at, most, outbox};
+ghost use Rattle.giop_commands.specs.Acts.{left_at, most, outbox_of, SendsAll, SendsNext, SendsRound};
+ghost use Rattle.giop_end.specs.Ends.View.{IsActedOn};
 
 use crate::session::told_of;
 use giop_calls::{ClientEntry, ClientRule, ServerEntry, ServerRule};
@@ -13,7 +14,7 @@ use std::alloc::Global;
 /// A side of a connection whose program puts out messages in pieces.
 pub trait Sender: Hearing {
     ghost use Rattle.std.specs.Prelude.{◌≡◌, ℕ};
-    ghost use Rattle.giop_commands.specs.Acts.{SendsPiece, outbox};
+    ghost use Rattle.giop_commands.specs.Acts.{SendsPiece};
 
     ghost left_in: { Self.Entry → ℕ };
 
@@ -27,12 +28,8 @@ pub trait Sender: Hearing {
     fn send(end: &mut End<'_, Self>, id: u32) -> Result<(), SessionFault>
         ensures sent { SendsPiece ⟦<Self as CallRule>⟧.next ⟦<Self as CallRule>⟧.closed
             ⟦<Self as Side>⟧.gathering ⟦<Self as Hearing>⟧.in_call sends end.old.fault id
-            (outbox end.old.calls end.old.outgoing) result
-            (outbox end.new.calls end.new.outgoing) }
-        ensures others { end.new ≡ record end.old {
-          calls = end.new.calls;
-          outgoing = end.new.outgoing;
-        } };
+            (outbox_of end.old) result (outbox_of end.new) }
+        ensures others { IsActedOn end.old end.new };
 }
 
 impl Sender for ClientRule {
@@ -76,12 +73,8 @@ pub fn send_all<R: Sender>(
     end: &mut End<'_, R>,
 ) -> Result<Option<SessionFault>, Failure>
     ensures sends { IfOk result (λ refused. SendsAll R.next R.closed R.gathering R.in_call R.sends
-        end.old.fault R.left_in (outbox end.old.calls end.old.outgoing) refused
-        (outbox end.new.calls end.new.outgoing)) }
-    ensures others { end.new ≡ record end.old {
-      calls = end.new.calls;
-      outgoing = end.new.outgoing;
-    } }
+        end.old.fault R.left_in (outbox_of end.old) refused (outbox_of end.new)) }
+    ensures others { IsActedOn end.old end.new }
 {
     let ids = end.ids(alloc)?;
     let most = most_left(end, ids.as_slice());
@@ -125,13 +118,9 @@ fn left_of<R: Sender>(end: &End<'_, R>, id: u32) -> u32
 
 // Puts out one piece of each id that has some left.
 fn send_each<R: Sender>(end: &mut End<'_, R>, ids: &[u32]) -> Result<Option<SessionFault>, Failure>
-    ensures sends { IfOk result (λ refused. SendsRound R.next R.closed R.gathering R.in_call
-        R.sends end.old.fault R.left_in ids.now 0 (outbox end.old.calls end.old.outgoing) refused
-        (outbox end.new.calls end.new.outgoing)) }
-    ensures others { end.new ≡ record end.old {
-      calls = end.new.calls;
-      outgoing = end.new.outgoing;
-    } }
+    ensures sends { IfOk result (λ refused. SendsRound R.next R.closed R.gathering R.in_call R.sends
+        end.old.fault R.left_in ids.now 0 (outbox_of end.old) refused (outbox_of end.new)) }
+    ensures others { IsActedOn end.old end.new }
 {
     'ids: for id in ids {
         if let Some(fault) = send_next(end, *id)? {
@@ -144,12 +133,8 @@ fn send_each<R: Sender>(end: &mut End<'_, R>, ids: &[u32]) -> Result<Option<Sess
 // Puts out the next piece of an id, where it has some left.
 fn send_next<R: Sender>(end: &mut End<'_, R>, id: u32) -> Result<Option<SessionFault>, Failure>
     ensures sends { IfOk result (λ refused. SendsNext R.next R.closed R.gathering R.in_call R.sends
-        end.old.fault R.left_in id (outbox end.old.calls end.old.outgoing) refused
-        (outbox end.new.calls end.new.outgoing)) }
-    ensures others { end.new ≡ record end.old {
-      calls = end.new.calls;
-      outgoing = end.new.outgoing;
-    } }
+        end.old.fault R.left_in id (outbox_of end.old) refused (outbox_of end.new)) }
+    ensures others { IsActedOn end.old end.new }
 {
     if left_of(end, id) == 0 {
         return Ok(None);

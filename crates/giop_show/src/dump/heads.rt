@@ -2,11 +2,7 @@
 //! it isn't read. It is `second_text` in specs/DumpHeads.antt: change both.
 ghost use Rattle.std.specs.Prelude.{◌≡◌, ◌-◌, ◌^◌, ◌≤◌, length, OnOk};
 ghost use Rattle.std.specs.Io.KnownBytes.{Appends};
-ghost use Rattle.giop_msg.specs.Joined.{body_place, head_of_joined, right_behind, whole_of_joined};
-ghost use Rattle.giop_msg.specs.Locate.{locate_reply_head, locate_request};
-ghost use Rattle.giop_msg.specs.ReplyHead.{reply_head};
-ghost use Rattle.giop_msg.specs.RequestHead.{request_head};
-ghost use Rattle.giop_show.specs.DumpHeads.{end_of, head_fault_in, locate_reply_text, locate_request_text, reply_text, request_text, second_text};
+ghost use Rattle.giop_show.specs.DumpHeads.{end_of, head_fault_in, locate_reply_head_of, locate_reply_text, locate_request_of, locate_request_text, reply_head_of, reply_text, request_head_of, request_text, second_text};
 
 use crate::failure::Failure;
 use crate::form::{LineForm, write_part};
@@ -51,10 +47,8 @@ fn body_from(message: &Msg, place: usize) -> usize
 
 fn write_request<W: Write>(form: LineForm, message: &Msg, writer: &mut W) -> Result<(), Failure>
     requires { length message.now.payload ≤ 2 ^ 62 }
-    ensures { OnOk result (Appends (W.contents writer.old) (W.contents writer.new)
-        (request_text form (end_of message.now)
-        (head_of_joined (request_head message.now.version)
-        (body_place message.now.version) message.now.order message.now.payload))) }
+    ensures { OnOk result (Appends (W.contents writer.old) (W.contents writer.new) (request_text
+        form (end_of message.now) (request_head_of message.now))) }
 {
     let joined = SliceOctets::new(message.payload.as_slice());
     match RequestHead::view(&joined, message.version, message.order) {
@@ -69,9 +63,8 @@ fn write_request<W: Write>(form: LineForm, message: &Msg, writer: &mut W) -> Res
 
 fn write_reply<W: Write>(form: LineForm, message: &Msg, writer: &mut W) -> Result<(), Failure>
     requires { length message.now.payload ≤ 2 ^ 62 }
-    ensures { OnOk result (Appends (W.contents writer.old) (W.contents writer.new)
-        (reply_text form (end_of message.now) (head_of_joined (reply_head message.now.version)
-        (body_place message.now.version) message.now.order message.now.payload))) }
+    ensures { OnOk result (Appends (W.contents writer.old) (W.contents writer.new) (reply_text form
+        (end_of message.now) (reply_head_of message.now))) }
 {
     let joined = SliceOctets::new(message.payload.as_slice());
     match ReplyHead::view(&joined, message.version, message.order) {
@@ -91,8 +84,7 @@ fn write_locate_request<W: Write>(
 ) -> Result<(), Failure>
     requires { length message.now.payload ≤ 2 ^ 62 }
     ensures { OnOk result (Appends (W.contents writer.old) (W.contents writer.new)
-        (locate_request_text form (whole_of_joined (locate_request message.now.version)
-        message.now.order message.now.payload))) }
+        (locate_request_text form (locate_request_of message.now))) }
 {
     let joined = SliceOctets::new(message.payload.as_slice());
     match LocateRequest::view(&joined, message.version, message.order) {
@@ -111,9 +103,7 @@ fn write_locate_reply<W: Write>(
 ) -> Result<(), Failure>
     requires { length message.now.payload ≤ 2 ^ 62 }
     ensures { OnOk result (Appends (W.contents writer.old) (W.contents writer.new)
-        (locate_reply_text form (end_of message.now)
-        (head_of_joined (locate_reply_head message.now.version)
-        right_behind message.now.order message.now.payload))) }
+        (locate_reply_text form (end_of message.now) (locate_reply_head_of message.now))) }
 {
     let joined = SliceOctets::new(message.payload.as_slice());
     match LocateReplyHead::view(&joined, message.version, message.order) {

@@ -1,5 +1,5 @@
 use Rattle.giop_commands.specs.Acts.{outbox}
-use Rattle.giop_commands.specs.Calling.{Asked, CallsOne, CallsSent}
+use Rattle.giop_commands.specs.Calling.{CallsOne, CallsSent, asked_of}
 use Rattle.giop_commands.specs.Steps.{Upto}
 use Rattle.giop_commands.proofs.ActLemmas.{same_fault}
 use Rattle.giop_commands.proofs.StepLemmas.{and_then}
@@ -7,17 +7,8 @@ use Rattle.giop_commands.proofs.call.call_all.Goals as goal
 
 pub returns-clause-calls : goal.returns-clause-calls
 returns-clause-calls c =
-    let asked : Asked =
-    record {
-      interface = c.args.end.now.interface.now;
-      calls = c.args.calls.items;
-      key = c.args.key.now;
-      version = c.args.version;
-      form = c.args.form;
-      limits = c.args.end.now.limits;
-    } in
     let fault = same_fault c.args.end.now c.call_each.new.end c.call_each.ensures.others in
-    and_then (Upto (CallsOne asked c.args.end.now.fault) c.args.calls.items) (CallsSent c.args.end.now.fault)
+    and_then (Upto (CallsOne (asked_of c.args.calling c.args.calls.items) c.args.end.now.fault) c.args.calls.items) (CallsSent c.args.end.now.fault)
     (outbox c.args.end.now.calls c.args.end.now.outgoing) (outbox c.call_each.new.end.calls c.call_each.new.end.outgoing)
     (outbox c.send_all.new.end.calls c.send_all.new.end.outgoing) c.send_all.result (rw c.in_default.is at c.in_ok-fault.ensures.calls)
     (rw fault at c.send_all.ensures.sends)

@@ -2,7 +2,7 @@ use Rattle.std.proofs.Common.{◌≡◌, ◌∷◌, length, refl, sym, ap, ◌�
 use Rattle.std.specs.Vec.Iter.{into_iter_items, into_iter_len}
 use Rattle.giop_types.proofs.JsonForms.InterfaceLemmas.{nothing_left}
 use Rattle.giop_commands.specs.Acts.{outbox}
-use Rattle.giop_commands.specs.Calling.{Asked, CallsOne}
+use Rattle.giop_commands.specs.Calling.{CallsOne, asked_of}
 use Rattle.giop_commands.proofs.ActLemmas.{others_on, same_fault, same_interface, same_limits}
 use Rattle.giop_commands.proofs.StepLemmas.{before_none, before_more, before_all, before_stops}
 use Rattle.giop_commands.proofs.call.call_each.Goals as goal
@@ -16,35 +16,28 @@ calls-init c =
 pub calls-preserved : goal.calls-preserved
 calls-preserved c =
     let fault = same_fault c.args.end.now c.calls.end c.calls.invariant.others in
-    let interface = same_interface c.args.end.now c.calls.end c.calls.invariant.others in
-    let limits = same_limits c.args.end.now c.calls.end c.calls.invariant.others in
     let steps : into_iter_items c.calls.call-iterator ≡ c.in-Some.call ∷ into_iter_items c.next.new.self = c.in-Some.ensures.steps.0 in
     record {
       called = before_more _ _ _ _ c.in-Some.call _ (outbox c.calls.end.calls c.calls.end.outgoing) _ steps c.calls.invariant.called
-          (rw (c.in_default.is, fault, interface, limits) at c.in_ok-fault.ensures.calls);
+          (rw (c.in_default.is, fault) at c.in_ok-fault.ensures.calls);
       left = let gone = c.in-Some.ensures.steps.1 in let was = c.calls.invariant.left in let short = ap length steps in omega arith;
       others = others_on c.args.end.now c.calls.end c.call_one.new.end c.calls.invariant.others c.call_one.ensures.others;
     }
 
+pub call_one-requires-clause-interface : goal.call_one-requires-clause-interface
+call_one-requires-clause-interface c = same_interface c.args.end.now c.calls.end c.calls.invariant.others ∙ c.requires.interface
+
+pub call_one-requires-clause-limits : goal.call_one-requires-clause-limits
+call_one-requires-clause-limits c = same_limits c.args.end.now c.calls.end c.calls.invariant.others ∙ c.requires.limits
+
 pub returns-in-Some-2-clause-calls : goal.returns-in-Some-2-clause-calls
 returns-in-Some-2-clause-calls c =
     let fault = same_fault c.args.end.now c.calls.end c.calls.invariant.others in
-    let interface = same_interface c.args.end.now c.calls.end c.calls.invariant.others in
-    let limits = same_limits c.args.end.now c.calls.end c.calls.invariant.others in
     before_stops _ _ _ _ c.in-Some.call _ (outbox c.calls.end.calls c.calls.end.outgoing) _ c.in-Some-2.fault c.in-Some.ensures.steps.0
-    c.calls.invariant.called (rw (c.in-Some-2.is, fault, interface, limits) at c.in_ok-fault.ensures.calls)
+    c.calls.invariant.called (rw (c.in-Some-2.is, fault) at c.in_ok-fault.ensures.calls)
 
 pub returns-clause-calls : goal.returns-clause-calls
 returns-clause-calls c =
-    let asked : Asked =
-    record {
-      interface = c.args.end.now.interface.now;
-      calls = c.args.calls.items;
-      key = c.args.key.now;
-      version = c.args.version;
-      form = c.args.form;
-      limits = c.args.end.now.limits;
-    } in
-    before_all (CallsOne asked c.args.end.now.fault) _ (into_iter_items c.calls.call-iterator)
+    before_all (CallsOne (asked_of c.args.calling c.args.calls.items) c.args.end.now.fault) _ (into_iter_items c.calls.call-iterator)
     (outbox c.args.end.now.calls c.args.end.now.outgoing) (outbox c.calls.end.calls c.calls.end.outgoing)
     (nothing_left (into_iter_items c.calls.call-iterator) (sym c.calls.invariant.left ∙ c.in-None.ensures.steps.0)) c.calls.invariant.called

@@ -14,6 +14,5 @@ returns-in-Ok g c =
     called asked c.args.lines _ _ _ _ c.in_ok-refused.refused (outbox c.call_all.new.end.calls c.call_all.new.end.outgoing) c.talk.new.end.outgoing
     c.talk.new.end.framer
     c.talk.new.end.calls c.talk.new.end.fault c.tell.result
-    (rw (c.new-end.ensures.interface, c.new-end.ensures.limits, c.new-end.ensures.fault, c.new-end.ensures.calls, c.new-end.ensures.outgoing)
-    at c.in_ok-refused.ensures.calls)
+    (rw (c.new-end.ensures.fault, c.new-end.ensures.calls, c.new-end.ensures.outgoing) at c.in_ok-refused.ensures.calls)
     (rw (interface, unread, fault) at c.in-Ok.ensures.talks) c.tell.ensures.text c.tell.ensures.ok c.tell.ensures.ends

@@ -2,16 +2,16 @@
 //! is taken for the open calls and for what one read gave. Its meaning is specs/CallFeeding.antt:
 //! change both.
 ghost use Rattle.std.specs.Prelude.{◌≡◌, ◌&&◌, [], None, IfOk, OnOk};
-ghost use Rattle.giop_end.specs.Pumping.{between};
-ghost use Rattle.giop_commands.specs.CallFeeding.{FedEnd, FedStreams, Feeds, fed};
-ghost use Rattle.giop_commands.specs.CallLines.{feed, so_far};
+ghost use Rattle.giop_commands.specs.CallFeeding.{fed_of, FedEndOver, FedStreams, Feeds};
+ghost use Rattle.giop_commands.specs.CallLines.{feed_at};
 ghost use Rattle.giop_commands.specs.Calling.{asked_of};
-ghost use Rattle.giop_commands.specs.Sessions.{wire};
+ghost use Rattle.giop_commands.specs.Sessions.{change};
 
 use crate::call::feed::LineFeed;
 use crate::call::given::Calling;
 use crate::call::lines::CallLines;
-use crate::call::streaming::{call_next, is_done, take_turn, tell_end, tell_open, tell_turn};
+use crate::call::streaming::turns::{CallTurn, turn_of_calls};
+use crate::call::streaming::{tell_end, tell_open};
 use crate::session::TURNS;
 use crate::session::ending::Ending;
 use giop_end::{ClientEnd, SessionFault};
@@ -41,12 +41,10 @@ pub fn call_fed<S: Read + Drop, R: Read, W: Write, O: Write>(
     writer: &mut W,
     out: &mut O,
 ) -> Result<Ending, Failure>
-    ensures { IfOk result (FedEnd (asked_of calling.entry []) lines source.old.waits
-        (feed (S.remaining source.old.source) (so_far source.old.lines))
-        (feed (S.remaining source.new.source) (so_far source.new.lines))
-        (wire (R.remaining reader.old) (W.contents writer.old))
-        (wire (R.remaining reader.new) (W.contents writer.new))
-        (O.contents out.old) (O.contents out.new)) }
+    ensures { IfOk result (FedEndOver calling.entry lines source.old.waits (feed_at
+        (S.remaining source.old.source) source.old) (feed_at (S.remaining source.new.source)
+        source.new) (change R.remaining reader.old reader.new)
+        (change W.contents writer.old writer.new) (change O.contents out.old out.new)) }
 {
     let mut end = ClientEnd::new(alloc, calling.interface, calling.limits);
     let mut well = true;
@@ -107,26 +105,26 @@ fn converse<S: Read + Drop, R: Read, W: Write, O: Write>(
     requires limits { end.old.limits ≡ calling.limits }
     requires fault { end.old.fault ≡ None }
     ensures { IfOk result (λ refused. FedStreams (asked_of calling.entry []) lines source.old.waits
-        (fed (between (R.remaining reader.old) (W.contents writer.old) end.old.outgoing
-        end.old.framer end.old.calls end.old.fault) (O.contents out.old)
-        (feed (S.remaining source.old.source) (so_far source.old.lines)) well.old)
-        refused
-        (fed (between (R.remaining reader.new) (W.contents writer.new) end.new.outgoing
-        end.new.framer end.new.calls end.new.fault) (O.contents out.new)
-        (feed (S.remaining source.new.source) (so_far source.new.lines)) well.new)) }
+        (fed_of (R.remaining reader.old) (W.contents writer.old) (O.contents out.old) (feed_at
+        (S.remaining source.old.source) source.old) end.old well.old) refused (fed_of
+        (R.remaining reader.new) (W.contents writer.new) (O.contents out.new) (feed_at
+        (S.remaining source.new.source) source.new) end.new well.new)) }
 {
     'turns: for done in 0..TURNS {
         feed_next(alloc, end, calling.interface, source)?;
-        if is_done(alloc, end, &source.lines.calls)? {
-            return Ok(None);
+        if let CallTurn::Ends(refused) = turn_of_calls(
+            alloc,
+            end,
+            calling,
+            lines,
+            &mut source.lines.calls,
+            well,
+            reader,
+            writer,
+            out,
+        )? {
+            return Ok(refused);
         }
-        if let Some(fault) = call_next(alloc, end, calling, &mut source.lines.calls)? {
-            return Ok(Some(fault));
-        }
-        if !take_turn(alloc, end, reader, writer)? {
-            return Ok(None);
-        }
-        *well = tell_turn(alloc, lines, calling.interface, end, *well, out)?;
     }
     Err(Failure::TurnsSpent)
 }
@@ -139,9 +137,9 @@ fn feed_next<S: Read + Drop>(
     interface: &Interface,
     source: &mut LineFeed<S>,
 ) -> Result<(), Failure>
-    ensures feeds { OnOk result (Feeds interface.now source.old.waits end.now.calls
-        (feed (S.remaining source.old.source) (so_far source.old.lines))
-        (feed (S.remaining source.new.source) (so_far source.new.lines))) }
+    ensures feeds { OnOk result (Feeds interface.now source.old.waits end.now.calls (feed_at
+        (S.remaining source.old.source) source.old) (feed_at (S.remaining source.new.source)
+        source.new)) }
     ensures waits { source.new.waits ≡ source.old.waits }
 {
     if source.waits && !end.ids(alloc)?.is_empty() {

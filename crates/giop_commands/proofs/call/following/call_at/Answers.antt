@@ -15,5 +15,5 @@ returns-clause-calls g c =
     (between (g.R.Read.remaining c.args.reader.now) (g.W.Write.contents c.args.writer.now) c.args.end.now.outgoing c.args.end.now.framer
     c.args.end.now.calls c.args.end.now.fault)
     _ (outbox c.call_all.new.end.calls c.call_all.new.end.outgoing) c.in_ok-refused.refused
-    (rw (c.requires.interface, c.requires.limits) at c.in_ok-refused.ensures.calls)
+    c.in_ok-refused.ensures.calls
     (rw (interface, unread, fault) at c.in_ok-talk.ensures.talks)

@@ -1,93 +1,41 @@
-use Rattle.std.proofs.Common.{◌∙◌, [], Some, None, sym, ap}
-use Rattle.giop_end.specs.Pumping.{between}
-use Rattle.giop_commands.specs.Acts.{outbox}
+use Rattle.std.proofs.Common.{◌∙◌, [], refl}
+use Rattle.giop_end.specs.Ends.View.{end_between}
+use Rattle.giop_commands.specs.CallFeeding.{fed_of}
+use Rattle.giop_commands.specs.CallLines.{feed_at}
 use Rattle.giop_commands.specs.Calling.{asked_of}
-use Rattle.giop_commands.specs.CallFeeding.{Feeds, fed}
-use Rattle.giop_commands.specs.CallLines.{feed, so_far}
-use Rattle.giop_commands.proofs.ActLemmas.{acted_on, same_fault, same_interface, same_unread, turned_interface, turned_on}
+use Rattle.giop_commands.proofs.ActLemmas.{turned_on}
 use Rattle.giop_commands.proofs.CallFeedingLemmas.{fed_ends, fed_streams, fed_turn}
-use Rattle.giop_commands.proofs.CallStreamingLemmas.{course_told, ends_done, ends_off, ends_refused, opened_by, turn_unfailed, unfailed_by}
 use Rattle.giop_commands.proofs.StepLemmas.{counted_more}
-use Rattle.giop_commands.proofs.StreamingLemmas.{told_on}
 use Rattle.giop_commands.proofs.call.streaming.feeding.converse.Goals as goal
 
-pub returns-then-branch : goal.returns-then-branch
-returns-then-branch g c =
-    let s = between (g.R.Read.remaining c.turns.reader) (g.W.Write.contents c.turns.writer) c.turns.end.outgoing c.turns.end.framer c.turns.end.calls
-    c.turns.end.fault in
-    let first = feed (g.S.Read.remaining c.turns.source.source) (so_far c.turns.source.lines) in
-    let mid = feed (g.S.Read.remaining c.feed_next.new.source.source) (so_far c.feed_next.new.source.lines) in
+pub returns-in-Ends : goal.returns-in-Ends
+returns-in-Ends g c =
+    let s = end_between (g.R.Read.remaining c.turns.reader) (g.W.Write.contents c.turns.writer) c.turns.end in
+    let t = end_between (g.R.Read.remaining c.turn_of_calls.new.reader) (g.W.Write.contents c.turn_of_calls.new.writer) c.turn_of_calls.new.end in
+    let first = feed_at (g.S.Read.remaining c.turns.source.source) c.turns.source in
+    let mid = feed_at (g.S.Read.remaining c.feed_next.new.source.source) c.feed_next.new.source in
     fed_streams (asked_of c.args.calling []) c.args.lines c.args.source.now.waits c.turns.done _
-    (fed s (g.O.Write.contents c.turns.out) first c.turns.well) _ None c.turns.invariant.streamed c.turns-test.true
-    (fed_ends (asked_of c.args.calling []) c.args.lines c.args.source.now.waits s s (g.O.Write.contents c.turns.out) (g.O.Write.contents c.turns.out)
-    first mid mid.so_far.calls c.turns.well c.turns.well None (rw c.turns.invariant.waits at c.in_ok-feed_next.ensures.feeds)
-    (ends_done (asked_of c.args.calling []) c.args.lines s (g.O.Write.contents c.turns.out) mid.so_far.calls c.turns.well
-    (sym c.in_ok-is_done.ensures ∙ c.if-branch.true)))
-
-pub returns-in-Some : goal.returns-in-Some
-returns-in-Some g c =
-    let unread = same_unread c.turns.end c.call_next.new.end c.call_next.ensures.others in
-    let fault = same_fault c.turns.end c.call_next.new.end c.call_next.ensures.others in
-    let s = between (g.R.Read.remaining c.turns.reader) (g.W.Write.contents c.turns.writer) c.turns.end.outgoing c.turns.end.framer c.turns.end.calls
-    c.turns.end.fault in
-    let first = feed (g.S.Read.remaining c.turns.source.source) (so_far c.turns.source.lines) in
-    let mid = feed (g.S.Read.remaining c.feed_next.new.source.source) (so_far c.feed_next.new.source.lines) in
-    let box = outbox c.call_next.new.end.calls c.call_next.new.end.outgoing in
-    fed_streams (asked_of c.args.calling []) c.args.lines c.args.source.now.waits c.turns.done _
-    (fed s (g.O.Write.contents c.turns.out) first c.turns.well) _ (Some c.in-Some.fault) c.turns.invariant.streamed c.turns-test.true
-    (rw (unread, fault)
-    (fed_ends (asked_of c.args.calling []) c.args.lines c.args.source.now.waits s _ (g.O.Write.contents c.turns.out) (g.O.Write.contents c.turns.out)
-    first mid c.call_next.new.left.items c.turns.well c.turns.well (Some c.in-Some.fault)
-    (rw c.turns.invariant.waits at c.in_ok-feed_next.ensures.feeds)
-    (ends_refused (asked_of c.args.calling []) c.args.lines s box (g.O.Write.contents c.turns.out) mid.so_far.calls c.call_next.new.left.items
-    c.turns.well c.in-Some.fault (sym c.in_ok-is_done.ensures ∙ c.if-branch.false) (rw c.in-Some.is at (c.in_ok-fault.ensures.calls [])))))
-
-pub returns-then-not-branch : goal.returns-then-not-branch
-returns-then-not-branch g c =
-    let unread = same_unread c.turns.end c.call_next.new.end c.call_next.ensures.others in
-    let fault = same_fault c.turns.end c.call_next.new.end c.call_next.ensures.others in
-    let interface = same_interface c.turns.end c.call_next.new.end c.call_next.ensures.others
-    ∙ turned_interface c.args.end.now c.turns.end c.turns.invariant.others ∙ c.requires.interface in
-    let s = between (g.R.Read.remaining c.turns.reader) (g.W.Write.contents c.turns.writer) c.turns.end.outgoing c.turns.end.framer c.turns.end.calls
-    c.turns.end.fault in
-    let first = feed (g.S.Read.remaining c.turns.source.source) (so_far c.turns.source.lines) in
-    let mid = feed (g.S.Read.remaining c.feed_next.new.source.source) (so_far c.feed_next.new.source.lines) in
-    fed_streams (asked_of c.args.calling []) c.args.lines c.args.source.now.waits c.turns.done _
-    (fed s (g.O.Write.contents c.turns.out) first c.turns.well) _ None c.turns.invariant.streamed c.turns-test.true
-    (fed_ends (asked_of c.args.calling []) c.args.lines c.args.source.now.waits s _ (g.O.Write.contents c.turns.out) (g.O.Write.contents c.turns.out)
-    first mid c.call_next.new.left.items c.turns.well c.turns.well None (rw c.turns.invariant.waits at c.in_ok-feed_next.ensures.feeds)
-    (ends_off (asked_of c.args.calling []) c.args.lines s _ (outbox c.call_next.new.end.calls c.call_next.new.end.outgoing)
-    (g.O.Write.contents c.turns.out) mid.so_far.calls c.call_next.new.left.items c.turns.well
-    (sym c.in_ok-is_done.ensures ∙ c.if-branch.false) (rw c.in_default.is at (c.in_ok-fault.ensures.calls []))
-    (rw (c.if-not-branch.true, interface, unread, fault) at c.in_ok-take_turn.ensures.turns)))
+    (fed_of (g.R.Read.remaining c.turns.reader) (g.W.Write.contents c.turns.writer) (g.O.Write.contents c.turns.out) first c.turns.end c.turns.well)
+    _ c.in-Ends.refused c.turns.invariant.streamed c.turns-test.true
+    (fed_ends (asked_of c.args.calling []) c.args.lines c.args.source.now.waits s t (g.O.Write.contents c.turns.out)
+    (g.O.Write.contents c.turn_of_calls.new.out) first mid c.turn_of_calls.new.left.items c.turns.well c.turn_of_calls.new.well c.in-Ends.refused
+    (rw c.turns.invariant.waits at c.in_ok-feed_next.ensures.feeds) (rw c.in-Ends.is at (c.in_ok-turn_of_calls.ensures.goes [])))
 
 pub turns-preserved : goal.turns-preserved
 turns-preserved g c =
-    let unread = same_unread c.turns.end c.call_next.new.end c.call_next.ensures.others in
-    let fault = same_fault c.turns.end c.call_next.new.end c.call_next.ensures.others in
-    let interface = same_interface c.turns.end c.call_next.new.end c.call_next.ensures.others
-    ∙ turned_interface c.args.end.now c.turns.end c.turns.invariant.others ∙ c.requires.interface in
-    let s = between (g.R.Read.remaining c.turns.reader) (g.W.Write.contents c.turns.writer) c.turns.end.outgoing c.turns.end.framer c.turns.end.calls
-    c.turns.end.fault in
-    let first = feed (g.S.Read.remaining c.turns.source.source) (so_far c.turns.source.lines) in
-    let mid = feed (g.S.Read.remaining c.feed_next.new.source.source) (so_far c.feed_next.new.source.lines) in
-    let turned = between (g.R.Read.remaining c.take_turn.new.reader) (g.W.Write.contents c.take_turn.new.writer) c.take_turn.new.end.outgoing
-    c.take_turn.new.end.framer c.take_turn.new.end.calls c.take_turn.new.end.fault in
+    let s = end_between (g.R.Read.remaining c.turns.reader) (g.W.Write.contents c.turns.writer) c.turns.end in
+    let t = end_between (g.R.Read.remaining c.turn_of_calls.new.reader) (g.W.Write.contents c.turn_of_calls.new.writer) c.turn_of_calls.new.end in
+    let first = feed_at (g.S.Read.remaining c.turns.source.source) c.turns.source in
+    let mid = feed_at (g.S.Read.remaining c.feed_next.new.source.source) c.feed_next.new.source in
     record {
-      streamed = counted_more _ c.turns.done _ (fed s (g.O.Write.contents c.turns.out) first c.turns.well) _ c.turns.invariant.streamed
-          (fed_turn (asked_of c.args.calling []) c.args.lines c.args.source.now.waits s _ (g.O.Write.contents c.turns.out) _ first mid
-          c.call_next.new.left.items c.turns.well _ (rw c.turns.invariant.waits at c.in_ok-feed_next.ensures.feeds)
-          (course_told (asked_of c.args.calling []) c.args.lines s turned _ (outbox c.call_next.new.end.calls c.call_next.new.end.outgoing)
-          (g.O.Write.contents c.turns.out) _ mid.so_far.calls c.call_next.new.left.items c.turns.well _
-          (sym c.in_ok-is_done.ensures ∙ c.if-branch.false) (rw c.in_default.is at (c.in_ok-fault.ensures.calls []))
-          (rw (c.if-not-branch.false, interface, unread, fault) at c.in_ok-take_turn.ensures.turns) c.in_ok-well.ensures.text
-          (opened_by c.take_turn.new.end c.tell_turn.new.end _ _ c.in_ok-well.ensures.left) c.in_ok-well.ensures.well));
+      streamed = counted_more _ c.turns.done _
+          (fed_of (g.R.Read.remaining c.turns.reader) (g.W.Write.contents c.turns.writer) (g.O.Write.contents c.turns.out) first c.turns.end
+          c.turns.well)
+          _ c.turns.invariant.streamed
+          (fed_turn (asked_of c.args.calling []) c.args.lines c.args.source.now.waits s t (g.O.Write.contents c.turns.out)
+          (g.O.Write.contents c.turn_of_calls.new.out) first mid c.turn_of_calls.new.left.items c.turns.well c.turn_of_calls.new.well
+          (rw c.turns.invariant.waits at c.in_ok-feed_next.ensures.feeds) (rw c.in_default.is at (c.in_ok-turn_of_calls.ensures.goes [])));
       waits = c.in_ok-feed_next.ensures.waits ∙ c.turns.invariant.waits;
-      fault = unfailed_by c.take_turn.new.end c.tell_turn.new.end _ c.in_ok-well.ensures.left
-          ∙ turn_unfailed _ _ turned (fault ∙ c.turns.invariant.fault) (rw c.if-not-branch.false at c.in_ok-take_turn.ensures.turns);
-      others = turned_on c.args.end.now c.turns.end c.tell_turn.new.end c.turns.invariant.others
-          (turned_on c.turns.end c.call_next.new.end c.tell_turn.new.end
-          (acted_on c.turns.end c.call_next.new.end c.call_next.ensures.others)
-          (turned_on c.call_next.new.end c.take_turn.new.end c.tell_turn.new.end c.take_turn.ensures.others
-          (told_on c.take_turn.new.end c.tell_turn.new.end _ c.in_ok-well.ensures.left)));
+      fault = c.in_ok-turn_of_calls.ensures.fault c.in_default.is;
+      others = turned_on c.args.end.now c.turns.end c.turn_of_calls.new.end c.turns.invariant.others c.in_ok-turn_of_calls.ensures.others;
     }
