@@ -11,14 +11,14 @@ returns-in-Ends g c =
     streamed (asked_of c.args.calling c.args.left.now.items) c.args.lines c.turns.done _
     (course_of (g.R.Read.remaining c.turns.reader) (g.W.Write.contents c.turns.writer) (g.O.Write.contents c.turns.out) c.turns.end
     c.turns.left.items c.turns.well)
-    _ c.in-Ends.refused c.turns.invariant.streamed c.turns-test.true (rw c.in-Ends.is at (c.in_ok-turn_of_calls.ensures.goes c.args.left.now.items))
+    _ c.in-Ends.refused c.turns.invariant.streamed c.turns-test.true (rw c.in-Ends.is at (c.in_ok-refused.ensures.goes c.args.left.now.items))
 
 pub turns-preserved : goal.turns-preserved
 turns-preserved g c = record {
   streamed = counted_more _ c.turns.done _
       (course_of (g.R.Read.remaining c.turns.reader) (g.W.Write.contents c.turns.writer) (g.O.Write.contents c.turns.out) c.turns.end
       c.turns.left.items c.turns.well)
-      _ c.turns.invariant.streamed (rw c.in_default.is at (c.in_ok-turn_of_calls.ensures.goes c.args.left.now.items));
-  fault = c.in_ok-turn_of_calls.ensures.fault c.in_default.is;
-  others = turned_on c.args.end.now c.turns.end c.turn_of_calls.new.end c.turns.invariant.others c.in_ok-turn_of_calls.ensures.others;
+      _ c.turns.invariant.streamed (rw c.in_default.is at (c.in_ok-refused.ensures.goes c.args.left.now.items));
+  fault = c.in_ok-refused.ensures.fault c.in_default.is;
+  others = turned_on c.args.end.now c.turns.end c.turn_of_calls.new.end c.turns.invariant.others c.in_ok-refused.ensures.others;
 }

@@ -19,7 +19,7 @@ returns-in-Ends g c =
     _ c.in-Ends.refused c.turns.invariant.streamed c.turns-test.true
     (fed_ends (asked_of c.args.calling []) c.args.lines c.args.source.now.waits s t (g.O.Write.contents c.turns.out)
     (g.O.Write.contents c.turn_of_calls.new.out) first mid c.turn_of_calls.new.left.items c.turns.well c.turn_of_calls.new.well c.in-Ends.refused
-    (rw c.turns.invariant.waits at c.in_ok-feed_next.ensures.feeds) (rw c.in-Ends.is at (c.in_ok-turn_of_calls.ensures.goes [])))
+    (rw c.turns.invariant.waits at c.in_ok-feed_next.ensures.feeds) (rw c.in-Ends.is at (c.in_ok-refused.ensures.goes [])))
 
 pub turns-preserved : goal.turns-preserved
 turns-preserved g c =
@@ -34,8 +34,8 @@ turns-preserved g c =
           _ c.turns.invariant.streamed
           (fed_turn (asked_of c.args.calling []) c.args.lines c.args.source.now.waits s t (g.O.Write.contents c.turns.out)
           (g.O.Write.contents c.turn_of_calls.new.out) first mid c.turn_of_calls.new.left.items c.turns.well c.turn_of_calls.new.well
-          (rw c.turns.invariant.waits at c.in_ok-feed_next.ensures.feeds) (rw c.in_default.is at (c.in_ok-turn_of_calls.ensures.goes [])));
+          (rw c.turns.invariant.waits at c.in_ok-feed_next.ensures.feeds) (rw c.in_default.is at (c.in_ok-refused.ensures.goes [])));
       waits = c.in_ok-feed_next.ensures.waits ∙ c.turns.invariant.waits;
-      fault = c.in_ok-turn_of_calls.ensures.fault c.in_default.is;
-      others = turned_on c.args.end.now c.turns.end c.turn_of_calls.new.end c.turns.invariant.others c.in_ok-turn_of_calls.ensures.others;
+      fault = c.in_ok-refused.ensures.fault c.in_default.is;
+      others = turned_on c.args.end.now c.turns.end c.turn_of_calls.new.end c.turns.invariant.others c.in_ok-refused.ensures.others;
     }
