@@ -1,5 +1,5 @@
 -- What C is told of an act of an end, and in which words it asks for one.
-use Rattle.std.specs.Prelude.{◌≡◌, ◌⊎◌, ℕ, List, Result, Ok, Err}
+use Rattle.std.specs.Prelude.{◌≡◌, ◌⊎◌, ℕ, List, Option, Result, Ok, Err}
 use Rattle.giop_cdr.specs.declared.fault.CdrFault.{CdrFault}
 use Rattle.giop_cdr.specs.declared.fault.CdrKind.{CdrKind}
 use Rattle.giop_cdr.specs.declared.fault.CdrKind.TheVariants as cdr
@@ -26,7 +26,7 @@ use Rattle.giop_c.specs.declared.end_records.EndLimits.{EndLimits}
 use Rattle.giop_c.specs.declared.end_records.SendForm.{SendForm}
 use Rattle.giop_c.specs.declared.value_form.ValueForm.{ValueForm}
 use Rattle.giop_c.specs.declared.value_form.ValueForm.TheVariants.{Cdr, Json}
-use Rattle.giop_c.specs.Calls.{ok, no_memory, fault}
+use Rattle.giop_c.specs.Calls.{At, ok, no_memory, fault}
 use Rattle.giop_c.specs.EndRecords.{c_end_fault, c_order_of, end_status}
 use Rattle.giop_c.specs.JsonValues.{values_of_text}
 
@@ -48,6 +48,12 @@ IsTold (Err why) f f' status = (status ≡ end_status why) × (f' ≡ c_end_faul
 abbrev pub Tells : (Result (Unit {0}) SessionFault → Type 0) → EndFault → EndFault → ℕ → Type 0
 Tells Does f f' status =
     (answer : Result (Unit {0}) SessionFault) × Does answer × IsTold answer f f' status
+
+-- an act at a handle, which tells its answer; where the handle holds nothing, the fault is kept
+abbrev pub ToldAt : {T : Type 0} → Option T → Option T
+    → (T → Result (Unit {0}) SessionFault → T → Type 0) → EndFault → EndFault → ℕ → Type 0
+ToldAt held held' Does f f' status =
+    At held held' status (f' ≡ f) (λ old new. Tells (λ answer. Does old answer new) f f' status)
 
 -- the fault of a reference's text, as C sees it: 13, where the text isn't `IOR:` and digits; 14, where
 -- the octets that it says are no reference
@@ -101,6 +107,12 @@ IsToldAct (Err why) f f' status = (status ≡ act_status why) × (f' ≡ c_act_f
 abbrev pub TellsAct : (Result (Unit {0}) ActFault → Type 0) → EndFault → EndFault → ℕ → Type 0
 TellsAct Does f f' status =
     (answer : Result (Unit {0}) ActFault) × Does answer × IsToldAct answer f f' status
+
+-- an act at a handle, which tells its answer; where the handle holds nothing, the fault is kept
+abbrev pub ActsAt : {T : Type 0} → Option T → Option T
+    → (T → Result (Unit {0}) ActFault → T → Type 0) → EndFault → EndFault → ℕ → Type 0
+ActsAt held held' Does f f' status =
+    At held held' status (f' ≡ f) (λ old new. TellsAct (λ answer. Does old answer new) f f' status)
 
 -- what an end answers
 abbrev pub of_end : Result (Unit {0}) SessionFault → Result (Unit {0}) ActFault

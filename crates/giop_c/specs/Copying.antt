@@ -1,6 +1,6 @@
 -- What is copied into the caller's buffers.
 use Rattle.std.specs.Prelude.{◌≡◌, ◌⊎◌, ℕ, ◌≤◌, ◌<◌, ◌++◌, Bool, true, false, List, Option, Some, None, drop, length, take}
-use Rattle.giop_c.specs.Calls.{ok, no_memory, fault, small, waits}
+use Rattle.giop_c.specs.Calls.{At, fault, no_memory, ok, small, waits}
 
 -- the first items of a list are copied to the front of a buffer, as many as it has room for, and the
 -- number of all is told
@@ -27,3 +27,19 @@ CopiesWhere fits Is octets buffer buffer' size size' status =
     ((fits ≡ true) × Is × CopiesOctets (Some octets) buffer buffer' size size' status)
     ⊎ ((fits ≡ true) × (status ≡ no_memory) × ((buffer' ≡ buffer) × (size' ≡ size)))
     ⊎ ((fits ≡ false) × (status ≡ fault) × ((buffer' ≡ buffer) × (size' ≡ size)))
+
+-- a call that reads what a handle holds, leaves it as it is, and copies something of it to the front
+-- of a buffer and its size beside
+abbrev pub CopiesAt : {T : Type 0} → Option T → Option T
+    → (T → (buffer buffer' : List ℕ) → (size size' status : ℕ) → Type 0)
+    → (buffer buffer' : List ℕ) → (size size' status : ℕ) → Type 0
+CopiesAt held held' Copies buffer buffer' size size' status =
+    At held held' status ((buffer' ≡ buffer) × (size' ≡ size))
+    (λ old new. (new ≡ old) × Copies old buffer buffer' size size' status)
+
+-- a call that tells ids so, as many as a buffer has room for, and how many there are; or memory ran
+-- out, and nothing is told
+abbrev pub TellsIds : List ℕ → (buffer buffer' : List ℕ) → (count count' status : ℕ) → Type 0
+TellsIds ids buffer buffer' count count' status =
+    ((status ≡ ok) × CopiesFront ids buffer buffer' count')
+    ⊎ ((status ≡ no_memory) × (buffer' ≡ buffer) × (count' ≡ count))

@@ -1,6 +1,7 @@
 //! The exported functions of a framer. Each takes what the handle holds, calls it and puts it back.
 ghost use Rattle.std.specs.Prelude.{◌≡◌, None, length};
-ghost use Rattle.giop_c.specs.Calls.{At, Copies, Feeds, Opens, Takes, ok};
+ghost use Rattle.giop_c.specs.Calls.{At, Copies, Feeds, ok, Opens, Takes};
+ghost use Rattle.giop_c.specs.Copying.{CopiesAt};
 
 use crate::records::{Fault, Message};
 use crate::status::{CLOSED, NO_MEMORY, OK};
@@ -65,10 +66,8 @@ pub extern "C" fn giop_framer_payload(
     buffer: &mut [u8],
     size: &mut usize,
 ) -> u32
-    ensures { At framer.old.value framer.new.value result
-        ((buffer.new ≡ buffer.old) × (size.new ≡ size.old))
-        (λ old new. (new ≡ old)
-        × Copies old.message buffer.old buffer.new size.old size.new result) }
+    ensures { CopiesAt framer.old.value framer.new.value (λ old. Copies old.message) buffer.old
+        buffer.new size.old size.new result }
 {
     let Some(reader) = framer.take(alloc) else {
         return CLOSED;

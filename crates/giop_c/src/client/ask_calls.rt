@@ -1,7 +1,6 @@
 //! The exported functions by which a client's program calls, asks where an object is, and cancels.
 ghost use Rattle.std.specs.Prelude.{◌≡◌, ◌≤◌, ◌^◌, length};
-ghost use Rattle.giop_c.specs.Acts.{Tells, TellsAct, form_of};
-ghost use Rattle.giop_c.specs.Calls.{At};
+ghost use Rattle.giop_c.specs.Acts.{ActsAt, form_of, ToldAt};
 ghost use Rattle.giop_c.specs.Client.Asking.{AsksWhere, CallsOperation};
 ghost use Rattle.giop_c.specs.Client.Ends.{CancelsAtClient};
 ghost use Rattle.giop_c.specs.EndRecords.{c_order_of};
@@ -31,10 +30,9 @@ pub extern "C" fn giop_client_call(
     fault: &mut EndFault,
 ) -> u32
     requires { length ins.now ≤ 2 ^ 62 }
-    ensures { At client.old.value client.new.value result (fault.new ≡ fault.old)
-        (λ old new. TellsAct (λ answer. CallsOperation id call.now target.now operation.now
-        (c_value_form value_form) ins.now (form_of form.now) old answer new)
-        fault.old fault.new result) }
+    ensures { ActsAt client.old.value client.new.value (CallsOperation id call.now target.now
+        operation.now (c_value_form value_form) ins.now (form_of form.now)) fault.old fault.new
+        result }
 {
     let Some(mut caller) = client.take(alloc) else {
         return CLOSED;
@@ -57,9 +55,8 @@ pub extern "C" fn giop_client_locate(
     form: &SendForm,
     fault: &mut EndFault,
 ) -> u32
-    ensures { At client.old.value client.new.value result (fault.new ≡ fault.old)
-        (λ old new. TellsAct (λ answer. AsksWhere id call.now target.now (form_of form.now)
-        old answer new) fault.old fault.new result) }
+    ensures { ActsAt client.old.value client.new.value (AsksWhere id call.now target.now
+        (form_of form.now)) fault.old fault.new result }
 {
     let Some(mut caller) = client.take(alloc) else {
         return CLOSED;
@@ -79,9 +76,8 @@ pub extern "C" fn giop_client_cancel(
     little_endian: u32,
     fault: &mut EndFault,
 ) -> u32
-    ensures { At client.old.value client.new.value result (fault.new ≡ fault.old)
-        (λ old new. Tells (λ answer. CancelsAtClient id (c_order_of little_endian) old answer new)
-        fault.old fault.new result) }
+    ensures { ToldAt client.old.value client.new.value (CancelsAtClient id
+        (c_order_of little_endian)) fault.old fault.new result }
 {
     let Some(mut caller) = client.take(alloc) else {
         return CLOSED;

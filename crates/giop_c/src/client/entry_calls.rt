@@ -5,8 +5,8 @@ ghost use Rattle.std_alloc.specs.Arc.{arc_value};
 ghost use Rattle.giop_table.specs.CallTable.{entry_at};
 ghost use Rattle.giop_c.specs.Calls.{At, ok};
 ghost use Rattle.giop_c.specs.Client.Entries.{CopiesMembers, CopiesOuts, CopiesReference, body_of, c_client_row, contexts_of, exception_in, forward_in};
-ghost use Rattle.giop_c.specs.Contexts.{CopiesContext, context_at};
-ghost use Rattle.giop_c.specs.Copying.{CopiesOctets};
+ghost use Rattle.giop_c.specs.Contexts.{CopiesContextAt, context_at};
+ghost use Rattle.giop_c.specs.Copying.{CopiesAt, CopiesOctets};
 ghost use Rattle.giop_c.specs.Values.{c_value_form};
 
 use crate::client::client_handle::ClientHandle;
@@ -47,11 +47,9 @@ pub extern "C" fn giop_client_outs(
     buffer: &mut [u8],
     size: &mut usize,
 ) -> u32
-    ensures { At client.old.value client.new.value result
-        ((buffer.new ≡ buffer.old) × (size.new ≡ size.old))
-        (λ old new. (new ≡ old)
-        × CopiesOuts (arc_value old.interface) (entry_at old.end.calls id)
-        (c_value_form value_form) buffer.old buffer.new size.old size.new result) }
+    ensures { CopiesAt client.old.value client.new.value (λ old. CopiesOuts
+        (arc_value old.interface) (entry_at old.end.calls id) (c_value_form value_form)) buffer.old
+        buffer.new size.old size.new result }
 {
     let Some(caller) = client.take(alloc) else {
         return CLOSED;
@@ -71,11 +69,8 @@ pub extern "C" fn giop_client_exception(
     buffer: &mut [u8],
     size: &mut usize,
 ) -> u32
-    ensures { At client.old.value client.new.value result
-        ((buffer.new ≡ buffer.old) × (size.new ≡ size.old))
-        (λ old new. (new ≡ old)
-        × CopiesOctets (exception_in (body_of (entry_at old.end.calls id)))
-        buffer.old buffer.new size.old size.new result) }
+    ensures { CopiesAt client.old.value client.new.value (λ old. CopiesOctets (exception_in (body_of
+        (entry_at old.end.calls id)))) buffer.old buffer.new size.old size.new result }
 {
     let Some(caller) = client.take(alloc) else {
         return CLOSED;
@@ -96,11 +91,9 @@ pub extern "C" fn giop_client_members(
     buffer: &mut [u8],
     size: &mut usize,
 ) -> u32
-    ensures { At client.old.value client.new.value result
-        ((buffer.new ≡ buffer.old) × (size.new ≡ size.old))
-        (λ old new. (new ≡ old)
-        × CopiesMembers (arc_value old.interface) (body_of (entry_at old.end.calls id))
-        (c_value_form value_form) buffer.old buffer.new size.old size.new result) }
+    ensures { CopiesAt client.old.value client.new.value (λ old. CopiesMembers
+        (arc_value old.interface) (body_of (entry_at old.end.calls id)) (c_value_form value_form))
+        buffer.old buffer.new size.old size.new result }
 {
     let Some(caller) = client.take(alloc) else {
         return CLOSED;
@@ -123,11 +116,9 @@ pub extern "C" fn giop_client_context(
     buffer: &mut [u8],
     size: &mut usize,
 ) -> u32
-    ensures { At client.old.value client.new.value result
-        ((service.new ≡ service.old) × (buffer.new ≡ buffer.old) × (size.new ≡ size.old))
-        (λ old new. (new ≡ old)
-        × CopiesContext (context_at index (contexts_of (entry_at old.end.calls id)))
-        service.old service.new buffer.old buffer.new size.old size.new result) }
+    ensures { CopiesContextAt client.old.value client.new.value
+        (λ old. context_at index (contexts_of (entry_at old.end.calls id)))
+        service.old service.new buffer.old buffer.new size.old size.new result }
 {
     let Some(caller) = client.take(alloc) else {
         return CLOSED;
@@ -148,11 +139,8 @@ pub extern "C" fn giop_client_forward(
     buffer: &mut [u8],
     size: &mut usize,
 ) -> u32
-    ensures { At client.old.value client.new.value result
-        ((buffer.new ≡ buffer.old) × (size.new ≡ size.old))
-        (λ old new. (new ≡ old)
-        × CopiesReference (forward_in (body_of (entry_at old.end.calls id)))
-        buffer.old buffer.new size.old size.new result) }
+    ensures { CopiesAt client.old.value client.new.value (λ old. CopiesReference (forward_in
+        (body_of (entry_at old.end.calls id)))) buffer.old buffer.new size.old size.new result }
 {
     let Some(caller) = client.take(alloc) else {
         return CLOSED;

@@ -1,8 +1,7 @@
 //! The exported functions by which a server's program answers.
 ghost use Rattle.std.specs.Prelude.{◌≡◌, ◌==◌, ◌≤◌, ◌^◌, length, not};
 ghost use Rattle.giop_msg.specs.Messages.Reply.{completion_of};
-ghost use Rattle.giop_c.specs.Acts.{Tells, TellsAct, form_of};
-ghost use Rattle.giop_c.specs.Calls.{At};
+ghost use Rattle.giop_c.specs.Acts.{ActsAt, form_of, ToldAt};
 ghost use Rattle.giop_c.specs.EndRecords.{c_order_of};
 ghost use Rattle.giop_c.specs.Server.Answers.{AnswersForward, AnswersOuts, AnswersSystem, AnswersUser};
 ghost use Rattle.giop_c.specs.Server.Ends.{LocatesAtServer};
@@ -29,9 +28,8 @@ pub extern "C" fn giop_server_answer(
     fault: &mut EndFault,
 ) -> u32
     requires { length outs.now ≤ 2 ^ 62 }
-    ensures { At server.old.value server.new.value result (fault.new ≡ fault.old)
-        (λ old new. TellsAct (λ answer. AnswersOuts id (c_value_form value_form) outs.now
-        (form_of form.now) old answer new) fault.old fault.new result) }
+    ensures { ActsAt server.old.value server.new.value (AnswersOuts id (c_value_form value_form)
+        outs.now (form_of form.now)) fault.old fault.new result }
 {
     let Some(mut served) = server.take(alloc) else {
         return CLOSED;
@@ -55,10 +53,8 @@ pub extern "C" fn giop_server_answer_user(
     fault: &mut EndFault,
 ) -> u32
     requires { length members.now ≤ 2 ^ 62 }
-    ensures { At server.old.value server.new.value result (fault.new ≡ fault.old)
-        (λ old new. TellsAct (λ answer. AnswersUser id exception.now
-        (c_value_form value_form) members.now (form_of form.now) old answer new)
-        fault.old fault.new result) }
+    ensures { ActsAt server.old.value server.new.value (AnswersUser id exception.now
+        (c_value_form value_form) members.now (form_of form.now)) fault.old fault.new result }
 {
     let Some(mut served) = server.take(alloc) else {
         return CLOSED;
@@ -83,10 +79,8 @@ pub extern "C" fn giop_server_answer_system(
     form: &SendForm,
     fault: &mut EndFault,
 ) -> u32
-    ensures { At server.old.value server.new.value result (fault.new ≡ fault.old)
-        (λ old new. TellsAct (λ answer. AnswersSystem id exception.now minor
-        (completion_of completion) (form_of form.now) old answer new)
-        fault.old fault.new result) }
+    ensures { ActsAt server.old.value server.new.value (AnswersSystem id exception.now minor
+        (completion_of completion) (form_of form.now)) fault.old fault.new result }
 {
     let Some(mut served) = server.take(alloc) else {
         return CLOSED;
@@ -109,9 +103,8 @@ pub extern "C" fn giop_server_answer_forward(
     form: &SendForm,
     fault: &mut EndFault,
 ) -> u32
-    ensures { At server.old.value server.new.value result (fault.new ≡ fault.old)
-        (λ old new. TellsAct (λ answer. AnswersForward id reference.now (not (permanent == 0))
-        (form_of form.now) old answer new) fault.old fault.new result) }
+    ensures { ActsAt server.old.value server.new.value (AnswersForward id reference.now (not
+        (permanent == 0)) (form_of form.now)) fault.old fault.new result }
 {
     let Some(mut served) = server.take(alloc) else {
         return CLOSED;
@@ -132,9 +125,8 @@ pub extern "C" fn giop_server_answer_locate(
     little_endian: u32,
     fault: &mut EndFault,
 ) -> u32
-    ensures { At server.old.value server.new.value result (fault.new ≡ fault.old)
-        (λ old new. Tells (λ answer. LocatesAtServer id (not (here == 0))
-        (c_order_of little_endian) old answer new) fault.old fault.new result) }
+    ensures { ToldAt server.old.value server.new.value (LocatesAtServer id (not (here == 0))
+        (c_order_of little_endian)) fault.old fault.new result }
 {
     let Some(mut served) = server.take(alloc) else {
         return CLOSED;

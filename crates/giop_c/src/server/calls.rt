@@ -3,9 +3,9 @@
 ghost use Rattle.std.specs.Prelude.{◌≡◌, ◌≤◌, ◌+◌, ◌/◌, ◌⊎◌, None, length};
 ghost use Rattle.std.specs.FinMap as finite;
 ghost use Rattle.giop_end.specs.Ends.SessionFaults.{error_message_of};
-ghost use Rattle.giop_c.specs.Acts.{Tells};
-ghost use Rattle.giop_c.specs.Calls.{At, no_memory, ok};
-ghost use Rattle.giop_c.specs.Copying.{CopiesFront, CopiesOctets};
+ghost use Rattle.giop_c.specs.Acts.{ToldAt};
+ghost use Rattle.giop_c.specs.Calls.{At, ok};
+ghost use Rattle.giop_c.specs.Copying.{CopiesAt, CopiesFront, CopiesOctets, TellsIds};
 ghost use Rattle.giop_c.specs.Server.Ends.{ClosesServer, FeedsServer, OpensServer, SendsAtServer, TakesAtServer, WritesAtServer};
 
 use crate::InterfaceHandle;
@@ -73,9 +73,8 @@ pub extern "C" fn giop_server_feed(
     octets: &[u8],
     fault: &mut EndFault,
 ) -> u32
-    ensures { At server.old.value server.new.value result (fault.new ≡ fault.old)
-        (λ old new. Tells (λ answer. FeedsServer octets.now old answer new)
-        fault.old fault.new result) }
+    ensures { ToldAt server.old.value server.new.value (FeedsServer octets.now) fault.old fault.new
+        result }
 {
     let Some(mut served) = server.take(alloc) else {
         return CLOSED;
@@ -131,9 +130,7 @@ pub extern "C" fn giop_server_send(
     id: u32,
     fault: &mut EndFault,
 ) -> u32
-    ensures { At server.old.value server.new.value result (fault.new ≡ fault.old)
-        (λ old new. Tells (λ answer. SendsAtServer id old answer new)
-        fault.old fault.new result) }
+    ensures { ToldAt server.old.value server.new.value (SendsAtServer id) fault.old fault.new result }
 {
     let Some(mut served) = server.take(alloc) else {
         return CLOSED;
@@ -151,8 +148,7 @@ pub extern "C" fn giop_server_close(
     server: &mut ServerHandle,
     fault: &mut EndFault,
 ) -> u32
-    ensures { At server.old.value server.new.value result (fault.new ≡ fault.old)
-        (λ old new. Tells (λ answer. ClosesServer old answer new) fault.old fault.new result) }
+    ensures { ToldAt server.old.value server.new.value (ClosesServer) fault.old fault.new result }
 {
     let Some(mut served) = server.take(alloc) else {
         return CLOSED;
@@ -171,9 +167,7 @@ pub extern "C" fn giop_server_take(
     id: u32,
     fault: &mut EndFault,
 ) -> u32
-    ensures { At server.old.value server.new.value result (fault.new ≡ fault.old)
-        (λ old new. Tells (λ answer. TakesAtServer id old answer new)
-        fault.old fault.new result) }
+    ensures { ToldAt server.old.value server.new.value (TakesAtServer id) fault.old fault.new result }
 {
     let Some(mut served) = server.take(alloc) else {
         return CLOSED;
@@ -192,10 +186,8 @@ pub extern "C" fn giop_server_error_message(
     buffer: &mut [u8],
     size: &mut usize,
 ) -> u32
-    ensures { At server.old.value server.new.value result
-        ((buffer.new ≡ buffer.old) × (size.new ≡ size.old))
-        (λ old new. (new ≡ old) × CopiesOctets (error_message_of old.end.fault)
-        buffer.old buffer.new size.old size.new result) }
+    ensures { CopiesAt server.old.value server.new.value (λ old. CopiesOctets
+        (error_message_of old.end.fault)) buffer.old buffer.new size.old size.new result }
 {
     let Some(served) = server.take(alloc) else {
         return CLOSED;
@@ -236,11 +228,8 @@ pub extern "C" fn giop_server_ids(
     ids: &mut [u32],
     count: &mut usize,
 ) -> u32
-    ensures { At server.old.value server.new.value result
-        ((ids.new ≡ ids.old) × (count.new ≡ count.old))
-        (λ old new. (new ≡ old) × (((result ≡ ok)
-        × CopiesFront (finite.keys old.end.calls.table) ids.old ids.new count.new)
-        ⊎ ((result ≡ no_memory) × (ids.new ≡ ids.old) × (count.new ≡ count.old)))) }
+    ensures { CopiesAt server.old.value server.new.value
+        (λ old. TellsIds (finite.keys old.end.calls.table)) ids.old ids.new count.old count.new result }
 {
     let Some(served) = server.take(alloc) else {
         return CLOSED;

@@ -3,9 +3,9 @@ ghost use Rattle.std.specs.Prelude.{◌≡◌};
 ghost use Rattle.std_alloc.specs.Arc.{arc_value};
 ghost use Rattle.giop_table.specs.CallTable.{entry_at};
 ghost use Rattle.giop_c.specs.Calls.{At, ok};
-ghost use Rattle.giop_c.specs.Contexts.{CopiesContext, context_at};
+ghost use Rattle.giop_c.specs.Contexts.{CopiesContextAt, context_at};
 ghost use Rattle.giop_c.specs.Server.Entries.{c_server_row, contexts_in, key_in, operation_in, request_of, target_of};
-ghost use Rattle.giop_c.specs.Copying.{CopiesOctets};
+ghost use Rattle.giop_c.specs.Copying.{CopiesAt, CopiesOctets};
 ghost use Rattle.giop_c.specs.Values.{CopiesIns, c_value_form};
 
 use crate::server::entries::ServerRow;
@@ -45,11 +45,8 @@ pub extern "C" fn giop_server_operation(
     buffer: &mut [u8],
     size: &mut usize,
 ) -> u32
-    ensures { At server.old.value server.new.value result
-        ((buffer.new ≡ buffer.old) × (size.new ≡ size.old))
-        (λ old new. (new ≡ old)
-        × CopiesOctets (operation_in (request_of (entry_at old.end.calls id)))
-        buffer.old buffer.new size.old size.new result) }
+    ensures { CopiesAt server.old.value server.new.value (λ old. CopiesOctets (operation_in
+        (request_of (entry_at old.end.calls id)))) buffer.old buffer.new size.old size.new result }
 {
     let Some(served) = server.take(alloc) else {
         return CLOSED;
@@ -70,11 +67,8 @@ pub extern "C" fn giop_server_key(
     buffer: &mut [u8],
     size: &mut usize,
 ) -> u32
-    ensures { At server.old.value server.new.value result
-        ((buffer.new ≡ buffer.old) × (size.new ≡ size.old))
-        (λ old new. (new ≡ old)
-        × CopiesOctets (key_in (target_of (entry_at old.end.calls id)))
-        buffer.old buffer.new size.old size.new result) }
+    ensures { CopiesAt server.old.value server.new.value (λ old. CopiesOctets (key_in (target_of
+        (entry_at old.end.calls id)))) buffer.old buffer.new size.old size.new result }
 {
     let Some(served) = server.take(alloc) else {
         return CLOSED;
@@ -97,12 +91,9 @@ pub extern "C" fn giop_server_context(
     buffer: &mut [u8],
     size: &mut usize,
 ) -> u32
-    ensures { At server.old.value server.new.value result
-        ((service.new ≡ service.old) × (buffer.new ≡ buffer.old) × (size.new ≡ size.old))
-        (λ old new. (new ≡ old)
-        × CopiesContext (context_at index
-        (contexts_in (request_of (entry_at old.end.calls id))))
-        service.old service.new buffer.old buffer.new size.old size.new result) }
+    ensures { CopiesContextAt server.old.value server.new.value
+        (λ old. context_at index (contexts_in (request_of (entry_at old.end.calls id))))
+        service.old service.new buffer.old buffer.new size.old size.new result }
 {
     let Some(served) = server.take(alloc) else {
         return CLOSED;
@@ -124,11 +115,9 @@ pub extern "C" fn giop_server_ins(
     buffer: &mut [u8],
     size: &mut usize,
 ) -> u32
-    ensures { At server.old.value server.new.value result
-        ((buffer.new ≡ buffer.old) × (size.new ≡ size.old))
-        (λ old new. (new ≡ old)
-        × CopiesIns (arc_value old.interface) (request_of (entry_at old.end.calls id))
-        (c_value_form value_form) buffer.old buffer.new size.old size.new result) }
+    ensures { CopiesAt server.old.value server.new.value (λ old. CopiesIns (arc_value old.interface)
+        (request_of (entry_at old.end.calls id)) (c_value_form value_form)) buffer.old buffer.new
+        size.old size.new result }
 {
     let Some(served) = server.take(alloc) else {
         return CLOSED;
