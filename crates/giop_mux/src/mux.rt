@@ -9,10 +9,10 @@ ghost use Rattle.giop_ids.specs.Runs.{RefusedAs, refusal_of, Does, Runs};
 ghost use Rattle.giop_mux.specs.Calls.{judged};
 ghost use Rattle.giop_mux.specs.Runs.{Hears, IsTaken, event_reply, take_reply, acts_of, call_rules};
 
+use crate::slots::Slots;
 use crate::{CallRule, Refusal, StillOpen, slots};
 use giop_ids::Addressed;
 use std::alloc::{AllocError, Global};
-use std::collections::BTreeMap;
 use std::fmt;
 use std::marker::Model;
 
@@ -23,14 +23,12 @@ use std::marker::Model;
 pub struct Mux<R: CallRule> {
     rule: R,
     limit: u32,
-    // No slot is empty between two calls of these functions. A slot that is emptied and filled
-    // again takes no memory.
-    table: BTreeMap<u32, Option<R::Entry>>,
+    table: Slots<R::Entry>,
 }
 
 impl<R: CallRule> Model for Mux<R> {
     ghost use Rattle.giop_mux.specs.Calls.{Calls, calls_code};
-    ghost use Rattle.giop_mux.specs.Slots.{entries_of, IsTable};
+    ghost use Rattle.giop_mux.specs.Slots.{held, IsTable};
 
     ghost Value = { Calls R R.Entry };
 
@@ -39,10 +37,10 @@ impl<R: CallRule> Model for Mux<R> {
     ghost view = { λ m. record {
       rule = m.rule;
       limit = m.limit;
-      entries = entries_of m.table.entries;
+      entries = held m.table;
     } };
 
-    ghost invariant = { λ m. IsTable m.limit m.table.entries };
+    ghost invariant = { λ m. IsTable m.limit m.table };
 }
 
 impl<R: CallRule> Mux<R> {
@@ -53,7 +51,7 @@ impl<R: CallRule> Mux<R> {
         Mux {
             rule,
             limit: calls,
-            table: BTreeMap::new(alloc),
+            table: slots::no_slots(alloc),
         }
     }
 

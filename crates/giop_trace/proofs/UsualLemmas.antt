@@ -1,17 +1,15 @@
 -- What most messages do: a Request begins a call that goes on, and the Reply to it ends it.
-use Rattle.std.proofs.Common.{◌≡◌, ℕ, Bool, true, false, Option, Some, None, Ok, refl, arith}
+use Rattle.std.proofs.Common.{◌≡◌, ℕ, Bool, false, Option, Some, None, Ok, refl, arith}
 use Rattle.std.proofs.lemmas.Grind.{common_steps}
 use Rattle.std.specs.FinMap as finite
 use Rattle.giop_ids.specs.ById.{ById}
-use Rattle.giop_msg.specs.declared.kind.Kind.TheVariants.{Request, Reply}
+use Rattle.giop_msg.specs.declared.kind.Kind.TheVariants.{Reply}
 use Rattle.giop_msg.specs.declared.msg.Msg.{Msg}
 use Rattle.giop_msg.specs.RequestId.{request_id_of}
 use Rattle.giop_trace.specs.declared.direction.Direction.{Direction}
-use Rattle.giop_trace.specs.declared.direction.Direction.TheVariants.{Client, Server}
+use Rattle.giop_trace.specs.declared.direction.Direction.TheVariants.{Server}
 use Rattle.giop_trace.specs.declared.flow.Flow.{Flow}
-use Rattle.giop_trace.specs.declared.heard.Heard.{Heard}
-use Rattle.giop_trace.specs.Effects.{Effect, asked_by, effect, goes_on, stays}
-use Rattle.giop_trace.specs.Flows.{is_oneway}
+use Rattle.giop_trace.specs.Effects.{asked_by, effect, stays}
 use Rattle.giop_trace.specs.Observing.{heard, left}
 use Rattle.giop_trace.specs.Usual.{HasNoAnswer, IsAnswered, IsAsked, told_answered, with_answer}
 

@@ -6,8 +6,8 @@ ghost use Rattle.giop_ids.specs.ById.{put};
 ghost use Rattle.giop_msg.specs.RequestId.{request_id_of};
 ghost use Rattle.giop_trace.specs.Flows.{is_answer, is_waiting};
 ghost use Rattle.giop_trace.specs.Effects.{is_stray};
-ghost use Rattle.giop_trace.specs.Observing.{heard, is_early, is_early_by, kept_on, left, told_apart};
-ghost use Rattle.giop_trace.specs.Usual.{HasNoAnswer, IsAnswered, IsAsked, told_answered};
+ghost use Rattle.giop_trace.specs.Observing.{heard, is_early, is_early_by, kept_on, left};
+ghost use Rattle.giop_trace.specs.Usual.{HasNoAnswer, IsAnswered, IsAsked, with_answer};
 
 use crate::steps::{asked_by, asks_for_reply, continues_in, has_place, is_whole, lone, step};
 use crate::{Direction, Flow, Heard, Keep};
@@ -56,7 +56,6 @@ impl Observer {
     ///
     /// It is refused only where it is out of memory, where joined octets would be more than 2^62,
     /// or for the 2^32nd open call. The call of the id may be lost then.
-    #[tactic(auto, using(crate::proofs::UsualLemmas::asked_told, crate::proofs::UsualLemmas::asked_left, crate::proofs::UsualLemmas::answered_told, crate::proofs::UsualLemmas::answered_left))]
     pub fn hear(&mut self, direction: Direction, message: Msg) -> Result<Heard, AllocError>
         requires { length message.payload ≤ 2 ^ 62 }
         ensures value { IfOk result (λ told.
@@ -65,43 +64,76 @@ impl Observer {
             ≡ left self.old.alone self.old.calls.entries direction message) }
         ensures same { OnOk result (self.new.alone ≡ self.old.alone) }
     {
-        let Some(Ok(id)) = message.request_id() else {
-            return Ok(apart(None, direction, message));
+        // Told where it lies: to move what is told takes as long as to hear it.
+        let mut told = Heard {
+            id: None,
+            earlier: None,
+            over: None,
         };
-        if self.is_asked(id, direction, &message) {
-            self.keep(id, asked_by(message))?;
-            return Ok(nothing(id));
-        }
-        if self.is_answered(id, direction, &message) {
-            return Ok(self.answered(id, message));
-        }
-        self.hear_any(id, direction, message)
+        self.hear_in(direction, message, &mut told)?;
+        Ok(told)
     }
 
-    // Hears any message that names an id.
+    // Hears a message, and tells which calls are over by it, where nothing was told.
+    #[tactic(auto, using(crate::proofs::UsualLemmas::asked_told, crate::proofs::UsualLemmas::asked_left, crate::proofs::UsualLemmas::answered_told, crate::proofs::UsualLemmas::answered_left))]
+    #[inline(always)]
+    fn hear_in(
+        &mut self,
+        direction: Direction,
+        message: Msg,
+        told: &mut Heard,
+    ) -> Result<(), AllocError>
+        requires size { length message.payload ≤ 2 ^ 62 }
+        requires untold { told.old ≡ record { id = None; earlier = None; over = None } }
+        ensures value { OnOk result (told.new
+            ≡ heard self.old.alone self.old.calls.entries direction message) }
+        ensures ok { OnOk result (self.new.calls.entries
+            ≡ left self.old.alone self.old.calls.entries direction message) }
+        ensures same { OnOk result (self.new.alone ≡ self.old.alone) }
+    {
+        let Some(Ok(id)) = message.request_id() else {
+            told.over = Some(lone(direction, message));
+            return Ok(());
+        };
+        told.id = Some(id);
+        if self.is_asked(id, direction, &message) {
+            return self.keep(id, asked_by(message));
+        }
+        if self.is_answered(id, direction, &message) {
+            told.over = self.answered(id, message);
+            return Ok(());
+        }
+        self.hear_any(id, direction, message, told)
+    }
+
+    // Hears any message that names an id, where nothing but that is told.
     #[inline(never)]
     #[tactic(auto, using(crate::proofs::TableLemmas::put_back, crate::proofs::StrayLemmas::stray_effect))]
-    fn hear_any(&mut self, id: u32, direction: Direction, message: Msg) -> Result<Heard, AllocError>
+    fn hear_any(
+        &mut self,
+        id: u32,
+        direction: Direction,
+        message: Msg,
+        told: &mut Heard,
+    ) -> Result<(), AllocError>
         requires size { length message.payload ≤ 2 ^ 62 }
         requires named { request_id_of message ≡ Some (Ok id) }
-        ensures value { IfOk result (λ told.
-            told ≡ heard self.old.alone self.old.calls.entries direction message) }
+        requires untold { told.old ≡ record { id = Some id; earlier = None; over = None } }
+        ensures value { OnOk result (told.new
+            ≡ heard self.old.alone self.old.calls.entries direction message) }
         ensures ok { OnOk result (self.new.calls.entries
             ≡ left self.old.alone self.old.calls.entries direction message) }
         ensures same { OnOk result (self.new.alone ≡ self.old.alone) }
     {
         if self.is_stray(id, direction, &message) {
-            return Ok(apart(Some(id), direction, message));
+            told.over = Some(lone(direction, message));
+            return Ok(());
         }
-        let mut told = Heard {
-            id: Some(id),
-            earlier: None,
-            over: self.taken(id),
-        };
-        if step(self.alone, direction, &mut told, message)? {
-            self.keep_on(id, &mut told)?;
+        told.over = self.taken(id);
+        if step(self.alone, direction, told, message)? {
+            self.keep_on(id, told)?;
         }
-        Ok(told)
+        Ok(())
     }
 
     // Whether a message is a Request that asks for a reply, where the id has no call.
@@ -140,11 +172,11 @@ impl Observer {
         }
     }
 
-    // What is told of a whole Reply to a call without an answer: that is over.
+    // The call that a whole Reply ends, where that had no answer: it is taken out of the table.
     #[inline(always)]
-    fn answered(&mut self, id: u32, message: Msg) -> Heard
+    fn answered(&mut self, id: u32, message: Msg) -> Option<Flow>
         requires { HasNoAnswer (finite.get self.old.calls.entries id) }
-        ensures value { result ≡ told_answered id (finite.get self.old.calls.entries id) message }
+        ensures value { result ≡ with_answer (finite.get self.old.calls.entries id) message }
         ensures ok { self.new.calls.entries ≡ finite.remove self.old.calls.entries id }
         ensures same { self.new.alone ≡ self.old.alone }
     {
@@ -152,11 +184,7 @@ impl Observer {
         if let Some(flow) = &mut over {
             flow.answer = Some(message);
         }
-        Heard {
-            id: Some(id),
-            earlier: None,
-            over,
-        }
+        over
     }
 
     /// Whether a message of the server is a Reply or a LocateReply to a call whose request isn't
@@ -256,29 +284,5 @@ impl Observer {
             Ok(()) => Ok(()),
             Err(_) => Err(AllocError),
         }
-    }
-}
-
-// Nothing is over by a message of this id.
-#[inline(always)]
-fn nothing(id: u32) -> Heard
-    ensures { result ≡ record { id = Some id; earlier = None; over = None } }
-{
-    Heard {
-        id: Some(id),
-        earlier: None,
-        over: None,
-    }
-}
-
-// A message by itself.
-#[inline(never)]
-fn apart(id: Option<u32>, direction: Direction, message: Msg) -> Heard
-    ensures { result ≡ told_apart id direction message }
-{
-    Heard {
-        id,
-        earlier: None,
-        over: Some(lone(direction, message)),
     }
 }

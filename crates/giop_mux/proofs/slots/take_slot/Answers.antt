@@ -1,18 +1,41 @@
-use Rattle.std.proofs.Common.{None, Some, sym, ◌∙◌}
-use Rattle.giop_ids.proofs.SlotLemmas.{found_at}
-use Rattle.giop_mux.proofs.SlotLemmas.{one_put}
+use Rattle.std.proofs.Common.{◌∙◌, None, ap, sym}
+use Rattle.std.specs.FinMap as map
+use Rattle.giop_ids.specs.ById.{ById, put}
+use Rattle.giop_ids.proofs.Puts.{get-put_other}
+use Rattle.giop_mux.specs.Slots.{entries_of}
+use Rattle.giop_mux.proofs.SlotLemmas.{get_front, put_beside, put_front}
 use Rattle.giop_mux.proofs.slots.take_slot.Goals as goal
 
-pub returns-in_err-remove-clause-value : goal.returns-in_err-remove-clause-value
-returns-in_err-remove-clause-value g c =
-    rw c.from_residual.ensures
-    (sym (found_at (λ slot. slot) c.args.table.now.entries c.args.id None (sym c.remove.ensures.value ∙ c.in_err-remove.was)))
+pub returns-then-slots-id-clause-value : goal.returns-then-slots-id-clause-value
+returns-then-slots-id-clause-value g c =
+    let old = c.args.slots.now in
+    c.take.ensures.value ∙ sym (get_front (entries_of old.others.entries) old.id c.args.id old.front c.if-slots-id.true)
 
-pub returns-in_err-remove-clause-ok : goal.returns-in_err-remove-clause-ok
-returns-in_err-remove-clause-ok g c = one_put _ _ c.args.id None c.remove.ensures.updates.0
+pub returns-then-slots-id-clause-ok : goal.returns-then-slots-id-clause-ok
+returns-then-slots-id-clause-ok g c =
+    let old = c.args.slots.now in
+    ap (put (entries_of old.others.entries) old.id) c.take.ensures.after
+    ∙ put_front (entries_of old.others.entries) old.id c.args.id old.front None c.if-slots-id.true
 
-pub returns-clause-value : goal.returns-clause-value
-returns-clause-value g c = sym (found_at (λ slot. slot) c.args.table.now.entries c.args.id (Some _) (sym c.remove.ensures.value ∙ c.in_ok-remove.was))
+pub returns-else-slots-id-clause-value : goal.returns-else-slots-id-clause-value
+returns-else-slots-id-clause-value g c =
+    let old = c.args.slots.now in
+    c.take_among.ensures.value
+    ∙ sym (get-put_other (entries_of old.others.entries) old.id old.front c.args.id (λ same. c.if-slots-id.false (sym same)))
 
-pub returns-clause-ok : goal.returns-clause-ok
-returns-clause-ok g c = one_put _ _ c.args.id None c.remove.ensures.updates.0
+pub returns-else-slots-id-clause-ok : goal.returns-else-slots-id-clause-ok
+returns-else-slots-id-clause-ok g c =
+    let old = c.args.slots.now in
+    ap (λ (m : ById g.row.E.Denot). put m old.id old.front) c.take_among.ensures.ok
+    ∙ put_beside (entries_of old.others.entries) old.id c.args.id old.front None (λ same. c.if-slots-id.false (sym same))
+
+pub returns-else-slots-id-clause-whole : goal.returns-else-slots-id-clause-whole
+returns-else-slots-id-clause-whole g c =
+    let old = c.args.slots.now in
+    record {
+      full = c.take_among.ensures.full;
+      apart =
+          ap (λ (m : ById g.row.E.Denot). map.get m old.id) c.take_among.ensures.ok
+          ∙ get-put_other (entries_of old.others.entries) c.args.id None old.id c.if-slots-id.false
+          ∙ c.requires.apart;
+    }
