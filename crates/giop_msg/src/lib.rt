@@ -18,6 +18,7 @@ mod msg;
 mod reply_head;
 mod reply_head_writing;
 mod request_head;
+mod request_head_copying;
 mod request_head_writing;
 mod request_id;
 mod service_contexts;

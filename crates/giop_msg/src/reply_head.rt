@@ -3,13 +3,13 @@
 #![tactic(auto, unfolding(crate::specs::ReplyHead::reply_head, crate::specs::ReplyHead::reply_head_1_2, crate::specs::ReplyHead::early_reply_head, crate::specs::ReplyHead::reply_status, giop_ior::specs::ServiceContext::service_contexts, giop_ior::specs::ServiceContext::service_context, giop_cdr::specs::Layout::field, giop_cdr::specs::Layout::such, giop_cdr::specs::Layout::number, giop_cdr::specs::Layout::octets, giop_cdr::specs::Layout::gives, giop_cdr::specs::Layout::sequence, giop_cdr::specs::Layout::tagged, giop_cdr::specs::Reading::Values::such_at, giop_cdr::specs::Reading::View::tagged_at))]
 
 ghost use Rattle.std.specs.Prelude.{◌≡◌, ◌≤◌, ◌^◌, length, IfOk};
-ghost use Rattle.giop_cdr.specs.Reading.Outcome.{Exactly};
+ghost use Rattle.giop_cdr.specs.Reading.Outcome.{Exactly, Follows};
 ghost use Rattle.giop_msg.specs.Heads.{DecodesHead, ViewsHead};
 ghost use Rattle.giop_msg.specs.Joined.{body_place};
 ghost use Rattle.giop_msg.specs.ReplyHead.{early_reply_head, last_reply_status, reply_head, reply_head_1_2};
 
 use crate::joined::{body_place, no_memory};
-use crate::service_contexts::{ServiceContexts, ServiceContextsAt};
+use crate::service_contexts::{ServiceContexts, ServiceContextsAt, read_contexts};
 use crate::status::read_status;
 use crate::version::Version;
 use giop_cdr::{CdrFault, CdrIn, Octets, Order};
@@ -145,5 +145,71 @@ pub fn view_head<'a, S: Octets>(
         Version::V10 => view_early_head(Version::V10, input),
         Version::V11 => view_early_head(Version::V11, input),
         Version::V12 => view_head_1_2(input),
+    }
+}
+
+// Reads the fields of a head of 1.2 in their order, with copies of its contexts, by a reader of its
+// own: one that only inlined calls borrow needs no place in memory.
+#[inline(always)]
+fn read_head_1_2<S: Octets>(alloc: Global, input: &mut CdrIn<S>) -> Result<ReplyHead, CdrFault>
+    ensures { Follows (λ head. head) result input.new (reply_head_1_2.read input.old) }
+{
+    let mut ahead = input.fork();
+    let id = ahead.read_ulong()?;
+    let status = read_status(last_reply_status(Version::V12), &mut ahead)?;
+    let contexts = read_contexts(alloc, &mut ahead)?;
+    *input = ahead;
+    Ok(ReplyHead {
+        version: Version::V12,
+        id,
+        status,
+        contexts,
+    })
+}
+
+// Reads a head before 1.2, which is copied from its view: few are.
+fn read_early_head<S: Octets>(
+    alloc: Global,
+    version: Version,
+    input: &mut CdrIn<S>,
+) -> Result<ReplyHead, CdrFault>
+    ensures { Follows (λ head. head) result input.new ((early_reply_head version).read input.old) }
+{
+    let head = view_early_head(version, input)?;
+    match head.to_owned(alloc) {
+        Ok(head) => Ok(head),
+        Err(_) => Err(no_memory()),
+    }
+}
+
+// Reads an early head by a reader of its own, so that only inlined calls borrow the reader of the
+// Reply.
+#[inline(always)]
+fn read_early_head_ahead<S: Octets>(
+    alloc: Global,
+    version: Version,
+    input: &mut CdrIn<S>,
+) -> Result<ReplyHead, CdrFault>
+    ensures { Follows (λ head. head) result input.new ((early_reply_head version).read input.old) }
+{
+    let mut ahead = input.fork();
+    let head = read_early_head(alloc, version, &mut ahead)?;
+    *input = ahead;
+    Ok(head)
+}
+
+/// Reads the fields of a head in their order, with copies of its contexts.
+#[inline(always)]
+pub fn read_head<S: Octets>(
+    alloc: Global,
+    version: Version,
+    input: &mut CdrIn<S>,
+) -> Result<ReplyHead, CdrFault>
+    ensures { Follows (λ head. head) result input.new ((reply_head version).read input.old) }
+{
+    match version {
+        Version::V10 => read_early_head_ahead(alloc, Version::V10, input),
+        Version::V11 => read_early_head_ahead(alloc, Version::V11, input),
+        Version::V12 => read_head_1_2(alloc, input),
     }
 }

@@ -121,7 +121,7 @@ impl<'a, S: Octets> RequestHeadAt<'a, S> {
 
 // Reads the response flags of 1.2: 0, 1 or 3.
 #[inline(always)]
-fn read_flags<S: Octets>(input: &mut CdrIn<S>) -> Result<u8, CdrFault>
+pub(crate) fn read_flags<S: Octets>(input: &mut CdrIn<S>) -> Result<u8, CdrFault>
     ensures { Reads input.old result input.new (response_flags.read input.old) }
 {
     let mut ahead = input.fork();
@@ -146,7 +146,7 @@ fn read_expected<S: Octets>(input: &mut CdrIn<S>) -> Result<u8, CdrFault>
 
 // Passes over the three reserved octets, whatever they are.
 #[inline(always)]
-fn read_reserved<S: Octets>(input: &mut CdrIn<S>) -> Result<(), CdrFault>
+pub(crate) fn read_reserved<S: Octets>(input: &mut CdrIn<S>) -> Result<(), CdrFault>
     ensures { Skips result input.new (reserved_octets.read input.old) }
 {
     input.read_octet()?;
@@ -190,7 +190,7 @@ fn view_head_1_2<'a, S: Octets>(input: &mut CdrIn<'a, S>) -> Result<RequestHeadA
 }
 
 // Reads the fields of a head before 1.2 in their order, and passes over the principal.
-fn view_early_head<'a, S: Octets>(
+pub(crate) fn view_early_head<'a, S: Octets>(
     version: Version,
     input: &mut CdrIn<'a, S>,
 ) -> Result<RequestHeadAt<'a, S>, CdrFault>

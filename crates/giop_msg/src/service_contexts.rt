@@ -1,8 +1,11 @@
 //! The service contexts of a message (7.7), as lists that contracts see as plain ones. What a
 //! context says is left to its service: they are carried as octets.
 ghost use Rattle.std.specs.Prelude.{◌≡◌, ◌==◌, length};
+ghost use Rattle.giop_cdr.specs.Reading.Outcome.{Follows};
+ghost use Rattle.giop_ior.specs.ServiceContext.{service_contexts};
 
-use giop_cdr::TaggedListAt;
+use crate::joined::no_memory;
+use giop_cdr::{CdrFault, CdrIn, Octets, TaggedListAt};
 use giop_ior::ServiceContext;
 use std::alloc::Global;
 use std::marker::Model;
@@ -97,4 +100,40 @@ impl Eq for ServiceContexts {
     ghost use Rattle.std.proofs.Common.{rules};
 
     ghost laws = { Prim.search (comparing, rules) };
+}
+
+// Reads the contexts of a message by a reader of their own, with copies of their octets.
+#[tactic(auto, unfolding(giop_ior::specs::ServiceContext::service_contexts, giop_ior::specs::ServiceContext::service_context, giop_cdr::specs::Layout::sequence, giop_cdr::specs::Layout::tagged, giop_cdr::specs::Layout::field, giop_cdr::specs::Layout::number, giop_cdr::specs::Layout::octets, giop_cdr::specs::Layout::gives, giop_cdr::specs::Reading::View::tagged_at))]
+fn copy_contexts<S: Octets>(
+    alloc: Global,
+    input: &mut CdrIn<S>,
+) -> Result<ServiceContexts, CdrFault>
+    ensures { Follows (λ contexts. contexts) result input.new (service_contexts.read input.old) }
+{
+    let contexts = input.view_tagged_list::<ServiceContext>()?;
+    match contexts.to_vec(alloc) {
+        Ok(contexts) => Ok(ServiceContexts::from(contexts)),
+        Err(_) => Err(no_memory()),
+    }
+}
+
+// Reads the contexts of a message, with copies of their octets. Most messages have none, and then
+// no call is made.
+#[tactic(auto, unfolding(giop_ior::specs::ServiceContext::service_contexts, giop_cdr::specs::Layout::sequence, giop_cdr::specs::Reading::Values::sequence_at, giop_cdr::specs::Reading::Values::items_at))]
+#[inline(always)]
+pub(crate) fn read_contexts<S: Octets>(
+    alloc: Global,
+    input: &mut CdrIn<S>,
+) -> Result<ServiceContexts, CdrFault>
+    ensures { Follows (λ contexts. contexts) result input.new (service_contexts.read input.old) }
+{
+    let mut ahead = input.fork();
+    if ahead.read_count()? == 0 {
+        *input = ahead;
+        return Ok(ServiceContexts::new(alloc));
+    }
+    let mut ahead = input.fork();
+    let contexts = copy_contexts(alloc, &mut ahead)?;
+    *input = ahead;
+    Ok(contexts)
 }

@@ -8,6 +8,7 @@ ghost use Rattle.giop_msg.specs.Status.{status_up_to};
 use giop_cdr::{CdrFault, CdrIn, CdrKind, Octets};
 
 /// Reads a status, which is at most the last one that there is.
+#[inline(always)]
 pub fn read_status<S: Octets>(last: u32, input: &mut CdrIn<S>) -> Result<u32, CdrFault>
     ensures { Exactly result input.new ((status_up_to last).read input.old) }
 {

@@ -74,6 +74,7 @@ impl Side for ServerRule {
     fn step_at(&self, entry: &mut ServerEntry, event: ServerEvent) -> Result<(), CallFault> {
         match event {
             ServerEvent::Whole { call } => steps::begin_at(entry, steps::arrived(call)),
+            ServerEvent::Answer { reply, pieces } => steps::answer_at(entry, reply, pieces),
             event => step_moved(entry, event),
         }
     }

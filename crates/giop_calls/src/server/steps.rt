@@ -14,6 +14,7 @@ use crate::server::question::Question;
 use crate::server::undecoded::UndecodedCall;
 use giop_msg::{Reply, ReplyBody, Request, Version};
 use giop_mux::Step;
+use std::mem;
 
 pub type ServerStep = Step<ServerEntry, (), CallFault>;
 
@@ -186,6 +187,7 @@ fn cancelled(entry: Option<ServerEntry>) -> Option<ServerEntry>
 /// Refused as WrongKind for a LocateRequest, and as NotOpen where no reply is expected. Refused as
 /// Unfit in another version than the request's, or where the request couldn't be decoded and the
 /// reply is no system exception.
+#[inline(always)]
 pub fn answer(entry: Option<ServerEntry>, reply: Aside<Reply>, pieces: u32) -> ServerStep
     ensures { result ≡ table.answer entry reply pieces }
 {
@@ -216,6 +218,18 @@ fn answer_request(request: Aside<Request>, reply: Aside<Reply>, pieces: u32) -> 
         reply,
         left: pieces.saturating_sub(1),
     })
+}
+
+/// The server answers a call with this entry, which changes where it lies. The refusals are those
+/// of `answer`.
+#[inline(always)]
+pub fn answer_at(entry: &mut ServerEntry, reply: Aside<Reply>, pieces: u32) -> Result<(), CallFault>
+    ensures { table.answer (Some entry.old) reply pieces
+        ≡ record { entry = Some entry.new; outcome = result } }
+{
+    let step = answer(Some(mem::replace(entry, DROPPED)), reply, pieces);
+    *entry = step.entry.unwrap_or(DROPPED);
+    step.outcome
 }
 
 #[inline(always)]

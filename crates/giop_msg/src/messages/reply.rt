@@ -14,7 +14,7 @@ use crate::messages::reply_body::ReplyBody;
 use crate::messages::reply_checking::check_reply_body;
 use crate::messages::reply_reading::{may_answer, offer_for, outs_for, read_reply_body};
 use crate::messages::request::Request;
-use crate::reply_head::view_head;
+use crate::reply_head::{read_head, view_head};
 use crate::service_contexts::ServiceContexts;
 use crate::version::Version;
 use giop_cdr::{CdrFault, CdrIn, CdrKind, Octets, Order};
@@ -116,23 +116,20 @@ fn read_reply<S: Octets>(
         (joined_from order (S.octets octets.now))) }
 {
     let mut input = CdrIn::new(octets, order, 12);
-    let head = view_head(version, &mut input)?;
+    let head = read_head(alloc, version, &mut input)?;
     if !may_answer(request, head.status) {
         return Err(CdrFault {
             at: input.position(),
             kind: CdrKind::BadLabel,
         });
     }
-    let Ok(contexts) = head.contexts.to_vec(alloc) else {
-        return Err(no_memory());
-    };
     let outs = outs_for(interface, request);
     let offer = offer_for(interface, request);
     match read_reply_body(alloc, version, offer, outs, head.status, &mut input) {
         Ok(body) => Ok(Reply {
             version: head.version,
             id: head.id,
-            contexts: ServiceContexts::from(contexts),
+            contexts: head.contexts,
             body,
         }),
         Err(fault) => Err(fault),

@@ -11,6 +11,7 @@ use crate::messages::body::read_body;
 use crate::messages::body_checking::check_body;
 use crate::messages::request_fault::RequestFault;
 use crate::request_head::{RequestHead, RequestHeadAt, view_head};
+use crate::request_head_copying::read_head;
 use crate::version::Version;
 use giop_cdr::{CdrIn, CdrKind, Octets, Order};
 use giop_types::{Interface, Operation, ValueList};
@@ -126,14 +127,9 @@ fn read_request<S: Octets>(
         (request_of_joined interface.now version order (S.octets octets.now)) }
 {
     let mut input = CdrIn::new(octets, order, 12);
-    // Copied where it lies: a head is large, and a move of it costs as much as a part of its
-    // reading.
-    let head = match &view_head(version, &mut input) {
-        Ok(head) => head.to_owned(alloc),
-        Err(fault) => return Err(RequestFault::Header(*fault)),
-    };
-    let Ok(head) = head else {
-        return Err(RequestFault::Header(no_memory()));
+    let head = match read_head(alloc, version, &mut input) {
+        Ok(head) => head,
+        Err(fault) => return Err(RequestFault::Header(fault)),
     };
     let Some(operation) = head.operation_asked(interface) else {
         return Err(RequestFault::Operation);
