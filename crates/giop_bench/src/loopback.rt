@@ -137,6 +137,26 @@ pub fn take_all(end: &mut ClientEnd<'_>, at_once: u32, sum: u64) -> Option<u64> 
     Some(sum)
 }
 
+// Calls, answers and takes so many calls out at a time, over both ends of a connection.
+fn run_over(
+    alloc: Global,
+    interface: &Interface,
+    calling: &TcpStream,
+    serving: &TcpStream,
+) -> Option<u64> {
+    let mut client = ClientEnd::new(alloc, interface, LIMITS);
+    let mut server = ServerEnd::new(alloc, interface, LIMITS);
+    let mut sum = 0;
+    for _ in 0..WAVES {
+        call_all(alloc, &mut client, calling, TOGETHER)?;
+        hear(&mut server, serving, 16 * REQUEST)?;
+        answer_all(alloc, &mut server, serving)?;
+        hear(&mut client, calling, 16 * REPLY)?;
+        sum = take_all(&mut client, TOGETHER, sum)?;
+    }
+    Some(sum)
+}
+
 /// Runs the calls, and returns a checksum of what they came to; `None` where a connection can't be
 /// made or breaks, or it is out of memory.
 pub fn run(rt: &HostRuntime) -> Option<u64> {
@@ -144,15 +164,5 @@ pub fn run(rt: &HostRuntime) -> Option<u64> {
     let listener = TcpListener::bind(rt, (Ipv4Addr::LOCALHOST, 0)).ok()?;
     let calling = TcpStream::connect(rt, listener.local_addr().ok()?).ok()?;
     let (serving, _) = listener.accept().ok()?;
-    let mut client = ClientEnd::new(rt.alloc(), &interface, LIMITS);
-    let mut server = ServerEnd::new(rt.alloc(), &interface, LIMITS);
-    let mut sum = 0;
-    for _ in 0..WAVES {
-        call_all(rt.alloc(), &mut client, &calling, TOGETHER)?;
-        hear(&mut server, &serving, 16 * REQUEST)?;
-        answer_all(rt.alloc(), &mut server, &serving)?;
-        hear(&mut client, &calling, 16 * REPLY)?;
-        sum = take_all(&mut client, TOGETHER, sum)?;
-    }
-    Some(sum)
+    run_over(rt.alloc(), &interface, &calling, &serving)
 }

@@ -1,4 +1,5 @@
 -- What an end's own acts rest on.
+pub mod ActedLemmas
 pub mod CutLemmas
 pub mod LastLemmas
 pub mod LocalLemmas

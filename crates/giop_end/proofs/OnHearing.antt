@@ -2,5 +2,5 @@
 pub mod ServerLemmas
 pub mod FeedingLemmas
 pub mod HeardLemmas
+pub mod EventLemmas
 pub mod PieceLemmas
-pub mod ClientLemmas

@@ -3,5 +3,6 @@ pub mod ClientHears
 pub mod Decoding
 pub mod Feeding
 pub mod Heard
+pub mod Joining
 pub mod Pieces
 pub mod ServerHears

@@ -3,8 +3,10 @@
 
 pub mod answering;
 pub mod calling;
+pub mod cancelling;
 pub mod form;
 pub mod local;
+pub mod locating;
 pub mod outgoing;
 pub mod putting;
 pub mod sendable;

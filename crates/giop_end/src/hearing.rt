@@ -5,7 +5,9 @@ ghost use Rattle.giop_end.specs.Hearing.Heard.{hears_in};
 
 pub mod client;
 pub mod decoding;
+mod events;
 pub mod heard;
+mod pieces;
 pub mod reply_decoding;
 pub mod server;
 pub mod with_last;

@@ -11,6 +11,4 @@ pub use giop_end::{
     WithLast, pump, turn, write_out,
 };
 pub use giop_mux::Side;
-pub use giop_table::{
-    CallTable, Messages, Plan, Planned, Sending, Sends, Slot, TableFault, Unsent,
-};
+pub use giop_table::{CallTable, Messages, Plan, Planned, Sending, Slot, TableFault, Unsent};

@@ -18,11 +18,12 @@ use Rattle.giop_frag.specs.declared.fault.GatherFault.{GatherFault}
 use Rattle.giop_frag.specs.declared.fault.GatherFault.TheVariants as gathering
 use Rattle.giop_table.specs.declared.slot.Slot.{Slot}
 use Rattle.giop_table.specs.declared.plan.Planned.{Planned}
-use Rattle.giop_table.specs.declared.sending.Sends.{Sends}
+use Rattle.giop_msg.specs.declared.msg.Msg.{Msg}
+use Rattle.giop_table.specs.declared.plan.Plan.{Plan}
 use Rattle.giop_table.specs.declared.table_fault.TableFault.{TableFault}
 use Rattle.giop_table.specs.declared.table_fault.TableFault.TheVariants.{Rule, TooManyCalls, GatherFull, NoMemory}
-use Rattle.giop_table.specs.Sending.{sending_step}
-use Rattle.giop_table.specs.CallTable.{Held, Call, at, put_call, Brings, First, More, Nothing, Act, Hears, IsTaken, Answers, Gives, brought, fault_of, gather_fault, Turned, taken, gathers, IsTied, IsTable, turned, turn, room_fault, calls_fault, limit, rules_of, Stays, is_of_call}
+use Rattle.giop_table.specs.Sending.{sending_step, sends_of, unsent_of}
+use Rattle.giop_table.specs.CallTable.{Held, Call, at, put_call, Brings, First, More, Nothing, Act, Hears, IsTaken, Gives, brought, fault_of, gather_fault, Turned, taken, gathers, IsTied, IsTable, turned, turn, room_fault, calls_fault, limit, rules_of, Stays, event_reply, is_of_call}
 
 -- both structures, as the calls of an end
 abbrev pub held : {S R E : Type 0} → R → Calls S (Slot E) → Gathered → Held R E
@@ -200,23 +201,25 @@ accepted false (Ok given) answer is = (cc, refl)
 accepted false (Err fault) answer is = absurd cc
 
 -- how the table refuses, so does the end
-refused : {E A F : Type 0} (gathering : E → Bool) (many : Bool) (outcome : Result (Sends A) F) (slot : Option (Slot E)) (pieces : Option Pieces)
-    (why : Refusal F) → RefusedAs refusal.NoMemory why (refusal_of (within (cond many (Some refusal.TooManyCalls) None) (by_rule outcome)))
-    → RefusedAs NoMemory (fault_of why) (refusal_of (within (option_or (cond many (Some TooManyCalls) None) None) (turned gathering pieces slot outcome)))
-refused gathering many (Err fault) slot pieces why (inl is) = inl (ap (option_map fault_of) is)
-refused gathering many (Err fault) slot pieces why (inr both) = absurd cc
-refused gathering true (Ok sends) slot pieces why (inl is) = inl (ap (option_map fault_of) is)
-refused gathering true (Ok sends) slot pieces why (inr both) = absurd cc
-refused gathering false (Ok sends) slot pieces why (inl is) = absurd cc
-refused gathering false (Ok sends) slot pieces why (inr both) = inr (ap fault_of both.0, refl)
+refused : {E A F : Type 0} (gathering : E → Bool) (many : Bool) (plan : Plan) (unsent : List Msg) (outcome : Result A F) (slot : Option (Slot E))
+    (pieces : Option Pieces) (why : Refusal F)
+    → RefusedAs refusal.NoMemory why (refusal_of (within (cond many (Some refusal.TooManyCalls) None) (by_rule outcome)))
+    → RefusedAs NoMemory (fault_of why) (refusal_of (within (option_or (cond many (Some TooManyCalls) None) None)
+    (turned gathering pieces slot (sends_of plan unsent outcome))))
+refused gathering many plan unsent (Err fault) slot pieces why (inl is) = inl (ap (option_map fault_of) is)
+refused gathering many plan unsent (Err fault) slot pieces why (inr both) = absurd cc
+refused gathering true plan unsent (Ok answer) slot pieces why (inl is) = inl (ap (option_map fault_of) is)
+refused gathering true plan unsent (Ok answer) slot pieces why (inr both) = absurd cc
+refused gathering false plan unsent (Ok answer) slot pieces why (inl is) = absurd cc
+refused gathering false plan unsent (Ok answer) slot pieces why (inr both) = inr (ap fault_of both.0, refl)
 
 -- where the rule accepts, only a limit refuses
-over_is : {E A F : Type 0} (gathering : E → Bool) (over : Option (TableFault F)) (outcome : Result (Sends A) F) (slot : Option (Slot E))
-    (pieces : Option Pieces)
-    → IsOk outcome → refusal_of (within over (turned gathering pieces slot outcome)) ≡ over
-over_is gathering (Some why) (Ok sends) slot pieces ok = refl
-over_is gathering None (Ok sends) slot pieces ok = refl
-over_is gathering over (Err fault) slot pieces ok = absurd cc
+over_is : {E A F : Type 0} (gathering : E → Bool) (over : Option (TableFault F)) (plan : Plan) (unsent : List Msg) (outcome : Result A F)
+    (slot : Option (Slot E)) (pieces : Option Pieces)
+    → IsOk outcome → refusal_of (within over (turned gathering pieces slot (sends_of plan unsent outcome))) ≡ over
+over_is gathering (Some why) plan unsent (Ok answer) slot pieces ok = refl
+over_is gathering None plan unsent (Ok answer) slot pieces ok = refl
+over_is gathering over plan unsent (Err fault) slot pieces ok = absurd cc
 
 -- how the gatherer refuses a first piece, so does the end
 pub gather_refused : {F : Type 0} (over : Bool) (why : GatherFault) → RefusedAs gathering.NoMemory why (cond over (Some gathering.GatherFull) None)
@@ -244,24 +247,36 @@ not_one_more gathering (Some slot) full here = refl
 
 module _ {R E V A F : Type 0} (next : Option E → V → Step E A F) (closed gathering : E → Bool) where
   -- what the call's rule makes of an event, in the table
-  abbrev step_in : Held R E → ℕ → Planned V → Step (Slot E) (Sends A) F
+  abbrev step_in : Held R E → ℕ → Planned V → Step (Slot E) A F
   step_in h id planned = sending_step next (finite.get h.table id) planned
 
+  -- and what that comes to
+  abbrev comes_to : Held R E → ℕ → Planned V → Brings → Result A F → Turned E A F
+  comes_to h id planned brings outcome =
+      turned gathering (brought brings (finite.get h.gathered id)) (step_in h id planned).entry
+      (sends_of planned.plan (unsent_of (finite.get h.table id)) outcome)
+
+  -- an event is done so
+  abbrev pub DoesSo : Held R E → ℕ → Planned V → Brings → Result A (TableFault F) → Held R E → Type 0
+  DoesSo h id planned brings result k =
+      Does (rules_of next closed gathering) h (record { id = id; what = Hears planned brings })
+      (event_reply (sends_of planned.plan (unsent_of (finite.get h.table id)) result)) k
+
   -- an event that is accepted, and for whose octets there is room
-  pub does_heard : (h h' : Held R E) (id : ℕ) (planned : Planned V) (brings : Brings) (sends : Sends A)
-      → judged h.table h.calls id (step_in h id planned) ≡ Ok sends
+  pub does_heard : (h h' : Held R E) (id : ℕ) (planned : Planned V) (brings : Brings) (answer : A)
+      → judged h.table h.calls id (step_in h id planned) ≡ Ok answer
       → room_fault {F = F} gathering h id (step_in h id planned).entry brings ≡ None
       → h' ≡ put_call h id (record {
         slot = (step_in h id planned).entry;
         pieces = cond (gathers gathering (step_in h id planned).entry) (brought brings (finite.get h.gathered id)) None;
       })
-      → Does (rules_of next closed gathering) h (record { id = id; what = Hears planned brings }) (Ok (Answers sends)) h'
-  does_heard h h' id planned brings sends is room after =
+      → DoesSo h id planned brings (Ok answer) h'
+  does_heard h h' id planned brings answer is room after =
       let step = step_in h id planned in
-      let both = accepted (is_one_too_many h.table h.calls id step.entry) step.outcome sends is in
+      let both = accepted (is_one_too_many h.table h.calls id step.entry) step.outcome answer is in
       let none : limit next closed gathering h id (Hears planned brings) ≡ None =
       (λ i. option_or (cond (both.1 i) (Some TooManyCalls) None) (room i)) in
-      let is_turned = ap (turned gathering (brought brings (finite.get h.gathered id)) step.entry) both.0 in
+      let is_turned = ap (comes_to h id planned brings) both.0 in
       record {
         answer = ap told (ap (λ over. within over (turn next closed gathering (at h id) (Hears planned brings))) none ∙ ap (within None) is_turned);
         refusal = tt;
@@ -271,42 +286,41 @@ module _ {R E V A F : Type 0} (next : Option E → V → Step E A F) (closed gat
   -- an event that the rule or the table refuses
   pub does_refused : (h h' : Held R E) (id : ℕ) (planned : Planned V) (why : Refusal F)
       → RefusedAs refusal.NoMemory why (refusal_of (judged h.table h.calls id (step_in h id planned))) → h' ≡ h
-      → Does (rules_of next closed gathering) h (record { id = id; what = Hears planned Nothing }) (Err (fault_of why)) h'
+      → DoesSo h id planned Nothing (Err (fault_of why)) h'
   does_refused h h' id planned why is after = record {
     answer = tt;
-    refusal = refused gathering (is_one_too_many h.table h.calls id (step_in h id planned).entry) (step_in h id planned).outcome
-        (step_in h id planned).entry (finite.get h.gathered id) why is;
+    refusal = refused gathering (is_one_too_many h.table h.calls id (step_in h id planned).entry) planned.plan (unsent_of (finite.get h.table id))
+        (step_in h id planned).outcome (step_in h id planned).entry (finite.get h.gathered id) why is;
     leaves = after;
   }
 
   -- an event that the rule refuses, whatever octets it brings
   pub does_own : (h : Held R E) (id : ℕ) (planned : Planned V) (brings : Brings) (fault : F) → (step_in h id planned).outcome ≡ Err fault
-      → Does (rules_of next closed gathering) h (record { id = id; what = Hears planned brings }) (Err (Rule fault)) h
+      → DoesSo h id planned brings (Err (Rule fault)) h
   does_own h id planned brings fault is = record {
     answer = tt;
-    refusal = inl (ap (λ outcome. refusal_of (within (limit next closed gathering h id (Hears planned brings))
-        (turned gathering (brought brings (finite.get h.gathered id)) (step_in h id planned).entry outcome))) is);
+    refusal = inl (ap (λ outcome. refusal_of (within (limit next closed gathering h id (Hears planned brings)) (comes_to h id planned brings outcome))) is);
     leaves = refl;
   }
 
   -- an event that the rule accepts and for which there is no room, or no memory
   pub does_over : (h h' : Held R E) (id : ℕ) (planned : Planned V) (brings : Brings) (why : TableFault F)
       → IsOk (step_in h id planned).outcome → RefusedAs NoMemory why (limit next closed gathering h id (Hears planned brings)) → h' ≡ h
-      → Does (rules_of next closed gathering) h (record { id = id; what = Hears planned brings }) (Err why) h'
+      → DoesSo h id planned brings (Err why) h'
   does_over h h' id planned brings why ok is after = record {
     answer = tt;
-    refusal = subst (RefusedAs NoMemory why) (sym (over_is gathering (limit next closed gathering h id (Hears planned brings)) (step_in h id planned).outcome
-        (step_in h id planned).entry (brought brings (finite.get h.gathered id)) ok)) is;
+    refusal = subst (RefusedAs NoMemory why) (sym (over_is gathering (limit next closed gathering h id (Hears planned brings)) planned.plan
+        (unsent_of (finite.get h.table id)) (step_in h id planned).outcome (step_in h id planned).entry (brought brings (finite.get h.gathered id)) ok)) is;
     leaves = after;
   }
 
   -- an event that changes nothing at its call but to bring more octets, for which there is room
-  pub does_stay : (h h' : Held R E) (id : ℕ) (planned : Planned V) (octets : List ℕ) (sends : Sends A)
-      → Stays (step_in h id planned) (finite.get h.table id) sends → gathers gathering (finite.get h.table id) ≡ true
+  pub does_stay : (h h' : Held R E) (id : ℕ) (planned : Planned V) (octets : List ℕ) (answer : A)
+      → Stays (step_in h id planned) (finite.get h.table id) answer → gathers gathering (finite.get h.table id) ≡ true
       → is_over h.room h.gathered (length octets) ≡ false → h' ≡ record h { gathered = put h.gathered id (grown (finite.get h.gathered id) octets) }
-      → Does (rules_of next closed gathering) h (record { id = id; what = Hears planned (More octets) }) (Ok (Answers sends)) h'
-  does_stay h h' id planned octets sends stays here fits after =
-      does_heard h h' id planned (More octets) sends
+      → DoesSo h id planned (More octets) (Ok answer) h'
+  does_stay h h' id planned octets answer stays here fits after =
+      does_heard h h' id planned (More octets) answer
       (ap (judged h.table h.calls id) stays ∙ rw (not_one_more gathering (finite.get h.table id) (finite.len h.table == h.calls) here) refl)
       (rw (here, fits) refl)
       (after

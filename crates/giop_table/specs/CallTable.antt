@@ -16,10 +16,9 @@ use Rattle.giop_frag.specs.declared.fault.GatherFault.{GatherFault}
 use Rattle.giop_frag.specs.declared.fault.GatherFault.TheVariants as gathering
 use Rattle.giop_table.specs.declared.slot.Slot.{Slot}
 use Rattle.giop_table.specs.declared.plan.Planned.{Planned}
-use Rattle.giop_table.specs.declared.sending.Sends.{Sends}
 use Rattle.giop_table.specs.declared.table_fault.TableFault.{TableFault}
 use Rattle.giop_table.specs.declared.table_fault.TableFault.TheVariants.{Rule, TooManyCalls, GatherFull, StillOpen, NoMemory}
-use Rattle.giop_table.specs.Sending.{entry_of, sending_step}
+use Rattle.giop_table.specs.Sending.{Sends, entry_of, sending_step, sends_of, unsent_of}
 
 -- the calls of an end: their rule, how many entries and how many gathered octets there may be, what
 -- is stored for the ids, and what is gathered
@@ -117,8 +116,8 @@ pub record IsTable {S E : Type 0} (gathering : E → Bool) (m : Calls S (Slot E)
   pub within : finite.len m.entries ≤ m.limit
   pub blocks : g.blocks ≤ g.limit / 512 + m.limit
 
--- a step: where it is accepted, the pieces are those with what the event brings, as long as they
--- are gathered
+-- what an event comes to: where it is accepted, the pieces are those with what it brings, as long
+-- as they are gathered
 abbrev pub turned : {E A F : Type 0} → (E → Bool) → Option Pieces → Option (Slot E)
     → Result (Sends A) F → Turned E A F
 turned gathering pieces slot (Ok sends) = Ok (record {
@@ -148,14 +147,14 @@ calls_fault h id slot =
 
 module _ {E V A F : Type 0} (next : Option E → V → Step E A F) (closed gathering : E → Bool) where
   -- what an event does to a call with this slot
-  abbrev pub step_of : Option (Slot E) → Planned V → Step (Slot E) (Sends A) F
+  abbrev pub step_of : Option (Slot E) → Planned V → Step (Slot E) A F
   step_of slot planned = sending_step next slot planned
 
   -- what an act does to one call, whatever is stored for other ids
   abbrev pub turn : Call E → Act V → Turned E A F
   turn call (Hears planned brings) =
       turned gathering (brought brings call.pieces) (step_of call.slot planned).entry
-      (step_of call.slot planned).outcome
+      (sends_of planned.plan (unsent_of call.slot) (step_of call.slot planned).outcome)
   turn call IsTaken = taken (option_map (λ slot. closed slot.entry) call.slot) call
 
   -- why the whole has no room for an act
@@ -198,7 +197,7 @@ module _ {R E V A F : Type 0} (of : RuleOf R E V A F) where
   DoesTo h id act reply k = Does (rules_by h.rule) h (record { id = id; what = act }) reply k
 
   -- what an event does to the slot of an id
-  abbrev pub stepped : Held R E → ℕ → Planned V → Step (Slot E) (Sends A) F
+  abbrev pub stepped : Held R E → ℕ → Planned V → Step (Slot E) A F
   stepped h id planned = sending_step (of.next h.rule) (finite.get h.table id) planned
 
   -- whether pieces are gathered for an id
@@ -215,16 +214,16 @@ abbrev pub without : {R E : Type 0} → Held R E → ℕ → Held R E
 without h id = record h { table = put h.table id None }
 
 -- an event changes nothing at its call, and is answered so
-abbrev pub Stays : {E A F : Type 0} → Step (Slot E) (Sends A) F → Option (Slot E) → Sends A → Type 0
-Stays step slot sends = step ≡ record { entry = slot; outcome = Ok sends }
+abbrev pub Stays : {E A F : Type 0} → Step (Slot E) A F → Option (Slot E) → A → Type 0
+Stays step slot answer = step ≡ record { entry = slot; outcome = Ok answer }
 
 -- what such an event is answered, where there was room for its octets
 abbrev pub answered : {A F : Type 0}
-    → Sends A → Result (Unit {0}) (TableFault F) → Result (Sends A) (TableFault F)
-answered sends (Ok done) = Ok sends
-answered sends (Err fault) = Err fault
+    → A → Result (Unit {0}) (TableFault F) → Result A (TableFault F)
+answered answer (Ok done) = Ok answer
+answered answer (Err fault) = Err fault
 
--- what is returned to the caller for an event, and for a take
+-- what an event and a take come to, with the limits and memory
 abbrev pub event_reply : {E A F : Type 0}
     → Result (Sends A) (TableFault F) → Result (Reply E A) (TableFault F)
 event_reply (Ok sends) = Ok (Answers sends)
@@ -235,12 +234,20 @@ abbrev pub take_reply : {E A F : Type 0}
 take_reply (Ok slot) = Ok (Gives slot)
 take_reply (Err fault) = Err fault
 
--- a further piece of what is gathered comes with an event that changes nothing at its call
 module _ {R E V A F : Type 0} (of : RuleOf R E V A F) where
-  abbrev pub GoesOn : Held R E → ℕ → Planned V → List ℕ → Sends A
+  -- an event happens to the call of an id: it is answered so, and these calls are left. The message
+  -- that it puts out isn't returned: the plan and the call say it
+  abbrev pub DoesEvent : Held R E → ℕ → Planned V → Brings → Result A (TableFault F) → Held R E
+      → Type 0
+  DoesEvent h id planned brings result k =
+      DoesTo of h id (Hears planned brings)
+      (event_reply (sends_of planned.plan (unsent_of (finite.get h.table id)) result)) k
+
+  -- a further piece of what is gathered comes with an event that changes nothing at its call
+  abbrev pub GoesOn : Held R E → ℕ → Planned V → List ℕ → A
       → Result (Unit {0}) (TableFault F) → Held R E → Type 0
-  GoesOn h id planned octets sends result k =
-      DoesTo of h id (Hears planned (More octets)) (event_reply (answered sends result)) k
+  GoesOn h id planned octets answer result k =
+      DoesEvent h id planned (More octets) (answered answer result) k
 
 -- whether a call's own rule refuses, and not a limit or an end that is out of memory
 abbrev pub is_of_call : {F : Type 0} → TableFault F → Bool

@@ -8,10 +8,10 @@ ghost use Rattle.giop_frag.specs.Gathered.{blocks_of, is_over, octets_in, order_
 ghost use Rattle.giop_ids.specs.ById.{put};
 ghost use Rattle.giop_mux.specs.Calls.{is_one_too_many, judged};
 ghost use Rattle.giop_table.specs.Sending.{step_at};
-ghost use Rattle.giop_table.specs.CallTable.{Answers, DoesTo, event_reply, First, gathers, gathers_at, Hears, IsTaken, More, Nothing, Stays, stepped, take_reply, GoesOn, IsOpenAt, without};
+ghost use Rattle.giop_table.specs.CallTable.{DoesEvent, DoesTo, First, gathers, gathers_at, IsTaken, More, Nothing, Stays, stepped, take_reply, GoesOn, IsOpenAt, without};
 
 use crate::plan::Planned;
-use crate::sending::{Sending, Sends};
+use crate::sending::Sending;
 use crate::slot::Slot;
 use crate::table_fault::TableFault;
 use giop_cdr::Order;
@@ -130,17 +130,17 @@ impl<R: Side> CallTable<R> {
         &mut self,
         id: u32,
         planned: Planned<R::Event>,
-    ) -> Result<Sends<R::Answer>, TableFault<R::Fault>>
+    ) -> Result<R::Answer, TableFault<R::Fault>>
         requires quiet { gathers_at R.Side self.old id ≡ false
             → gathers R.gathering (stepped R.Side self.old id planned).entry ≡ false }
-        ensures { DoesTo R.Side self.old id (Hears planned Nothing) (event_reply result) self.new }
+        ensures { DoesEvent R.Side self.old id planned Nothing result self.new }
     {
-        let sends = match self.mux.apply(id, planned) {
-            Ok(sends) => sends,
+        let answer = match self.mux.apply(id, planned) {
+            Ok(answer) => answer,
             Err(refusal) => return Err(TableFault::from(refusal)),
         };
         keep_if(is_kept(&self.mux, &self.gather, id), &mut self.gather, id);
-        Ok(sends)
+        Ok(answer)
     }
 
     /// The first piece of a message comes, with more to come: its octets are gathered from now on.
@@ -153,12 +153,11 @@ impl<R: Side> CallTable<R> {
         planned: Planned<R::Event>,
         order: Order,
         octets: &[u8],
-    ) -> Result<Sends<R::Answer>, TableFault<R::Fault>>
+    ) -> Result<R::Answer, TableFault<R::Fault>>
         requires away { gathers_at R.Side self.old id ≡ false }
         requires accepted { IsOk (stepped R.Side self.old id planned).outcome }
         requires gathers { gathers R.gathering (stepped R.Side self.old id planned).entry ≡ true }
-        ensures { DoesTo R.Side self.old id (Hears planned (First order octets.now))
-            (event_reply result) self.new }
+        ensures { DoesEvent R.Side self.old id planned (First order octets.now) result self.new }
     {
         if self.is_one_too_many(id) {
             return Err(TableFault::TooManyCalls);
@@ -166,8 +165,8 @@ impl<R: Side> CallTable<R> {
         if let Err(fault) = self.gather.begin(id, order, octets) {
             return Err(TableFault::from(fault));
         }
-        if let Some(sends) = enter(&mut self.mux, id, planned) {
-            return Ok(sends);
+        if let Some(answer) = enter(&mut self.mux, id, planned) {
+            return Ok(answer);
         }
         self.gather.discard(id);
         Err(TableFault::NoMemory)
@@ -185,9 +184,9 @@ impl<R: Side> CallTable<R> {
     ) -> Result<(), TableFault<R::Fault>>
         requires comes { gathers_at R.Side self.old id ≡ true }
         requires in_order { order_fault (finite.get self.old.gathered id) order ≡ None }
-        ensures { (planned sends : _)
-            → Stays (stepped R.Side self.old id planned) (finite.get self.old.table id) sends
-            → GoesOn R.Side self.old id planned octets.now sends result self.new }
+        ensures { (planned answer : _)
+            → Stays (stepped R.Side self.old id planned) (finite.get self.old.table id) answer
+            → GoesOn R.Side self.old id planned octets.now answer result self.new }
     {
         if let Err(fault) = self.gather.add(id, order, octets) {
             return Err(TableFault::from(fault));
@@ -204,12 +203,11 @@ impl<R: Side> CallTable<R> {
         id: u32,
         planned: Planned<R::Event>,
         octets: &[u8],
-    ) -> Result<Sends<R::Answer>, TableFault<R::Fault>>
+    ) -> Result<R::Answer, TableFault<R::Fault>>
         requires comes { gathers_at R.Side self.old id ≡ true }
         requires accepted { IsOk (stepped R.Side self.old id planned).outcome }
         requires ends { gathers R.gathering (stepped R.Side self.old id planned).entry ≡ false }
-        ensures { DoesTo R.Side self.old id (Hears planned (More octets.now)) (event_reply result)
-            self.new }
+        ensures { DoesEvent R.Side self.old id planned (More octets.now) result self.new }
     {
         if !self.has_room(octets.len()) {
             return Err(TableFault::GatherFull);
@@ -219,17 +217,16 @@ impl<R: Side> CallTable<R> {
 
     /// What `complete` does with a last piece whose octets have room, which `has_room` says. It
     /// takes no memory.
-    pub fn finish(&mut self, id: u32, planned: Planned<R::Event>) -> Sends<R::Answer>
+    pub fn finish(&mut self, id: u32, planned: Planned<R::Event>) -> R::Answer
         requires comes { gathers_at R.Side self.old id ≡ true }
         requires accepted { IsOk (stepped R.Side self.old id planned).outcome }
         requires ends { gathers R.gathering (stepped R.Side self.old id planned).entry ≡ false }
         ensures { (octets : _) → is_over self.old.room self.old.gathered (length octets) ≡ false
-            → DoesTo R.Side self.old id (Hears planned (More octets)) (Ok (Answers result))
-            self.new }
+            → DoesEvent R.Side self.old id planned (More octets) (Ok result) self.new }
     {
-        let sends = stay(&mut self.mux, id, planned);
+        let answer = stay(&mut self.mux, id, planned);
         self.gather.discard(id);
-        sends
+        answer
     }
 
     /// Takes out what is stored for the id, where its call is over, and returns it; `None` where
@@ -283,15 +280,15 @@ fn enter<R: Side>(
     mux: &mut Mux<Sending<R>>,
     id: u32,
     planned: Planned<R::Event>,
-) -> Option<Sends<R::Answer>>
+) -> Option<R::Answer>
     requires accepted { IsOk
         (step_at (R.next mux.old.rule.rule) mux.old.entries id planned).outcome }
     requires room { is_one_too_many mux.old.entries mux.old.limit id
         (step_at (R.next mux.old.rule.rule) mux.old.entries id planned).entry
         ≡ false }
-    ensures some { IfSome result (λ sends. judged mux.old.entries mux.old.limit id
-        (step_at (R.next mux.old.rule.rule) mux.old.entries id planned) ≡ Ok sends) }
-    ensures after { IfSome result (λ sends. mux.new ≡ record mux.old {
+    ensures some { IfSome result (λ answer. judged mux.old.entries mux.old.limit id
+        (step_at (R.next mux.old.rule.rule) mux.old.entries id planned) ≡ Ok answer) }
+    ensures after { IfSome result (λ answer. mux.new ≡ record mux.old {
       entries = put mux.old.entries id
           (step_at (R.next mux.old.rule.rule) mux.old.entries id planned).entry;
     }) }
@@ -302,7 +299,7 @@ fn enter<R: Side>(
 }
 
 // Applies an event that the rule accepts to a call that has an entry, which takes no memory.
-fn stay<R: Side>(mux: &mut Mux<Sending<R>>, id: u32, planned: Planned<R::Event>) -> Sends<R::Answer>
+fn stay<R: Side>(mux: &mut Mux<Sending<R>>, id: u32, planned: Planned<R::Event>) -> R::Answer
     requires present { IsSome (finite.get mux.old.entries id) }
     requires accepted { IsOk
         (step_at (R.next mux.old.rule.rule) mux.old.entries id planned).outcome }

@@ -18,7 +18,7 @@ mod unsent;
 pub use call_table::CallTable;
 pub use messages::Messages;
 pub use plan::{Plan, Planned};
-pub use sending::{Sending, Sends};
+pub use sending::Sending;
 pub use slot::Slot;
 pub use table_fault::TableFault;
 pub use unsent::Unsent;

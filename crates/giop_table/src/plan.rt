@@ -19,7 +19,7 @@ pub enum Plan {
     /// The next one is put out.
     Next,
     /// They stay.
-    Keep,
+    Leave,
 }
 
 impl Plan {
@@ -34,7 +34,7 @@ impl Plan {
         match self {
             Plan::Put(messages) => Some(messages.first()),
             Plan::Next => calls.slot(id)?.unsent.first(),
-            Plan::Keep => None,
+            Plan::Leave => None,
         }
     }
 }

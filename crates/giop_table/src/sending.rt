@@ -2,13 +2,12 @@
 //! messages of the call that are still to be sent. Its meaning is `sending_step` in
 //! specs/Sending.antt: change both.
 ghost use Rattle.std.specs.Prelude.{◌≡◌, Option, Some};
-ghost use Rattle.giop_table.specs.Sending.{entry_of, message_of, sending_step, settled_by, slot_of, unsent_after, unsent_of};
+ghost use Rattle.giop_table.specs.Sending.{entry_of, sending_step, settled_by, slot_of, unsent_after, unsent_of};
 ghost use Rattle.giop_table.specs.declared.slot.Slot.{Slot};
 
 use crate::plan::{Plan, Planned};
 use crate::slot::Slot;
 use crate::unsent::Unsent;
-use giop_msg::Msg;
 use giop_mux::{CallRule, Side, Step};
 use std::alloc::Global;
 
@@ -23,14 +22,6 @@ pub struct Sending<R: CallRule> {
     pub alloc: Global,
 }
 
-/// What an accepted event answers: what the rule answers, and the message that is to be put out, if
-/// there is one.
-#[derive(Drop)]
-pub struct Sends<A> {
-    pub answer: A,
-    pub message: Option<Msg>,
-}
-
 impl<R: Side> CallRule for Sending<R> {
     ghost use Rattle.giop_table.specs.Sending.{entry_of, keeps_by, sending_step};
 
@@ -38,7 +29,7 @@ impl<R: Side> CallRule for Sending<R> {
 
     type Event = Planned<R::Event>;
 
-    type Answer = Sends<R::Answer>;
+    type Answer = R::Answer;
 
     type Fault = R::Fault;
 
@@ -56,7 +47,7 @@ impl<R: Side> CallRule for Sending<R> {
         &self,
         entry: Option<Slot<R::Entry>>,
         event: Planned<R::Event>,
-    ) -> Step<Slot<R::Entry>, Sends<R::Answer>, R::Fault>
+    ) -> Step<Slot<R::Entry>, R::Answer, R::Fault>
         ensures { result ≡ sending_step (R.next self.now.rule) entry event }
     {
         let (entry, unsent) = parts(self.alloc, entry);
@@ -69,7 +60,7 @@ impl<R: Side> CallRule for Sending<R> {
         &self,
         slot: &mut Option<Slot<R::Entry>>,
         event: Planned<R::Event>,
-    ) -> Result<Sends<R::Answer>, R::Fault>
+    ) -> Result<R::Answer, R::Fault>
         ensures entry { slot.new ≡ (sending_step (R.next self.now.rule) slot.old event).entry }
         ensures outcome { result ≡ (sending_step (R.next self.now.rule) slot.old event).outcome }
     {
@@ -94,29 +85,26 @@ fn step_at<R: Side>(
     rule: &R,
     slot: &mut Slot<R::Entry>,
     planned: Planned<R::Event>,
-) -> Result<Sends<R::Answer>, R::Fault>
+) -> Result<R::Answer, R::Fault>
     ensures { sending_step (R.next rule.now) (Some slot.old) planned
         ≡ record { entry = Some slot.new; outcome = result } }
 {
     let answer = rule.step_at(&mut slot.entry, planned.event)?;
-    let message = take_planned(&mut slot.unsent, planned.plan);
-    Ok(Sends { answer, message })
+    carry_out(planned.plan, &mut slot.unsent);
+    Ok(answer)
 }
 
-// The message that is put out; the others are left.
+// Leaves what a plan leaves to be sent: the message that it puts out is gone.
 #[inline(always)]
-fn take_planned(unsent: &mut Unsent, plan: Plan) -> Option<Msg>
-    ensures message { result ≡ message_of plan unsent.old }
-    ensures left { unsent.new ≡ unsent_after plan unsent.old }
+fn carry_out(plan: Plan, unsent: &mut Unsent)
+    ensures { unsent.new ≡ unsent_after plan unsent.old }
 {
     match plan {
-        Plan::Put(messages) => {
-            let (first, rest) = messages.into_parts();
-            *unsent = rest;
-            Some(first)
+        Plan::Put(messages) => *unsent = messages.into_parts().1,
+        Plan::Next => {
+            let _ = unsent.take_first();
         }
-        Plan::Next => unsent.take_first(),
-        Plan::Keep => None,
+        Plan::Leave => {}
     }
 }
 
@@ -140,16 +128,16 @@ fn settle<E: Drop, A: Drop, F: Drop>(
     plan: Plan,
     unsent: Unsent,
     outcome: Result<A, F>,
-) -> Step<Slot<E>, Sends<A>, F>
+) -> Step<Slot<E>, A, F>
     ensures { result ≡ settled_by entry plan unsent outcome }
 {
     match outcome {
         Ok(answer) => {
             let mut left = unsent;
-            let message = take_planned(&mut left, plan);
+            carry_out(plan, &mut left);
             Step {
                 entry: beside(entry, left),
-                outcome: Ok(Sends { answer, message }),
+                outcome: Ok(answer),
             }
         }
         Err(fault) => Step {

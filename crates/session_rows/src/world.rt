@@ -4,6 +4,7 @@ use crate::acts::{client_input, server_input};
 use crate::first_line::BothLimits;
 use crate::shown::{is_question, question, refusal};
 use anyhow::{Context, Result, bail};
+use giop_session::SessionFault;
 use giop_session::laws::{ClientInput, ServerInput, World, WorldEvent, run_world};
 use giop_types::Interface;
 use rows::{number, split};
@@ -20,13 +21,24 @@ pub fn run(
     let schedule = schedule(alloc, rows)?;
     let (ours, theirs) = (within.client.limits, within.server.limits);
     let (mut world, answers) = run_world(alloc, interface, ours, theirs, schedule)?;
+    show_all(rt, &mut world, answers.as_slice(), rows)
+}
+
+// Prints what each row came to.
+fn show_all(
+    rt: &HostRuntime,
+    world: &mut World<'_>,
+    answers: &[Result<(), SessionFault>],
+    rows: &[&str],
+) -> Result<()> {
+    let alloc = rt.alloc();
     let mut answers = answers.iter();
     for row in rows {
         let words = split(alloc, row)?;
         let text = if words.is_empty() {
             row.to_string(alloc)?
         } else if is_asked(words.as_slice()) {
-            asked(alloc, &mut world, words.as_slice())?
+            asked(alloc, world, words.as_slice())?
         } else if let Some(answer) = answers.next() {
             refusal(alloc, *answer)?
         } else {

@@ -4,7 +4,7 @@ use Rattle.std.specs.FinMap as finite
 use Rattle.giop_cdr.specs.declared.encode_fault.EncodeFault.{EncodeFault}
 use Rattle.giop_cdr.specs.declared.encode_fault.EncodeFault.TheVariants as encode
 use Rattle.giop_frag.specs.Gathered.{Pieces}
-use Rattle.giop_ids.specs.Runs.{Does, RefusedAs, refusal_of, within}
+use Rattle.giop_ids.specs.Runs.{RefusedAs, refusal_of, within}
 use Rattle.giop_types.specs.declared.json.interface.Interface.{Interface}
 use Rattle.giop_msg.specs.declared.messages.reply.Reply.{Reply}
 use Rattle.giop_msg.specs.declared.messages.request.Request.{Request}
@@ -30,15 +30,15 @@ use Rattle.giop_end.specs.declared.limits.Limits.{Limits}
 use Rattle.giop_table.specs.declared.plan.Plan.{Plan}
 use Rattle.giop_table.specs.declared.plan.Plan.TheVariants.{Next}
 use Rattle.giop_table.specs.declared.plan.Planned.{Planned}
-use Rattle.giop_table.specs.declared.sending.Sends.{Sends}
 use Rattle.giop_table.specs.declared.table_fault.TableFault.{TableFault}
 use Rattle.giop_table.specs.declared.table_fault.TableFault.TheVariants as table
 use Rattle.giop_end.specs.declared.session_fault.SessionFault.{SessionFault}
 use Rattle.giop_end.specs.declared.session_fault.SessionFault.TheVariants.{NoMemory}
 use Rattle.giop_end.specs.Acts.Putting.{ActsOnCall, Puts}
 use Rattle.giop_end.specs.Acts.ServerAnswers.{IsAnswer, IsFitAnswer, answer_fault, expects_locate, locate_of, question_of, unasked_fault, undecoded_locate, undecoded_question}
-use Rattle.giop_table.specs.CallTable.{Held, Hears, Nothing, at, brought, event_reply, limit, rules_of, turned}
-use Rattle.giop_table.specs.Sending.{entry_of, settled_by, unsent_of}
+use Rattle.giop_table.specs.CallTable.{Held, Hears, Nothing, at, brought, limit, rules_of, turned}
+use Rattle.giop_table.proofs.TableLemmas.{DoesSo}
+use Rattle.giop_table.specs.Sending.{entry_of, sends_of, settled_by, unsent_of}
 use Rattle.giop_end.specs.Hearing.Heard.{in_call, silently, result_of}
 
 -- ---- what the rule refuses is refused for that
@@ -47,7 +47,7 @@ module _ {E V A : Type 0} (next : Option E → V → Step E A CallFault) (closed
   -- the refusal of an act whose rule refuses it
   found_by : (over : Option (TableFault CallFault)) (pieces : Option Pieces) (entry : Option E) (plan : Plan) (unsent : List Msg)
       (outcome : Result A CallFault) (why : CallFault) → outcome ≡ Err why
-      → refusal_of (within over (turned gathering pieces (settled_by entry plan unsent outcome).entry (settled_by entry plan unsent outcome).outcome))
+      → refusal_of (within over (turned gathering pieces (settled_by entry plan unsent outcome).entry (sends_of plan unsent outcome)))
       ≡ Some (table.Rule why)
   found_by over pieces entry plan unsent (Ok answer) why is = absurd cc
   found_by over pieces entry plan unsent (Err fault) why is = let same : fault ≡ why = cc in ap (λ why. Some (table.Rule why)) same
@@ -73,17 +73,16 @@ module _ {E V A : Type 0} (next : Option E → V → Step E A CallFault) (closed
   accepted_by : (over : Option (TableFault CallFault)) (pieces : Option Pieces) (entry : Option E) (plan : Plan) (unsent : List Msg)
       (outcome : Result A CallFault)
       → RefusedAs table.NoMemory table.NoMemory (refusal_of (within over
-      (turned gathering pieces (settled_by entry plan unsent outcome).entry (settled_by entry plan unsent outcome).outcome)))
+      (turned gathering pieces (settled_by entry plan unsent outcome).entry (sends_of plan unsent outcome))))
       → IsOk outcome
   accepted_by over pieces entry plan unsent (Ok answer) refused = refl
   accepted_by over pieces entry plan unsent (Err fault) (inl found) = absurd cc
   accepted_by over pieces entry plan unsent (Err fault) (inr want) = absurd (let none = want.1 in cc)
 
-  pub wanted_by : {R : Type 0} (h k : Held R E) (id : ℕ) (planned : Planned V) (answered : Result (Sends A) (TableFault CallFault))
-      → Does (rules_of next closed gathering) h (record { id = id; what = Hears planned Nothing }) (event_reply answered) k
-      → Err NoMemory ≡ result_of (in_call id) answered
+  pub wanted_by : {R : Type 0} (h k : Held R E) (id : ℕ) (planned : Planned V) (answered : Result A (TableFault CallFault))
+      → DoesSo next closed gathering h id planned Nothing answered k → Err NoMemory ≡ result_of (in_call id) answered
       → IsOk (next (entry_of (finite.get h.table id)) planned.event).outcome
-  wanted_by h k id planned (Ok sends) does told = absurd cc
+  wanted_by h k id planned (Ok answer) does told = absurd cc
   wanted_by h k id planned (Err (table.Rule why)) does told = absurd cc
   wanted_by h k id planned (Err table.TooManyCalls) does told = absurd cc
   wanted_by h k id planned (Err table.GatherFull) does told = absurd cc
@@ -228,9 +227,8 @@ locate_accepted here (Some (server.Delivered request)) version is = absurd cc
 locate_accepted here (Some (server.Cancelled answered left)) version is = absurd cc
 
 pub wanted_accepted : {R : Type 0} (h k : Held R ServerEntry) (id : ℕ) (planned : Planned ServerEvent)
-    (answered : Result (Sends (Unit {0})) (TableFault CallFault))
-    → Does (rules_of server_table.server_step server_table.is_closed server_table.is_gathering) h
-    (record { id = id; what = Hears planned Nothing }) (event_reply answered) k
+    (answered : Result (Unit {0}) (TableFault CallFault))
+    → DoesSo server_table.server_step server_table.is_closed server_table.is_gathering h id planned Nothing answered k
     → Err NoMemory ≡ result_of (in_call id) answered
     → IsOk (server_table.server_step (entry_of (finite.get h.table id)) planned.event).outcome
 wanted_accepted = wanted_by server_table.server_step server_table.is_closed server_table.is_gathering

@@ -5,11 +5,11 @@ use Rattle.giop_ids.specs.Runs.{Does, Rules}
 use Rattle.giop_msg.specs.declared.msg.Msg.{Msg}
 use Rattle.giop_msg.specs.Msg.{message_octets}
 use Rattle.giop_table.specs.declared.plan.Planned.{Planned}
-use Rattle.giop_table.specs.declared.sending.Sends.{Sends}
 use Rattle.giop_end.specs.declared.session_fault.SessionFault.{SessionFault}
 use Rattle.giop_end.specs.declared.session_fault.SessionFault.TheVariants.{NoMemory}
 use Rattle.giop_table.specs.declared.table_fault.TableFault.{TableFault}
 use Rattle.giop_table.specs.CallTable.{Act, Call, Held, Hears, Nothing, Reply, event_reply}
+use Rattle.giop_table.specs.Sending.{Sends}
 use Rattle.giop_end.specs.Hearing.Heard.{result_of}
 
 -- the octets of the message that an event sends, if it sends one

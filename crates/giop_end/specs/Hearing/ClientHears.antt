@@ -13,7 +13,6 @@ use Rattle.giop_msg.specs.declared.version.Version.{Version}
 use Rattle.giop_msg.specs.Joined.{joined_from}
 use Rattle.giop_msg.specs.Messages.LocateReply.{locate_reply}
 use Rattle.giop_msg.specs.Messages.Reply.{reply}
-use Rattle.giop_frag.specs.Gathered.{Pieces}
 use Rattle.giop_calls.specs.declared.client.call.Call.{Call as Asked}
 use Rattle.giop_calls.specs.declared.client.call.Call.TheVariants as asked
 use Rattle.giop_calls.specs.declared.client.entry.ClientEntry.{ClientEntry}
@@ -28,11 +27,10 @@ use Rattle.giop_calls.specs.declared.kind.CallKind.{CallKind}
 use Rattle.giop_calls.specs.declared.kind.CallKind.TheVariants as kind
 use Rattle.giop_calls.specs.ClientTable.{answers, client_step, is_closed, is_gathering}
 use Rattle.giop_end.specs.declared.session_fault.SessionFault.{SessionFault}
-use Rattle.giop_end.specs.declared.session_fault.SessionFault.TheVariants.{WrongDirection, PeerError, Closed}
 use Rattle.giop_table.specs.declared.slot.Slot.{Slot}
 use Rattle.giop_table.specs.CallTable.{Act, Call, Hears, First, Nothing, Held, rules_of}
-use Rattle.giop_end.specs.Hearing.Heard.{Effect, Heard, IsHeard, SideOf, effect_act, breaks_of, in_call, silently}
-use Rattle.giop_end.specs.Hearing.Pieces.{PiecesOf, continued, continues, known_at}
+use Rattle.giop_end.specs.Hearing.Heard.{Effect, Heard, IsHeard, SideOf, effect_act, ending_of, breaks_of, in_call, silently}
+use Rattle.giop_end.specs.Hearing.Pieces.{PiecesOf, continues_in, known_at}
 
 -- a Reply, by what reading it gives
 abbrev pub heard_reply_by : Result Reply CdrFault → HeardReply
@@ -98,12 +96,6 @@ abbrev pub OfAwaited : {R : Type 0} → CallKind → Version → Held R ClientEn
 OfAwaited kind version h id Says =
     (call : Asked) → awaited kind version (finite.get h.table id) ≡ Some call → Says call
 
--- and of a call whose reply is gathered, with its pieces
-abbrev pub OfGathered : {R : Type 0} → Held R ClientEntry → ℕ → (Asked → Pieces → Type 0) → Type 0
-OfGathered h id Says = (call : Asked) (pieces : Pieces)
-    → gathered_call (finite.get h.table id) ≡ Some call
-    → finite.get h.gathered id ≡ Some pieces → Says call pieces
-
 -- how a client joins the pieces of a Reply or a LocateReply
 abbrev pub client_pieces : PiecesOf ClientEntry ClientEvent Asked HeardReply
 client_pieces = record {
@@ -111,8 +103,7 @@ client_pieces = record {
   whole = reply_in;
   more = event.More true;
   last = event.Last true;
-  stray = λ m. if m.more then Hears (silently (event.More false)) Nothing
-      else Hears (silently (event.Last false heard.Unread)) Nothing;
+  stray = λ m. if m.more then event.More false else event.Last false heard.Unread;
 }
 
 -- what a message of each type is to a client: a server sends it, and it is this act on its call;
@@ -122,13 +113,8 @@ effect_by message.Reply = Ok (λ interface m call.
     comes interface kind.Request m (awaited kind.Request m.version call.slot))
 effect_by message.LocateReply = Ok (λ interface m call.
     comes interface kind.Locate m (awaited kind.Locate m.version call.slot))
-effect_by message.Fragment = Ok (λ interface m call.
-    continues client_pieces interface m (continued m.order (gathered_call call.slot) call.pieces))
-effect_by message.Request = Err WrongDirection
-effect_by message.LocateRequest = Err WrongDirection
-effect_by message.CancelRequest = Err WrongDirection
-effect_by message.CloseConnection = Err Closed
-effect_by message.MessageError = Err PeerError
+effect_by message.Fragment = Ok (continues_in client_pieces)
+effect_by kind = Err (ending_of kind)
 
 -- why one ends the session, if it does
 abbrev pub breaks_by : Kind → Option SessionFault

@@ -3,17 +3,19 @@ use Rattle.std.specs.Prelude.{◌≡◌, ◌⊎◌, ℕ, Bool, List, drop, Optio
 use Rattle.giop_cdr.specs.declared.fault.CdrFault.{CdrFault}
 use Rattle.giop_types.specs.declared.json.interface.Interface.{Interface}
 use Rattle.giop_ids.specs.Runs.{Does, Rules}
+use Rattle.giop_msg.specs.declared.kind.Kind.{Kind}
+use Rattle.giop_msg.specs.declared.kind.Kind.TheVariants as message
 use Rattle.giop_msg.specs.declared.msg.Msg.{Msg}
 use Rattle.giop_msg.specs.RequestId.{request_id_of}
 use Rattle.giop_mux.specs.declared.step.Step.{Step}
 use Rattle.giop_calls.specs.declared.fault.CallFault.{CallFault}
 use Rattle.giop_table.specs.declared.plan.Planned.{Planned}
-use Rattle.giop_table.specs.declared.plan.Plan.TheVariants.{Keep}
-use Rattle.giop_table.specs.declared.sending.Sends.{Sends}
+use Rattle.giop_table.specs.declared.plan.Plan.TheVariants.{Leave}
 use Rattle.giop_end.specs.declared.session_fault.SessionFault.{SessionFault}
-use Rattle.giop_end.specs.declared.session_fault.SessionFault.TheVariants.{NoId, NoMemory, WrongDirection, Call as InCall}
+use Rattle.giop_end.specs.declared.session_fault.SessionFault.TheVariants.{Closed, NoId, NoMemory, PeerError, WrongDirection, Call as InCall}
 use Rattle.giop_table.specs.declared.table_fault.TableFault.{TableFault}
-use Rattle.giop_table.specs.CallTable.{Act, Call, Held, IsTaken, Reply, Turned, at, event_reply, rules_of, turn}
+use Rattle.giop_table.specs.CallTable.{Act, Call, Held, IsTaken, Reply, RuleOf, Turned, at, event_reply, rules_by, rules_of, turn}
+use Rattle.giop_table.specs.Sending.{Sends}
 use Rattle.giop_end.specs.Ends.SessionFaults.{of_table}
 
 -- what a message does
@@ -25,6 +27,12 @@ pub data Heard (V : Type 0) : Type 0 where
 -- call that it names
 abbrev pub Effect : (E V : Type 0) → Type 0
 Effect E V = Result (Interface → Msg → Call E → Act V) SessionFault
+
+-- why a message of a kind ends the session that isn't for the calls of a side
+abbrev pub ending_of : Kind → SessionFault
+ending_of message.CloseConnection = Closed
+ending_of message.MessageError = PeerError
+ending_of _ = WrongDirection
 
 -- why it ends the session, if it does
 abbrev pub breaks_of : {E V : Type 0} → Effect E V → Option SessionFault
@@ -38,8 +46,8 @@ effect_act (Err why) = λ interface m call. IsTaken
 
 -- what an end returns for what the table of calls answered
 abbrev pub result_of : {A F : Type 0} → (F → SessionFault)
-    → Result (Sends A) (TableFault F) → Result (Unit {0}) SessionFault
-result_of of_rule (Ok sends) = Ok tt
+    → Result A (TableFault F) → Result (Unit {0}) SessionFault
+result_of of_rule (Ok answer) = Ok tt
 result_of of_rule (Err why) = Err (of_table of_rule why)
 
 module _ {R E V A F : Type 0} (rules : Rules (Held R E) (Call E) (Act V) (Reply E A) (TableFault F))
@@ -64,7 +72,7 @@ behind_id m = drop 4 m.payload
 
 -- an event that sends nothing: the messages of its call stay unsent
 abbrev pub silently : {V : Type 0} → V → Planned V
-silently event = record { event = event; plan = Keep }
+silently event = record { event = event; plan = Leave }
 
 -- what is answered to an event that sends nothing
 abbrev pub silent : Sends (Unit {0})
@@ -73,6 +81,11 @@ silent = record { answer = tt; message = None }
 -- the fault of an end whose rule refuses an act on a call
 abbrev pub in_call : ℕ → CallFault → SessionFault
 in_call id fault = InCall id fault
+
+-- an end by this rule hears a message that does this, and leaves these calls
+abbrev pub IsHeardBy : {R E V A : Type 0} → RuleOf R E V A CallFault → Heard V → Held R E
+    → Result (Unit {0}) SessionFault → Held R E → Type 0
+IsHeardBy of heard h = IsHeard (rules_by of h.rule) in_call heard h
 
 -- the id that a message names, or why it names none
 abbrev pub id_named : Option (Result ℕ CdrFault) → Result ℕ SessionFault

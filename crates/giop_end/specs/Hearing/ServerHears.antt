@@ -14,13 +14,12 @@ use Rattle.giop_calls.specs.declared.server.heard.HeardCall.{HeardCall}
 use Rattle.giop_calls.specs.declared.server.rule.ServerRule.{ServerRule}
 use Rattle.giop_calls.specs.declared.server.event.ServerEvent.TheVariants as event
 use Rattle.giop_end.specs.declared.session_fault.SessionFault.{SessionFault}
-use Rattle.giop_end.specs.declared.session_fault.SessionFault.TheVariants.{WrongDirection, PeerError, Closed}
 use Rattle.giop_table.specs.declared.slot.Slot.{Slot}
 use Rattle.giop_calls.specs.ServerTable.{server_step, is_closed, is_gathering}
 use Rattle.giop_table.specs.CallTable.{Act, Call, Hears, First, Nothing, Held, rules_of}
 use Rattle.giop_end.specs.Hearing.Decoding.{heard_call}
-use Rattle.giop_end.specs.Hearing.Heard.{Effect, Heard, IsHeard, SideOf, effect_act, breaks_of, in_call, silently}
-use Rattle.giop_end.specs.Hearing.Pieces.{PiecesOf, continued, continues, known_at}
+use Rattle.giop_end.specs.Hearing.Heard.{Effect, Heard, IsHeard, SideOf, effect_act, ending_of, breaks_of, in_call, silently}
+use Rattle.giop_end.specs.Hearing.Pieces.{PiecesOf, continues_in, known_at}
 
 -- what joined octets come to, at the message that brings the last of them
 abbrev pub call_in : Interface → CallKind → Msg → List ℕ → HeardCall
@@ -55,7 +54,7 @@ server_pieces = record {
   whole = call_in;
   more = event.More true;
   last = event.Last true;
-  stray = λ m. Hears (silently (event.More false)) Nothing;
+  stray = λ m. event.More false;
 }
 
 -- what a message of each type is to a server: a client sends it, and it is this act on its call;
@@ -64,12 +63,8 @@ abbrev pub effect_by : Kind → Effect ServerEntry ServerEvent
 effect_by message.Request = Ok (λ interface m call. comes interface kind.Request m)
 effect_by message.LocateRequest = Ok (λ interface m call. comes interface kind.Locate m)
 effect_by message.CancelRequest = Ok (λ interface m call. Hears (silently event.Cancel) Nothing)
-effect_by message.Fragment = Ok (λ interface m call.
-    continues server_pieces interface m (continued m.order (gathered_kind call.slot) call.pieces))
-effect_by message.Reply = Err WrongDirection
-effect_by message.LocateReply = Err WrongDirection
-effect_by message.CloseConnection = Err Closed
-effect_by message.MessageError = Err PeerError
+effect_by message.Fragment = Ok (continues_in server_pieces)
+effect_by kind = Err (ending_of kind)
 
 -- why one ends the session, if it does
 abbrev pub breaks_by : Kind → Option SessionFault

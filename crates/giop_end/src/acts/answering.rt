@@ -1,8 +1,7 @@
-//! What a server's own program answers: a Reply or a LocateReply (CORBA 3.3 Part 2, 9.4.3 and
-//! 9.4.6), as acts on the parts of an end that hasn't failed. Its meaning is `IsAnswer` and
-//! `IsLocateAnswer` in specs/Acts/ServerAnswers.antt: change both.
-ghost use Rattle.std.specs.Prelude.{◌≡◌, ◌<◌, ◌^◌, [], ◌∷◌, true, None, Err, length, is_ok, IfErr, IfOk, IfSome, IsOk, option_copied};
-ghost use Rattle.std.specs.FinMap as finite;
+//! What a server's own program answers to a Request: a Reply (CORBA 3.3 Part 2, 9.4.3), as acts on
+//! the parts of an end that hasn't failed. Its meaning is `IsAnswer` in
+//! specs/Acts/ServerAnswers.antt: change both.
+ghost use Rattle.std.specs.Prelude.{◌≡◌, ◌<◌, ◌^◌, true, None, Err, length, is_ok, IfErr, IfOk, IsOk, option_copied};
 ghost use Rattle.std.specs.Option.{option_map};
 ghost use Rattle.giop_msg.specs.declared.kind.Kind.TheVariants as message;
 ghost use Rattle.giop_msg.specs.Cut.{IsCut};
@@ -15,19 +14,16 @@ ghost use Rattle.giop_table.specs.CallTable.{entry_at};
 ghost use Rattle.giop_end.specs.Acts.Form.{IsForm};
 ghost use Rattle.giop_end.specs.Acts.Refused.{IsRefusal, unfit_unless};
 ghost use Rattle.giop_end.specs.Acts.Sent.{InRange};
-ghost use Rattle.giop_end.specs.Acts.ServerAnswers.{is_locate, is_reply_sendable, IsFitAnswer, locate_in, locate_of, located, PutsAnswer, PutsLocateAnswer, PutsNext, question_in, question_of, reply_octets, ServerPuts, unasked_fault};
+ghost use Rattle.giop_end.specs.Acts.ServerAnswers.{is_locate, is_reply_sendable, IsFitAnswer, PutsAnswer, PutsNext, question_in, question_of, reply_octets, ServerPuts, unasked_fault};
 
 use crate::acts::form::Form;
 use crate::acts::local::{act_result, messages_to_send};
 use crate::acts::outgoing::Outgoing;
 use crate::acts::putting::put;
-use crate::acts::sendable::one_message;
-use crate::hearing::heard::silently;
 use crate::limits::Limits;
 use crate::session_fault::SessionFault;
 use giop_calls::{Aside, CallFault, CallKind, ServerEntry, ServerEvent, ServerRule};
-use giop_cdr::{OctetList, Order};
-use giop_msg::{Kind, LocateReply, LocateReplyHead, Reply, Request, Version};
+use giop_msg::{Kind, Reply, Request};
 use giop_table::{CallTable, Messages, Plan, Planned};
 use giop_types::Interface;
 use std::alloc::Global;
@@ -58,41 +54,9 @@ pub fn answer(
     put_reply(alloc, calls, outgoing, reply, messages)
 }
 
-/// Answers a LocateRequest at an end that hasn't failed, of which these are parts, as
-/// `End::answer_locate`.
-#[tactic(auto, using(crate::proofs::OnActs::QuietLemmas::answer_locate_quiet, crate::proofs::OnActs::LastLemmas::locate_accepted, crate::proofs::OnActs::LastLemmas::wanted_accepted))]
-pub fn answer_locate(
-    alloc: Global,
-    calls: &mut CallTable<ServerRule>,
-    outgoing: &mut Outgoing,
-    id: u32,
-    here: bool,
-    order: Order,
-) -> Result<(), SessionFault>
-    ensures last { result ≡ Err NoMemory
-        → IsOk (table.server_step (entry_at calls.old id) (event.AnswerLocate here)).outcome }
-    ensures answered { PutsLocateAnswer id here order calls.old outgoing.old result calls.new
-        outgoing.new }
-{
-    let event = ServerEvent::AnswerLocate { here };
-    let planned = match locate_version(calls, id, here) {
-        Some(version) => {
-            let Some(messages) = located(alloc, version, order, id, here) else {
-                return Err(SessionFault::NoMemory);
-            };
-            Planned {
-                event,
-                plan: Plan::Put(messages),
-            }
-        }
-        None => silently(event),
-    };
-    act_result(id, put(calls, outgoing, id, planned))
-}
-
 /// Puts out the next piece of a Reply at an end that hasn't failed, of which these are parts, as
 /// `End::send`.
-#[tactic(auto, using(crate::proofs::OnActs::QuietLemmas::server_send_quiet, crate::proofs::OnActs::LastLemmas::server_sends_none))]
+#[tactic(auto, using(crate::proofs::OnActs::ActedLemmas::acted, crate::proofs::OnActs::QuietLemmas::server_send_quiet, crate::proofs::OnActs::LastLemmas::server_sends_none))]
 pub fn send(
     calls: &mut CallTable<ServerRule>,
     outgoing: &mut Outgoing,
@@ -114,7 +78,7 @@ pub fn send(
 }
 
 // The call is answered by a Reply in these messages.
-#[tactic(auto, using(crate::proofs::OnActs::QuietLemmas::answer_quiet, crate::proofs::OnActs::LocalLemmas::wanted_puts))]
+#[tactic(auto, using(crate::proofs::OnActs::ActedLemmas::acted, crate::proofs::OnActs::QuietLemmas::answer_quiet, crate::proofs::OnActs::LocalLemmas::wanted_puts))]
 #[inline(always)]
 fn put_reply(
     alloc: Global,
@@ -203,33 +167,6 @@ fn pieces_of_reply(
     messages_to_send(alloc, limits, version, Kind::Reply, form, id, encoded)
 }
 
-// The version of the LocateRequest of an id that waits for this LocateReply, where one does.
-fn locate_version(calls: &CallTable<ServerRule>, id: u32, here: bool) -> Option<Version>
-    ensures { result ≡ locate_of here (entry_at calls.now id) }
-{
-    locate_in(here, &calls.slot(id)?.entry)
-}
-
-// The LocateReply to a LocateRequest. `None` where it is out of memory.
-#[tactic(auto, using(crate::proofs::OnActs::LocatedLemmas::located_short))]
-fn located(alloc: Global, version: Version, order: Order, id: u32, here: bool) -> Option<Messages>
-    ensures { IfSome result (λ messages. messages ≡ located version order id here ∷ []) }
-{
-    let reply = LocateReply {
-        head: LocateReplyHead {
-            version,
-            id,
-            status: here as u32,
-        },
-        rest: OctetList::new(alloc),
-    };
-    let Ok(joined) = reply.encode(alloc, order) else {
-        return None;
-    };
-    let payload = OctetList::from(joined);
-    Some(one_message(alloc, version, Kind::LocateReply, order, payload))
-}
-
 // The Request of an entry that waits for a Reply, where one does: `Some(None)` is one that couldn't
 // be decoded.
 fn question_in(entry: &ServerEntry) -> Option<Option<&Request>>
@@ -250,20 +187,5 @@ fn is_locate(entry: &ServerEntry) -> bool
         ServerEntry::LocateAsked { .. } => true,
         ServerEntry::Undecoded { call } => call.expects == Some(CallKind::Locate),
         _ => false,
-    }
-}
-
-// The version of the LocateRequest of an entry that waits for this LocateReply, where one does. To
-// one that couldn't be decoded, the object is never here.
-fn locate_in(here: bool, entry: &ServerEntry) -> Option<Version>
-    ensures { result ≡ locate_in here entry.now }
-{
-    match entry {
-        ServerEntry::LocateAsked { request } => Some(request.version),
-        ServerEntry::Undecoded { call } => match call.expects {
-            Some(CallKind::Locate) if !here => Some(call.version),
-            _ => None,
-        },
-        _ => None,
     }
 }

@@ -1,8 +1,7 @@
-//! What a client's own program does: it calls, asks where an object is, and cancels (CORBA 3.3 Part
-//! 2, 9.4.2, 9.4.5 and 9.4.4), as acts on the parts of an end that hasn't failed. Its meaning is
-//! `IsCall`, `IsLocate` and `IsCancel` in specs/Acts/ClientCalls.antt: change both.
-ghost use Rattle.std.specs.Prelude.{◌≡◌, ◌<◌, ◌^◌, [], ◌∷◌, None, Err, length, is_ok, IfErr, IfOk, IfSome, IsOk};
-ghost use Rattle.std.specs.FinMap as finite;
+//! What a client's own program does: it calls, and asks where an object is (CORBA 3.3 Part 2, 9.4.2
+//! and 9.4.5), as acts on the parts of an end that hasn't failed. Its meaning is `IsCall` and
+//! `IsLocate` in specs/Acts/ClientCalls.antt: change both.
+ghost use Rattle.std.specs.Prelude.{◌≡◌, ◌<◌, ◌^◌, None, Err, length, is_ok, IfErr, IfOk, IsOk};
 ghost use Rattle.giop_cdr.specs.Ending.{ended};
 ghost use Rattle.giop_msg.specs.declared.kind.Kind.TheVariants as message;
 ghost use Rattle.giop_msg.specs.Cut.{IsCut};
@@ -11,28 +10,26 @@ ghost use Rattle.giop_msg.specs.Messages.Request as requests;
 ghost use Rattle.giop_calls.specs.ClientTable as table;
 ghost use Rattle.giop_calls.specs.declared.client.event.ClientEvent.TheVariants as event;
 ghost use Rattle.giop_end.specs.declared.session_fault.SessionFault.TheVariants.{NoMemory};
-ghost use Rattle.giop_end.specs.Acts.ClientCalls.{begin_fault, call_fault, cancel_fault, locate_fault, locate_octets, open_in, open_version, PutsCall, PutsCancel, PutsLocate, PutsNext, request_octets, version_of};
+ghost use Rattle.giop_end.specs.Acts.ClientCalls.{begin_fault, call_fault, locate_fault, locate_octets, PutsCall, PutsLocate, PutsNext, request_octets};
 ghost use Rattle.giop_table.specs.CallTable.{entry_at};
 ghost use Rattle.giop_end.specs.Acts.Form.{IsForm};
 ghost use Rattle.giop_end.specs.Acts.Refused.{IsRefusal};
-ghost use Rattle.giop_end.specs.Acts.Sent.{cancel_request, InRange};
+ghost use Rattle.giop_end.specs.Acts.Sent.{InRange};
 
 use crate::acts::form::Form;
 use crate::acts::local::{act_result, messages_to_send};
 use crate::acts::outgoing::Outgoing;
 use crate::acts::putting::put;
-use crate::acts::sendable::one_message;
 use crate::limits::Limits;
 use crate::session_fault::SessionFault;
 use giop_calls::{Aside, Call, CallFault, ClientEntry, ClientEvent, ClientRule, with_target_aside};
-use giop_cdr::{OctetList, Order};
-use giop_msg::{Kind, LocateRequest, Request, Version};
+use giop_msg::{Kind, LocateRequest, Request};
 use giop_table::{CallTable, Messages, Plan, Planned};
 use giop_types::Interface;
 use std::alloc::Global;
 
 /// Calls at an end that hasn't failed, of which these are parts, as `End::call`.
-#[tactic(auto, using(crate::proofs::OnActs::QuietLemmas::call_quiet, crate::proofs::OnActs::LocalLemmas::refused_puts))]
+#[tactic(auto, using(crate::proofs::OnActs::ActedLemmas::acted, crate::proofs::OnActs::QuietLemmas::call_quiet, crate::proofs::OnActs::LocalLemmas::refused_puts))]
 pub fn call(
     alloc: Global,
     interface: &Interface,
@@ -64,7 +61,7 @@ pub fn call(
 
 /// Asks where an object is at an end that hasn't failed, of which these are parts, as
 /// `End::locate`.
-#[tactic(auto, using(crate::proofs::OnActs::QuietLemmas::call_quiet, crate::proofs::OnActs::LocalLemmas::refused_puts))]
+#[tactic(auto, using(crate::proofs::OnActs::ActedLemmas::acted, crate::proofs::OnActs::QuietLemmas::call_quiet, crate::proofs::OnActs::LocalLemmas::refused_puts))]
 pub fn locate(
     alloc: Global,
     limits: Limits,
@@ -92,36 +89,9 @@ pub fn locate(
     act_result(id, put(calls, outgoing, id, planned))
 }
 
-/// Cancels a call at an end that hasn't failed, of which these are parts, as `End::cancel`.
-#[tactic(auto, using(crate::proofs::OnActs::QuietLemmas::cancel_quiet, crate::proofs::OnActs::LocalLemmas::refused_puts))]
-pub fn cancel(
-    alloc: Global,
-    calls: &mut CallTable<ClientRule>,
-    outgoing: &mut Outgoing,
-    id: u32,
-    order: Order,
-) -> Result<(), SessionFault>
-    ensures last { result ≡ Err NoMemory
-        → cancel_fault (open_version (entry_at calls.old id)) ≡ None }
-    ensures cancelled { PutsCancel id order calls.old outgoing.old result calls.new outgoing.new }
-{
-    let Some(version) = open_version(calls, id) else {
-        let fault = CallFault::NotOpen;
-        return Err(SessionFault::Call { id, fault });
-    };
-    let Some(messages) = cancel_request(alloc, version, order, id) else {
-        return Err(SessionFault::NoMemory);
-    };
-    let planned = Planned {
-        event: ClientEvent::Cancel,
-        plan: Plan::Put(messages),
-    };
-    act_result(id, put(calls, outgoing, id, planned))
-}
-
 /// Puts out the next piece of a call at an end that hasn't failed, of which these are parts, as
 /// `End::send`.
-#[tactic(auto, using(crate::proofs::OnActs::QuietLemmas::client_send_quiet, crate::proofs::OnActs::LastLemmas::client_sends_none))]
+#[tactic(auto, using(crate::proofs::OnActs::ActedLemmas::acted, crate::proofs::OnActs::QuietLemmas::client_send_quiet, crate::proofs::OnActs::LastLemmas::client_sends_none))]
 pub fn send(
     calls: &mut CallTable<ClientRule>,
     outgoing: &mut Outgoing,
@@ -231,13 +201,6 @@ fn has_piece(calls: &CallTable<ClientRule>, id: u32) -> bool
     }
 }
 
-// The version of an id's call, where that may be cancelled.
-fn open_version(calls: &CallTable<ClientRule>, id: u32) -> Option<Version>
-    ensures { result ≡ open_version (entry_at calls.now id) }
-{
-    open_in(&calls.slot(id)?.entry)
-}
-
 // Why no call of the operation may take the id, where something forbids it.
 fn begin_fault(
     interface: &Interface,
@@ -263,34 +226,5 @@ fn is_free(calls: &CallTable<ClientRule>, id: u32) -> bool
     match calls.slot(id) {
         Some(slot) => slot.entry.is_closed(),
         None => true,
-    }
-}
-
-// The CancelRequest of an id. `None` where it is out of memory.
-fn cancel_request(alloc: Global, version: Version, order: Order, id: u32) -> Option<Messages>
-    ensures { IfSome result (λ messages. messages ≡ cancel_request version order id ∷ []) }
-{
-    let payload = OctetList::from_slice(alloc, &order.ulong_octets(id)).ok()?;
-    Some(one_message(alloc, version, Kind::CancelRequest, order, payload))
-}
-
-// The version of an entry's call, where that may be cancelled: all of its reply hasn't come.
-fn open_in(entry: &ClientEntry) -> Option<Version>
-    ensures { result ≡ open_in entry.now }
-{
-    match entry {
-        ClientEntry::Sending { call, .. }
-        | ClientEntry::Waiting { call }
-        | ClientEntry::Gathering { call } => Some(version_of(call)),
-        _ => None,
-    }
-}
-
-fn version_of(call: &Call) -> Version
-    ensures { result ≡ version_of call.now }
-{
-    match call {
-        Call::Request(request) => request.head.version,
-        Call::Locate(request) => request.version,
     }
 }

@@ -17,7 +17,7 @@ use crate::session_fault::SessionFault;
 use giop_calls::CallFault;
 use giop_cdr::EncodeFault;
 use giop_msg::{Kind, Version};
-use giop_table::{Messages, Sends, TableFault};
+use giop_table::{Messages, TableFault};
 use std::alloc::Global;
 
 /// What an end returns for an event of its own program, by what the table of calls answered; that
@@ -25,13 +25,13 @@ use std::alloc::Global;
 #[inline(always)]
 pub fn act_result(
     id: u32,
-    answered: Option<Result<Sends<()>, TableFault<CallFault>>>,
+    answered: Option<Result<(), TableFault<CallFault>>>,
 ) -> Result<(), SessionFault>
     ensures returned { IfSome answered (λ answered. result ≡ result_of (in_call id) answered) }
     ensures want { IfNone answered (result ≡ Err NoMemory) }
 {
     match answered {
-        Some(Ok(_)) => Ok(()),
+        Some(Ok(())) => Ok(()),
         Some(Err(fault)) => result_of(id, Err(fault)),
         None => Err(SessionFault::NoMemory),
     }

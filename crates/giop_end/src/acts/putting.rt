@@ -2,13 +2,13 @@
 //! specs/Acts/Putting.antt.
 ghost use Rattle.std.specs.Prelude.{◌≡◌, ◌++◌, false, None, IfNone, IfSome, IsOk, IsSome, OnErr, OnOk};
 ghost use Rattle.std.specs.FinMap as finite;
-ghost use Rattle.giop_table.specs.CallTable.{DoesTo, event_reply, gathers, gathers_at, Hears, Nothing, stepped};
+ghost use Rattle.giop_table.specs.CallTable.{DoesEvent, gathers, gathers_at, Nothing, stepped};
 ghost use Rattle.giop_end.specs.Acts.Putting.{octets_of, put_out};
-ghost use Rattle.giop_table.specs.Sending.{message_of, unsent_of};
+ghost use Rattle.giop_table.specs.Sending.{message_of, sends_of, unsent_of};
 
 use crate::acts::outgoing::Outgoing;
 use giop_mux::Side;
-use giop_table::{CallTable, Plan, Planned, Sends, TableFault};
+use giop_table::{CallTable, Plan, Planned, TableFault};
 use std::alloc::AllocError;
 
 /// An event that brings no octets happens to the call of an id, and the message that it sends is
@@ -23,12 +23,14 @@ pub fn put<R: Side>(
     outgoing: &mut Outgoing,
     id: u32,
     planned: Planned<R::Event>,
-) -> Option<Result<Sends<R::Answer>, TableFault<R::Fault>>>
+) -> Option<Result<R::Answer, TableFault<R::Fault>>>
     requires quiet { gathers_at R.Side calls.old id ≡ false
         → gathers R.gathering (stepped R.Side calls.old id planned).entry ≡ false }
-    ensures does { IfSome result (λ answered. DoesTo R.Side calls.old id (Hears planned Nothing)
-        (event_reply answered) calls.new) }
-    ensures puts { IfSome result (λ answered. outgoing.new ≡ outgoing.old ++ put_out answered) }
+    ensures does { IfSome result (λ answered.
+        DoesEvent R.Side calls.old id planned Nothing answered calls.new) }
+    ensures puts { let unsent = unsent_of (finite.get calls.old.table id) in
+        IfSome result (λ answered.
+        outgoing.new ≡ outgoing.old ++ put_out (sends_of planned.plan unsent answered)) }
     ensures some { message_of planned.plan (unsent_of (finite.get calls.old.table id)) ≡ None
         → IsSome result }
     ensures none { IfNone result ((calls.new ≡ calls.old) × (outgoing.new ≡ outgoing.old)) }

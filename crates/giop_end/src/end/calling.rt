@@ -12,7 +12,8 @@ ghost use Rattle.giop_table.specs.CallTable.{entry_at};
 ghost use Rattle.giop_end.specs.Acts.Form.{IsForm};
 ghost use Rattle.giop_end.specs.Ends.View.{IsActedOn};
 
-use crate::acts::calling::{call, cancel, locate, send};
+use crate::acts::calling::{call, locate, send};
+use crate::acts::cancelling::cancel;
 use crate::acts::form::Form;
 use crate::end::ClientEnd;
 use crate::session_fault::SessionFault;

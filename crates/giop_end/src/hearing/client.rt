@@ -1,20 +1,20 @@
 //! What a message of the server does at a client (CORBA 3.3 Part 2, 9.4), a function for each kind.
 //! Its meaning is `client_breaks` and `client_act` in specs/Hearing/ClientHears.antt: change both.
-ghost use Rattle.std.specs.Prelude.{◌≡◌, ◌≤◌, ◌^◌, ◌+◌, ◌++◌, length, option_copied, is_some, true, IfSome};
+ghost use Rattle.std.specs.Prelude.{◌≡◌, ◌≤◌, ◌^◌, length, option_copied, is_some, true, IfSome};
 ghost use Rattle.std.specs.FinMap as finite;
-ghost use Rattle.giop_frag.specs.Gathered.{octets_in};
 ghost use Rattle.giop_msg.specs.RequestId.{request_id_of};
-ghost use Rattle.giop_end.specs.Hearing.ClientHears.{arrives, AtClient, awaited, awaited_in, begins, comes, gathered_in, reply_in, OfAwaited, OfGathered, client_pieces};
-ghost use Rattle.giop_end.specs.Hearing.Pieces.{completes, continued_at, continues_at, goes_on};
-ghost use Rattle.giop_end.specs.Hearing.Heard.{ActsOn, behind_id, named};
+ghost use Rattle.giop_end.specs.Hearing.ClientHears.{arrives, AtClient, awaited, awaited_in, begins, comes, reply_in, OfAwaited};
+ghost use Rattle.giop_end.specs.Hearing.Heard.{ActsOn, named};
 
-use crate::hearing::Hearing;
-use crate::hearing::heard::{behind_id, named_id, result_of, silently};
+use crate::hearing::heard::{ending_of, named_id};
+use crate::hearing::pieces::{Joins, go_on};
 use crate::hearing::reply_decoding::heard_reply;
 use crate::hearing::with_last::WithLast;
+use crate::hearing::{Hearing, events};
 use crate::session_fault::SessionFault;
 use giop_calls::{Call, CallKind, ClientEntry, ClientEvent, ClientRule, HeardReply};
-use giop_cdr::{Order, SliceOctets};
+use giop_cdr::SliceOctets;
+use giop_frag::Chain;
 use giop_msg::{Kind, Msg, Version};
 use giop_table::CallTable;
 use giop_types::Interface;
@@ -44,11 +44,59 @@ impl Hearing for ClientRule {
             Kind::Reply => come(alloc, interface, calls, CallKind::Request, message),
             Kind::LocateReply => come(alloc, interface, calls, CallKind::Locate, message),
             Kind::Fragment => go_on(alloc, interface, calls, message),
-            Kind::Request | Kind::LocateRequest | Kind::CancelRequest => {
-                Err(SessionFault::WrongDirection)
-            }
-            Kind::CloseConnection => Err(SessionFault::Closed),
-            Kind::MessageError => Err(SessionFault::PeerError),
+            Kind::Request
+            | Kind::LocateRequest
+            | Kind::CancelRequest
+            | Kind::CloseConnection
+            | Kind::MessageError => Err(ending_of(message.kind)),
+        }
+    }
+}
+
+impl Joins for ClientRule {
+    ghost use Rattle.giop_end.specs.Hearing.ClientHears.{client_pieces};
+    ghost use Rattle.giop_end.specs.Hearing.Joining.{client_joins};
+
+    type Known = Call;
+
+    type Whole = HeardReply;
+
+    ghost pieces = { client_pieces };
+
+    ghost joins = { λ rule. client_joins };
+
+    fn known(entry: &ClientEntry) -> Option<&Call> {
+        match entry {
+            ClientEntry::Gathering { call } => Some(call),
+            _ => None,
+        }
+    }
+
+    fn whole(
+        alloc: Global,
+        interface: &Interface,
+        call: &Call,
+        message: &Msg,
+        joined: &WithLast<'_, Chain<'_>>,
+    ) -> Option<HeardReply> {
+        let (version, order) = (message.version, message.order);
+        heard_reply(alloc, interface, call, version, order, joined)
+    }
+
+    fn last(reply: HeardReply) -> ClientEvent {
+        ClientEvent::Last {
+            in_order: true,
+            reply,
+        }
+    }
+
+    fn stray(message: &Msg) -> ClientEvent {
+        match message.more {
+            true => ClientEvent::More { in_order: false },
+            false => ClientEvent::Last {
+                in_order: false,
+                reply: HeardReply::Unread,
+            },
         }
     }
 }
@@ -71,10 +119,7 @@ fn come(
     match (is_awaited(calls, id, kind, version), message.more) {
         (true, true) => begin(calls, id, kind, message),
         (true, false) => arrive(alloc, interface, calls, id, kind, message),
-        (false, true) => result_of(
-            id,
-            calls.apply(id, silently(ClientEvent::First { kind, version })),
-        ),
+        (false, true) => events::happen(calls, id, ClientEvent::First { kind, version }),
         (false, false) => {
             let reply = HeardReply::Unread;
             let whole = ClientEvent::Whole {
@@ -82,7 +127,7 @@ fn come(
                 version,
                 reply,
             };
-            result_of(id, calls.apply(id, silently(whole)))
+            events::happen(calls, id, whole)
         }
     }
 }
@@ -111,14 +156,11 @@ fn begin(calls: &mut Calls, id: u32, kind: CallKind, message: &Msg) -> Result<()
     requires { is_some (awaited kind message.now.version (finite.get calls.old.table id)) ≡ true }
     ensures { AtClient (ActsOn id (begins kind message.now)) calls.old result calls.new }
 {
-    let first = silently(ClientEvent::First {
+    let first = ClientEvent::First {
         kind,
         version: message.version,
-    });
-    result_of(
-        id,
-        calls.begin(id, first, message.order, message.payload.as_slice()),
-    )
+    };
+    events::begin(calls, id, first, message)
 }
 
 // The reply to a call that waits for it comes in one piece.
@@ -143,7 +185,7 @@ fn arrive(
         version,
         reply,
     };
-    result_of(id, calls.apply(id, silently(whole)))
+    events::happen(calls, id, whole)
 }
 
 // The message decoded, as the reply to the call that waits for it. `None` where it is out of
@@ -162,121 +204,6 @@ fn reply_to(
 {
     let call = awaited_in(kind, message.version, &calls.slot(id)?.entry)?;
     let joined = SliceOctets::new(message.payload.as_slice());
-    heard_reply(
-        alloc,
-        interface,
-        call,
-        message.version,
-        message.order,
-        &joined,
-    )
-}
-
-// A Fragment comes.
-fn go_on(
-    alloc: Global,
-    interface: &Interface,
-    calls: &mut Calls,
-    message: &Msg,
-) -> Result<(), SessionFault>
-    requires { length message.now.payload ≤ 2 ^ 62 }
-    ensures { AtClient (named (request_id_of message.now) (continues_at client_pieces interface.now
-        message.now calls.old)) calls.old result calls.new }
-{
-    let id = named_id(message)?;
-    match (is_continued(calls, id, message.order), message.more) {
-        (true, true) => add(calls, id, message),
-        (true, false) => complete(alloc, interface, calls, id, message),
-        (false, true) => {
-            let more = ClientEvent::More { in_order: false };
-            result_of(id, calls.apply(id, silently(more)))
-        }
-        (false, false) => {
-            let last = ClientEvent::Last {
-                in_order: false,
-                reply: HeardReply::Unread,
-            };
-            result_of(id, calls.apply(id, silently(last)))
-        }
-    }
-}
-
-// Whether pieces of this byte order continue what is gathered for the id.
-fn is_continued(calls: &Calls, id: u32, order: Order) -> bool
-    ensures { result ≡ is_some (continued_at client_pieces calls.now id order) }
-{
-    let (Some(slot), Some((held, _))) = (calls.slot(id), calls.pieces(id)) else {
-        return false;
-    };
-    order == held && slot.entry.is_gathering()
-}
-
-// A Fragment comes that continues what is gathered, with more to come.
-fn add(calls: &mut Calls, id: u32, message: &Msg) -> Result<(), SessionFault>
-    requires { is_some (continued_at client_pieces calls.old id message.now.order) ≡ true }
-    ensures { AtClient (ActsOn id (goes_on client_pieces message.now)) calls.old result calls.new }
-{
-    match calls.go_on(id, message.order, behind_id(message)) {
-        Ok(()) => Ok(()),
-        Err(fault) => result_of(id, Err(fault)),
-    }
-}
-
-// The last Fragment of what is gathered comes.
-fn complete(
-    alloc: Global,
-    interface: &Interface,
-    calls: &mut Calls,
-    id: u32,
-    message: &Msg,
-) -> Result<(), SessionFault>
-    requires { is_some (continued_at client_pieces calls.old id message.now.order) ≡ true }
-    ensures { OfGathered calls.old id (λ call pieces. AtClient
-        (ActsOn id (completes client_pieces interface.now call message.now pieces.octets))
-        calls.old result calls.new) }
-{
-    let octets = behind_id(message);
-    if !calls.has_room(octets.len()) {
-        return Err(SessionFault::GatherFull);
-    }
-    let Some(reply) = joined_reply(alloc, interface, calls, id, message) else {
-        return Err(SessionFault::NoMemory);
-    };
-    let last = silently(ClientEvent::Last {
-        in_order: true,
-        reply,
-    });
-    calls.finish(id, last);
-    Ok(())
-}
-
-// The call whose reply is gathered, if one is.
-fn gathered_in(entry: &ClientEntry) -> Option<&Call>
-    ensures { option_copied result ≡ gathered_in entry.now }
-{
-    match entry {
-        ClientEntry::Gathering { call } => Some(call),
-        _ => None,
-    }
-}
-
-// What the gathered pieces and the last one decode to, read where they lie. `None` where it is out
-// of memory.
-fn joined_reply(
-    alloc: Global,
-    interface: &Interface,
-    calls: &Calls,
-    id: u32,
-    message: &Msg,
-) -> Option<HeardReply>
-    requires { octets_in (finite.get calls.now.gathered id)
-        + length (behind_id message.now) ≤ 2 ^ 62 }
-    ensures { IfSome result (λ reply. OfGathered calls.now id (λ call pieces.
-        reply ≡ reply_in interface.now call message.now (pieces.octets ++ behind_id message.now))) }
-{
-    let call = gathered_in(&calls.slot(id)?.entry)?;
-    let (_, gathered) = calls.pieces(id)?;
-    let joined = WithLast::new(&gathered, behind_id(message));
     heard_reply(
         alloc,
         interface,

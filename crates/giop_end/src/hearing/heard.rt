@@ -3,12 +3,12 @@
 //! specs/Hearing/Heard.antt: change both.
 ghost use Rattle.std.specs.Prelude.{◌≡◌, ◌≤◌, ◌^◌, length};
 ghost use Rattle.giop_msg.specs.RequestId.{request_id_of};
-ghost use Rattle.giop_end.specs.Hearing.Heard.{behind_id, id_named, in_call, silently, result_of};
+ghost use Rattle.giop_end.specs.Hearing.Heard.{behind_id, ending_of, id_named, in_call, silently, result_of};
 
 use crate::session_fault::SessionFault;
 use giop_calls::CallFault;
-use giop_msg::Msg;
-use giop_table::{Plan, Planned, Sends, TableFault};
+use giop_msg::{Kind, Msg};
+use giop_table::{Plan, Planned, TableFault};
 
 /// The request id that a message names. Refused as NoId where it can't be read, and as
 /// WrongDirection for a kind that has none.
@@ -21,6 +21,17 @@ pub fn named_id(message: &Msg) -> Result<u32, SessionFault>
         Some(Ok(id)) => Ok(id),
         Some(Err(fault)) => Err(SessionFault::NoId(fault)),
         None => Err(SessionFault::WrongDirection),
+    }
+}
+
+/// Why a message of a kind ends the session that isn't for the calls of a side.
+pub fn ending_of(kind: Kind) -> SessionFault
+    ensures { result ≡ ending_of kind }
+{
+    match kind {
+        Kind::CloseConnection => SessionFault::Closed,
+        Kind::MessageError => SessionFault::PeerError,
+        _ => SessionFault::WrongDirection,
     }
 }
 
@@ -41,20 +52,17 @@ pub fn silently<V>(event: V) -> Planned<V>
 {
     Planned {
         event,
-        plan: Plan::Keep,
+        plan: Plan::Leave,
     }
 }
 
 /// What an end returns for an event of the call of an id, by what the table of calls answered.
 #[inline(never)]
-pub fn result_of(
-    id: u32,
-    answered: Result<Sends<()>, TableFault<CallFault>>,
-) -> Result<(), SessionFault>
+pub fn result_of(id: u32, answered: Result<(), TableFault<CallFault>>) -> Result<(), SessionFault>
     ensures { result ≡ result_of (in_call id) answered }
 {
     match answered {
-        Ok(_) => Ok(()),
+        Ok(()) => Ok(()),
         Err(TableFault::Rule(fault)) => Err(SessionFault::Call { id, fault }),
         Err(TableFault::TooManyCalls) => Err(SessionFault::TooManyCalls),
         Err(TableFault::GatherFull) => Err(SessionFault::GatherFull),

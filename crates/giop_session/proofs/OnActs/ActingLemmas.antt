@@ -8,14 +8,13 @@ use Rattle.giop_msg.specs.declared.msg.Msg.{Msg}
 use Rattle.giop_mux.specs.declared.step.Step.{Step}
 use Rattle.giop_table.specs.declared.plan.Plan.{Plan}
 use Rattle.giop_table.specs.declared.plan.Planned.{Planned}
-use Rattle.giop_table.specs.declared.sending.Sends.{Sends}
 use Rattle.giop_end.specs.declared.session_fault.SessionFault.{SessionFault}
 use Rattle.giop_table.specs.declared.table_fault.TableFault.{TableFault}
 use Rattle.giop_session.specs.Acts.Acting.{IsAccepted}
 use Rattle.giop_table.specs.CallTable.{Answers, Call, Held, Hears, Nothing, Reply, at, brought, event_reply, limit, rules_of, turn, turned}
 use Rattle.giop_end.specs.Hearing.Heard.{result_of}
 use Rattle.giop_end.specs.Acts.Putting.{ActsOnCall, octets_of, put_out}
-use Rattle.giop_table.specs.Sending.{entry_of, message_of, settled_by, slot_of, unsent_after, unsent_of}
+use Rattle.giop_table.specs.Sending.{Sends, entry_of, message_of, sends_of, settled_by, slot_of, unsent_after, unsent_of}
 
 -- the message that is answered, if one is
 abbrev message_told : {E A F : Type 0} → Result (Reply E A) (TableFault F) → Option Msg
@@ -26,10 +25,10 @@ module _ {E V A F : Type 0} (next : Option E → V → Step E A F) (closed gathe
   -- a step that is answered was accepted
   by_outcome : (call : Call E) (entry : Option E) (plan : Plan) (unsent : List Msg) (pieces : Option Pieces) (outcome : Result A F)
       (over : Option (TableFault F)) (sends : Sends A)
-      → told (within over (turned {E = E} gathering pieces (settled_by entry plan unsent outcome).entry (settled_by entry plan unsent outcome).outcome))
+      → told (within over (turned {E = E} gathering pieces (settled_by entry plan unsent outcome).entry (sends_of plan unsent outcome)))
       ≡ Ok (Answers sends)
       → IsOk outcome
-      × ((left call (turned {E = E} gathering pieces (settled_by entry plan unsent outcome).entry (settled_by entry plan unsent outcome).outcome)).slot
+      × ((left call (turned {E = E} gathering pieces (settled_by entry plan unsent outcome).entry (sends_of plan unsent outcome))).slot
       ≡ slot_of entry (unsent_after plan unsent))
       × (sends.message ≡ message_of plan unsent)
   by_outcome call entry plan unsent pieces (Ok answer) None sends is =

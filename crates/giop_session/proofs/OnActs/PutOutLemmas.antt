@@ -21,9 +21,8 @@ use Rattle.giop_msg.specs.RequestId.{request_id_of}
 use Rattle.giop_session.specs.declared.laws.inputs.Answered.{Answered}
 use Rattle.giop_session.specs.declared.laws.inputs.Answered.TheVariants as answer
 use Rattle.giop_table.specs.declared.plan.Plan.{Plan}
-use Rattle.giop_table.specs.declared.plan.Plan.TheVariants.{Put, Next, Keep}
+use Rattle.giop_table.specs.declared.plan.Plan.TheVariants.{Put, Next, Leave}
 use Rattle.giop_table.specs.declared.plan.Planned.{Planned}
-use Rattle.giop_table.specs.declared.sending.Sends.{Sends}
 use Rattle.giop_end.specs.declared.session_fault.SessionFault.{SessionFault}
 use Rattle.giop_table.specs.declared.slot.Slot.{Slot}
 use Rattle.giop_table.specs.declared.table_fault.TableFault.{TableFault}
@@ -34,7 +33,7 @@ use Rattle.giop_end.specs.Hearing.Feeding.{Through}
 use Rattle.giop_end.specs.Hearing.Heard.{ActsOn, Breaks, Heard, IsHeardAs, heard_by, heard_of, SideOf, turn_at, rules_at, hears}
 use Rattle.giop_session.specs.Acts.PutOut.{AreOf, ArePutOut}
 use Rattle.giop_end.specs.Acts.Putting.{Puts, octets_of, put_out}
-use Rattle.giop_table.specs.Sending.{entry_of, message_of, sending_step, settled_by, slot_of, unsent_after, unsent_of}
+use Rattle.giop_table.specs.Sending.{Sends, entry_of, message_of, sending_step, sends_of, settled_by, slot_of, unsent_after, unsent_of}
 use Rattle.giop_end.specs.Acts.Sent.{close_connection}
 use Rattle.giop_table.specs.Unsent.{first_of}
 
@@ -56,17 +55,17 @@ module _ (sends : Kind → Bool) where
   abbrev pub PlanIsOf : Plan → Type 0
   PlanIsOf (Put messages) = AreOf sends messages
   PlanIsOf Next = Unit {0}
-  PlanIsOf Keep = Unit {0}
+  PlanIsOf Leave = Unit {0}
 
   after_is : (plan : Plan) (unsent : List Msg) → PlanIsOf plan → AreOf sends unsent → AreOf sends (unsent_after plan unsent)
   after_is (Put messages) unsent planned are = dropped messages planned
   after_is Next unsent planned are = dropped unsent are
-  after_is Keep unsent planned are = are
+  after_is Leave unsent planned are = are
 
   message_is : (plan : Plan) (unsent : List Msg) → PlanIsOf plan → AreOf sends unsent → IsOf (message_of plan unsent)
   message_is (Put messages) unsent planned are = first_is messages planned
   message_is Next unsent planned are = first_is unsent are
-  message_is Keep unsent planned are = tt
+  message_is Leave unsent planned are = tt
 
   -- what is put out, and one message more
   more_of : (one other : List Msg) → AreOf sends one → AreOf sends other → AreOf sends (one ++ other)
@@ -138,11 +137,11 @@ module _ (sends : Kind → Bool) where
     sent_of (Ok sent) other = sent
     sent_of (Err why) other = other
 
-    settled_sends : (entry : Option E) (plan : Plan) (unsent : List Msg) (outcome : Result A F) (sent : Sends A)
-        → (settled_by entry plan unsent outcome).outcome ≡ Ok sent → PlanIsOf plan → AreOf sends unsent → IsOf sent.message
-    settled_sends entry plan unsent (Ok outs) sent is planned are =
+    settled_sends : (plan : Plan) (unsent : List Msg) (outcome : Result A F) (sent : Sends A)
+        → sends_of plan unsent outcome ≡ Ok sent → PlanIsOf plan → AreOf sends unsent → IsOf sent.message
+    settled_sends plan unsent (Ok outs) sent is planned are =
         subst (λ s. IsOf s.message) (ap (λ r. sent_of r sent) is) (message_is plan unsent planned are)
-    settled_sends entry plan unsent (Err why) sent is planned are = absurd cc
+    settled_sends plan unsent (Err why) sent is planned are = absurd cc
 
     turned_is : (pieces : Option Pieces) (call : Call E) (slot : Option (Slot E)) (outcome : Result (Sends A) F) → SlotIsOf call.slot
         → SlotIsOf slot → SlotIsOf (left call (turned side.gathering pieces slot outcome)).slot
@@ -159,7 +158,7 @@ module _ (sends : Kind → Bool) where
         → SlotIsOf (left call (turn_at side rule call act)).slot
     turn_is rule call (Hears planned brings) is act =
         turned_is (brought brings call.pieces) call (sending_step (side.next rule) call.slot planned).entry
-        (sending_step (side.next rule) call.slot planned).outcome is
+        (sends_of planned.plan (unsent_of call.slot) (sending_step (side.next rule) call.slot planned).outcome) is
         (settled_is (side.next rule (entry_of call.slot) planned.event).entry planned.plan (unsent_of call.slot)
         (side.next rule (entry_of call.slot) planned.event).outcome act is)
     turn_is rule call IsTaken is act = taken_is (option_map (λ slot. side.closed rule slot.entry) call.slot) call is
@@ -198,10 +197,10 @@ module _ (sends : Kind → Bool) where
     does_sends h k id planned (Err why) out does table is put = rw (append-nil out) put
     does_sends h k id planned (Ok sent) out does table is put =
         message_more out sent.message put
-        (settled_sends (side.next h.rule (entry_of (finite.get h.table id)) planned.event).entry planned.plan (unsent_of (finite.get h.table id))
-        (side.next h.rule (entry_of (finite.get h.table id)) planned.event).outcome sent
+        (settled_sends planned.plan (unsent_of (finite.get h.table id)) (side.next h.rule (entry_of (finite.get h.table id)) planned.event).outcome sent
         (turned_sends _ (brought Nothing (finite.get h.gathered id)) (sending_step (side.next h.rule) (finite.get h.table id) planned).entry
-        (sending_step (side.next h.rule) (finite.get h.table id) planned).outcome sent does.answer) is (table id))
+        (sends_of planned.plan (unsent_of (finite.get h.table id)) (sending_step (side.next h.rule) (finite.get h.table id) planned).outcome)
+        sent does.answer) is (table id))
 
     puts_is : (h k : Held R E) (id : ℕ) (refusal : Option F) (Plans : Planned V → Type 0) (out out' : List ℕ)
         (result : Result (Unit {0}) SessionFault) → ((planned : Planned V) → Plans planned → PlanIsOf planned.plan)

@@ -66,7 +66,7 @@ client_first interface kind m (Some call) = act_if is_of_client m.more _ _ tt tt
 
 client_more : (interface : Interface) (m : Msg) (pieces : Option (Asked × List ℕ))
     → ActIsOf is_of_client (joining.continues client_hears.client_pieces interface m pieces)
-client_more interface m None = act_if is_of_client m.more _ _ tt tt
+client_more interface m None = tt
 client_more interface m (Some pieces) = act_if is_of_client m.more _ _ tt tt
 
 client_comes : (interface : Interface) (m : Msg) (call : Call ClientEntry) → ActIsOf is_of_client (client_act interface m call)

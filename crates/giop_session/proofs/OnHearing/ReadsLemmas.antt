@@ -10,7 +10,7 @@ use Rattle.giop_mux.specs.declared.step.Step.{Step}
 use Rattle.giop_end.specs.declared.session_fault.SessionFault.{SessionFault}
 use Rattle.giop_end.specs.declared.session_fault.SessionFault.TheVariants.{NoMemory}
 use Rattle.giop_end.specs.declared.session_fault.SessionFault.TheVariants as session
-use Rattle.giop_table.specs.declared.sending.Sends.{Sends}
+use Rattle.giop_table.specs.Sending.{Sends}
 use Rattle.giop_table.specs.declared.table_fault.TableFault.{TableFault}
 use Rattle.giop_table.specs.declared.table_fault.TableFault.TheVariants as table
 use Rattle.giop_table.specs.CallTable.{Act, Call, Held, event_reply, rules_of}

@@ -43,7 +43,7 @@ use Rattle.giop_session.specs.declared.laws.inputs.ClientInput.TheVariants as in
 use Rattle.giop_end.specs.declared.limits.Limits.{Limits}
 use Rattle.giop_end.specs.declared.session_fault.SessionFault.{SessionFault}
 use Rattle.giop_table.specs.declared.plan.Plan.{Plan}
-use Rattle.giop_table.specs.declared.plan.Plan.TheVariants.{Keep}
+use Rattle.giop_table.specs.declared.plan.Plan.TheVariants.{Leave}
 use Rattle.giop_table.specs.declared.slot.Slot.{Slot}
 use Rattle.giop_table.specs.CallTable.{Act, Call, Held, Hears, IsTaken, Nothing, at, gathers}
 use Rattle.giop_table.specs.Sending.{entry_of, settled_by, slot_of}
@@ -109,18 +109,18 @@ quiet_is (Some entry) plan unsent (Err fault) is = is
 
 own_away : (entry : Option ClientEntry) (act : ClientEvent) → is_own act ≡ true → IsAway entry → IsAway (client_step entry act).entry
 own_away None (event.Call call pieces) owned away =
-    quiet_is (table.begins None call pieces).entry Keep [] (table.begins None call pieces).outcome (call_quiet None call pieces Keep refl)
+    quiet_is (table.begins None call pieces).entry Leave [] (table.begins None call pieces).outcome (call_quiet None call pieces Leave refl)
 own_away None event.Send owned away = refl
 own_away None event.Cancel owned away = refl
 own_away (Some entry) (event.Call call pieces) owned away =
-    quiet_is (table.begins (Some entry) call pieces).entry Keep [] (table.begins (Some entry) call pieces).outcome
-    (call_quiet (Some (record { entry = entry; unsent = [] })) call pieces Keep away)
+    quiet_is (table.begins (Some entry) call pieces).entry Leave [] (table.begins (Some entry) call pieces).outcome
+    (call_quiet (Some (record { entry = entry; unsent = [] })) call pieces Leave away)
 own_away (Some entry) event.Send owned away =
-    quiet_is (table.send (Some entry)).entry Keep [] (table.send (Some entry)).outcome
-    (client_send_quiet (Some (record { entry = entry; unsent = [] })) Keep away)
+    quiet_is (table.send (Some entry)).entry Leave [] (table.send (Some entry)).outcome
+    (client_send_quiet (Some (record { entry = entry; unsent = [] })) Leave away)
 own_away (Some entry) event.Cancel owned away =
-    quiet_is (table.cancel (Some entry)).entry Keep [] (table.cancel (Some entry)).outcome
-    (cancel_quiet (Some (record { entry = entry; unsent = [] })) Keep away)
+    quiet_is (table.cancel (Some entry)).entry Leave [] (table.cancel (Some entry)).outcome
+    (cancel_quiet (Some (record { entry = entry; unsent = [] })) Leave away)
 own_away entry (event.First kind version) owned away = absurd cc
 own_away entry (event.Whole kind version told) owned away = absurd cc
 own_away entry (event.More in_order) owned away = absurd cc
@@ -146,7 +146,7 @@ own_there one order unsent octets (event.Last in_order told) plan owned ok = abs
 
 -- what a Fragment is to a call whose reply isn't gathered
 abbrev stray : Bool → Act ClientEvent
-stray more = if more then Hears (silently (event.More false)) Nothing else Hears (silently (event.Last false heard_as.Unread)) Nothing
+stray more = Hears (silently (if more then event.More false else event.Last false heard_as.Unread)) Nothing
 
 stray_refused : (more : Bool) (entry : ClientEntry) (unsent : List Msg) (pieces : Option Pieces)
     → Passes (with entry unsent pieces) (stray more) → (l : Late) × (entry ≡ client.Cancelled l)

@@ -11,7 +11,7 @@ use Rattle.giop_table.specs.declared.plan.Planned.{Planned}
 use Rattle.giop_table.specs.CallTable.{Act, Brings, Call, Hears, IsTaken, Nothing, Turned, brought, gathers, taken, turn, turned}
 use Rattle.giop_session.specs.Items.Carries.{Item, Telling, CarriesItem, Carries, behind_all}
 use Rattle.giop_session.specs.Runs.Events.{Event, Follows, what}
-use Rattle.giop_table.specs.Sending.{entry_of, settled_by, slot_of, unsent_after, unsent_of}
+use Rattle.giop_table.specs.Sending.{entry_of, sends_of, settled_by, slot_of, unsent_after, unsent_of}
 
 -- the entry of the slot of an entry
 pub entry_is : {E : Type 0} (entry : Option E) (unsent : List Msg) → entry_of (slot_of entry unsent) ≡ entry
@@ -37,7 +37,7 @@ module _ {E V A F : Type 0} (next : Option E → V → Step E A F) (closed gathe
   abbrev settled : Call E → Option E → Plan → Brings → Result A F → Turned E A F
   settled call entry plan brings outcome =
       turned gathering (brought brings call.pieces) (settled_by entry plan (unsent_of call.slot) outcome).entry
-      (settled_by entry plan (unsent_of call.slot) outcome).outcome
+      (sends_of plan (unsent_of call.slot) outcome)
 
   pub heard : (call : Call E) (planned : Planned V) (brings : Brings)
       → IsOk (turn next closed gathering call (Hears planned brings)) → Heard call planned brings

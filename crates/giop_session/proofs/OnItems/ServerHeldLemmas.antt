@@ -41,7 +41,7 @@ use Rattle.giop_session.specs.declared.laws.inputs.ServerInput.TheVariants as in
 use Rattle.giop_end.specs.declared.limits.Limits.{Limits}
 use Rattle.giop_end.specs.declared.session_fault.SessionFault.{SessionFault}
 use Rattle.giop_table.specs.declared.plan.Plan.{Plan}
-use Rattle.giop_table.specs.declared.plan.Plan.TheVariants.{Keep}
+use Rattle.giop_table.specs.declared.plan.Plan.TheVariants.{Leave}
 use Rattle.giop_table.specs.declared.slot.Slot.{Slot}
 use Rattle.giop_table.specs.CallTable.{Act, Call, First, Held, Hears, IsTaken, Nothing, at, gathers}
 use Rattle.giop_table.specs.Sending.{entry_of, settled_by, slot_of, unsent_of}
@@ -109,14 +109,14 @@ own_away None (event.Answer reply pieces) owned away = refl
 own_away None (event.AnswerLocate here) owned away = refl
 own_away None event.Send owned away = refl
 own_away (Some entry) (event.Answer reply pieces) owned away =
-    quiet_is (table.answer (Some entry) reply pieces).entry Keep [] (table.answer (Some entry) reply pieces).outcome
-    (answer_quiet (Some (record { entry = entry; unsent = [] })) reply pieces Keep away)
+    quiet_is (table.answer (Some entry) reply pieces).entry Leave [] (table.answer (Some entry) reply pieces).outcome
+    (answer_quiet (Some (record { entry = entry; unsent = [] })) reply pieces Leave away)
 own_away (Some entry) (event.AnswerLocate here) owned away =
-    quiet_is (table.answer_locate (Some entry) here).entry Keep [] (table.answer_locate (Some entry) here).outcome
-    (answer_locate_quiet (Some (record { entry = entry; unsent = [] })) here Keep away)
+    quiet_is (table.answer_locate (Some entry) here).entry Leave [] (table.answer_locate (Some entry) here).outcome
+    (answer_locate_quiet (Some (record { entry = entry; unsent = [] })) here Leave away)
 own_away (Some entry) event.Send owned away =
-    quiet_is (table.send (Some entry)).entry Keep [] (table.send (Some entry)).outcome
-    (server_send_quiet (Some (record { entry = entry; unsent = [] })) Keep away)
+    quiet_is (table.send (Some entry)).entry Leave [] (table.send (Some entry)).outcome
+    (server_send_quiet (Some (record { entry = entry; unsent = [] })) Leave away)
 own_away entry (event.First kind) owned away = absurd cc
 own_away entry (event.Whole call) owned away = absurd cc
 own_away entry (event.More in_order) owned away = absurd cc

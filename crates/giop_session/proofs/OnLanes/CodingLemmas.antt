@@ -43,7 +43,7 @@ use Rattle.giop_calls.specs.declared.server.event.ServerEvent.TheVariants as at_
 use Rattle.giop_calls.specs.declared.server.heard.HeardCall.TheVariants as heard
 use Rattle.giop_end.specs.declared.acts.form.Form.{Form}
 use Rattle.giop_table.specs.declared.plan.Plan.{Plan}
-use Rattle.giop_table.specs.declared.plan.Plan.TheVariants.{Put, Next, Keep}
+use Rattle.giop_table.specs.declared.plan.Plan.TheVariants.{Put, Next, Leave}
 use Rattle.giop_table.specs.declared.plan.Planned.{Planned}
 use Rattle.giop_session.specs.Items.Carries.{IsSeries}
 use Rattle.giop_end.specs.Acts.ClientCalls.{begin_fault, is_locate_sendable, is_request_sendable, locate_octets, request_octets}
@@ -354,7 +354,7 @@ located_read interface q here planned (id, order, (small, plans)) =
 abbrev pub put_of : Plan → List Msg
 put_of (Put messages) = messages
 put_of Next = []
-put_of Keep = []
+put_of Leave = []
 
 -- plans that send the same are of the same pieces
 pub same_pieces : {V : Type 0} (event : ℕ → V) (one other : Cut) → sends_cut event one ≡ sends_cut event other → pieces_of other ≡ pieces_of one

@@ -24,7 +24,7 @@ use Rattle.giop_table.specs.declared.table_fault.TableFault.TheVariants.{TooMany
 use Rattle.giop_table.specs.CallTable.{Act, Brings, Call, First, Hears, Held, More, Nothing, Reply, Turned, at, brought, calls_fault, gathers, limit, octets_fault, put_call, room_fault, turn, turned}
 use Rattle.giop_end.specs.Hearing.Heard.{ActsOn, IsHeard, heard_by, heard_of, silently, SideOf, turn_at, rules_at, hears}
 use Rattle.giop_session.specs.Worlds.OnTheWay.{Names}
-use Rattle.giop_table.specs.Sending.{entry_of, sending_step, settled_by, slot_of, unsent_of}
+use Rattle.giop_table.specs.Sending.{entry_of, sending_step, sends_of, settled_by, slot_of, unsent_of}
 use Rattle.giop_end.specs.Ends.SessionFaults.{of_table}
 use Rattle.giop_session.proofs.OnItems.ItemLemmas.{call_of, heard}
 use Rattle.giop_session.proofs.OnLimits.LimitLemmas.{brought_by}
@@ -84,7 +84,7 @@ module _ {E V A F : Type 0} (next : Option E → V → Step E A F) (closed gathe
     where
       by_outcome : (entry : Option E) (outcome : Result A F) → IsOk outcome
           → IsOk (turned {E = E} gathering (brought brings call.pieces) (settled_by entry planned.plan (unsent_of call.slot) outcome).entry
-          (settled_by entry planned.plan (unsent_of call.slot) outcome).outcome)
+          (sends_of planned.plan (unsent_of call.slot) outcome))
       by_outcome entry (Ok answer) ok = refl
       by_outcome entry (Err fault) ok = no_fault ok
 

@@ -52,7 +52,7 @@ continues_small : (interface : Interface) (m : Msg) (pieces : Option (Asked × L
 continues_small interface m None = by_more m.more
   where
     by_more : (b : Bool) → IsSmall begins_at_client false (length (behind_id m))
-        (cond b (Hears (silently (event.More false)) Nothing) (Hears (silently (event.Last false heard.Unread)) Nothing))
+        (Hears (silently (cond b (event.More false) (event.Last false heard.Unread))) Nothing)
     by_more true = (λ is. is, omega arith)
     by_more false = (λ is. is, omega arith)
 continues_small interface m (Some pieces) = by_more m.more

@@ -22,7 +22,6 @@ use Rattle.giop_mux.specs.Runs.{Hears as IsTold, IsTaken as TakesOut}
 use Rattle.giop_mux.specs.declared.step.Step.{Step}
 use Rattle.giop_end.specs.declared.limits.Limits.{Limits}
 use Rattle.giop_table.specs.declared.plan.Planned.{Planned}
-use Rattle.giop_table.specs.declared.sending.Sends.{Sends}
 use Rattle.giop_end.specs.declared.session_fault.SessionFault.{SessionFault}
 use Rattle.giop_end.specs.declared.session_fault.SessionFault.TheVariants as session
 use Rattle.giop_table.specs.declared.slot.Slot.{Slot}
@@ -34,7 +33,7 @@ use Rattle.giop_table.specs.CallTable.{Act, Brings, Call, First, Hears, Held, Is
 use Rattle.giop_session.specs.Runs.Events.{Accepts, Comes, Does, Event, Meets}
 use Rattle.giop_end.specs.Hearing.Heard.{IsHeard, heard_by, SideOf, rules_at}
 use Rattle.giop_session.specs.Runs.Limits.{AreWithin, IsNext, Refuses, octets_of, octets_with, opens}
-use Rattle.giop_table.specs.Sending.{sending_step, settled_by}
+use Rattle.giop_table.specs.Sending.{Sends, sending_step, sends_of, settled_by, unsent_of}
 use Rattle.giop_end.specs.Ends.SessionFaults.{of_table}
 
 -- ---- plain facts
@@ -132,7 +131,8 @@ module _ {E V A F : Type 0} (next : Option E → V → Step E A F) (closed gathe
   slot_left : {R : Type 0} (h : Held R E) (ids : List ℕ) (n id : ℕ) (act : Act V) → HasOnly h.table ids → Asks ids n id act
       → is_some (call_left h id act).slot ≡ true → is_listed ids id ≡ true
   slot_left h ids n id (Hears planned brings) only asks =
-      by_outcome (sending_step next (finite.get h.table id) planned).entry (sending_step next (finite.get h.table id) planned).outcome
+      by_outcome (sending_step next (finite.get h.table id) planned).entry
+      (sends_of planned.plan (unsent_of (finite.get h.table id)) (sending_step next (finite.get h.table id) planned).outcome)
       (listed_then h ids id planned only asks.0)
     where
       by_outcome : (slot : Option (Slot E)) (outcome : Result (Sends A) F) → (is_some slot ≡ true → is_listed ids id ≡ true)
@@ -150,7 +150,8 @@ module _ {E V A F : Type 0} (next : Option E → V → Step E A F) (closed gathe
   pieces_left : {R : Type 0} (h : Held R E) (ids : List ℕ) (n id : ℕ) (act : Act V) → Asks ids n id act
       → octets_in (call_left h id act).pieces ≤ octets_in (finite.get h.gathered id) + n
   pieces_left h ids n id (Hears planned brings) asks =
-      by_outcome (sending_step next (finite.get h.table id) planned).entry (sending_step next (finite.get h.table id) planned).outcome
+      by_outcome (sending_step next (finite.get h.table id) planned).entry
+      (sends_of planned.plan (unsent_of (finite.get h.table id)) (sending_step next (finite.get h.table id) planned).outcome)
     where
       by_outcome : (slot : Option (Slot E)) (outcome : Result (Sends A) F)
           → octets_in (left (at h id) (turned gathering (brought brings (finite.get h.gathered id)) slot outcome)).pieces
@@ -231,7 +232,8 @@ module _ {E V A F : Type 0} (next : Option E → V → Step E A F) (closed gathe
   -- a call's own refusal is for none
   own_free : {R : Type 0} (h : Held R E) (id : ℕ) (act : Act V) (why : TableFault F) → turn next closed gathering (at h id) act ≡ Err why → IsFree why
   own_free h id (Hears planned brings) why =
-      by_outcome (sending_step next (finite.get h.table id) planned).entry (sending_step next (finite.get h.table id) planned).outcome
+      by_outcome (sending_step next (finite.get h.table id) planned).entry
+      (sends_of planned.plan (unsent_of (finite.get h.table id)) (sending_step next (finite.get h.table id) planned).outcome)
     where
       by_outcome : (slot : Option (Slot E)) (outcome : Result (Sends A) F)
           → turned gathering (brought brings (finite.get h.gathered id)) slot outcome ≡ Err why → IsFree why

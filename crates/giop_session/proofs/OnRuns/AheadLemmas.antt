@@ -12,14 +12,13 @@ use Rattle.giop_msg.proofs.StreamLemmas.{each_one}
 use Rattle.giop_session.specs.declared.laws.inputs.Answered.{Answered}
 use Rattle.giop_session.specs.declared.laws.inputs.Answered.TheVariants as answer
 use Rattle.giop_table.specs.declared.plan.Planned.{Planned}
-use Rattle.giop_table.specs.declared.sending.Sends.{Sends}
 use Rattle.giop_end.specs.declared.session_fault.SessionFault.{SessionFault}
 use Rattle.giop_end.specs.declared.session_fault.SessionFault.TheVariants as session
 use Rattle.giop_table.specs.declared.table_fault.TableFault.{TableFault}
 use Rattle.giop_table.specs.declared.table_fault.TableFault.TheVariants.{Rule, TooManyCalls, GatherFull, StillOpen, NoMemory}
 use Rattle.giop_end.specs.Acts.Putting.{Puts}
 use Rattle.giop_table.specs.CallTable.{Act, Call, Held, Hears, IsTaken, Nothing, Turned, at, event_reply, is_of_call, limit, taken}
-use Rattle.giop_table.specs.Sending.{entry_of}
+use Rattle.giop_table.specs.Sending.{Sends, entry_of}
 use Rattle.giop_end.specs.Ends.SessionFaults.{of_table}
 use Rattle.giop_end.specs.Hearing.Feeding.{Fed, Through, with_octets, nothing_unread}
 use Rattle.giop_end.specs.Hearing.Heard.{IsHeard, heard_by, result_of, SideOf, turn_at, rules_at, hears}

@@ -23,7 +23,7 @@ use Rattle.giop_calls.specs.declared.client.late.Late.TheVariants as late
 use Rattle.giop_calls.specs.Messages.{is_oneway}
 use Rattle.giop_calls.specs.ClientTable.{ClientStep, answers, becomes, begins, cancel, client_step, first, is_closed, is_free, is_gathering, last, left_of, more, refused, send, sending, sent, settles, whole}
 use Rattle.giop_table.specs.declared.plan.Plan.{Plan}
-use Rattle.giop_table.specs.declared.plan.Plan.TheVariants.{Put, Next, Keep}
+use Rattle.giop_table.specs.declared.plan.Plan.TheVariants.{Put, Next, Leave}
 use Rattle.giop_table.specs.declared.plan.Planned.{Planned}
 use Rattle.giop_table.specs.declared.slot.Slot.{Slot}
 use Rattle.giop_table.specs.CallTable.{Act, Brings, Call, First, More, Nothing, Hears, turn}
@@ -134,11 +134,11 @@ own_left slot (event.Call call pieces) (Put messages) so is =
 own_left slot event.Cancel (Put messages) so is = cancelled_left slot messages so
 own_left slot event.Send Next so is = went_out_left slot is
 own_left slot (event.Call call pieces) Next so is = absurd so
-own_left slot (event.Call call pieces) Keep so is = absurd so
+own_left slot (event.Call call pieces) Leave so is = absurd so
 own_left slot event.Cancel Next so is = absurd so
-own_left slot event.Cancel Keep so is = absurd so
+own_left slot event.Cancel Leave so is = absurd so
 own_left slot event.Send (Put messages) so is = absurd so
-own_left slot event.Send Keep so is = absurd so
+own_left slot event.Send Leave so is = absurd so
 own_left slot (event.First kind version) plan so is = absurd so
 own_left slot (event.Whole kind version reply) plan so is = absurd so
 own_left slot (event.More in_order) plan so is = absurd so
@@ -147,7 +147,7 @@ own_left slot (event.Last in_order reply) plan so is = absurd so
 -- ---- messages
 
 settled_left : (before : ClientEntry) (call : Question) (reply : HeardReply) (unsent : List Msg)
-    → 0 ≡ length unsent → Leaves (settles before call reply) Keep unsent
+    → 0 ≡ length unsent → Leaves (settles before call reply) Leave unsent
 settled_left before (asked.Request request) (heard.Reply reply) unsent none ok = none
 settled_left before (asked.Locate request) (heard.Locate reply) unsent none ok = none
 settled_left before (asked.Request request) (heard.Undecoded fault) unsent none ok = none
@@ -158,14 +158,14 @@ settled_left before (asked.Request request) heard.Unread unsent none ok = absurd
 settled_left before (asked.Locate request) heard.Unread unsent none ok = absurd cc
 
 first_left : (slot : Option (Slot ClientEntry)) (kind : CallKind) (version : Version)
-    → IsLeft left_of slot → Leaves (first (entry_of slot) kind version) Keep (unsent_of slot)
+    → IsLeft left_of slot → Leaves (first (entry_of slot) kind version) Leave (unsent_of slot)
 first_left None kind version is ok = absurd cc
 first_left (Some slot) kind version is ok = by_entry slot.entry slot.unsent is ok
   where
     by_entry : (entry : ClientEntry) (unsent : List Msg) → left_of entry ≡ length unsent
-        → Leaves (first (Some entry) kind version) Keep unsent
+        → Leaves (first (Some entry) kind version) Leave unsent
     by_entry (Waiting call) unsent is ok =
-        leaves_if (answers kind version call) (Waiting call) (Gathering call) WrongKind Keep unsent
+        leaves_if (answers kind version call) (Waiting call) (Gathering call) WrongKind Leave unsent
         is ok
     by_entry (Cancelled late.None) unsent is ok = is
     by_entry (Cancelled late.Begun) unsent is ok = absurd cc
@@ -179,19 +179,19 @@ first_left (Some slot) kind version is ok = by_entry slot.entry slot.unsent is o
 
 settled_if : (b : Bool) (before : ClientEntry) (call : Question) (reply : HeardReply)
     (fault : CallFault) (unsent : List Msg) → 0 ≡ length unsent
-    → Leaves (cond b (settles before call reply) (refused (Some before) fault)) Keep unsent
+    → Leaves (cond b (settles before call reply) (refused (Some before) fault)) Leave unsent
 settled_if true before call reply fault unsent none ok =
     settled_left before call reply unsent none ok
 settled_if false before call reply fault unsent none ok = absurd cc
 
 whole_left : (slot : Option (Slot ClientEntry)) (kind : CallKind) (version : Version)
     (reply : HeardReply) → IsLeft left_of slot
-    → Leaves (whole (entry_of slot) kind version reply) Keep (unsent_of slot)
+    → Leaves (whole (entry_of slot) kind version reply) Leave (unsent_of slot)
 whole_left None kind version reply is ok = absurd cc
 whole_left (Some slot) kind version reply is ok = by_entry slot.entry slot.unsent is ok
   where
     by_entry : (entry : ClientEntry) (unsent : List Msg) → left_of entry ≡ length unsent
-        → Leaves (whole (Some entry) kind version reply) Keep unsent
+        → Leaves (whole (Some entry) kind version reply) Leave unsent
     by_entry (Waiting call) unsent is ok =
         settled_if (answers kind version call) (Waiting call) call reply WrongKind unsent is ok
     by_entry (Cancelled late.None) unsent is ok = is
@@ -205,14 +205,14 @@ whole_left (Some slot) kind version reply is ok = by_entry slot.entry slot.unsen
     by_entry (OnewaySent request) unsent is ok = absurd cc
 
 more_left : (slot : Option (Slot ClientEntry)) (in_order : Bool) → IsLeft left_of slot
-    → Leaves (more (entry_of slot) in_order) Keep (unsent_of slot)
+    → Leaves (more (entry_of slot) in_order) Leave (unsent_of slot)
 more_left None in_order is ok = absurd cc
 more_left (Some slot) in_order is ok = by_entry slot.entry slot.unsent is ok
   where
     by_entry : (entry : ClientEntry) (unsent : List Msg) → left_of entry ≡ length unsent
-        → Leaves (more (Some entry) in_order) Keep unsent
+        → Leaves (more (Some entry) in_order) Leave unsent
     by_entry (Gathering call) unsent is ok =
-        leaves_if in_order (Gathering call) (Gathering call) OrderDiffers Keep unsent is ok
+        leaves_if in_order (Gathering call) (Gathering call) OrderDiffers Leave unsent is ok
     by_entry (Cancelled late) unsent is ok = is
     by_entry (Waiting call) unsent is ok = absurd cc
     by_entry (Sending call left) unsent is ok = absurd cc
@@ -222,12 +222,12 @@ more_left (Some slot) in_order is ok = by_entry slot.entry slot.unsent is ok
     by_entry (OnewaySent request) unsent is ok = absurd cc
 
 last_left : (slot : Option (Slot ClientEntry)) (in_order : Bool) (reply : HeardReply)
-    → IsLeft left_of slot → Leaves (last (entry_of slot) in_order reply) Keep (unsent_of slot)
+    → IsLeft left_of slot → Leaves (last (entry_of slot) in_order reply) Leave (unsent_of slot)
 last_left None in_order reply is ok = absurd cc
 last_left (Some slot) in_order reply is ok = by_entry slot.entry slot.unsent is ok
   where
     by_entry : (entry : ClientEntry) (unsent : List Msg) → left_of entry ≡ length unsent
-        → Leaves (last (Some entry) in_order reply) Keep unsent
+        → Leaves (last (Some entry) in_order reply) Leave unsent
     by_entry (Gathering call) unsent is ok =
         settled_if in_order (Gathering call) call reply OrderDiffers unsent is ok
     by_entry (Cancelled late.None) unsent is ok = is
@@ -248,7 +248,7 @@ IsOfMessage event.Cancel = ⊥
 IsOfMessage e = Unit {0}
 
 heard_left : (slot : Option (Slot ClientEntry)) (e : ClientEvent) → IsOfMessage e
-    → IsLeft left_of slot → Leaves (client_step (entry_of slot) e) Keep (unsent_of slot)
+    → IsLeft left_of slot → Leaves (client_step (entry_of slot) e) Leave (unsent_of slot)
 heard_left slot (event.First kind version) of is = first_left slot kind version is
 heard_left slot (event.Whole kind version reply) of is = whole_left slot kind version reply is
 heard_left slot (event.More in_order) of is = more_left slot in_order is
@@ -301,8 +301,8 @@ went_on : (interface : Interface) (m : Msg) (pieces : Option (Question × List �
     → IsKept (continues client_pieces interface m pieces)
 went_on interface m None = by_more m.more
   where
-    by_more : (b : Bool) → IsKept (cond b (Hears (silently (event.More false)) Nothing)
-        (Hears (silently (event.Last false heard.Unread)) Nothing))
+    by_more : (b : Bool)
+        → IsKept (Hears (silently (cond b (event.More false) (event.Last false heard.Unread))) Nothing)
     by_more true = record { e = event.More false; brings = Nothing; of = tt; same = refl }
     by_more false =
         record { e = event.Last false heard.Unread; brings = Nothing; of = tt; same = refl }

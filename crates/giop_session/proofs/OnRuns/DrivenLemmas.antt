@@ -6,7 +6,7 @@ use Rattle.giop_mux.specs.Runs.{Hears as IsTold, IsTaken as IsTakenOut}
 use Rattle.giop_session.specs.declared.laws.inputs.Answered.{Answered}
 use Rattle.giop_session.specs.declared.laws.inputs.Answered.TheVariants as answer
 use Rattle.giop_table.specs.declared.plan.Planned.{Planned}
-use Rattle.giop_table.specs.declared.sending.Sends.{Sends}
+use Rattle.giop_table.specs.Sending.{Sends}
 use Rattle.giop_end.specs.declared.session_fault.SessionFault.{SessionFault}
 use Rattle.giop_end.specs.declared.session_fault.SessionFault.TheVariants.{NoMemory}
 use Rattle.giop_table.specs.declared.table_fault.TableFault.{TableFault}

@@ -10,13 +10,12 @@ use Rattle.giop_msg.specs.RequestId.{request_id_of}
 use Rattle.giop_end.specs.declared.session_fault.SessionFault.{SessionFault}
 use Rattle.giop_table.specs.declared.plan.Plan.{Plan}
 use Rattle.giop_table.specs.declared.plan.Planned.{Planned}
-use Rattle.giop_table.specs.declared.sending.Sends.{Sends}
 use Rattle.giop_table.specs.declared.slot.Slot.{Slot}
 use Rattle.giop_table.specs.CallTable.{Act, Brings, Call, Held, Hears, at, IsTaken, Nothing, brought, taken, turn, turned}
 use Rattle.giop_session.specs.Runs.Events.{Comes, Does, Event, Follows, Meets, is_of, own_events}
 use Rattle.giop_end.specs.Hearing.Heard.{IsHeard, heard_by, SideOf, rules_at}
 use Rattle.giop_session.specs.Runs.LeftToSend.{ArePlanned, IsLeft}
-use Rattle.giop_table.specs.Sending.{sending_step}
+use Rattle.giop_table.specs.Sending.{sending_step, sends_of, unsent_of}
 
 -- no message among these events ends the session
 abbrev pub AreHeard : {V : Type 0} → (Msg → Option SessionFault) → List (Event V) → Type 0
@@ -62,12 +61,13 @@ module _ {E V A F : Type 0} (next : Option E → V → Step E A F) (closed gathe
   abbrev pub behind : Call E → Act V → Call E
   behind call act = left call (turn next closed gathering call act)
 
-  turned_left : (pieces : Option Pieces) (call : Call E) (slot : Option (Slot E))
-      (outcome : Result (Sends A) F) → IsOk (turned gathering pieces slot outcome)
+  turned_left : (pieces : Option Pieces) (call : Call E) (slot : Option (Slot E)) (plan : Plan)
+      (unsent : List Msg) (outcome : Result A F)
+      → IsOk (turned gathering pieces slot (sends_of plan unsent outcome))
       → (IsOk outcome → IsLeft left_of slot)
-      → IsLeft left_of (left call (turned gathering pieces slot outcome)).slot
-  turned_left pieces call slot (Ok sends) ok so = so ok
-  turned_left pieces call slot (Err fault) ok so = absurd cc
+      → IsLeft left_of (left call (turned gathering pieces slot (sends_of plan unsent outcome))).slot
+  turned_left pieces call slot plan unsent (Ok answer) ok so = so ok
+  turned_left pieces call slot plan unsent (Err fault) ok so = absurd cc
 
   -- an event leaves so many, where its step does
   pub event_left : (call : Call E) (planned : Planned V) (brings : Brings)
@@ -77,7 +77,7 @@ module _ {E V A F : Type 0} (next : Option E → V → Step E A F) (closed gathe
       → IsLeft left_of (behind call (Hears planned brings)).slot
   event_left call planned brings ok so =
       turned_left (brought brings call.pieces) call (sending_step next call.slot planned).entry
-      (sending_step next call.slot planned).outcome ok so
+      planned.plan (unsent_of call.slot) (sending_step next call.slot planned).outcome ok so
 
   -- none are left of an entry that is taken out
   taken_left : (call : Call E) (over : Option Bool) → IsOk (taken {E = E} {A = A} {F = F} over call)

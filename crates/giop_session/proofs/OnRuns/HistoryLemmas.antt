@@ -10,7 +10,7 @@ use Rattle.giop_mux.specs.declared.step.Step.{Step}
 use Rattle.giop_table.specs.declared.plan.Plan.{Plan}
 use Rattle.giop_table.specs.declared.slot.Slot.{Slot}
 use Rattle.giop_table.specs.CallTable.{Act, Call, Hears, IsTaken, Turned, brought, taken, turn, turned}
-use Rattle.giop_table.specs.Sending.{entry_of, settled_by, slot_of, unsent_of}
+use Rattle.giop_table.specs.Sending.{entry_of, sends_of, settled_by, slot_of, unsent_of}
 use Rattle.giop_session.specs.Runs.Events.{Event, Follows, happening, history, what}
 
 entry_is : {E : Type 0} (entry : Option E) (unsent : List Msg) → entry_of (slot_of entry unsent) ≡ entry
@@ -30,11 +30,10 @@ module _ {E V A F : Type 0} (next : Option E → V → Step E A F) (closed gathe
       × (entry_of (left call (Does call act)).slot ≡ left (entry_of call.slot) (Steps (entry_of call.slot) (happening act)))
 
   event_is : (pieces : Option Pieces) (call : Call E) (entry : Option E) (plan : Plan) (outcome : Result A F)
-      → IsOk (turned gathering pieces (settled_by entry plan (unsent_of call.slot) outcome).entry
-      (settled_by entry plan (unsent_of call.slot) outcome).outcome)
+      → IsOk (turned gathering pieces (settled_by entry plan (unsent_of call.slot) outcome).entry (sends_of plan (unsent_of call.slot) outcome))
       → IsOk (told (mux.stepped next closed entry outcome))
       × (entry_of (left call (turned gathering pieces (settled_by entry plan (unsent_of call.slot) outcome).entry
-      (settled_by entry plan (unsent_of call.slot) outcome).outcome)).slot
+      (sends_of plan (unsent_of call.slot) outcome))).slot
       ≡ left (entry_of call.slot) (mux.stepped next closed entry outcome))
   event_is pieces call entry plan (Ok answer) ok = (refl, entry_is entry _)
   event_is pieces call entry plan (Err fault) ok = absurd cc

@@ -22,7 +22,7 @@ use Rattle.giop_calls.specs.declared.server.undecoded.UndecodedCall.{UndecodedCa
 use Rattle.giop_calls.specs.Messages.{is_oneway, is_same_version, is_system_exception}
 use Rattle.giop_calls.specs.ServerTable.{ServerStep, server_step, is_closed, is_free, is_gathering, left_of, arrived, begins, becomes, becomes_if, refused, more, last, cancel, answer, answer_undecoded, answer_locate, answer_locate_undecoded, send}
 use Rattle.giop_table.specs.declared.plan.Plan.{Plan}
-use Rattle.giop_table.specs.declared.plan.Plan.TheVariants.{Put, Next, Keep}
+use Rattle.giop_table.specs.declared.plan.Plan.TheVariants.{Put, Next, Leave}
 use Rattle.giop_table.specs.declared.plan.Planned.{Planned}
 use Rattle.giop_table.specs.declared.slot.Slot.{Slot}
 use Rattle.giop_table.specs.CallTable.{Act, Brings, Call, First, More, Nothing, Hears, turn}
@@ -81,27 +81,27 @@ arrived_left (heard.Request request) = by_flags (is_oneway request)
 
 -- a message begins a call
 begun_left : (slot : Option (Slot ServerEntry)) (after : ServerEntry) → left_of after ≡ 0
-    → IsLeft left_of slot → Leaves (begins (entry_of slot) after) Keep (unsent_of slot)
+    → IsLeft left_of slot → Leaves (begins (entry_of slot) after) Leave (unsent_of slot)
 begun_left slot after none is = by_test (is_free (entry_of slot)) refl
   where
     by_test : (b : Bool) → is_free (entry_of slot) ≡ b
-        → Leaves (cond b (becomes after) (refused (entry_of slot) IdInUse)) Keep (unsent_of slot)
+        → Leaves (cond b (becomes after) (refused (entry_of slot) IdInUse)) Leave (unsent_of slot)
     by_test true free =
-        leaves after Keep (unsent_of slot) (none ∙ sym (free_left (entry_of slot) free) ∙ is)
-    by_test false free = leaves_none (entry_of slot) IdInUse Keep (unsent_of slot)
+        leaves after Leave (unsent_of slot) (none ∙ sym (free_left (entry_of slot) free) ∙ is)
+    by_test false free = leaves_none (entry_of slot) IdInUse Leave (unsent_of slot)
 
 -- what stands there goes on
 went_on_left : (slot : Option (Slot ServerEntry)) (in_order : Bool) → IsLeft left_of slot
-    → Leaves (more (entry_of slot) in_order) Keep (unsent_of slot)
+    → Leaves (more (entry_of slot) in_order) Leave (unsent_of slot)
 went_on_left None in_order is = λ ok. absurd cc
 went_on_left (Some slot) in_order is = by_entry slot.entry slot.unsent is
   where
     by_entry : (entry : ServerEntry) (unsent : List Msg) → left_of entry ≡ length unsent
-        → Leaves (more (Some entry) in_order) Keep unsent
+        → Leaves (more (Some entry) in_order) Leave unsent
     by_entry (Gathering kind) unsent is ok =
-        leaves_if in_order (Gathering kind) (Gathering kind) OrderDiffers Keep unsent is ok
+        leaves_if in_order (Gathering kind) (Gathering kind) OrderDiffers Leave unsent is ok
     by_entry (Cancelled answered left) unsent is ok =
-        leaves (Cancelled answered left) Keep unsent is ok
+        leaves (Cancelled answered left) Leave unsent is ok
     by_entry (Asked request) unsent is ok = absurd cc
     by_entry (Undecoded call) unsent is ok = absurd cc
     by_entry (LocateAsked request) unsent is ok = absurd cc
@@ -110,17 +110,17 @@ went_on_left (Some slot) in_order is = by_entry slot.entry slot.unsent is
     by_entry (Delivered request) unsent is ok = absurd cc
 
 ended_left : (slot : Option (Slot ServerEntry)) (in_order : Bool) (call : HeardCall)
-    → IsLeft left_of slot → Leaves (last (entry_of slot) in_order call) Keep (unsent_of slot)
+    → IsLeft left_of slot → Leaves (last (entry_of slot) in_order call) Leave (unsent_of slot)
 ended_left None in_order call is = λ ok. absurd cc
 ended_left (Some slot) in_order call is = by_entry slot.entry slot.unsent is
   where
     by_entry : (entry : ServerEntry) (unsent : List Msg) → left_of entry ≡ length unsent
-        → Leaves (last (Some entry) in_order call) Keep unsent
+        → Leaves (last (Some entry) in_order call) Leave unsent
     by_entry (Gathering kind) unsent is ok =
-        leaves_if in_order (Gathering kind) (arrived call) OrderDiffers Keep unsent
+        leaves_if in_order (Gathering kind) (arrived call) OrderDiffers Leave unsent
         (arrived_left call ∙ is) ok
     by_entry (Cancelled answered left) unsent is ok =
-        leaves (Cancelled answered left) Keep unsent is ok
+        leaves (Cancelled answered left) Leave unsent is ok
     by_entry (Asked request) unsent is ok = absurd cc
     by_entry (Undecoded call) unsent is ok = absurd cc
     by_entry (LocateAsked request) unsent is ok = absurd cc
@@ -130,26 +130,26 @@ ended_left (Some slot) in_order call is = by_entry slot.entry slot.unsent is
 
 -- a cancel
 cancelled_left : (slot : Option (Slot ServerEntry)) → IsLeft left_of slot
-    → Leaves (cancel (entry_of slot)) Keep (unsent_of slot)
+    → Leaves (cancel (entry_of slot)) Leave (unsent_of slot)
 cancelled_left None is ok = refl
 cancelled_left (Some slot) is ok = by_entry slot.entry slot.unsent is ok
   where
     by_expected : (b : Bool) (call : UndecodedCall) (unsent : List Msg) → 0 ≡ length unsent
-        → Leaves (becomes (cond b (Cancelled false 0) (Undecoded call))) Keep unsent
-    by_expected true call unsent is = leaves (Cancelled false 0) Keep unsent is
-    by_expected false call unsent is = leaves (Undecoded call) Keep unsent is
+        → Leaves (becomes (cond b (Cancelled false 0) (Undecoded call))) Leave unsent
+    by_expected true call unsent is = leaves (Cancelled false 0) Leave unsent is
+    by_expected false call unsent is = leaves (Undecoded call) Leave unsent is
 
     by_entry : (entry : ServerEntry) (unsent : List Msg) → left_of entry ≡ length unsent
-        → Leaves (cancel (Some entry)) Keep unsent
-    by_entry (Gathering kind) unsent is = leaves (Cancelled false 0) Keep unsent is
-    by_entry (Asked request) unsent is = leaves (Cancelled false 0) Keep unsent is
-    by_entry (LocateAsked request) unsent is = leaves (Cancelled false 0) Keep unsent is
+        → Leaves (cancel (Some entry)) Leave unsent
+    by_entry (Gathering kind) unsent is = leaves (Cancelled false 0) Leave unsent is
+    by_entry (Asked request) unsent is = leaves (Cancelled false 0) Leave unsent is
+    by_entry (LocateAsked request) unsent is = leaves (Cancelled false 0) Leave unsent is
     by_entry (Undecoded call) unsent is = by_expected (is_some call.expects) call unsent is
-    by_entry (Answered asked reply left) unsent is = leaves (Cancelled true left) Keep unsent is
-    by_entry (LocateAnswered target here) unsent is = leaves (Cancelled true 0) Keep unsent is
-    by_entry (Delivered request) unsent is = leaves (Delivered request) Keep unsent is
+    by_entry (Answered asked reply left) unsent is = leaves (Cancelled true left) Leave unsent is
+    by_entry (LocateAnswered target here) unsent is = leaves (Cancelled true 0) Leave unsent is
+    by_entry (Delivered request) unsent is = leaves (Delivered request) Leave unsent is
     by_entry (Cancelled answered left) unsent is =
-        leaves (Cancelled answered left) Keep unsent is
+        leaves (Cancelled answered left) Leave unsent is
 
 -- an event that a message is
 abbrev IsOfMessage : ServerEvent → Type 0
@@ -159,7 +159,7 @@ IsOfMessage event.Send = ⊥
 IsOfMessage e = Unit {0}
 
 heard_left : (slot : Option (Slot ServerEntry)) (e : ServerEvent) → IsOfMessage e
-    → IsLeft left_of slot → Leaves (server_step (entry_of slot) e) Keep (unsent_of slot)
+    → IsLeft left_of slot → Leaves (server_step (entry_of slot) e) Leave (unsent_of slot)
 heard_left slot (event.First kind) of is = begun_left slot (Gathering kind) refl is
 heard_left slot (event.Whole call) of is = begun_left slot (arrived call) (arrived_left call) is
 heard_left slot (event.More in_order) of is = went_on_left slot in_order is
@@ -264,11 +264,11 @@ own_left slot (event.Answer reply pieces) (Put messages) so is =
 own_left slot (event.AnswerLocate here) (Put messages) so is = located_left slot here messages so
 own_left slot event.Send Next so is = sent_left slot is
 own_left slot (event.Answer reply pieces) Next so is = absurd so
-own_left slot (event.Answer reply pieces) Keep so is = absurd so
+own_left slot (event.Answer reply pieces) Leave so is = absurd so
 own_left slot (event.AnswerLocate here) Next so is = absurd so
-own_left slot (event.AnswerLocate here) Keep so is = absurd so
+own_left slot (event.AnswerLocate here) Leave so is = absurd so
 own_left slot event.Send (Put messages) so is = absurd so
-own_left slot event.Send Keep so is = absurd so
+own_left slot event.Send Leave so is = absurd so
 own_left slot (event.First kind) plan so is = absurd so
 own_left slot (event.Whole call) plan so is = absurd so
 own_left slot (event.More in_order) plan so is = absurd so

@@ -22,13 +22,12 @@ use Rattle.giop_session.specs.declared.laws.inputs.Answered.{Answered}
 use Rattle.giop_session.specs.declared.laws.inputs.Answered.TheVariants as answer
 use Rattle.giop_end.specs.declared.limits.Limits.{Limits}
 use Rattle.giop_table.specs.declared.plan.Planned.{Planned}
-use Rattle.giop_table.specs.declared.sending.Sends.{Sends}
 use Rattle.giop_end.specs.declared.session_fault.SessionFault.{SessionFault}
 use Rattle.giop_table.specs.declared.table_fault.TableFault.{TableFault}
 use Rattle.giop_session.specs.Acts.Acting.{IsAccepted}
 use Rattle.giop_session.specs.Runs.Alone.{own_messages}
 use Rattle.giop_table.specs.CallTable.{Call, Held, Hears, Nothing, at, event_reply, rules_of, turn}
-use Rattle.giop_table.specs.Sending.{message_of, unsent_of}
+use Rattle.giop_table.specs.Sending.{Sends, message_of, unsent_of}
 use Rattle.giop_end.specs.Hearing.ClientHears.{client_breaks, client_side}
 use Rattle.giop_end.specs.Hearing.Heard.{SideOf, in_call, rules_at}
 use Rattle.giop_session.specs.Runs.Driven.{IsDoneBy, IsGiven, IsGivenBy, PutsOut}

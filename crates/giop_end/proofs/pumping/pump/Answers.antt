@@ -1,4 +1,4 @@
-use Rattle.std.proofs.Common.{◌≡◌, ◌<◌, refl, sym, ap, subst, ◌∙◌, arith}
+use Rattle.std.proofs.Common.{◌≡◌, ◌<◌, refl, ap, ◌∙◌, arith}
 use Rattle.giop_end.proofs.PumpingLemmas.{so_far_none, so_far_more, pumped_out, pumped_spent, pumped_away, passed_on, writes_on}
 use Rattle.giop_end.proofs.pumping.pump.Goals as goal
 

@@ -10,8 +10,9 @@ ghost use Rattle.giop_end.specs.Acts.Form.{IsForm};
 ghost use Rattle.giop_end.specs.Acts.ServerAnswers.{IsFitAnswer, PutsAnswer, PutsLocateAnswer, PutsNext, question_of};
 ghost use Rattle.giop_end.specs.Ends.Detached.{IsActedOn};
 
-use crate::acts::answering::{answer, answer_locate, send};
+use crate::acts::answering::{answer, send};
 use crate::acts::form::Form;
+use crate::acts::locating::answer_locate;
 use crate::end::Detached;
 use crate::session_fault::SessionFault;
 use giop_calls::ServerRule;

@@ -10,7 +10,8 @@ ghost use Rattle.giop_table.specs.CallTable.{entry_at};
 ghost use Rattle.giop_end.specs.Acts.Form.{IsForm};
 ghost use Rattle.giop_end.specs.Ends.Detached.{IsActedOn};
 
-use crate::acts::calling::{call, cancel, locate, send};
+use crate::acts::calling::{call, locate, send};
+use crate::acts::cancelling::cancel;
 use crate::acts::form::Form;
 use crate::end::Detached;
 use crate::session_fault::SessionFault;

@@ -1,11 +1,10 @@
 use Rattle.std.proofs.Common.{◌≡◌, false, cond, None, Ok, sym, ap, subst, ◌∙◌, refl}
 use Rattle.std.specs.FinMap as finite
 use Rattle.giop_ids.specs.ById.{put}
-use Rattle.giop_ids.specs.Runs.{Does}
 use Rattle.giop_ids.proofs.Puts.{get-put_same}
 use Rattle.giop_table.specs.Sending.{sending_step}
-use Rattle.giop_table.specs.CallTable.{Held, gathers, rules_of, Hears, Nothing, Answers}
-use Rattle.giop_table.proofs.TableLemmas.{held, tied_after, as_many_blocks, kept, has_pieces, does_heard}
+use Rattle.giop_table.specs.CallTable.{Held, gathers, Nothing}
+use Rattle.giop_table.proofs.TableLemmas.{held, tied_after, as_many_blocks, kept, has_pieces, DoesSo, does_heard}
 use Rattle.giop_table.proofs.call_table.CallTable.apply.Goals as goal
 
 pub invariant_of-self-2 : goal.invariant_of-self-2
@@ -44,10 +43,9 @@ returns g c =
     let rule = ap (λ m. m.rule.rule) c.in-Ok.ensures.ok in
     let calls = ap (λ m. m.limit) c.in-Ok.ensures.ok in
     let room = ap (λ g. g.limit) c.keep_if.ensures in
-    subst (λ (h : Held g.row.R.Denot g.row.R-Entry.Denot). Does (rules_of (g.R.CallRule.next h.rule) (g.R.CallRule.closed h.rule) g.R.Side.gathering) h
-    (record { id = c.args.id; what = Hears c.args.planned Nothing }) (Ok (Answers c.in-Ok.sends))
-    (held c.apply.new.self.rule.rule c.apply.new.self c.keep_if.new.gather)) c.self.view_is
+    subst (λ (h : Held g.row.R.Denot g.row.R-Entry.Denot). DoesSo (g.R.CallRule.next h.rule) (g.R.CallRule.closed h.rule) g.R.Side.gathering h
+    c.args.id c.args.planned Nothing (Ok c.in-Ok.answer) (held c.apply.new.self.rule.rule c.apply.new.self c.keep_if.new.gather)) c.self.view_is
     (does_heard (g.R.CallRule.next c.self.inside.mux.rule.rule) (g.R.CallRule.closed c.self.inside.mux.rule.rule) g.R.Side.gathering
     (held c.self.inside.mux.rule.rule c.self.inside.mux c.self.inside.gather) _ c.args.id c.args.planned
-    Nothing c.in-Ok.sends c.in-Ok.ensures.value refl
+    Nothing c.in-Ok.answer c.in-Ok.ensures.value refl
     (λ i. record { rule = rule i; calls = calls i; room = room i; table = entries i; gathered = gathered i }))

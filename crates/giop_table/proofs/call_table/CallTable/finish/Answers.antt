@@ -11,11 +11,11 @@ invariant_of-self g c =
     let step = sending_step (g.R.CallRule.next m.rule.rule) (finite.get m.entries c.args.id) c.args.planned in
     record {
       tied = tied_after g.R.Side.gathering m.entries _ c.self.inside.gather.lists _ c.args.id step.entry None c.self.invariant.tied
-          (ap (λ m. m.entries) c.stay-sends.ensures.after) (ap (λ g. g.lists) c.discard.ensures.ok)
+          (ap (λ m. m.entries) c.stay-answer.ensures.after) (ap (λ g. g.lists) c.discard.ensures.ok)
           (sym (subst (λ (h : Held g.row.R.Denot g.row.R-Entry.Denot).
           gathers g.R.Side.gathering (sending_step (g.R.CallRule.next h.rule) (finite.get h.table c.args.id) c.args.planned).entry ≡ false)
           (sym c.self.view_is) c.requires.ends));
-      within = c.stay-sends.ensures.within;
+      within = c.stay-answer.ensures.within;
       blocks = as_many_blocks g.R.Side.gathering m c.self.inside.gather _ _ _ c.self.invariant (ap (λ g. g.limit) c.discard.ensures.ok)
-          (ap (λ m. m.limit) c.stay-sends.ensures.after) (ap (λ g. g.blocks) c.discard.ensures.ok);
+          (ap (λ m. m.limit) c.stay-answer.ensures.after) (ap (λ g. g.blocks) c.discard.ensures.ok);
     }

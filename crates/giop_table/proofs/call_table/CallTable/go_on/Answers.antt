@@ -47,7 +47,7 @@ invariant_of-self-2 g c =
     }
 
 pub returns : goal.returns
-returns g c planned sends stays =
+returns g c planned answer stays =
     let m = c.self.inside.mux in
     let lists = c.self.inside.gather.lists in
     let id = c.args.id in
@@ -55,7 +55,7 @@ returns g c planned sends stays =
     let room = ap (λ g. g.limit) c.in_default.ensures.ok in
     let gathered = ap (λ g. g.lists) c.in_default.ensures.ok in
     does_stay (g.R.CallRule.next c.args.self.now.rule) (g.R.CallRule.closed c.args.self.now.rule) g.R.Side.gathering c.args.self.now _ id planned octets
-    sends stays c.requires.comes
+    answer stays c.requires.comes
     (ap (λ h. is_over h.room h.gathered (length octets)) (sym c.self.view_is)
     ∙ not_over (order_fault (finite.get lists id) c.args.order) (is_over c.self.inside.gather.limit lists (length octets)) c.in_default.ensures.only)
     ((λ i. record { rule = m.rule.rule; calls = m.limit; room = room i; table = m.entries; gathered = gathered i })
