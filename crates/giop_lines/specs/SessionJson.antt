@@ -24,8 +24,8 @@ minor_json minor =
     codes "\"minor\":" ++ (decimal minor ++ (codes ",\"minor_hex\":\"" ++
     (minor_hex minor ++ codes "\"")))
 
--- what a Reply answers, with the text of its values or of its reference: what it is, and the members
--- behind that
+-- what a Reply answers, with the text of its values or of its reference: what it is, and the
+-- members behind that
 abbrev pub outcome_json : ReplyBody → List ℕ → List ℕ
 outcome_json (NoException outs) brought = codes "\"result\",\"outs\":" ++ brought
 outcome_json (UserException id members) brought =
@@ -40,8 +40,8 @@ outcome_json (ForwardPerm ior) brought =
 outcome_json (NeedsAddressing disposition) brought =
     codes "\"needs_addressing\",\"disposition\":" ++ signed_decimal disposition
 
--- what is stored at a client, with the text of what its Reply brought: what the call came to, and the
--- members behind that
+-- what is stored at a client, with the text of what its Reply brought: what the call came to, and
+-- the members behind that
 abbrev pub came_json : ClientEntry → List ℕ → List ℕ
 came_json (client.Sending call left) brought = codes "\"sending\""
 came_json (client.Waiting call) brought = codes "\"waiting\""

@@ -15,7 +15,7 @@ mod refusal;
 mod target;
 
 use crate::HexText;
-use crate::traced::DirectionText;
+use crate::call::traced::DirectionText;
 pub use answered::{AnswerJson, AnsweredJson, ConnectionJson};
 pub use body::{InsJson, JoinedJson, RequestFaultJson, UndecodedJson, UnjoinedJson};
 pub use call::{ClientEntryJson, OutcomeJson, UnsentJson};

@@ -5,29 +5,24 @@
 //! SessionJson.antt or ConvertJson.antt, and docs/FORMATS.md shows it: change all three.
 #![tactic(auto)]
 
-mod answered;
 mod appending;
 mod body;
+mod call;
 mod cdr_fault;
-mod client_entry;
 mod end;
 mod json;
-mod locate;
 mod message;
 mod octets;
 mod reference;
 mod refusal;
-mod reply;
-mod request;
-mod server_entry;
-mod target;
-mod traced;
 
-pub use answered::{AnsweredLine, ConnectionLine, UnsentLine};
 pub use appending::{append_escaped, append_hex, append_id, append_target};
 pub use body::{InsLine, JoinedLine, UndecodedLine, UnjoinedLine};
+pub use call::answered::{AnsweredLine, ConnectionLine, UnsentLine};
+pub use call::client_entry::{ClientEntryLine, CompletionText, ReplyText};
+pub use call::server_entry::{AskedText, RequestFaultText, ServerEntryLine};
+pub use call::traced::{DirectionEndLine, IdText, MinorText, OwnTargetText};
 pub use cdr_fault::CdrFaultText;
-pub use client_entry::{ClientEntryLine, CompletionText, ReplyText};
 pub use end::{FaultLine, HeadFaultLine, RestLine};
 pub use json::{
     AnswerJson, AnsweredJson, AskedJson, CdrFaultJson, ClientEntryJson, ConnectionJson,
@@ -37,12 +32,10 @@ pub use json::{
     RestJson, ServerEntryJson, TargetJson, TextJson, TypeJson, UndecodedJson, UnjoinedJson,
     UnsentJson, WireFaultJson,
 };
-pub use locate::{LocateReplyLine, LocateRequestLine};
 pub use message::MessageLine;
+pub use message::locate::{LocateReplyLine, LocateRequestLine};
+pub use message::reply::ReplyLine;
+pub use message::request::RequestLine;
 pub use octets::{EscapedText, HexText};
 pub use reference::{IiopLine, ProfileLine, TypeLine};
 pub use refusal::RefusalLine;
-pub use reply::ReplyLine;
-pub use request::RequestLine;
-pub use server_entry::{AskedText, RequestFaultText, ServerEntryLine};
-pub use traced::{DirectionEndLine, IdText, MinorText, OwnTargetText};

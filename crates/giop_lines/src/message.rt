@@ -1,4 +1,9 @@
 //! The line of a message: its header (CORBA 3.3 Part 2, 9.4.1) and its request id.
+pub mod locate;
+pub mod reply;
+pub mod request;
+pub mod target;
+
 use giop_cdr::{CdrFault, Order};
 use giop_msg::{Msg, Version};
 use std::fmt;

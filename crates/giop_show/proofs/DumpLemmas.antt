@@ -20,7 +20,7 @@ use Rattle.giop_msg.proofs.StreamLemmas.{length-message_octets, message_or_fault
 use Rattle.giop_show.specs.declared.failure.Failure.{Failure}
 use Rattle.giop_show.specs.declared.status.Status.{Status}
 use Rattle.giop_show.specs.declared.status.Status.TheVariants.{Done, Refused}
-use Rattle.giop_show.specs.Dump.{Dumps, DumpsKnown, Leaves, Prints, Telling, messages_text, lists_behind, no_lists, end_line, rest_fault, ended}
+use Rattle.giop_show.specs.Dump.Text.{Dumps, DumpsKnown, Leaves, Prints, Telling, messages_text, lists_behind, no_lists, end_line, rest_fault, ended}
 use Rattle.giop_show.specs.Status.{header_status}
 
 -- a writer's contents that grew by xs and then by ys grew by both

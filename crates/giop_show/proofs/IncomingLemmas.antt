@@ -8,8 +8,8 @@ use Rattle.giop_msg.specs.declared.msg.Msg.{Msg}
 use Rattle.giop_msg.specs.Msg.{IsMessage, message_octets}
 use Rattle.giop_msg.specs.Stream.{BeginsWithFault, BeginsWithMessage, Msgs, TakesMessage, Unread, Waits}
 use Rattle.giop_msg.proofs.StreamLemmas.{each_head, each_tail, fault_stands, message_or_fault, same_message}
-use Rattle.giop_show.specs.Incoming.{IsLast, IsNext, Passes, unheard}
-use Rattle.giop_show.specs.TracedText.{AreMessages}
+use Rattle.giop_show.specs.Trace.Incoming.{IsLast, IsNext, Passes, unheard}
+use Rattle.giop_show.specs.Trace.Text.{AreMessages}
 use Rattle.giop_show.proofs.DumpLemmas.{rest_fault-none, rest_fault-stands}
 
 -- octets that begin with a message are it and others

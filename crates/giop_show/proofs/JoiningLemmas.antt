@@ -8,7 +8,7 @@ use Rattle.giop_frag.specs.Gathered.{Lists, grown}
 use Rattle.giop_msg.specs.declared.msg.Msg.{Msg}
 use Rattle.giop_show.specs.declared.dump.joining.Piece.{Piece}
 use Rattle.giop_show.specs.declared.failure.Failure.{Failure}
-use Rattle.giop_show.specs.Joining.{begun, brought_of, gone_on, last_piece, next_piece}
+use Rattle.giop_show.specs.Dump.Joining.{begun, brought_of, gone_on, last_piece, next_piece}
 
 -- what is there was dropped, and the first piece begins it anew
 pub begun_there : (lists after : Lists) (id : ℕ) (m : Msg) (e : Option GatherFault) → e ≡ None

@@ -1,6 +1,7 @@
 pub mod DumpLemmas
 pub mod IncomingLemmas
 pub mod TraceLemmas
+pub mod OrderLemmas
 pub mod TracedLemmas
 pub mod JoiningLemmas
 pub mod PiecesLemmas

@@ -15,11 +15,11 @@ use Rattle.giop_trace.specs.Observing.{heard as heard_of, is_early, left}
 use Rattle.giop_types.specs.declared.json.interface.Interface.{Interface}
 use Rattle.giop_show.specs.declared.form.LineForm.{LineForm}
 use Rattle.giop_show.specs.declared.form.LineForm.TheVariants as form
-use Rattle.giop_show.specs.Dump.{ended}
-use Rattle.giop_show.specs.Incoming.{EndsWith, IsLast, Passes, unheard}
-use Rattle.giop_show.specs.Trace.{direction_end_in}
-use Rattle.giop_show.specs.TracedRuns.{HearsBoth, HearsClient, HearsServer}
-use Rattle.giop_show.specs.TracedText.{AreMessages, Turn, all_open, behind, both_text, both_turn, client_text, client_turn, end_text, heard_lines, server_turn}
+use Rattle.giop_show.specs.Dump.Text.{ended}
+use Rattle.giop_show.specs.Trace.Incoming.{EndsWith, IsLast, Passes, unheard}
+use Rattle.giop_show.specs.Trace.Outcome.{direction_end_in}
+use Rattle.giop_show.specs.Trace.Loops.{HearsBoth, HearsClient, HearsServer}
+use Rattle.giop_show.specs.Trace.Text.{AreMessages, Turn, all_open, behind, both_text, both_turn, client_text, client_turn, end_text, heard_lines, server_turn}
 use Rattle.giop_show.proofs.DumpLemmas.{Appends-append, Appends-kept, Appends-nil}
 
 -- contents that were kept, and then grew
@@ -39,7 +39,7 @@ abbrev pub Turns : Type 0
 Turns = ById Flow → List Msg → Turn
 
 -- a turn behind lines, behind others
-behind-behind : (xs ys : List ℕ) (turn : Turn) → behind xs (behind ys turn) ≡ behind (xs ++ ys) turn
+pub behind-behind : (xs ys : List ℕ) (turn : Turn) → behind xs (behind ys turn) ≡ behind (xs ++ ys) turn
 behind-behind xs ys turn = λ i. record turn { lines = sym (append_assoc xs ys turn.lines) i }
 
 -- a turn of no lines behind some

@@ -7,9 +7,9 @@ use Rattle.giop_msg.specs.declared.messages.completion.Completion.{Completion}
 use Rattle.giop_msg.specs.declared.messages.reply_body.ReplyBody.{ReplyBody}
 use Rattle.giop_msg.specs.declared.messages.reply_body.ReplyBody.TheVariants.{NoException, UserException, SystemException, Forward, ForwardPerm, NeedsAddressing}
 use Rattle.giop_msg.specs.declared.messages.request.Request.{Request}
-use Rattle.giop_show.specs.TracedJson.{body_json, result_json}
-use Rattle.giop_show.specs.TracedLines.{call_text, parts_text, result_text}
-use Rattle.giop_show.specs.TracedCalls.{answered_reply}
+use Rattle.giop_show.specs.Trace.Json.{body_json, result_json}
+use Rattle.giop_show.specs.Trace.Lines.{call_text, parts_text, result_text}
+use Rattle.giop_show.specs.Trace.Calls.{answered_reply}
 use Rattle.giop_msg.specs.declared.kind.Kind.TheVariants as kind
 use Rattle.giop_msg.specs.Joined.{joined_from}
 use Rattle.giop_msg.specs.Messages.Reply.{reply}

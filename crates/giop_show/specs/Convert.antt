@@ -45,7 +45,7 @@ use Rattle.giop_lines.specs.ConvertJson.{corbaloc_json, iiop_json, ior_json, pro
 use Rattle.giop_lines.specs.ConvertLines.{refusal_line, type_line, iiop_line, profile_line}
 use Rattle.giop_show.specs.declared.form.LineForm.{LineForm}
 use Rattle.giop_show.specs.declared.form.LineForm.TheVariants.{Text, Json}
-use Rattle.giop_show.specs.Dump.{ended}
+use Rattle.giop_show.specs.Dump.Text.{ended}
 use Rattle.giop_show.specs.Forms.{line_in, part_in, refused_in}
 
 -- whether the last octet is a newline

@@ -6,7 +6,7 @@ use Rattle.giop_lines.specs.ConvertJson.{refusal_json}
 use Rattle.giop_lines.specs.ConvertLines.{refusal_line}
 use Rattle.giop_show.specs.declared.form.LineForm.{LineForm}
 use Rattle.giop_show.specs.declared.form.LineForm.TheVariants.{Text, Json}
-use Rattle.giop_show.specs.Dump.{ended}
+use Rattle.giop_show.specs.Dump.Text.{ended}
 
 -- the form of whole numbers in values
 abbrev pub numbers_of : LineForm → NumberForm

@@ -1,15 +1,6 @@
 pub mod Status
-pub mod Dump
 pub mod Forms
-pub mod DumpHeads
-pub mod Joining
-pub mod DumpBodies
 pub mod Convert
 pub mod Bodies
+pub mod Dump
 pub mod Trace
-pub mod TracedCalls
-pub mod TracedLines
-pub mod TracedJson
-pub mod TracedText
-pub mod Incoming
-pub mod TracedRuns

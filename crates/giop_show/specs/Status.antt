@@ -25,7 +25,8 @@ limit_option Message = codes "--message-limit"
 limit_option Calls = codes "--calls-limit"
 limit_option Gathered = codes "--gathered-limit"
 
--- the status of what ends at a header with a fault of this kind: one that is too large passes a limit
+-- the status of what ends at a header with a fault of this kind: one that is too large passes a
+-- limit
 abbrev pub header_status : WireKind → Status
 header_status TooLarge = LimitPassed Message
 header_status _ = Refused

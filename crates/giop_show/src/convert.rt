@@ -2,7 +2,7 @@
 ghost use Rattle.std.specs.Prelude.{◌≡◌, ◌++◌, ◌∷◌, [], IfOk, OnOk};
 ghost use Rattle.std.specs.Io.KnownBytes.{Appends};
 ghost use Rattle.giop_show.specs.Convert.{unended, Tells};
-ghost use Rattle.giop_show.specs.Dump.{ended};
+ghost use Rattle.giop_show.specs.Dump.Text.{ended};
 
 pub mod described;
 pub mod reference;

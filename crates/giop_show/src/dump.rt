@@ -1,12 +1,12 @@
 //! `dump`: each message of a file, and how the file ends. Its meaning is `Dumps` and `DumpsKnown`
-//! in specs/Dump.antt, of the telling that specs/DumpHeads.antt or DumpBodies.antt says: change them
-//! together.
-ghost use Rattle.std.specs.Prelude.{◌≡◌, ◌++◌, IfErr, IfOk, OnOk, option_copied};
+//! in specs/Dump/Text.antt, of the telling that specs/Dump/Heads.antt or Bodies.antt says: change
+//! them together.
+ghost use Rattle.std.specs.Prelude.{◌≡◌, ◌++◌, IfErr, IfOk, OnOk};
 ghost use Rattle.std.specs.Io.KnownBytes.{IsAtEnd};
 ghost use Rattle.giop_types.specs.declared.json.number_form.NumberForm.TheVariants.{Plain};
-ghost use Rattle.giop_show.specs.DumpBodies.{telling_by};
-ghost use Rattle.giop_show.specs.Dump.{Dumps, DumpsKnown, no_lists};
-ghost use Rattle.giop_show.specs.DumpHeads.{heads_alone};
+ghost use Rattle.giop_show.specs.Dump.Bodies.{telling_of};
+ghost use Rattle.giop_show.specs.Dump.Text.{Dumps, DumpsKnown, no_lists};
+ghost use Rattle.giop_show.specs.Dump.Heads.{heads_alone};
 
 pub mod bodies;
 pub mod heads;
@@ -40,9 +40,9 @@ pub enum BehindFault {
     Leave,
 }
 
-/// Writes the messages that the octets of a file are, in lines of text, and then how many octets are
-/// left, or the fault that ends it. It is `Done` where the file is messages and nothing else, else
-/// `Refused`.
+/// Writes the messages that the octets of a file are, in lines of text, and then how many octets
+/// are left, or the fault that ends it. It is `Done` where the file is messages and nothing else,
+/// else `Refused`.
 ///
 /// Where writing fails, it is `InputOutput`. Where it is out of memory, it is `Memory`. After
 /// either, a part of the text may be written.
@@ -58,9 +58,9 @@ pub fn dump_octets<W: Write>(alloc: Global, octets: &[u8], writer: &mut W) -> St
     }
 }
 
-/// Does what `dump_octets` does, in a form, for the octets that a reader gives and messages of up to
-/// this size, the header not counted. Where something fails, what failed is returned in place of a
-/// status. No more octets are held than a message and a piece.
+/// Does what `dump_octets` does, in a form, for the octets that a reader gives and messages of up
+/// to this size, the header not counted. Where something fails, what failed is returned in place of
+/// a status. No more octets are held than a message and a piece.
 ///
 /// The writer is flushed before each read, so that a message is shown as soon as it is whole. What
 /// is written last, the rest or the fault, is left to the caller to flush.
@@ -91,9 +91,7 @@ pub fn dump_by<R: Read, W: Write>(
     behind: BehindFault,
 ) -> Result<Status, Failure>
     requires { teller.old.gather.lists ≡ no_lists }
-    ensures text { let telling = telling_by (option_copied teller.old.interface) teller.old.form
-        teller.old.gather.limit in
-        IfOk result (DumpsKnown telling limit (R.remaining reader.old)
+    ensures text { IfOk result (DumpsKnown (telling_of teller.old) limit (R.remaining reader.old)
         (W.contents writer.old) (W.contents writer.new)) }
     ensures end { OnOk result (behind ≡ BehindFault.Read → IsAtEnd (R.remaining reader.new)) }
     ensures done { IfOk result (λ status. status ≡ Status.Done → IsAtEnd (R.remaining reader.new)) }

@@ -1,9 +1,9 @@
-//! The two forms in which a command tells what it read: lines of text, or lines of JSON. What stands
-//! in each is specs/Forms.antt: change both.
+//! The two forms in which a command tells what it read: lines of text, or lines of JSON. What
+//! stands in each is specs/Forms.antt: change both.
 ghost use Rattle.std.specs.Prelude.{◌≡◌, IfOk, IfSome, OnOk};
 ghost use Rattle.std.specs.Io.KnownBytes.{Appends};
 ghost use Rattle.std.specs.String.{string_bytes};
-ghost use Rattle.giop_show.specs.Dump.{ended};
+ghost use Rattle.giop_show.specs.Dump.Text.{ended};
 ghost use Rattle.giop_show.specs.Forms.{closed_in, ended_in, line_in, part_in, refused_in, told_in};
 
 use crate::failure::Failure;

@@ -1,6 +1,6 @@
-//! What giopctl shows of files, over any reader and any writer: the messages of `dump`, the calls of
-//! `trace`, references and values in another form by `convert`. Each returns the exit status, and a
-//! contract says what it prints.
+//! What giopctl shows of files, over any reader and any writer: the messages of `dump`, the calls
+//! of `trace`, references and values in another form by `convert`. Each returns the exit status,
+//! and a contract says what it prints.
 #![tactic(auto)]
 
 pub mod bodies;
@@ -8,6 +8,7 @@ pub mod convert;
 pub mod dump;
 pub mod failure;
 pub mod form;
+pub mod laws;
 pub mod pieces;
 pub mod status;
 pub mod trace;

@@ -1,13 +1,11 @@
 //! `trace`: both directions of one connection, a line for each call when it is over.
-ghost use Rattle.std.specs.Prelude.{◌≡◌, ◌↔◌, ℕ, List, [], ◌∷◌, ◌++◌, None, IfNone, IfSome, IfOk, OnOk, false, true};
+ghost use Rattle.std.specs.Prelude.{◌≡◌, ◌↔◌, [], None, IfNone, IfSome, IfOk, OnOk, false, true};
 ghost use Rattle.std.specs.FinMap as finite;
 ghost use Rattle.std.specs.Io.KnownBytes.{Appends, IsAtEnd, Keeps};
-ghost use Rattle.giop_msg.specs.declared.msg.Msg.{Msg};
-ghost use Rattle.giop_trace.specs.Observing.{heard, left};
-ghost use Rattle.giop_show.specs.Trace.{status_of_both};
-ghost use Rattle.giop_show.specs.Incoming.{EndsWith, IsLast, Passes, unheard};
-ghost use Rattle.giop_show.specs.TracedRuns.{HearsBoth, HearsClient, HearsServer, SameForm, waiting};
-ghost use Rattle.giop_show.specs.TracedText.{AreMessages, Traces, all_open, flow_line, heard_lines, is_alone, over_as, still_open};
+ghost use Rattle.giop_trace.specs.Observing.{left};
+ghost use Rattle.giop_show.specs.Trace.Outcome.{status_of_both};
+ghost use Rattle.giop_show.specs.Trace.Loops.{BothAreHeard, ClientIsHeard, IsHeardOut, IsNextOfServer, SameForm, ServerEnds, ServerIsHeard, lines_by};
+ghost use Rattle.giop_show.specs.Trace.Text.{Traces, all_open, flow_line, is_alone, over_as, still_open};
 
 mod answer_part;
 mod answered;
@@ -161,13 +159,8 @@ fn hear_client<C: Read, W: Write>(
     ensures end { OnOk result (tracing.new.client.fault ≡ None
         → IsAtEnd (C.remaining client.new)) }
     ensures same { OnOk result (SameForm tracing.old tracing.new) }
-    ensures text { OnOk result ((messages : List Msg) (rest : List ℕ)
-        → AreMessages tracing.old.client.framer.limit
-        (unheard tracing.old.client.framer (C.remaining client.old)) messages rest
-        → HearsClient tracing.old.form interface.now tracing.old.observer.calls.entries
-        tracing.new.observer.calls.entries (W.contents writer.old) (W.contents writer.new)
-        tracing.old.client.framer.limit tracing.new.client.fault
-        tracing.new.client.framer.octets messages rest) }
+    ensures text { OnOk result (ClientIsHeard interface.now tracing.old tracing.new
+        (C.remaining client.old) (W.contents writer.old) (W.contents writer.new)) }
 {
     'messages: for _ in 0..u64::MAX {
         let Some(message) = tracing.client.next(client, writer)? else {
@@ -201,16 +194,9 @@ fn hear_both<C: Read, S: Read, W: Write>(
     ensures server { OnOk result (tracing.new.server.fault ≡ None
         → IsAtEnd (S.remaining server.new)) }
     ensures same { OnOk result (SameForm tracing.old tracing.new) }
-    ensures text { OnOk result ((asked answered : List Msg) (rest left_over : List ℕ)
-        → AreMessages tracing.old.client.framer.limit
-        (unheard tracing.old.client.framer (C.remaining client.old)) asked rest
-        → AreMessages tracing.old.client.framer.limit
-        (unheard tracing.old.server.framer (S.remaining server.old)) answered left_over
-        → HearsBoth tracing.old.form interface.now tracing.old.observer.calls.entries
-        tracing.new.observer.calls.entries (W.contents writer.old) (W.contents writer.new)
-        tracing.old.client.framer.limit tracing.new.client.fault tracing.new.server.fault
-        tracing.new.client.framer.octets tracing.new.server.framer.octets asked
-        (waiting tracing.old.held ++ answered) rest left_over) }
+    ensures text { OnOk result (BothAreHeard interface.now tracing.old tracing.new
+        (C.remaining client.old) (S.remaining server.old)
+        (W.contents writer.old) (W.contents writer.new)) }
 {
     'messages: for _ in 0..u64::MAX {
         let Some(message) = tracing.client.next(client, writer)? else {
@@ -243,19 +229,11 @@ fn hear_server<S: Read, W: Write>(
         → IsAtEnd (S.remaining server.new)) }
     ensures client { tracing.new.client ≡ tracing.old.client }
     ensures same { OnOk result (SameForm tracing.old tracing.new) }
-    ensures text { OnOk result ((messages : List Msg) (rest : List ℕ)
-        → AreMessages tracing.old.server.framer.limit
-        (unheard tracing.old.server.framer (S.remaining server.old)) messages rest
-        → HearsServer tracing.old.form interface.now waits tracing.old.observer.calls.entries
-        tracing.new.observer.calls.entries (W.contents writer.old) (W.contents writer.new)
-        tracing.old.server.framer.limit
-        (unheard tracing.new.server.framer (S.remaining server.new)) (waiting tracing.new.held)
-        (waiting tracing.old.held ++ messages) rest) }
-    ensures last { OnOk result (waits ≡ false → (messages : List Msg) (rest : List ℕ)
-        → AreMessages tracing.old.server.framer.limit
-        (unheard tracing.old.server.framer (S.remaining server.old)) messages rest
-        → EndsWith tracing.old.server.framer.limit rest tracing.new.server.fault
-        tracing.new.server.framer.octets) }
+    ensures text { OnOk result (ServerIsHeard interface.now waits tracing.old tracing.new
+        (S.remaining server.old) (S.remaining server.new)
+        (W.contents writer.old) (W.contents writer.new)) }
+    ensures last { OnOk result (waits ≡ false
+        → ServerEnds tracing.old tracing.new (S.remaining server.old)) }
 {
     'messages: for _ in 0..u64::MAX {
         let Some(message) = next_of_server(tracing, server, writer)? else {
@@ -290,17 +268,11 @@ fn next_of_server<S: Read, W: Write>(
     ensures same { OnOk result (SameForm tracing.old tracing.new) }
     ensures held { OnOk result (tracing.new.held ≡ None) }
     ensures text { OnOk result (Keeps (W.contents writer.old) (W.contents writer.new)) }
-    ensures found { IfOk result (λ o. IfSome o (λ brought. (messages : List Msg) (rest : List ℕ)
-        → AreMessages tracing.old.server.framer.limit
-        (unheard tracing.old.server.framer (S.remaining server.old)) messages rest
-        → Passes tracing.old.server.framer.limit
-        (unheard tracing.new.server.framer (S.remaining server.new))
-        (λ later. brought.message ∷ later) (waiting tracing.old.held ++ messages) rest)) }
+    ensures found { IfOk result (λ o. IfSome o (λ brought. IsNextOfServer tracing.old tracing.new
+        (S.remaining server.old) (S.remaining server.new) brought.message)) }
     ensures none { IfOk result (λ o. IfNone o (tracing.old.held ≡ None)) }
-    ensures last { IfOk result (λ o. IfNone o (IsLast tracing.old.server.framer.limit
-        (unheard tracing.old.server.framer (S.remaining server.old))
-        (unheard tracing.new.server.framer (S.remaining server.new)) tracing.new.server.fault
-        tracing.new.server.framer.octets)) }
+    ensures last { IfOk result (λ o. IfNone o (IsHeardOut tracing.old.server tracing.new.server
+        (S.remaining server.old) (S.remaining server.new))) }
 {
     match tracing.held.take() {
         Some(message) => Ok(Some(message)),
@@ -325,9 +297,7 @@ fn tell<W: Write>(
         ≡ left tracing.old.observer.alone tracing.old.observer.calls.entries direction
         brought.message) }
     ensures text { OnOk result (Appends (W.contents writer.old) (W.contents writer.new)
-        (heard_lines tracing.old.form interface.now tracing.old.observer.alone
-        (heard tracing.old.observer.alone tracing.old.observer.calls.entries direction
-        brought.message))) }
+        (lines_by tracing.old interface.now direction brought.message)) }
 {
     let (form, alone) = (tracing.form, tracing.observer.alone);
     // Told where it lies: to move it takes as long as to hear it.

@@ -38,3 +38,4 @@ mod ClientSevenAlone
 mod ClientNineAlone
 mod ClientRunFits
 mod ObservedOwn
+mod ObservedTurns

@@ -14,7 +14,7 @@ use Rattle.giop_msg.specs.RequestId.{request_id_of}
 use Rattle.giop_calls.specs.declared.fault.CallFault.{CallFault}
 use Rattle.giop_session.specs.declared.Limits.{Limits}
 use Rattle.giop_session.specs.declared.Planned.{Planned}
-use Rattle.giop_session.specs.declared.Sends.{Sends}
+use Rattle.giop_session.specs.Calls.Sending.{Sends}
 use Rattle.giop_session.specs.declared.SessionFault.{SessionFault}
 use Rattle.giop_session.specs.declared.Slot.{Slot}
 use Rattle.giop_session.specs.declared.TableFault.{TableFault}

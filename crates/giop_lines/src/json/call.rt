@@ -1,12 +1,12 @@
 //! What became of a call at a client, as an object of JSON. Its texts are specs/SessionJson.antt.
-use crate::client_entry::CompletionText;
+use crate::call::client_entry::CompletionText;
 use crate::{CdrFaultJson, HexText, TextJson};
 use giop_calls::ClientEntry;
 use giop_msg::ReplyBody;
 use std::fmt;
 
-/// What is stored for an id at a client: `{"id":ID,"what":WHAT}`, and behind WHAT what was answered,
-/// or why the reply can't be decoded.
+/// What is stored for an id at a client: `{"id":ID,"what":WHAT}`, and behind WHAT what was
+/// answered, or why the reply can't be decoded.
 #[derive(Clone, Copy)]
 pub struct ClientEntryJson<'a> {
     /// The id.
@@ -61,8 +61,8 @@ impl fmt::Display for CameJson<'_> {
     }
 }
 
-/// What a Reply answers, with its values, which are a JSON list, or the text of its reference: WHAT,
-/// and the members behind that.
+/// What a Reply answers, with its values, which are a JSON list, or the text of its reference:
+/// WHAT, and the members behind that.
 #[derive(Clone, Copy)]
 pub struct OutcomeJson<'a>(pub &'a ReplyBody, pub &'a str);
 

@@ -1,14 +1,14 @@
 //! What is stored for an id at a server, as an object of JSON. Its text is `server_json` in
 //! specs/TableJson.antt.
 use crate::TextJson;
+use crate::call::server_entry::HereText;
 use crate::json::body::RequestFaultJson;
-use crate::server_entry::HereText;
 use giop_calls::ServerEntry;
 use giop_msg::Request;
 use std::fmt;
 
-/// What is stored for an id at a server: `{"id":ID,"what":WHAT}`, and behind WHAT what is asked, why
-/// it can't be decoded, or what was answered.
+/// What is stored for an id at a server: `{"id":ID,"what":WHAT}`, and behind WHAT what is asked,
+/// why it can't be decoded, or what was answered.
 #[derive(Clone, Copy)]
 pub struct ServerEntryJson<'a> {
     /// The id.

@@ -6,7 +6,7 @@ ghost use Rattle.giop_ior.specs.Ior.{ior_layout};
 ghost use Rattle.giop_types.specs.declared.ior_text_fault.IorTextFault.TheVariants.{NoMemory};
 ghost use Rattle.giop_show.specs.declared.failure.Failure.TheVariants.{Memory};
 ghost use Rattle.giop_show.specs.Convert.{ConvertsIor, ConvertsCorbaloc, comma_in, corbaloc_in, ior_refusal, profile_in, profiles_in, reference_in, text_of_corbaloc};
-ghost use Rattle.giop_show.specs.Dump.{ended};
+ghost use Rattle.giop_show.specs.Dump.Text.{ended};
 ghost use Rattle.giop_show.specs.Forms.{line_in};
 ghost use Rattle.giop_lines.specs.ConvertJson.{ior_json};
 
@@ -26,9 +26,10 @@ use giop_lines::{
 use std::alloc::{AllocError, Global};
 use std::io::Write;
 
-/// Writes what the text of a reference says (CORBA 3.3 Part 2, 7.6.9), which a file's octets are, in
-/// a form: its type id, each profile, and the text again; `Done`. In text each has a line, in JSON
-/// all are one object. Where they are no such text, the line of its fault is written; `Refused`.
+/// Writes what the text of a reference says (CORBA 3.3 Part 2, 7.6.9), which a file's octets are,
+/// in a form: its type id, each profile, and the text again; `Done`. In text each has a line, in
+/// JSON all are one object. Where they are no such text, the line of its fault is written;
+/// `Refused`.
 pub fn convert_ior<W: Write>(
     alloc: Global,
     octets: &[u8],
@@ -153,8 +154,8 @@ fn write_profile<W: Write>(
 }
 
 /// Writes a corbaloc (7.6.10.1), which a file's octets are, in full, and the text of its reference,
-/// in a form; `Done`. Where they are no corbaloc, the line of its fault is written, and where the reference is
-/// too long for its counts `fault 1 Unfit`; `Refused`.
+/// in a form; `Done`. Where they are no corbaloc, the line of its fault is written, and where the
+/// reference is too long for its counts `fault 1 Unfit`; `Refused`.
 pub fn convert_corbaloc<W: Write>(
     alloc: Global,
     octets: &[u8],

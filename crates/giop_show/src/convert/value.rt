@@ -97,9 +97,9 @@ fn octets_of_value(
     }
 }
 
-/// Writes a value in JSON, its whole numbers in a form, whose octets from offset 0 on a file has in hexadecimal; `Done`. Where
-/// the file is no hexadecimal text, or its octets are no value of the description, or octets are
-/// left behind it, the line of the fault is written; `Refused`.
+/// Writes a value in JSON, its whole numbers in a form, whose octets from offset 0 on a file has in
+/// hexadecimal; `Done`. Where the file is no hexadecimal text, or its octets are no value of the
+/// description, or octets are left behind it, the line of the fault is written; `Refused`.
 pub fn convert_decode<W: Write>(
     alloc: Global,
     numbers: NumberForm,

@@ -1,10 +1,10 @@
-//! What `dump` tells of bodies, by an interface. It is specs/DumpBodies.antt: change both.
+//! What `dump` tells of bodies, by an interface. It is specs/Dump/Bodies.antt: change both.
 ghost use Rattle.std.specs.Prelude.{◌≡◌, ◌≤◌, ◌^◌, length, OnOk};
 ghost use Rattle.std.specs.Io.KnownBytes.{Appends};
 ghost use Rattle.giop_msg.specs.Messages.RequestAnswer.{IsWholeWant};
 ghost use Rattle.giop_show.specs.Bodies.{request_ins};
 ghost use Rattle.giop_show.specs.Forms.{numbers_of};
-ghost use Rattle.giop_show.specs.DumpBodies.{body_text, ins_in, joined_text, own_text, piece_text, undecoded_text};
+ghost use Rattle.giop_show.specs.Dump.Bodies.{body_text, ins_in, joined_text, own_text, piece_text, undecoded_text};
 
 use crate::bodies::request_ins;
 use crate::dump::heads::write_second;
@@ -83,7 +83,7 @@ fn write_joined<W: Write>(
     write_closed(form, writer)
 }
 
-#[tactic(auto, unfolding(crate::specs::DumpBodies::body_text))]
+#[tactic(auto, unfolding(crate::specs::Dump::Bodies::body_text))]
 fn write_body<W: Write>(
     alloc: Global,
     interface: &Interface,

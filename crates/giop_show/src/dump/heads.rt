@@ -1,8 +1,8 @@
 //! What `dump` tells of a message's head (CORBA 3.3 Part 2, 9.4.2, 9.4.3, 9.4.5 and 9.4.6), or why
-//! it isn't read. It is `second_text` in specs/DumpHeads.antt: change both.
+//! it isn't read. It is `second_text` in specs/Dump/Heads.antt: change both.
 ghost use Rattle.std.specs.Prelude.{◌≡◌, ◌-◌, ◌^◌, ◌≤◌, length, OnOk};
 ghost use Rattle.std.specs.Io.KnownBytes.{Appends};
-ghost use Rattle.giop_show.specs.DumpHeads.{end_of, head_fault_in, locate_reply_head_of, locate_reply_text, locate_request_of, locate_request_text, reply_head_of, reply_text, request_head_of, request_text, second_text};
+ghost use Rattle.giop_show.specs.Dump.Heads.{end_of, head_fault_in, locate_reply_head_of, locate_reply_text, locate_request_of, locate_request_text, reply_head_of, reply_text, request_head_of, request_text, second_text};
 
 use crate::failure::Failure;
 use crate::form::{LineForm, write_part};
@@ -15,7 +15,7 @@ use giop_msg::{Kind, LocateReplyHead, LocateRequest, Msg, ReplyHead, RequestHead
 use std::io::Write;
 
 /// What is told of the head of a message that no fragments follow, where its kind has one.
-#[tactic(auto, unfolding(crate::specs::DumpHeads::second_text))]
+#[tactic(auto, unfolding(crate::specs::Dump::Heads::second_text))]
 pub fn write_second<W: Write>(form: LineForm, message: &Msg, writer: &mut W) -> Result<(), Failure>
     requires { length message.now.payload ≤ 2 ^ 62 }
     ensures { OnOk result (Appends (W.contents writer.old) (W.contents writer.new)

@@ -1,10 +1,10 @@
 //! The Requests in pieces of a file, joined by their ids (CORBA 3.3 Part 2, 9.4.9). What each
-//! message does is specs/Joining.antt: change both.
+//! message does is specs/Dump/Joining.antt: change both.
 ghost use Rattle.std.specs.Prelude.{◌≡◌, ◌≢◌, ◌^◌, ◌≤◌, None, length, IfOk, OnOk};
 ghost use Rattle.std.specs.FinMap as finite;
 ghost use Rattle.giop_ids.specs.ById.{put};
 ghost use Rattle.giop_msg.specs.RequestId.{request_id_of};
-ghost use Rattle.giop_show.specs.Joining.{begun, brought_of, first_fault, first_piece, fragment_fault, gone_on, last_piece, lists_by, next_piece, piece_by, unjoined};
+ghost use Rattle.giop_show.specs.Dump.Joining.{begun, brought_of, first_fault, first_piece, fragment_fault, gone_on, last_piece, lists_by, next_piece, piece_by, unjoined};
 
 use crate::failure::Failure;
 use giop_frag::{Gather, GatherFault};

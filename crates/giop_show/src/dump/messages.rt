@@ -2,8 +2,8 @@
 ghost use Rattle.std.specs.Prelude.{◌≡◌, ◌≢◌, ◌^◌, ◌<◌, ◌==◌, length, OnOk, IfOk, if◌then◌else◌};
 ghost use Rattle.std.specs.Io.KnownBytes.{Appends};
 ghost use Rattle.giop_msg.specs.declared.fault.WireKind.TheVariants.{NoMemory};
-ghost use Rattle.giop_show.specs.Dump.{ended};
-ghost use Rattle.giop_show.specs.DumpHeads.{fault_in, message_text, rest_in};
+ghost use Rattle.giop_show.specs.Dump.Text.{ended};
+ghost use Rattle.giop_show.specs.Dump.Heads.{fault_in, message_text, rest_in};
 ghost use Rattle.giop_show.specs.Status.{header_status};
 
 use crate::dump::heads::write_second;

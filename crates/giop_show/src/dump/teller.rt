@@ -1,8 +1,8 @@
 //! How the messages of a file are told, in a form: their heads, and by an interface also the bodies
-//! of Requests. Its meaning is specs/DumpBodies.antt: change both.
+//! of Requests. Its meaning is specs/Dump/Bodies.antt: change both.
 ghost use Rattle.std.specs.Prelude.{◌≡◌, ◌^◌, ◌<◌, ◌≤◌, length, option_copied, OnOk, Some};
 ghost use Rattle.std.specs.Io.KnownBytes.{Appends};
-ghost use Rattle.giop_show.specs.DumpBodies.{after_by, body_by, telling_by};
+ghost use Rattle.giop_show.specs.Dump.Bodies.{after_by, body_by, telling_by};
 
 use crate::dump::bodies::{write_own, write_piece};
 use crate::dump::joining::join;
@@ -28,8 +28,8 @@ pub struct Teller<'a> {
 }
 
 impl<'a> Teller<'a> {
-    ghost use Rattle.giop_show.specs.Dump.{no_lists};
-    ghost use Rattle.giop_show.specs.DumpHeads.{heads_alone};
+    ghost use Rattle.giop_show.specs.Dump.Text.{no_lists};
+    ghost use Rattle.giop_show.specs.Dump.Heads.{heads_alone};
 
     /// Tells heads alone. Nothing is gathered.
     pub fn of_heads(alloc: Global, form: LineForm) -> Teller<'a>

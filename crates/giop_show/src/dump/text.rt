@@ -1,8 +1,8 @@
 //! `dump` with bodies, by the text of an interface. Its meaning is `DumpsText` in
-//! specs/DumpBodies.antt: change both.
+//! specs/Dump/Bodies.antt: change both.
 ghost use Rattle.std.specs.Prelude.{◌≡◌, ◌≤◌, ◌^◌, IfOk};
 ghost use Rattle.std.specs.Io.KnownBytes.{IsAtEnd};
-ghost use Rattle.giop_show.specs.DumpBodies.{DumpsText};
+ghost use Rattle.giop_show.specs.Dump.Bodies.{DumpsText};
 
 use crate::convert::value::form_refusal;
 use crate::dump::teller::Teller;

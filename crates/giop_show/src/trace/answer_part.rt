@@ -1,8 +1,8 @@
-//! What a call came to, in its line. Its text is `answer_text` in specs/TracedLines.antt: change
+//! What a call came to, in its line. Its text is `answer_text` in specs/Trace/Lines.antt: change
 //! both.
 ghost use Rattle.std.specs.Prelude.{Some, OnOk, option_copied};
 ghost use Rattle.std.specs.Io.KnownBytes.{Appends};
-ghost use Rattle.giop_show.specs.TracedLines.{answer_text, body_text, done_text, exception_text, named_text, undecoded_reply_text};
+ghost use Rattle.giop_show.specs.Trace.Lines.{answer_text, body_text, done_text, exception_text, named_text, undecoded_reply_text};
 
 use crate::bodies::brought_by;
 use crate::failure::Failure;

@@ -1,10 +1,10 @@
-//! What the answer of a call is. Its meaning is specs/TracedCalls.antt: change both.
+//! What the answer of a call is. Its meaning is specs/Trace/Calls.antt: change both.
 ghost use Rattle.std.specs.Prelude.{◌≡◌, ◌^◌, ◌≤◌, length, IfOk, option_copied};
 ghost use Rattle.giop_cdr.specs.Layout.{text};
 ghost use Rattle.giop_msg.specs.Joined.{head_of_joined, joined_from, right_behind};
 ghost use Rattle.giop_msg.specs.Locate.{locate_reply_head};
 ghost use Rattle.giop_msg.specs.Messages.Reply.{reply};
-ghost use Rattle.giop_show.specs.TracedCalls.{answered_by, answered_located, answered_reply, body_at, exception_of, read_text};
+ghost use Rattle.giop_show.specs.Trace.Calls.{answered_by, answered_located, answered_reply, body_at, exception_of, read_text};
 
 use crate::failure::Failure;
 use giop_cdr::{CdrFault, CdrIn, CdrKind, OctetList, SliceOctets};

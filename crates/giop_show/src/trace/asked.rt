@@ -1,10 +1,10 @@
-//! What the message that begins a call is. Its meaning is specs/TracedCalls.antt: change both.
+//! What the message that begins a call is. Its meaning is specs/Trace/Calls.antt: change both.
 ghost use Rattle.std.specs.Prelude.{◌≡◌, ◌^◌, ◌≤◌, false, length, IfOk, option_copied};
 ghost use Rattle.giop_msg.specs.Joined.{whole_of_joined};
 ghost use Rattle.giop_msg.specs.Locate.{locate_request};
 ghost use Rattle.giop_msg.specs.Messages.RequestAnswer.{IsWholeWant, request_of_joined};
 ghost use Rattle.giop_trace.specs.Flows.{is_answer};
-ghost use Rattle.giop_show.specs.TracedCalls.{asked_locate, asked_of, asked_request, is_call, request_in};
+ghost use Rattle.giop_show.specs.Trace.Calls.{asked_locate, asked_of, asked_request, is_call, request_in};
 
 use crate::failure::Failure;
 use giop_cdr::{CdrKind, SliceOctets};

@@ -1,8 +1,8 @@
-//! What was asked, in the line of a call. Its text is `asked_text` in specs/TracedLines.antt: change
-//! both.
+//! What was asked, in the line of a call. Its text is `asked_text` in specs/Trace/Lines.antt:
+//! change both.
 ghost use Rattle.std.specs.Prelude.{OnOk};
 ghost use Rattle.std.specs.Io.KnownBytes.{Appends};
-ghost use Rattle.giop_show.specs.TracedLines.{asked_text, request_text, unasked_text, undecoded_text};
+ghost use Rattle.giop_show.specs.Trace.Lines.{asked_text, request_text, unasked_text, undecoded_text};
 
 use crate::bodies::request_ins;
 use crate::failure::Failure;

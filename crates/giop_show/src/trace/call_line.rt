@@ -1,11 +1,11 @@
-//! The line of a call, in text or in JSON. It is `call_line` in specs/TracedJson.antt, of the texts of
-//! specs/TracedLines.antt: change both.
+//! The line of a call, in text or in JSON. It is `call_line` in specs/Trace/Json.antt, of the texts
+//! of specs/Trace/Lines.antt: change both.
 ghost use Rattle.std.specs.Prelude.{◌≡◌, IfOk, OnOk, option_copied};
 ghost use Rattle.std.specs.Io.KnownBytes.{Appends};
-ghost use Rattle.giop_show.specs.Dump.{ended};
-ghost use Rattle.giop_show.specs.TracedCalls.{answered_of};
-ghost use Rattle.giop_show.specs.TracedJson.{call_line};
-ghost use Rattle.giop_show.specs.TracedLines.{open_text, parts_text};
+ghost use Rattle.giop_show.specs.Dump.Text.{ended};
+ghost use Rattle.giop_show.specs.Trace.Calls.{answered_of};
+ghost use Rattle.giop_show.specs.Trace.Json.{call_line};
+ghost use Rattle.giop_show.specs.Trace.Lines.{open_text, told_text};
 
 use crate::failure::Failure;
 use crate::form::LineForm;
@@ -74,7 +74,7 @@ pub fn write_call<W: Write>(
 
 // Writes the line of any call.
 #[inline(never)]
-#[tactic(auto, unfolding(crate::specs::TracedLines::call_text, crate::specs::TracedJson::call_json))]
+#[tactic(auto, unfolding(crate::specs::Trace::Lines::call_text, crate::specs::Trace::Json::call_json))]
 fn write_any<W: Write>(
     alloc: Global,
     interface: &Interface,
@@ -127,8 +127,7 @@ fn write_parts<W: Write>(
     writer: &mut W,
 ) -> Result<(), Failure>
     ensures { OnOk result (Appends (W.contents writer.old) (W.contents writer.new)
-        (ended (parts_text told.now.numbers interface.now told.now.id told.now.flow.now
-        told.now.unanswered told.now.asked.now told.now.answered.now))) }
+        (ended (told_text interface.now told.now))) }
 {
     let Told {
         numbers,

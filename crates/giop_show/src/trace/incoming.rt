@@ -1,9 +1,9 @@
 //! What is left of the octets of one direction, and its messages.
 ghost use Rattle.std.specs.Prelude.{◌≡◌, ◌^◌, ◌<◌, [], None, IfNone, IfSome, IfOk, OnOk, length};
 ghost use Rattle.std.specs.Io.KnownBytes.{Appends, IsAtEnd, Keeps};
-ghost use Rattle.giop_show.specs.Dump.{ended};
-ghost use Rattle.giop_show.specs.Incoming.{IsLast, IsNext, unheard};
-ghost use Rattle.giop_show.specs.Trace.{direction_end_in, direction_status};
+ghost use Rattle.giop_show.specs.Dump.Text.{ended};
+ghost use Rattle.giop_show.specs.Trace.Incoming.{IsLast, IsNext, unheard};
+ghost use Rattle.giop_show.specs.Trace.Outcome.{direction_end_in, direction_status};
 
 use crate::failure::Failure;
 use crate::form::LineForm;
@@ -106,8 +106,8 @@ impl Incoming {
     }
 
     /// The last line of a direction: how many octets are left, or what is wrong with the header
-    /// that stands there. It is `Done` where none are left and nothing is wrong, `LimitPassed` where
-    /// a message is larger than the limit, else `Refused`.
+    /// that stands there. It is `Done` where none are left and nothing is wrong, `LimitPassed`
+    /// where a message is larger than the limit, else `Refused`.
     pub fn write_end<W: Write>(
         &self,
         form: LineForm,

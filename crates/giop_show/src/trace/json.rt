@@ -1,9 +1,9 @@
-//! The JSON line of a call (docs/FORMATS.md, "Lines of trace"). Its text is specs/TracedJson.antt:
+//! The JSON line of a call (docs/FORMATS.md, "Lines of trace"). Its text is specs/Trace/Json.antt:
 //! change both.
 ghost use Rattle.std.specs.Prelude.{OnOk};
 ghost use Rattle.std.specs.Io.KnownBytes.{Appends};
-ghost use Rattle.giop_show.specs.Dump.{ended};
-ghost use Rattle.giop_show.specs.TracedJson.{message_json, null_json, open_json, outcome_of, parts_json, what_json};
+ghost use Rattle.giop_show.specs.Dump.Text.{ended};
+ghost use Rattle.giop_show.specs.Trace.Json.{message_json, null_json, open_json, outcome_of, told_json, what_json};
 
 mod answer;
 mod asked;
@@ -20,7 +20,7 @@ use std::alloc::Global;
 use std::io::Write;
 
 /// Writes the line of a call: an object of its id, what was asked, and its outcome.
-#[tactic(auto, unfolding(crate::specs::TracedJson::parts_json))]
+#[tactic(auto, unfolding(crate::specs::Trace::Json::parts_json))]
 pub fn write_call_json<W: Write>(
     alloc: Global,
     interface: &Interface,
@@ -28,8 +28,7 @@ pub fn write_call_json<W: Write>(
     writer: &mut W,
 ) -> Result<(), Failure>
     ensures { OnOk result (Appends (W.contents writer.old) (W.contents writer.new)
-        (ended (parts_json told.now.numbers interface.now told.now.id told.now.flow.now
-        told.now.unanswered told.now.asked.now told.now.answered.now))) }
+        (ended (told_json interface.now told.now))) }
 {
     write!(writer, "{{\"id\":{},\"asked\":", IdJson(told.id))?;
     write_asked_json(

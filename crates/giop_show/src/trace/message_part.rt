@@ -1,8 +1,8 @@
 //! A message that isn't decoded, in the line of a call. Its text is `message_text` in
-//! specs/TracedLines.antt: change both.
+//! specs/Trace/Lines.antt: change both.
 ghost use Rattle.std.specs.Prelude.{OnOk};
 ghost use Rattle.std.specs.Io.KnownBytes.{Appends};
-ghost use Rattle.giop_show.specs.TracedLines.{message_text};
+ghost use Rattle.giop_show.specs.Trace.Lines.{message_text};
 
 use crate::failure::Failure;
 use giop_lines::HexText;

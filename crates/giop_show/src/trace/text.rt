@@ -1,8 +1,8 @@
-//! `trace` by the text of an interface. Its meaning is `TracesText` in specs/TracedText.antt: change
-//! both.
+//! `trace` by the text of an interface. Its meaning is `TracesText` in specs/Trace/Text.antt:
+//! change both.
 ghost use Rattle.std.specs.Prelude.{◌≡◌, IfOk};
 ghost use Rattle.std.specs.Io.KnownBytes.{IsAtEnd};
-ghost use Rattle.giop_show.specs.TracedText.{TracesText};
+ghost use Rattle.giop_show.specs.Trace.Text.{TracesText};
 
 use crate::convert::value::form_refusal;
 use crate::failure::Failure;

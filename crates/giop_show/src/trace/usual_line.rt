@@ -1,19 +1,11 @@
 //! The line of a call that brought its outs, as most do: its messages are decoded and its line is
 //! made where they lie, since what is handed on from step to step takes longer than the steps. The
-//! text is `call_text` in specs/TracedLines.antt, as that of any call: change both.
+//! text is `call_text` in specs/Trace/Lines.antt, as that of any call: change both.
 ghost use Rattle.std.specs.Prelude.{◌≡◌, ◌≤◌, ◌^◌, ◌++◌, Some, IfOk, IfSome, OnOk, codes, false, length, map, true};
 ghost use Rattle.std.specs.String.{string_bytes};
-ghost use Rattle.giop_types.specs.JsonForms.ValuesText.{values_text};
 ghost use Rattle.giop_types.specs.Values.Views.{value_view};
-ghost use Rattle.giop_msg.specs.declared.messages.reply_body.ReplyBody.TheVariants.{NoException};
-ghost use Rattle.giop_msg.specs.Joined.{joined_from};
-ghost use Rattle.giop_msg.specs.Messages.Reply.{reply};
-ghost use Rattle.giop_trace.specs.declared.flow.Flow.{Flow};
-ghost use Rattle.giop_show.specs.Bodies.{brought_by};
-ghost use Rattle.giop_show.specs.Dump.{ended};
-ghost use Rattle.giop_show.specs.TracedCalls.{answered_reply};
-ghost use Rattle.giop_show.specs.TracedLines.{call_text, parts_text, request_text, result_text};
-ghost use Rattle.giop_show.specs.declared.trace.asked.Asked.TheVariants as asked;
+ghost use Rattle.giop_show.specs.Dump.Text.{ended};
+ghost use Rattle.giop_show.specs.Trace.Lines.{both_lists, call_text, reply_line, request_result, result_text};
 
 use giop_cdr::SliceOctets;
 use giop_lines::{append_escaped, append_id, append_target};
@@ -71,12 +63,9 @@ fn line_of_reply(
     answer: &Msg,
 ) -> Result<Option<String>, AllocError>
     requires { length answer.now.payload ≤ 2 ^ 62 }
-    ensures { (flow : Flow) (unanswered : _) → flow.answer ≡ Some answer.now
+    ensures { (flow unanswered : _) → flow.answer ≡ Some answer.now
         → IfOk result (λ made. IfSome made (λ line. string_bytes line
-        ≡ ended (parts_text numbers interface.now id flow unanswered (asked.Request request.now)
-        (Some (answered_reply answer.now
-        ((reply interface.now (Some request.now) answer.now.version).read
-        (joined_from answer.now.order answer.now.payload))))))) }
+        ≡ reply_line numbers interface.now id flow unanswered request.now answer.now)) }
 {
     let joined = SliceOctets::new(answer.payload.as_slice());
     let (version, order) = (answer.version, answer.order);
@@ -121,8 +110,7 @@ fn append_result(
     line: &mut String,
 ) -> Result<(), AllocError>
     ensures { OnOk result (string_bytes line.new ≡ string_bytes line.old
-        ++ (request_text numbers interface.now request.now ++ (codes " Done 0 "
-        ++ brought_by numbers interface.now request.now (NoException (map value_view outs.now))))) }
+        ++ request_result numbers interface.now request.now (map value_view outs.now)) }
 {
     line.push_str(" Asked ")?;
     append_target(line, &request.head.target)?;
@@ -149,8 +137,8 @@ fn append_both(
     line: &mut String,
 ) -> Result<(), AllocError>
     ensures { OnOk result (string_bytes line.new ≡ string_bytes line.old ++ (codes " "
-        ++ (values_text numbers of_ins.now (map value_view ins.now) ++ (codes " Done 0 "
-        ++ values_text numbers of_outs.now (map value_view outs.now))))) }
+        ++ both_lists numbers of_ins.now (map value_view ins.now) of_outs.now
+        (map value_view outs.now))) }
 {
     line.push_str(" ")?;
     append_values(line, alloc, numbers, of_ins, ins)?;

@@ -2,7 +2,7 @@ use Rattle.std.proofs.Common.{◌≡◌, ◌+◌, ◌++◌, ap, refl, sym, ◌�
 use Rattle.std.proofs.lemmas.Bool.{eqb-true}
 use Rattle.std.proofs.lemmas.List.{append-nil}
 use Rattle.giop_msg.specs.Stream.{Unread, TakesMessage}
-use Rattle.giop_show.specs.DumpBodies.{telling_by}
+use Rattle.giop_show.specs.Dump.Bodies.{telling_by}
 use Rattle.giop_show.proofs.DumpLemmas.{nothing_left, of_none, of_message, of_piece, of_rest, of_fault, of_kept}
 use Rattle.giop_show.proofs.dump.dump_by.Goals as goal
 

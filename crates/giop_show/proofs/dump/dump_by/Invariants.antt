@@ -1,5 +1,5 @@
 use Rattle.std.proofs.Common.{◌≡◌, option_copied}
-use Rattle.giop_show.specs.DumpBodies.{telling_by}
+use Rattle.giop_show.specs.Dump.Bodies.{telling_by}
 use Rattle.giop_show.proofs.DumpLemmas.{ShownOf}
 use Rattle.giop_show.proofs.dump.dump_by.Given as goal
 

@@ -1,7 +1,7 @@
 use Rattle.std.proofs.Common.{◌≡◌, true, ap, sym, ◌∙◌}
 use Rattle.giop_trace.specs.declared.direction.Direction.TheVariants.{Client}
 use Rattle.giop_trace.specs.Observing.{heard, left}
-use Rattle.giop_show.specs.TracedText.{behind, client_turn, heard_lines}
+use Rattle.giop_show.specs.Trace.Text.{behind, client_turn, heard_lines}
 use Rattle.giop_show.proofs.TraceLemmas.{along_message}
 use Rattle.giop_show.proofs.trace.hear_client.Goals as goal
 

@@ -1,7 +1,7 @@
 use Rattle.std.proofs.Common.{◌≡◌, ◌&&◌, false, refl, ap, sym, ◌∙◌}
 use Rattle.giop_trace.specs.declared.direction.Direction.TheVariants.{Server}
 use Rattle.giop_trace.specs.Observing.{heard, is_early, left}
-use Rattle.giop_show.specs.TracedText.{behind, heard_lines, server_turn}
+use Rattle.giop_show.specs.Trace.Text.{behind, heard_lines, server_turn}
 use Rattle.giop_show.proofs.TraceLemmas.{along_message}
 use Rattle.giop_show.proofs.trace.hear_server.Goals.{else-waits-via-then-waits+else-is_early, else-waits-via-else-waits}
 use Rattle.giop_show.proofs.trace.hear_server.Goals as goal

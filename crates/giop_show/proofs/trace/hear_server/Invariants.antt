@@ -1,8 +1,8 @@
 use Rattle.std.proofs.Common.{◌≡◌, ℕ, List, ◌++◌}
 use Rattle.giop_msg.specs.declared.msg.Msg.{Msg}
-use Rattle.giop_show.specs.Incoming.{unheard}
-use Rattle.giop_show.specs.TracedRuns.{SameForm, waiting}
-use Rattle.giop_show.specs.TracedText.{AreMessages, server_turn}
+use Rattle.giop_show.specs.Trace.Incoming.{unheard}
+use Rattle.giop_show.specs.Trace.Loops.{SameForm, waiting}
+use Rattle.giop_show.specs.Trace.Text.{AreMessages, server_turn}
 use Rattle.giop_show.proofs.TraceLemmas.{Along}
 use Rattle.giop_show.proofs.trace.hear_server.Given as goal
 

@@ -1,5 +1,5 @@
 use Rattle.std.proofs.Common.{◌≡◌, true, false, ap, ◌∙◌}
-use Rattle.giop_show.specs.TracedText.{is_alone}
+use Rattle.giop_show.specs.Trace.Text.{is_alone}
 use Rattle.giop_show.proofs.TraceLemmas.{all_unheard, both_written, client_written, on_ok}
 use Rattle.giop_show.proofs.trace.trace_stream.Goals as goal
 

@@ -1,7 +1,7 @@
 use Rattle.std.proofs.Common.{take}
 use Rattle.std.specs.List.{flat_map}
 use Rattle.std.specs.Io.KnownBytes.{Appends}
-use Rattle.giop_show.specs.TracedText.{open_line}
+use Rattle.giop_show.specs.Trace.Text.{open_line}
 use Rattle.giop_show.proofs.trace.write_open.Given as goal
 
 abbrev pub invariant-loop-id : goal.invariant-loop-id

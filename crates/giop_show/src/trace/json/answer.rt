@@ -1,8 +1,8 @@
-//! The answer of a call, in its JSON line. Its text is `answer_json` in specs/TracedJson.antt: change
-//! both.
+//! The answer of a call, in its JSON line. Its text is `answer_json` in specs/Trace/Json.antt:
+//! change both.
 ghost use Rattle.std.specs.Prelude.{OnOk, Some, option_copied};
 ghost use Rattle.std.specs.Io.KnownBytes.{Appends};
-ghost use Rattle.giop_show.specs.TracedJson.{answer_json, body_json, done_json, named_json, result_json, undecoded_reply_json};
+ghost use Rattle.giop_show.specs.Trace.Json.{answer_json, body_json, done_json, named_json, result_json, undecoded_reply_json};
 
 use crate::bodies::brought_by;
 use crate::failure::Failure;

@@ -1,8 +1,8 @@
-//! What was asked, in the JSON line of a call. Its text is `asked_json` in specs/TracedJson.antt:
+//! What was asked, in the JSON line of a call. Its text is `asked_json` in specs/Trace/Json.antt:
 //! change both.
 ghost use Rattle.std.specs.Prelude.{OnOk};
 ghost use Rattle.std.specs.Io.KnownBytes.{Appends};
-ghost use Rattle.giop_show.specs.TracedJson.{asked_json, request_json, unasked_json, undecoded_json};
+ghost use Rattle.giop_show.specs.Trace.Json.{asked_json, request_json, unasked_json, undecoded_json};
 
 use crate::bodies::request_ins;
 use crate::failure::Failure;

@@ -1,6 +1,6 @@
 use Rattle.std.proofs.Common.{◌≡◌}
 use Rattle.std.specs.Io.KnownBytes.{Keeps}
-use Rattle.giop_show.specs.Incoming.{unheard}
+use Rattle.giop_show.specs.Trace.Incoming.{unheard}
 use Rattle.giop_show.proofs.trace.incoming.Incoming.next.Given as goal
 
 abbrev pub invariant-pieces : goal.invariant-pieces
