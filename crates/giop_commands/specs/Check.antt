@@ -30,11 +30,11 @@ use Rattle.giop_lines.specs.declared.refusal.RefusalLine.TheVariants.{Form}
 use Rattle.giop_show.specs.declared.form.LineForm.{LineForm}
 use Rattle.giop_types.specs.declared.json.number_form.NumberForm.TheVariants.{Plain}
 use Rattle.giop_show.specs.declared.form.LineForm.TheVariants.{Text}
-use Rattle.giop_show.specs.Dump.{ended}
+use Rattle.giop_show.specs.Dump.Text.{ended}
 use Rattle.giop_show.specs.Forms.{refused_in}
-use Rattle.giop_commands.specs.SessionLines.{last_in}
-use Rattle.giop_commands.specs.BrokenStatus.{broken_status}
-use Rattle.giop_commands.specs.Table.{server_entry_in, table_text}
+use Rattle.giop_commands.specs.Session.FaultLines.{last_in}
+use Rattle.giop_commands.specs.Session.BrokenStatus.{broken_status}
+use Rattle.giop_commands.specs.Session.Table.{server_entry_in, table_text}
 
 -- the status of a session that ended with a fault: an orderly end is none of its own
 abbrev pub fault_status : SessionFault → Status
@@ -120,8 +120,8 @@ pub record IsChecked (interface : Interface) (limits : Limits) (strict : Bool) (
   pub text : Appends old new (end_text interface form calls fault (length left.octets))
   pub is : status ≡ strict_status strict calls.table (last_status fault (length left.octets))
 
--- what a check of these octets that isn't strict, told as text, does to the writer's contents, by the status that
--- it answers
+-- what a check of these octets that isn't strict, told as text, does to the writer's contents, by
+-- the status that it answers
 abbrev pub Checks : Interface → Limits → List ℕ → Option (List ℕ) → Option (List ℕ) → Status
     → Type 0
 Checks interface limits octets old new InputOutput = ⊤

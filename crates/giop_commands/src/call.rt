@@ -1,16 +1,16 @@
-//! `call`: a client's end between a reader and a writer. Its meaning is specs/Calling.antt, and
-//! specs/Sessions.antt for what is printed: change both.
+//! `call`: a client's end between a reader and a writer. Its meaning is specs/Call/Calling.antt,
+//! and specs/Session/Printed.antt for what is printed: change both.
 ghost use Rattle.std.specs.Prelude.{◌≡◌, [], ◌∷◌, IfOk, None, OnOk};
 ghost use Rattle.std.specs.Io.KnownBytes.{Appends};
 ghost use Rattle.giop_end.specs.Pumping.{between};
 ghost use Rattle.giop_end.specs.Ends.View.{IsActedOn, IsTurned};
-ghost use Rattle.giop_commands.specs.Acts.{outbox_of};
+ghost use Rattle.giop_commands.specs.Session.Acts.{outbox_of};
 ghost use Rattle.giop_calls.specs.ClientTable.{is_closed};
-ghost use Rattle.giop_commands.specs.Calling.{CallsAll, CallsOne, ConversesAt, TalksAt, WaitsFor, asked_of, request_of};
-ghost use Rattle.giop_commands.specs.Endings.{CallsEndOver, Ends};
-ghost use Rattle.giop_commands.specs.Sessions.{call_status, Calls, CallsOver, change, session_text, told};
-ghost use Rattle.giop_commands.specs.Steps.{Upto};
-ghost use Rattle.giop_commands.specs.Table.{client_entry_in};
+ghost use Rattle.giop_commands.specs.Call.Calling.{CallsAll, CallsOne, ConversesAt, TalksAt, WaitsFor, asked_of, request_of};
+ghost use Rattle.giop_commands.specs.Session.Endings.{CallsEndOver, Ends};
+ghost use Rattle.giop_commands.specs.Session.Printed.{call_status, Calls, CallsOver, client_text, told};
+ghost use Rattle.giop_commands.specs.Session.Steps.{Upto};
+ghost use Rattle.giop_commands.specs.Session.Traffic.{traffic};
 
 pub mod calls;
 pub mod feed;
@@ -29,22 +29,21 @@ use crate::call::given::Calling;
 use crate::call::well::{all_well, are_over};
 use crate::session::broken::broken_status;
 use crate::session::ending::{Ending, ending_of};
+use crate::session::given::{Pipes, Showing};
 use crate::session::sending::send_all;
 use crate::session::{TURNS, goes_on, told, told_of, write_all_out, write_session};
 use giop_cdr::OctetList;
 use giop_end::{ClientEnd, SessionFault};
 use giop_msg::{Request, RequestHead, ServiceContexts, Target, Version};
 use giop_show::failure::Failure;
-use giop_show::form::LineForm;
 use giop_show::status::Status;
-use giop_types::{Interface, NumberForm};
 use std::alloc::{AllocError, Global};
 use std::io::{Read, Write};
 
-/// Calls operations of the object of a key, in a version and a form, by a new client's end with these
-/// limits. The first pieces of all calls are put out, then one piece of each in turn. What
-/// is put out is written, and replies are read until all calls are over or the input ends. Nothing
-/// is read where no call has a reply. Then the table is written to `out`, a line for each call, and
+/// Calls operations of the object of a key, in a version and a form, by a new client's end with
+/// these limits. The first pieces of all calls are put out, then one piece of each in turn. What is
+/// put out is written, and replies are read until all calls are over or the input ends. Nothing is
+/// read where no call has a reply. Then the table is printed, a line for each call, and
 /// the fault that ended the session, where one did.
 ///
 /// A call that is refused at this end, such as one whose id is in use, ends the session: nothing is
@@ -52,51 +51,53 @@ use std::io::{Read, Write};
 /// a MessageError.
 ///
 /// It is `Done` where no call was refused and each got its result, or was sent and has none;
-/// `LimitPassed` where a limit kept one from it; else `Refused`. Where reading or writing fails, it is `InputOutput`. Where
-/// it is out of memory, it is `Memory`. After either, a part of the text may be written.
-#[tactic(auto, using(crate::proofs::SessionsLemmas::calls_told))]
+/// `LimitPassed` where a limit kept one from it; else `Refused`. Where reading or writing fails, it
+/// is `InputOutput`. Where it is out of memory, it is `Memory`. After either, a part of the text
+/// may be written.
+#[tactic(auto, using(crate::proofs::OnSession::PrintedLemmas::calls_told))]
 pub fn call_session<R: Read, W: Write, O: Write>(
     alloc: Global,
     calling: Calling<'_>,
     calls: Vec<CallLine>,
-    reader: &mut R,
-    writer: &mut W,
-    out: &mut O,
+    pipes: &mut Pipes<R, W, O>,
 ) -> Status
-    ensures { CallsOver calling.entry calls.items (change R.remaining reader.old reader.new)
-        (change W.contents writer.old writer.new) (change O.contents out.old out.new) result }
+    ensures { CallsOver calling.entry calls.items
+        (traffic R.remaining W.contents O.contents pipes.old pipes.new) result }
 {
-    let lines = LineForm::Text(NumberForm::Plain);
-    match call_over(alloc, calling, calls, lines, reader, writer, out) {
+    match call_over(alloc, calling, calls, pipes) {
         Ok(ending) => ending.status,
         Err(failure) => failure.status(),
     }
 }
 
-/// Does what `call_session` does, told in a form, and tells besides
-/// which calls are open where the input ended. Where something fails, what failed is returned in place of that;
-/// where that is the connection, the table is written before.
+/// Does what `call_session` does, told in a form, and tells besides which calls are open where the
+/// input ended. Where something fails, what failed is returned in place of that; where that is the
+/// connection, the table is written before.
 pub fn call_over<R: Read, W: Write, O: Write>(
     alloc: Global,
     calling: Calling<'_>,
     calls: Vec<CallLine>,
-    lines: LineForm,
-    reader: &mut R,
-    writer: &mut W,
-    out: &mut O,
+    pipes: &mut Pipes<R, W, O>,
 ) -> Result<Ending, Failure>
-    ensures { IfOk result (CallsEndOver calling.entry calls.items lines
-        (change R.remaining reader.old reader.new) (change W.contents writer.old writer.new)
-        (change O.contents out.old out.new)) }
+    ensures { IfOk result (CallsEndOver calling.entry calls.items
+        (traffic R.remaining W.contents O.contents pipes.old pipes.new)) }
 {
-    let mut end = ClientEnd::new(alloc, calling.interface, calling.limits);
+    let (lines, interface) = (calling.lines, calling.interface);
+    let showing = Showing { lines, interface };
+    let mut end = ClientEnd::new(alloc, interface, calling.limits);
     let refused = call_all(alloc, &mut end, calling, calls)?;
-    match talk(alloc, &mut end, refused, reader, writer) {
-        Ok(()) => tell(alloc, lines, calling.interface, &end, refused, out),
+    match talk(
+        alloc,
+        &mut end,
+        refused,
+        &mut pipes.reader,
+        &mut pipes.writer,
+    ) {
+        Ok(()) => tell(alloc, showing, &end, refused, &mut pipes.out),
         Err(Failure::Memory) => Err(Failure::Memory),
         Err(failure) => {
-            write_session(alloc, lines, calling.interface, &end, None, out)?;
-            out.flush()?;
+            write_session(alloc, showing, &end, None, &mut pipes.out)?;
+            pipes.out.flush()?;
             Err(failure)
         }
     }
@@ -105,22 +106,20 @@ pub fn call_over<R: Read, W: Write, O: Write>(
 // Writes the table of the calls and the fault of the session, and returns what it came to.
 fn tell<O: Write>(
     alloc: Global,
-    lines: LineForm,
-    interface: &Interface,
+    showing: Showing<'_>,
     end: &ClientEnd<'_>,
     refused: Option<SessionFault>,
     out: &mut O,
 ) -> Result<Ending, Failure>
     ensures text { OnOk result (Appends (O.contents out.old) (O.contents out.new)
-        (session_text lines (client_entry_in lines interface.now) end.now.calls.table
-        (told refused end.now.fault))) }
+        (client_text showing.entry end.now.calls.table (told refused end.now.fault))) }
     ensures ok { IfOk result (λ ending. ending.status
         ≡ call_status refused end.now.fault end.now.calls.table) }
     ensures ends { IfOk result (Ends is_closed (told refused end.now.fault) end.now.calls.table
         end.now.framer) }
 {
     let fault = told(refused, end.fault());
-    write_session(alloc, lines, interface, end, fault, out)?;
+    write_session(alloc, showing, end, fault, out)?;
     let status = call_status(alloc, refused, end)?;
     Ok(ending_of(alloc, end, fault, status)?)
 }

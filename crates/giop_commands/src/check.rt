@@ -4,8 +4,8 @@ ghost use Rattle.std.specs.Io.KnownBytes.{Appends, IsAtEnd};
 ghost use Rattle.giop_end.specs.declared.session_fault.SessionFault.TheVariants.{NoMemory};
 ghost use Rattle.giop_end.specs.Hearing.Heard.{hears_in};
 ghost use Rattle.giop_commands.specs.Check.{AreLimits, Checks, ChecksKnown, HeardKnown, default_limits, fault_status, last_status};
-ghost use Rattle.giop_show.specs.Dump.{ended};
-ghost use Rattle.giop_commands.specs.SessionLines.{last_in, session_fault_in};
+ghost use Rattle.giop_show.specs.Dump.Text.{ended};
+ghost use Rattle.giop_commands.specs.Session.FaultLines.{last_in, session_fault_in};
 
 pub mod strict;
 pub mod text;
@@ -26,6 +26,19 @@ use std::alloc::Global;
 use std::io;
 use std::io::{ErrorKind, Read, Write};
 
+/// How a file is checked.
+#[derive(Clone, Copy)]
+pub struct Checking {
+    /// What the end holds at most.
+    pub limits: Limits,
+    /// Whether what can't be decoded is refused.
+    pub strict: bool,
+    /// The form of the lines that tell the calls.
+    pub lines: LineForm,
+    /// What is read behind a fault.
+    pub behind: BehindFault,
+}
+
 /// Writes the table of a server's end that hears the octets of a file, a line for each of its
 /// calls, and then how many octets are left, or the fault that ends it. It is `Done` where no
 /// octets are left, and where the one fault is that the client closed the connection; `LimitPassed`
@@ -44,45 +57,40 @@ pub fn check_octets<W: Write>(
         result }
 {
     let mut left = octets;
-    match check_stream(
-        alloc,
-        interface,
-        Limits::default(),
-        false,
-        LineForm::Text(NumberForm::Plain),
-        &mut left,
-        writer,
-        BehindFault::Read,
-    ) {
+    let checking = Checking {
+        limits: Limits::default(),
+        strict: false,
+        lines: LineForm::Text(NumberForm::Plain),
+        behind: BehindFault::Read,
+    };
+    match check_stream(alloc, interface, checking, &mut left, writer) {
         Ok(status) => status,
         Err(failure) => failure.status(),
     }
 }
 
-/// Does what `check_octets` does, in a form, for the octets that a reader gives and an end with these limits.
-/// Where it is strict, it is `Refused` also where anything can't be decoded. Where something fails,
-/// what failed is returned in place of a status. No more octets are held than a message, a piece,
-/// and the calls. Nothing is written before all is heard.
+/// Does what `check_octets` does, as `checking` says, for the octets that a reader gives. Where it
+/// is strict, it is `Refused` also where anything can't be decoded. Where
+/// something fails, what failed is returned in place of a status. No more octets are held than a
+/// message, a piece, and the calls. Nothing is written before all is heard.
 pub fn check_stream<R: Read, W: Write>(
     alloc: Global,
     interface: &Interface,
-    limits: Limits,
-    strict: bool,
-    form: LineForm,
+    checking: Checking,
     reader: &mut R,
     writer: &mut W,
-    behind: BehindFault,
 ) -> Result<Status, Failure>
-    requires { AreLimits limits }
-    ensures text { IfOk result (ChecksKnown interface.now limits strict form
-        (R.remaining reader.old) (W.contents writer.old) (W.contents writer.new)) }
-    ensures end { OnOk result (behind ≡ BehindFault.Read → IsAtEnd (R.remaining reader.new)) }
+    requires { AreLimits checking.limits }
+    ensures text { IfOk result (ChecksKnown interface.now checking.limits checking.strict
+        checking.lines (R.remaining reader.old) (W.contents writer.old) (W.contents writer.new)) }
+    ensures end { OnOk result (checking.behind ≡ BehindFault.Read
+        → IsAtEnd (R.remaining reader.new)) }
 {
-    let mut end = ServerEnd::new(alloc, interface, limits);
-    hear(alloc, &mut end, reader, behind)?;
-    write_table(alloc, form, interface, &end, writer)?;
-    let status = write_last(form, &end, writer)?;
-    strictly(alloc, strict, &end, status)
+    let mut end = ServerEnd::new(alloc, interface, checking.limits);
+    hear(alloc, &mut end, reader, checking.behind)?;
+    write_table(alloc, checking.lines, interface, &end, writer)?;
+    let status = write_last(checking.lines, &end, writer)?;
+    strictly(alloc, checking.strict, &end, status)
 }
 
 // Feeds an end with what a reader gives, to its end or to the first fault.

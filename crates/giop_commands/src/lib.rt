@@ -1,6 +1,7 @@
-//! What the commands of giopctl do that hold an end of a connection, over any reader and any writer:
-//! `check`, `call`, `locate`, `ping` and `serve`. Each returns the exit status, and a contract says
-//! what it prints. Words, files and sockets are the program's; giop_show has the other commands.
+//! What the commands of giopctl do that hold an end of a connection, over any reader and any
+//! writer: `check`, `call`, `locate`, `ping` and `serve`. Each returns the exit status, and a
+//! contract says what it prints. Words, files and sockets are the program's; giop_show has the
+//! other commands.
 #![tactic(auto)]
 
 pub mod call;
@@ -11,7 +12,7 @@ pub mod session;
 pub use call::given::Calling;
 pub use call::{call_over, call_session};
 pub use check::text::check_text;
-pub use check::{check_octets, check_stream};
+pub use check::{Checking, check_octets, check_stream};
 pub use serve::answering::{Answer, Due, due_to};
 pub use serve::given::Serving;
 pub use serve::{serve_over, serve_session};

@@ -1,6 +1,6 @@
 //! What the sessions of `call` and `serve` have in common: a turn, the MessageError to a peer
-//! (CORBA 3.3 Part 2, 9.4.8), and what is printed at the end. Its meaning is specs/Turns.antt and
-//! specs/Sessions.antt: change both.
+//! (CORBA 3.3 Part 2, 9.4.8), and what is printed at the end. Its meaning is
+//! specs/Session/Turns.antt and specs/Session/Printed.antt: change both.
 ghost use Rattle.std.specs.Prelude.{◌≡◌, ◌≢◌, ◌⊎◌, [], false, Some, None, Ok, Err, IfOk, IfErr, OnOk};
 ghost use Rattle.std.specs.Io.KnownBytes.{Appends};
 ghost use Rattle.giop_end.specs.declared.session_fault.SessionFault.TheVariants.{NoMemory};
@@ -10,16 +10,17 @@ ghost use Rattle.giop_end.specs.Hearing.Heard.{hears_in};
 ghost use Rattle.giop_end.specs.Ends.View.{IsTurned};
 ghost use Rattle.giop_show.specs.declared.failure.Failure.TheVariants.{Memory};
 ghost use Rattle.giop_commands.specs.Check.{answer_of};
-ghost use Rattle.giop_show.specs.Dump.{ended};
-ghost use Rattle.giop_commands.specs.SessionLines.{session_fault_in};
-ghost use Rattle.giop_commands.specs.Sessions.{fault_text, session_text, told};
-ghost use Rattle.giop_commands.specs.Turns.{GoesOnAt, IsOfConnection, peer_octets};
+ghost use Rattle.giop_show.specs.Dump.Text.{ended};
+ghost use Rattle.giop_commands.specs.Session.FaultLines.{session_fault_in};
+ghost use Rattle.giop_commands.specs.Session.Printed.{fault_text, session_text, told};
+ghost use Rattle.giop_commands.specs.Session.Turns.{CannotBeSent, GoesOnAt, IsOfConnection, peer_octets};
 
 pub mod ahead;
 pub mod broken;
 pub mod ending;
 pub mod fault_json;
 pub mod fault_line;
+pub mod given;
 pub mod json;
 pub mod sending;
 pub mod streaming;
@@ -29,16 +30,26 @@ pub mod untold;
 
 use crate::session::fault_json::SessionFaultJson;
 use crate::session::fault_line::SessionFaultLine;
+use crate::session::given::Showing;
 use crate::session::table::{Tabled, write_table};
 use giop_end::{End, Hearing, PumpFault, SessionFault, turn, write_out};
 use giop_show::failure::Failure;
 use giop_show::form::{LineForm, write_line};
-use giop_types::Interface;
 use std::alloc::Global;
 use std::io::{Read, Write};
 
 /// A session has so many turns at most: none takes as many.
 pub const TURNS: u64 = u64::MAX;
+
+/// What a turn of a session came to.
+#[derive(Clone, Copy, Debug, PartialEq, Eq)]
+pub enum SessionTurn {
+    /// The session goes on.
+    GoesOn,
+    /// It ends: no call is left, the input ended, the end failed, or what was to be sent was
+    /// refused at this end for this fault.
+    Ends(Option<SessionFault>),
+}
 
 /// Takes a turn, and returns whether the session continues: the input hasn't ended, and the end
 /// hasn't failed. A peer that the fault is due to is sent a MessageError.
@@ -88,7 +99,7 @@ fn break_off<R: Hearing, W: Write>(
     ensures err { IfErr result (λ failure.
         ((failure ≡ Memory) × (why ≡ NoMemory)
         × (W.contents writer.new ≡ W.contents writer.old))
-        ⊎ ((why ≢ NoMemory) × (error_message_of end.now.fault ≢ None) × IsOfConnection failure)) }
+        ⊎ CannotBeSent why end.now.fault failure) }
 {
     if why == SessionFault::NoMemory {
         return Err(Failure::Memory);
@@ -148,20 +159,20 @@ pub fn told(refused: Option<SessionFault>, fault: Option<SessionFault>) -> Optio
 }
 
 /// Writes the table of an end, a line for each of its calls, and the fault that ended its session,
-/// where one did, in a form.
+/// where one did.
 pub fn write_session<R: Tabled, W: Write>(
     alloc: Global,
-    lines: LineForm,
-    interface: &Interface,
+    showing: Showing<'_>,
     end: &End<'_, R>,
     fault: Option<SessionFault>,
     writer: &mut W,
 ) -> Result<(), Failure>
     ensures { OnOk result (Appends (W.contents writer.old) (W.contents writer.new)
-        (session_text lines (R.line lines interface.now) end.now.calls.table fault)) }
+        (session_text showing.entry.lines (R.line showing.entry.lines showing.entry.interface.now)
+        end.now.calls.table fault)) }
 {
-    write_table(alloc, lines, interface, end, writer)?;
-    write_fault(lines, fault, writer)
+    write_table(alloc, showing.lines, showing.interface, end, writer)?;
+    write_fault(showing.lines, fault, writer)
 }
 
 /// Writes the line of the fault that ended a session, in a form; nothing where none did.

@@ -5,14 +5,14 @@ ghost use Rattle.std.specs.Prelude.{◌≤◌, ◌^◌};
 mod help;
 
 use crate::call::help::CALL_HELP;
-use crate::file_words::{FileWord, Files, apart, apart_from, interface_option};
-use crate::form_words::{lines_of, with_lines};
-use crate::limit_words::limits_of;
-use crate::session_words::{
+use crate::task::Task;
+use crate::words::file::{FileWord, Files, apart, apart_from, interface_option};
+use crate::words::form::{lines_of, with_lines};
+use crate::words::limit::limits_of;
+use crate::words::session::{
     Telling, follow_option, message_form_of, stream_option, target_option, telling_of, timeout_of,
     timeout_option, with_sending,
 };
-use crate::task::Task;
 use clap::{Arg, ArgMatches, Command};
 use giop_end::{Form, Limits};
 use giop_show::LineForm;

@@ -4,10 +4,10 @@ ghost use Rattle.std.specs.Prelude.{◌≤◌, ◌^◌};
 mod help;
 
 use crate::check::help::CHECK_HELP;
-use crate::file_words::{FileWord, Files, apart_from, interface_option};
-use crate::form_words::{lines_of, with_lines};
-use crate::limit_words::{limits_of, with_limits};
 use crate::task::Task;
+use crate::words::file::{FileWord, Files, apart_from, interface_option};
+use crate::words::form::{lines_of, with_lines};
+use crate::words::limit::{limits_of, with_limits};
 use clap::{Arg, ArgAction, ArgMatches, Command};
 use giop_end::Limits;
 use giop_show::LineForm;

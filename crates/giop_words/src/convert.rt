@@ -4,9 +4,9 @@
 mod help;
 
 use crate::convert::help::{CONVERT_HELP, CORBALOC_HELP, DECODE_HELP, ENCODE_HELP, IOR_HELP};
-use crate::file_words::apart;
-use crate::form_words::{json_numbers_option, json_option, numbers_of, plain_lines_of};
 use crate::task::Task;
+use crate::words::file::apart;
+use crate::words::form::{json_numbers_option, json_option, numbers_of, plain_lines_of};
 use clap::{Arg, ArgAction, ArgMatches, Command};
 use giop_cdr::Order;
 use giop_show::{LineForm, Way};

@@ -4,12 +4,12 @@ ghost use Rattle.std.specs.Prelude.{◌≤◌, ◌^◌};
 mod help;
 
 use crate::dump::help::DUMP_HELP;
-use crate::file_words::apart;
-use crate::form_words::{lines_of, with_lines};
-use crate::limit_words::{
+use crate::task::Task;
+use crate::words::file::apart;
+use crate::words::form::{lines_of, with_lines};
+use crate::words::limit::{
     gathered_limit_of, gathered_limit_option, message_limit_of, message_limit_option,
 };
-use crate::task::Task;
 use clap::{Arg, ArgMatches, Command};
 use giop_show::LineForm;
 use std::alloc::{AllocError, Global};

@@ -3,9 +3,9 @@
 mod help;
 
 use crate::locate::help::LOCATE_HELP;
-use crate::object_words::{ObjectWords, object_command, object_words};
-use crate::session_words::follow_option;
 use crate::task::Task;
+use crate::words::object::{ObjectWords, object_command, object_words};
+use crate::words::session::follow_option;
 use clap::{ArgMatches, Command};
 use std::alloc::{AllocError, Global};
 

@@ -2,9 +2,9 @@
 
 mod help;
 
-use crate::object_words::{object_command, object_words};
 use crate::ping::help::PING_HELP;
 use crate::task::Task;
+use crate::words::object::{object_command, object_words};
 use clap::{ArgMatches, Command};
 use std::alloc::{AllocError, Global};
 

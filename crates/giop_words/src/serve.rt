@@ -4,13 +4,13 @@ ghost use Rattle.std.specs.Prelude.{◌≤◌, ◌^◌};
 
 mod help;
 
-use crate::file_words::{FileWord, Files, answers_option, apart_from, interface_option};
-use crate::form_words::{lines_of, with_lines};
-use crate::limit_words::limits_of;
-use crate::number_words::{number_option, short_number_of};
 use crate::serve::help::SERVE_HELP;
-use crate::session_words::{Telling, message_form_of, stream_option, telling_of, with_sending};
 use crate::task::Task;
+use crate::words::file::{FileWord, Files, answers_option, apart_from, interface_option};
+use crate::words::form::{lines_of, with_lines};
+use crate::words::limit::limits_of;
+use crate::words::number::{number_option, short_number_of};
+use crate::words::session::{Telling, message_form_of, stream_option, telling_of, with_sending};
 use clap::builder::ValueParser;
 use clap::{Arg, ArgGroup, ArgMatches, Command};
 use giop_end::{Form, Limits};

@@ -2,11 +2,11 @@
 
 mod help;
 
-use crate::file_words::{FileWord, Files, apart, apart_from, interface_option};
-use crate::form_words::{lines_of, with_lines};
-use crate::limit_words::{message_limit_of, message_limit_option};
 use crate::task::Task;
 use crate::trace::help::TRACE_HELP;
+use crate::words::file::{FileWord, Files, apart, apart_from, interface_option};
+use crate::words::form::{lines_of, with_lines};
+use crate::words::limit::{message_limit_of, message_limit_option};
 use clap::{Arg, ArgMatches, Command};
 use giop_show::LineForm;
 use std::alloc::{AllocError, Global};

@@ -2,7 +2,7 @@
 ghost use Rattle.std.specs.Prelude.{◌≡◌, ◌≢◌, ◌⊎◌, true};
 ghost use Rattle.std.specs.IoError.{error_kind};
 ghost use Rattle.clap.specs.Words.{kind_of};
-ghost use Rattle.giop_commands.specs.Endings.{ending_status};
+ghost use Rattle.giop_commands.specs.Session.Endings.{ending_status};
 ghost use Rattle.giop_show.specs.Status.{answered_status, failure_status};
 ghost use Rattle.giopctl.specs.Report.{usage_status};
 

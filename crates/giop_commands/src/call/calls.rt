@@ -1,10 +1,10 @@
 //! The calls that a file asks for, in JSON (docs/FORMATS.md, "Calls and answers"). Their form is
-//! `calls_in` in specs/CallForms.antt: change both.
+//! `calls_in` in specs/Call/Forms.antt: change both.
 ghost use Rattle.std.specs.Prelude.{◌≡◌, ◌⊎◌, option_map, IfOk, IfErr};
 ghost use Rattle.serde_json.specs.View.{view, items_view};
 ghost use Rattle.giop_types.specs.declared.json.form_fault.FormFault.TheVariants.{NoMemory};
 ghost use Rattle.giop_types.specs.JsonForms.FromJson.{Shows};
-ghost use Rattle.giop_commands.specs.CallForms.{call_in, call_list, call_named, call_of, calls_in, each_call, one_call_in};
+ghost use Rattle.giop_commands.specs.Call.Forms.{call_in, call_list, call_named, call_of, calls_in, each_call, one_call_in};
 
 use crate::session::json::{is_object_of, octets_of, ulong_of, values_of, with_item};
 use giop_cdr::OctetList;

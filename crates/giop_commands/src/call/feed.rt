@@ -1,7 +1,7 @@
 //! Lines of calls are read, as many octets as one read gives, until a call is there. Its meaning is
-//! specs/CallLines.antt: change both.
+//! specs/Call/Lines.antt: change both.
 ghost use Rattle.std.specs.Prelude.{◌≡◌, OnOk, IfOk};
-ghost use Rattle.giop_commands.specs.CallLines.{feed_at, none_taken, ReadsOn, ReadsPiece, so_far};
+ghost use Rattle.giop_commands.specs.Call.Lines.{feed_at, none_taken, ReadsOn, ReadsPiece, so_far};
 
 use crate::call::lines::CallLines;
 use giop_show::failure::Failure;

@@ -1,13 +1,13 @@
-//! `call --follow`: a call that is forwarded is made again where the reference says, in a session of
-//! its own, and what it came to there is told (CORBA 3.3 Part 2, 9.4.3.1). Its meaning is
-//! specs/Following.antt: change both.
+//! `call --follow`: a call that is forwarded is made again where the reference says, in a session
+//! of its own, and what it came to there is told (CORBA 3.3 Part 2, 9.4.3.1). Its meaning is
+//! specs/Call/Following.antt: change both.
 ghost use Rattle.std.specs.Prelude.{◌≡◌, ◌++◌, ◌∷◌, [], IfOk, OnOk, option_copied, option_and_then};
 ghost use Rattle.std.specs.FinMap as finite;
 ghost use Rattle.std.specs.List.{flat_map, list_all};
 ghost use Rattle.std.specs.Io.KnownBytes.{Appends};
-ghost use Rattle.giop_commands.specs.CallStreaming.{stream_status};
-ghost use Rattle.giop_commands.specs.Following.{CallsBetween, body_place, calls_of, entry_place, followed_text, forward_at, forwards_of, ids_of, is_one_of, latest, latest_at, latest_well};
-ghost use Rattle.giop_commands.specs.Sessions.{is_well, told};
+ghost use Rattle.giop_commands.specs.Call.Streaming.{stream_status};
+ghost use Rattle.giop_commands.specs.Call.Following.{CallsBetween, body_place, calls_of, entry_place, followed_text, forward_at, forwards_of, ids_of, is_one_of, latest, latest_at, latest_well};
+ghost use Rattle.giop_commands.specs.Session.Printed.{is_well, told};
 ghost use Rattle.giop_end.specs.Ends.View.{IsTurned};
 
 use crate::call::calls::CallLine;
@@ -15,6 +15,7 @@ use crate::call::given::Calling;
 use crate::call::streaming::stream_status;
 use crate::call::well::is_well;
 use crate::call::{call_all, talk};
+use crate::session::given::Showing;
 use crate::session::table::Tabled;
 use crate::session::target::{Endpoint, place_in};
 use crate::session::{told, write_fault};
@@ -22,9 +23,7 @@ use giop_calls::{ClientEntry, ClientRule};
 use giop_end::{ClientEnd, SessionFault};
 use giop_msg::ReplyBody;
 use giop_show::failure::Failure;
-use giop_show::form::LineForm;
 use giop_show::status::Status;
-use giop_types::Interface;
 use std::alloc::{AllocError, Global};
 use std::io::{Read, Write};
 
@@ -38,7 +37,8 @@ pub struct Forward {
 }
 
 /// Makes calls at a client's end, and waits until they are over, as `call_over` does at a new one.
-/// Nothing is told. Returns the fault of a call that is refused at this end; nothing is written then.
+/// Nothing is told. Returns the fault of a call that is refused at this end; nothing is written
+/// then.
 pub fn call_at<R: Read, W: Write>(
     alloc: Global,
     end: &mut ClientEnd<'_>,
@@ -155,44 +155,43 @@ fn latest<'a>(ends: &'a [ClientEnd<'_>], id: u32) -> Option<&'a ClientEntry>
     found
 }
 
-/// Writes the line of each call of some sessions in a form, by what it came to where it was made
-/// last, in ascending order of the ids; then the fault of the last, where one ended it: that of a
-/// call which was refused at this end, else the end's own. Returns the status: as `call_over` does,
-/// by these lines.
+/// Writes the line of each call of some sessions, by what it came to where it was made last, in
+/// ascending order of the ids; then the fault of the last, where one ended it: that of a call which
+/// was refused at this end, else the end's own. Returns the status: as `call_over` does, by these
+/// lines.
 pub fn tell_followed<O: Write>(
     alloc: Global,
-    lines: LineForm,
-    interface: &Interface,
+    showing: Showing<'_>,
     ends: &[ClientEnd<'_>],
     refused: Option<SessionFault>,
     fault: Option<SessionFault>,
     out: &mut O,
 ) -> Result<Status, Failure>
     ensures text { OnOk result (Appends (O.contents out.old) (O.contents out.new)
-        (followed_text lines interface.now ends.now (told refused fault))) }
+        (followed_text showing.entry.lines showing.entry.interface.now ends.now
+        (told refused fault))) }
     ensures status { IfOk result (λ status. status
         ≡ stream_status refused fault (latest_well ends.now)) }
 {
     let ids = ids_of(alloc, ends)?;
-    write_latest(alloc, lines, interface, ends, ids.as_slice(), out)?;
-    write_fault(lines, told(refused, fault), out)?;
+    write_latest(alloc, showing, ends, ids.as_slice(), out)?;
+    write_fault(showing.lines, told(refused, fault), out)?;
     Ok(stream_status(refused, fault, are_well(ends, ids.as_slice())))
 }
 
 // Writes the line of each of these ids.
 fn write_latest<O: Write>(
     alloc: Global,
-    lines: LineForm,
-    interface: &Interface,
+    showing: Showing<'_>,
     ends: &[ClientEnd<'_>],
     ids: &[u32],
     out: &mut O,
 ) -> Result<(), Failure>
     ensures { OnOk result (Appends (O.contents out.old) (O.contents out.new)
-        (flat_map (latest_at lines interface.now ends.now) ids.now)) }
+        (flat_map (latest_at showing.entry.lines showing.entry.interface.now ends.now) ids.now)) }
 {
     for id in ids {
-        write_one(alloc, lines, interface, ends, *id, out)?;
+        write_one(alloc, showing, ends, *id, out)?;
     }
     Ok(())
 }
@@ -200,17 +199,17 @@ fn write_latest<O: Write>(
 // Writes the line of an id, if it has one.
 fn write_one<O: Write>(
     alloc: Global,
-    lines: LineForm,
-    interface: &Interface,
+    showing: Showing<'_>,
     ends: &[ClientEnd<'_>],
     id: u32,
     out: &mut O,
 ) -> Result<(), Failure>
     ensures { OnOk result (Appends (O.contents out.old) (O.contents out.new)
-        (latest_at lines interface.now ends.now id)) }
+        (latest_at showing.entry.lines showing.entry.interface.now ends.now id)) }
 {
     match latest(ends, id) {
         Some(entry) => {
+            let (lines, interface) = (showing.lines, showing.interface);
             let line = ClientRule::entry_text(alloc, lines, interface, id, entry)?;
             writeln!(out, "{line}")?;
         }

@@ -4,9 +4,10 @@ ghost use Rattle.giop_commands.specs.Check.{AreLimits};
 
 use giop_end::{Form, Limits};
 use giop_msg::Version;
+use giop_show::form::LineForm;
 use giop_types::Interface;
 
-/// Whose operations are called, how, and within which limits.
+/// Whose operations are called, how, within which limits, and how the calls are told.
 #[derive(Clone, Copy)]
 pub struct Calling<'a> {
     /// The operations of the object.
@@ -19,6 +20,8 @@ pub struct Calling<'a> {
     pub form: Form,
     /// What the end holds at most.
     pub limits: Limits,
+    /// The form of the lines that tell the calls.
+    pub lines: LineForm,
     ghost sent: { IsForm form },
     ghost bounded: { AreLimits limits },
 }

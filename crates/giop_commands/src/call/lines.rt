@@ -1,7 +1,7 @@
 //! Calls that come as lines of JSON: octets are taken, and each line that ends is a call. Their
-//! meaning is specs/CallLines.antt: change both.
+//! meaning is specs/Call/Lines.antt: change both.
 ghost use Rattle.std.specs.Prelude.{◌≡◌, ◌∷◌, ◌++◌, OnOk, []};
-ghost use Rattle.giop_commands.specs.CallLines.{is_blank, is_space, is_spent, line_ended, none_taken, octet_taken, octets_taken, read_taken, so_far, text_ended, wants_more};
+ghost use Rattle.giop_commands.specs.Call.Lines.{is_blank, is_space, is_spent, line_ended, none_taken, octet_taken, octets_taken, read_taken, so_far, text_ended, wants_more};
 
 use crate::call::calls::{CallLine, call_from_json};
 use giop_show::failure::Failure;

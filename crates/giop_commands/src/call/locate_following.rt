@@ -1,9 +1,9 @@
 //! `locate --follow`: an object that is elsewhere is asked for again where the reference says, in a
-//! session of its own (CORBA 3.3 Part 2, 9.4.6). Its meaning is specs/LocateFollowing.antt: change
-//! both.
+//! session of its own (CORBA 3.3 Part 2, 9.4.6). Its meaning is specs/Call/LocateFollowing.antt:
+//! change both.
 ghost use Rattle.std.specs.Prelude.{◌≡◌, ◌≤◌, ◌^◌, [], IfOk, length, option_copied};
-ghost use Rattle.giop_commands.specs.Calling.{entry_at};
-ghost use Rattle.giop_commands.specs.LocateFollowing.{LocatesBetween, is_elsewhere, located_place, place_behind, place_by};
+ghost use Rattle.giop_commands.specs.Call.Calling.{entry_at};
+ghost use Rattle.giop_commands.specs.Call.LocateFollowing.{LocatesBetween, is_elsewhere, located_place, place_behind, place_by};
 ghost use Rattle.giop_end.specs.Ends.View.{IsTurned};
 
 use crate::call::given::Calling;
@@ -47,8 +47,9 @@ pub fn locate_at<R: Read, W: Write>(
 }
 
 /// Where the object of a LocateRequest that `locate_at` made is to be asked for again: the first
-/// IIOP profile of the reference behind the status of the LocateReply, where it is OBJECT_FORWARD or
-/// OBJECT_FORWARD_PERM. The reference is read in the byte order in which the octets there are one.
+/// IIOP profile of the reference behind the status of the LocateReply, where it is OBJECT_FORWARD
+/// or OBJECT_FORWARD_PERM. The reference is read in the byte order in which the octets there are
+/// one.
 pub fn located_place(alloc: Global, end: &ClientEnd<'_>) -> Result<Option<Endpoint>, Failure>
     ensures { IfOk result (λ place. place ≡ located_place (entry_at end.now.calls 1)) }
 {

@@ -1,21 +1,22 @@
 //! `locate`: a client's end asks where an object is, and waits for the answer (CORBA 3.3 Part 2,
-//! 9.4.5, 9.4.6). Its meaning is specs/Locating.antt: change both.
+//! 9.4.5, 9.4.6). Its meaning is specs/Call/Locating.antt: change both.
 ghost use Rattle.std.specs.Prelude.{◌≡◌, [], IfOk, OnOk, option_copied};
 ghost use Rattle.std.specs.Io.KnownBytes.{Appends};
 ghost use Rattle.giop_calls.specs.ClientTable.{is_closed};
 ghost use Rattle.giop_end.specs.Acts.Form.{IsForm};
 ghost use Rattle.giop_end.specs.Ends.View.{IsActedOn};
-ghost use Rattle.giop_commands.specs.Acts.{outbox_of};
-ghost use Rattle.giop_commands.specs.Calling.{asked_of};
-ghost use Rattle.giop_commands.specs.Endings.{Ends};
-ghost use Rattle.giop_commands.specs.Locating.{is_here, locate_of, locate_status, Locates, LocatesEndOver, LocatesOne};
-ghost use Rattle.giop_commands.specs.Sessions.{change, session_text, told};
-ghost use Rattle.giop_commands.specs.Table.{client_entry_in};
+ghost use Rattle.giop_commands.specs.Session.Acts.{outbox_of};
+ghost use Rattle.giop_commands.specs.Call.Calling.{asked_of};
+ghost use Rattle.giop_commands.specs.Session.Endings.{Ends};
+ghost use Rattle.giop_commands.specs.Call.Locating.{is_here, locate_of, locate_status, Locates, LocatesEndOver, LocatesOne};
+ghost use Rattle.giop_commands.specs.Session.Printed.{client_text, told};
+ghost use Rattle.giop_commands.specs.Session.Traffic.{traffic};
 
 use crate::call::given::Calling;
 use crate::call::talk;
 use crate::session::broken::broken_status;
 use crate::session::ending::{Ending, ending_of};
+use crate::session::given::{Pipes, Showing};
 use crate::session::sending::send_all;
 use crate::session::{told, told_of, write_session};
 use giop_calls::ClientEntry;
@@ -23,42 +24,44 @@ use giop_cdr::OctetList;
 use giop_end::{ClientEnd, SessionFault};
 use giop_msg::{LocateRequest, Target, Version};
 use giop_show::failure::Failure;
-use giop_show::form::LineForm;
 use giop_show::status::Status;
-use giop_types::Interface;
 use std::alloc::{AllocError, Global};
 use std::io::{Read, Write};
 
 /// The request id of the LocateRequest.
 pub const ID: u32 = 1;
 
-/// Asks where the object of `calling` is, by a new client's end: a LocateRequest under the id 1. What
-/// is put out is written, and answers are read until that one is there or the input ends. Then its
-/// line is written to `out` in a form, and the fault that ended the session, where one did.
+/// Asks where the object of `calling` is, by a new client's end: a LocateRequest under the id 1.
+/// What is put out is written, and answers are read until that one is there or the input ends. Then
+/// its line is printed, and the fault that ended the session, where one did.
 ///
-/// It is `Done` where the answer is OBJECT_HERE; `LimitPassed` where a limit kept it from being; else
-/// `Refused`. Where something fails, what failed is returned; where that is the connection, the line
-/// is written before.
+/// It is `Done` where the answer is OBJECT_HERE; `LimitPassed` where a limit kept it from being;
+/// else `Refused`. Where something fails, what failed is returned; where that is the connection,
+/// the line is written before.
 pub fn locate_over<R: Read, W: Write, O: Write>(
     alloc: Global,
     calling: Calling<'_>,
-    lines: LineForm,
-    reader: &mut R,
-    writer: &mut W,
-    out: &mut O,
+    pipes: &mut Pipes<R, W, O>,
 ) -> Result<Ending, Failure>
-    ensures { IfOk result (LocatesEndOver calling.entry lines
-        (change R.remaining reader.old reader.new) (change W.contents writer.old writer.new)
-        (change O.contents out.old out.new)) }
+    ensures { IfOk result (LocatesEndOver calling.entry
+        (traffic R.remaining W.contents O.contents pipes.old pipes.new)) }
 {
-    let mut end = ClientEnd::new(alloc, calling.interface, calling.limits);
+    let (lines, interface) = (calling.lines, calling.interface);
+    let showing = Showing { lines, interface };
+    let mut end = ClientEnd::new(alloc, interface, calling.limits);
     let refused = locate_all(alloc, &mut end, calling)?;
-    match talk(alloc, &mut end, refused, reader, writer) {
-        Ok(()) => tell_located(alloc, lines, calling.interface, &end, refused, out),
+    match talk(
+        alloc,
+        &mut end,
+        refused,
+        &mut pipes.reader,
+        &mut pipes.writer,
+    ) {
+        Ok(()) => tell_located(alloc, showing, &end, refused, &mut pipes.out),
         Err(Failure::Memory) => Err(Failure::Memory),
         Err(failure) => {
-            write_session(alloc, lines, calling.interface, &end, None, out)?;
-            out.flush()?;
+            write_session(alloc, showing, &end, None, &mut pipes.out)?;
+            pipes.out.flush()?;
             Err(failure)
         }
     }
@@ -107,26 +110,24 @@ fn request_of(alloc: Global, key: &[u8], version: Version) -> Result<LocateReque
     })
 }
 
-/// Writes the line of the LocateRequest and the fault of the session in a form, and returns what it
-/// came to, as `locate_over` does.
+/// Writes the line of the LocateRequest and the fault of the session, and returns what it came to,
+/// as `locate_over` does.
 pub fn tell_located<O: Write>(
     alloc: Global,
-    lines: LineForm,
-    interface: &Interface,
+    showing: Showing<'_>,
     end: &ClientEnd<'_>,
     refused: Option<SessionFault>,
     out: &mut O,
 ) -> Result<Ending, Failure>
     ensures text { OnOk result (Appends (O.contents out.old) (O.contents out.new)
-        (session_text lines (client_entry_in lines interface.now) end.now.calls.table
-        (told refused end.now.fault))) }
+        (client_text showing.entry end.now.calls.table (told refused end.now.fault))) }
     ensures ok { IfOk result (λ ending. ending.status
         ≡ locate_status refused end.now.fault end.now.calls.table) }
     ensures ends { IfOk result (Ends is_closed (told refused end.now.fault) end.now.calls.table
         end.now.framer) }
 {
     let fault = told(refused, end.fault());
-    write_session(alloc, lines, interface, end, fault, out)?;
+    write_session(alloc, showing, end, fault, out)?;
     Ok(ending_of(alloc, end, fault, locate_status(refused, end))?)
 }
 

@@ -1,25 +1,26 @@
 //! `call --stream`: calls are made as there is room for them, and told as soon as they are over.
-//! Its meaning is specs/CallStreaming.antt: change both.
+//! Its meaning is specs/Call/Streaming.antt: change both.
 ghost use Rattle.std.specs.Prelude.{◌≡◌, None, IfOk, OnOk};
 ghost use Rattle.std.specs.Io.KnownBytes.{Appends};
 ghost use Rattle.giop_calls.specs.ClientTable.{is_closed};
-ghost use Rattle.giop_commands.specs.CallStreaming.{Streams, all_done, course_of, left_text, stream_status, unsent_text};
-ghost use Rattle.giop_commands.specs.Calling.{asked_of};
-ghost use Rattle.giop_commands.specs.Endings.{CallsStreamEndOver, Ends};
-ghost use Rattle.giop_commands.specs.Sessions.{change, told};
+ghost use Rattle.giop_commands.specs.Call.Streaming.{StreamsOver, all_done, left_text, stream_status, unsent_text};
+ghost use Rattle.giop_commands.specs.Session.Endings.{CallsStreamEndOver, Ends};
+ghost use Rattle.giop_commands.specs.Session.Printed.{told};
+ghost use Rattle.giop_commands.specs.Session.Traffic.{traffic};
 
 pub mod feeding;
 mod turns;
 
 use crate::call::calls::CallLine;
 use crate::call::given::Calling;
-use crate::call::streaming::turns::{CallTurn, turn_of_calls};
+use crate::call::streaming::turns::turn_of_calls;
 use crate::call::well::all_well;
 use crate::session::broken::broken_status;
 use crate::session::ending::{Ending, ending_of};
+use crate::session::given::{Pipes, Showing};
 use crate::session::streaming::{Streamed, tell_left};
 use crate::session::table::Tabled;
-use crate::session::{TURNS, told, write_fault};
+use crate::session::{SessionTurn, TURNS, told, write_fault};
 use giop_calls::{ClientEntry, ClientRule};
 use giop_end::{ClientEnd, SessionFault};
 use giop_lines::{UnsentJson, UnsentLine};
@@ -32,7 +33,7 @@ use std::collections::VecDeque;
 use std::io::{Read, Write};
 
 impl Streamed for ClientRule {
-    ghost use Rattle.giop_commands.specs.Table.{client_entry_in};
+    ghost use Rattle.giop_commands.specs.Session.Table.{client_entry_in};
 
     ghost told = { client_entry_in };
 
@@ -51,12 +52,12 @@ impl Streamed for ClientRule {
     }
 }
 
-/// Calls as `call_over` does, and tells the calls in a form as they end. A call is made as soon as there is
-/// room: fewer calls than the limit are open, none has its id, and little is outgoing. After each
-/// read, each call that is over has its line, in ascending order of the ids, and is taken out. So
-/// any number of calls takes the memory of those that are open. At the end there are the lines of
-/// the calls that are open, and those of the calls that weren't made, `ID Unsent`; and then the
-/// fault, where one ended the session. `out` is flushed before each read.
+/// Calls as `call_over` does, and tells the calls in a form as they end. A call is made as soon as
+/// there is room: fewer calls than the limit are open, none has its id, and little is outgoing.
+/// After each read, each call that is over has its line, in ascending order of the ids, and is
+/// taken out. So any number of calls takes the memory of those that are open. At the end there are
+/// the lines of the calls that are open, and those of the calls that weren't made, `ID Unsent`; and
+/// then the fault, where one ended the session. What is printed is flushed before each read.
 ///
 /// It is `Done` where no call was refused, and each got its result, or was sent and has none;
 /// `LimitPassed` where a limit kept one from it; else `Refused`. Where something fails, what failed
@@ -66,33 +67,20 @@ pub fn call_stream<R: Read, W: Write, O: Write>(
     alloc: Global,
     calling: Calling<'_>,
     calls: Vec<CallLine>,
-    lines: LineForm,
-    reader: &mut R,
-    writer: &mut W,
-    out: &mut O,
+    pipes: &mut Pipes<R, W, O>,
 ) -> Result<Ending, Failure>
-    ensures { IfOk result (CallsStreamEndOver calling.entry calls.items lines
-        (change R.remaining reader.old reader.new) (change W.contents writer.old writer.new)
-        (change O.contents out.old out.new)) }
+    ensures { IfOk result (CallsStreamEndOver calling.entry calls.items
+        (traffic R.remaining W.contents O.contents pipes.old pipes.new)) }
 {
-    let mut end = ClientEnd::new(alloc, calling.interface, calling.limits);
+    let (lines, interface) = (calling.lines, calling.interface);
+    let showing = Showing { lines, interface };
+    let mut end = ClientEnd::new(alloc, interface, calling.limits);
     let mut left = VecDeque::from(calls);
     let mut well = true;
-    match converse(
-        alloc, &mut end, calling, lines, &mut left, &mut well, reader, writer, out,
-    ) {
-        Ok(refused) => tell_end(
-            alloc,
-            lines,
-            calling.interface,
-            &end,
-            &left,
-            well,
-            refused,
-            out,
-        ),
+    match stream_calls(alloc, &mut end, calling, &mut left, &mut well, pipes) {
+        Ok(refused) => tell_end(alloc, showing, &end, &left, well, refused, &mut pipes.out),
         Err(failure) => {
-            tell_open(alloc, lines, calling.interface, &end, &left, None, out)?;
+            tell_open(alloc, showing, &end, &left, None, &mut pipes.out)?;
             Err(failure)
         }
     }
@@ -100,29 +88,23 @@ pub fn call_stream<R: Read, W: Write, O: Write>(
 
 // Makes calls, takes turns, and tells the calls that are over, until none is left, the input ends
 // or the end fails. Returns the fault of a call that was refused, at which it stops.
-fn converse<R: Read, W: Write, O: Write>(
+fn stream_calls<R: Read, W: Write, O: Write>(
     alloc: Global,
     end: &mut ClientEnd<'_>,
     calling: Calling<'_>,
-    lines: LineForm,
     left: &mut VecDeque<CallLine>,
     well: &mut bool,
-    reader: &mut R,
-    writer: &mut W,
-    out: &mut O,
+    pipes: &mut Pipes<R, W, O>,
 ) -> Result<Option<SessionFault>, Failure>
     requires interface { end.old.interface.now ≡ calling.interface.now }
     requires limits { end.old.limits ≡ calling.limits }
     requires fault { end.old.fault ≡ None }
-    ensures { IfOk result (λ refused. Streams (asked_of calling.entry left.old.items) lines
-        (course_of (R.remaining reader.old) (W.contents writer.old) (O.contents out.old) end.old
-        left.old.items well.old) refused (course_of (R.remaining reader.new) (W.contents writer.new)
-        (O.contents out.new) end.new left.new.items well.new)) }
+    ensures { IfOk result (λ refused. StreamsOver calling.entry end.old end.new
+        left.old.items left.new.items well.old well.new refused
+        (traffic R.remaining W.contents O.contents pipes.old pipes.new)) }
 {
     'turns: for done in 0..TURNS {
-        if let CallTurn::Ends(refused) = turn_of_calls(
-            alloc, end, calling, lines, left, well, reader, writer, out,
-        )? {
+        if let SessionTurn::Ends(refused) = turn_of_calls(alloc, end, calling, left, well, pipes)? {
             return Ok(refused);
         }
     }
@@ -132,8 +114,7 @@ fn converse<R: Read, W: Write, O: Write>(
 // Writes what is left, and returns what the session came to.
 fn tell_end<O: Write>(
     alloc: Global,
-    lines: LineForm,
-    interface: &Interface,
+    showing: Showing<'_>,
     end: &ClientEnd<'_>,
     left: &VecDeque<CallLine>,
     well: bool,
@@ -141,14 +122,15 @@ fn tell_end<O: Write>(
     out: &mut O,
 ) -> Result<Ending, Failure>
     ensures text { OnOk result (Appends (O.contents out.old) (O.contents out.new)
-        (left_text lines interface.now end.now.calls left.now.items (told refused end.now.fault))) }
+        (left_text showing.entry.lines showing.entry.interface.now end.now.calls left.now.items
+        (told refused end.now.fault))) }
     ensures ok { IfOk result (λ ending. ending.status ≡ stream_status refused end.now.fault
         (all_done well end.now.calls left.now.items)) }
     ensures ends { IfOk result (Ends is_closed (told refused end.now.fault) end.now.calls.table
         end.now.framer) }
 {
     let fault = told(refused, end.fault());
-    tell_open(alloc, lines, interface, end, left, fault, out)?;
+    tell_open(alloc, showing, end, left, fault, out)?;
     let done = well && all_well(alloc, end)? && left.is_empty();
     let status = stream_status(refused, end.fault(), done);
     Ok(ending_of(alloc, end, fault, status)?)
@@ -157,25 +139,25 @@ fn tell_end<O: Write>(
 // Writes the lines of the calls that are open, those of the calls that weren't made, and the fault.
 fn tell_open<O: Write>(
     alloc: Global,
-    lines: LineForm,
-    interface: &Interface,
+    showing: Showing<'_>,
     end: &ClientEnd<'_>,
     left: &VecDeque<CallLine>,
     fault: Option<SessionFault>,
     out: &mut O,
 ) -> Result<(), Failure>
     ensures { OnOk result (Appends (O.contents out.old) (O.contents out.new)
-        (left_text lines interface.now end.now.calls left.now.items fault)) }
+        (left_text showing.entry.lines showing.entry.interface.now end.now.calls left.now.items
+        fault)) }
 {
-    tell_left(alloc, lines, interface, end, out)?;
-    tell_unsent(lines, left, out)?;
-    write_fault(lines, fault, out)?;
+    tell_left(alloc, showing, end, out)?;
+    tell_unsent(showing.lines, left, out)?;
+    write_fault(showing.lines, fault, out)?;
     out.flush()?;
     Ok(())
 }
 
 // Writes a line for each call that wasn't made.
-#[tactic(auto, using(crate::proofs::CallStreamingLemmas::unsent_on))]
+#[tactic(auto, using(crate::proofs::OnCall::StreamingLemmas::unsent_on))]
 fn tell_unsent<O: Write>(
     lines: LineForm,
     left: &VecDeque<CallLine>,

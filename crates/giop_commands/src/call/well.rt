@@ -1,9 +1,9 @@
 //! Whether the calls of a client's end are over, and whether they went well. Their meaning is
-//! specs/Calling.antt, specs/Sessions.antt and specs/CallStreaming.antt: change both.
+//! specs/Call/Calling.antt, specs/Session/Printed.antt and specs/Call/Streaming.antt: change both.
 ghost use Rattle.std.specs.Prelude.{◌≡◌, IfOk, option_copied};
-ghost use Rattle.giop_commands.specs.Calling.{are_over, is_over};
-ghost use Rattle.giop_commands.specs.CallStreaming.{all_over_well, is_over_well};
-ghost use Rattle.giop_commands.specs.Sessions.{all_well, is_well};
+ghost use Rattle.giop_commands.specs.Call.Calling.{are_over, is_over};
+ghost use Rattle.giop_commands.specs.Call.Streaming.{all_over_well, is_over_well};
+ghost use Rattle.giop_commands.specs.Session.Printed.{all_well, is_well};
 
 use giop_calls::ClientEntry;
 use giop_end::ClientEnd;

@@ -1,9 +1,9 @@
 //! A call that words ask for: the name of an operation, and its ins. Its meaning is `call_in_words`
-//! in specs/CallForms.antt: change both.
+//! in specs/Call/Forms.antt: change both.
 ghost use Rattle.std.specs.Prelude.{◌≡◌, ◌⊎◌, ◌∷◌, [], IfOk, IfErr, Ok, Err};
 ghost use Rattle.serde_json.specs.View.{items_view};
 ghost use Rattle.giop_types.specs.declared.json.form_fault.FormFault.TheVariants.{NoMemory};
-ghost use Rattle.giop_commands.specs.CallForms.{call_in_words};
+ghost use Rattle.giop_commands.specs.Call.Forms.{call_in_words};
 
 use crate::call::calls::{CallLine, call_named};
 use giop_types::{FormFault, Interface};

@@ -4,12 +4,11 @@ ghost use Rattle.std.specs.Prelude.{◌≡◌, IfOk, OnOk};
 ghost use Rattle.std.specs.Io.KnownBytes.{IsAtEnd};
 ghost use Rattle.giop_commands.specs.Check.{AreLimits, ChecksText};
 
-use crate::check::check_stream;
-use giop_end::Limits;
+use crate::check::{Checking, check_stream};
 use giop_show::convert::value::form_refusal;
 use giop_show::dump::BehindFault;
 use giop_show::failure::Failure;
-use giop_show::form::{LineForm, refuse_in};
+use giop_show::form::refuse_in;
 use giop_show::pieces::{PieceBuffer, drain};
 use giop_show::status::Status;
 use giop_types::Interface;
@@ -23,28 +22,22 @@ use std::io::{Read, Write};
 pub fn check_text<R: Read, W: Write>(
     alloc: Global,
     interface: &[u8],
-    limits: Limits,
-    strict: bool,
-    form: LineForm,
+    checking: Checking,
     reader: &mut R,
     writer: &mut W,
-    behind: BehindFault,
 ) -> Result<Status, Failure>
-    requires { AreLimits limits }
-    ensures text { IfOk result (ChecksText interface.now limits strict form
-        (R.remaining reader.old) (W.contents writer.old) (W.contents writer.new)) }
-    ensures end { OnOk result (behind ≡ BehindFault.Read → IsAtEnd (R.remaining reader.new)) }
+    requires { AreLimits checking.limits }
+    ensures text { IfOk result (ChecksText interface.now checking.limits checking.strict
+        checking.lines (R.remaining reader.old) (W.contents writer.old) (W.contents writer.new)) }
+    ensures end { OnOk result (checking.behind ≡ BehindFault.Read
+        → IsAtEnd (R.remaining reader.new)) }
 {
     match Interface::from_json(alloc, interface) {
-        Ok(interface) => {
-            check_stream(
-                alloc, &interface, limits, strict, form, reader, writer, behind,
-            )
-        },
+        Ok(interface) => check_stream(alloc, &interface, checking, reader, writer),
         Err(fault) => {
             let line = form_refusal(fault)?;
-            read_on(alloc, reader, behind)?;
-            refuse_in(form, line, writer)
+            read_on(alloc, reader, checking.behind)?;
+            refuse_in(checking.lines, line, writer)
         }
     }
 }

@@ -1,13 +1,15 @@
 //! The answers that a file gives `serve`, in JSON (docs/FORMATS.md, "Calls and answers"). Their
-//! form is `answers_in` in specs/AnswerFiles.antt: change both.
+//! form is `answers_in` in specs/Serve/AnswerFiles.antt: change both.
 ghost use Rattle.std.specs.Prelude.{◌≡◌, ◌&&◌, ◌⊎◌, IfOk, IfErr, string_bytes};
 ghost use Rattle.serde_json.specs.View.{view};
 ghost use Rattle.giop_types.specs.declared.json.form_fault.FormFault.TheVariants.{NoMemory};
 ghost use Rattle.giop_types.specs.JsonForms.JsonText.{text_of};
-ghost use Rattle.giop_commands.specs.AnswerFiles.{answers_in, are_fit, default_count, default_formed, has_own, member_count, own_count};
-ghost use Rattle.giop_commands.specs.AnswerForms.{given_in, given_under};
+ghost use Rattle.giop_commands.specs.Serve.AnswerFiles.{answers_in, are_fit, default_count, default_formed, has_own, member_count, own_count};
+ghost use Rattle.giop_commands.specs.Serve.AnswerForms.{given_in, given_under};
 
 mod fitting;
+pub mod general;
+pub mod let_out;
 mod reading;
 
 use crate::serve::answers::fitting::{are_fit, default_formed};

@@ -4,6 +4,7 @@ ghost use Rattle.giop_commands.specs.Check.{AreLimits};
 
 use crate::serve::answers::Answers;
 use giop_end::{Form, Limits};
+use giop_show::form::LineForm;
 use giop_types::Interface;
 
 /// An object that is served.
@@ -15,7 +16,7 @@ pub struct ServedObject<'a> {
     pub answers: &'a Answers,
 }
 
-/// The objects that are served, how, and within which limits.
+/// The objects that are served, how, within which limits, and how the calls are told.
 #[derive(Clone, Copy)]
 pub struct Serving<'a> {
     /// What the objects offer.
@@ -26,6 +27,8 @@ pub struct Serving<'a> {
     pub form: Form,
     /// What the end holds at most.
     pub limits: Limits,
+    /// The form of the lines that tell the calls.
+    pub lines: LineForm,
     ghost sent: { IsForm form },
     ghost bounded: { AreLimits limits },
 }

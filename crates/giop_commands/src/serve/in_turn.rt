@@ -1,9 +1,9 @@
 //! Which of an operation's answers were given, where a file lists several. Its meaning is
-//! specs/InTurn.antt: change both.
+//! specs/Serve/InTurn.antt: change both.
 ghost use Rattle.std.specs.Prelude.{◌≡◌, ◌++◌, ◌∷◌, [], map, option_map, IfOk, OnOk};
 ghost use Rattle.serde_json.specs.View.{view};
-ghost use Rattle.giop_commands.specs.InTurn.{ListsAreGivenInTurn, ObjectsPassApart, due_in, has_next, passed_at, passed_behind, passed_by, passed_for, passed_of};
-ghost use Rattle.giop_commands.specs.Objects.{object_of};
+ghost use Rattle.giop_commands.specs.Serve.InTurn.{ListsAreGivenInTurn, ObjectsPassApart, due_in, has_next, passed_at, passed_behind, passed_by, passed_for, passed_of};
+ghost use Rattle.giop_commands.specs.Serve.Objects.{object_of};
 
 use crate::serve::answering::Answer;
 use crate::serve::answers::text_of;

@@ -1,11 +1,11 @@
 //! The answer to `_is_a`, which goes by its argument (CORBA 3.3 Part 1, 8.3.3). Its meaning is
-//! specs/IsA.antt: change both.
+//! specs/Serve/IsA.antt: change both.
 ghost use Rattle.std.specs.Prelude.{◌≡◌, ◌∷◌, [], map, IfOk};
 ghost use Rattle.serde_json.specs.View.{view};
 ghost use Rattle.giop_types.specs.JsonForms.FromJson.{Shows};
 ghost use Rattle.giop_types.specs.Values.Tree.{boolean_of};
 ghost use Rattle.giop_types.specs.Values.Views.{value_view};
-ghost use Rattle.giop_commands.specs.IsA.{are_boolean, is_a, is_a_body, is_a_in, is_asked};
+ghost use Rattle.giop_commands.specs.Serve.IsA.{are_boolean, is_a, is_a_body, is_a_in, is_asked};
 
 use crate::serve::answers::AnswerGiven;
 use crate::session::json::{is_object_of, octets_of};

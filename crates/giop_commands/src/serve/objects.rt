@@ -1,7 +1,7 @@
 //! The objects that are served. Which of them a target asks for is `object_for` in
-//! specs/Objects.antt: change both.
+//! specs/Serve/Objects.antt: change both.
 ghost use Rattle.std.specs.Prelude.{◌≡◌, map, option_map};
-ghost use Rattle.giop_commands.specs.Objects.{object_at, object_for, object_of};
+ghost use Rattle.giop_commands.specs.Serve.Objects.{object_at, object_for, object_of};
 
 use crate::serve::given::ServedObject;
 use giop_msg::Target;
@@ -18,7 +18,7 @@ pub fn object_for<'a>(objects: &[ServedObject<'a>], target: &Target) -> Option<S
 }
 
 /// The first object of a key.
-#[tactic(auto, using(crate::proofs::ObjectLemmas::object_passed, crate::proofs::ObjectLemmas::object_found, crate::proofs::ObjectLemmas::object_absent))]
+#[tactic(auto, using(crate::proofs::OnServe::ObjectLemmas::object_passed, crate::proofs::OnServe::ObjectLemmas::object_found, crate::proofs::OnServe::ObjectLemmas::object_absent))]
 pub fn object_at<'a>(objects: &[ServedObject<'a>], key: &[u8]) -> Option<ServedObject<'a>>
     ensures { option_map object_of result ≡ object_at (map object_of objects.now) key.now }
 {

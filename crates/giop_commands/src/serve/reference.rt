@@ -1,9 +1,9 @@
 //! The reference of an object that is served (CORBA 3.3 Part 2, 7.6.9). It is `reference_at` in
-//! specs/Target.antt: change both.
+//! specs/Session/Target.antt: change both.
 ghost use Rattle.std.specs.Prelude.{◌≡◌, ◌∷◌, [], IfOk, Ok};
 ghost use Rattle.giop_ior.specs.Ior.{ior_layout};
 ghost use Rattle.giop_types.specs.IorText.{ior_text_of};
-ghost use Rattle.giop_commands.specs.Target.{profile_at, reference_at};
+ghost use Rattle.giop_commands.specs.Session.Target.{profile_at, reference_at};
 
 use giop_cdr::{EncodeFault, OctetList};
 use giop_ior::{IiopProfile, Ior, Sequence, TaggedProfile, iiop_profile, ior_to_text};

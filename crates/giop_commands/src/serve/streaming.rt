@@ -1,26 +1,27 @@
 //! `serve --stream`: a connection whose calls are told as soon as they are over, and taken out. Its
-//! meaning is specs/Streaming.antt: change both.
-ghost use Rattle.std.specs.Prelude.{◌≡◌, ◌++◌, IfOk, None, OnOk, length};
+//! meaning is specs/Serve/Streaming.antt: change both.
+ghost use Rattle.std.specs.Prelude.{◌≡◌, IfOk, None, OnOk};
 ghost use Rattle.std.specs.Io.KnownBytes.{Appends};
 ghost use Rattle.std.specs.String.{string_bytes};
 ghost use Rattle.giop_calls.specs.ServerTable.{is_closed};
-ghost use Rattle.giop_show.specs.Dump.{ended};
-ghost use Rattle.giop_commands.specs.Endings.{Ends, ServesStreamEndOver};
-ghost use Rattle.giop_commands.specs.Serving.{served_of, session, session_at};
-ghost use Rattle.giop_commands.specs.SessionLines.{last_in};
-ghost use Rattle.giop_commands.specs.Sessions.{change, connection_in, serve_status};
-ghost use Rattle.giop_commands.specs.StreamLines.{answered_in, question_brought, question_ins, server_told_in};
-ghost use Rattle.giop_commands.specs.Streaming.{Streams, shown};
-ghost use Rattle.giop_commands.specs.Table.{table_text};
+ghost use Rattle.giop_show.specs.Dump.Text.{ended};
+ghost use Rattle.giop_commands.specs.Session.Endings.{Ends, ServesStreamEndOver};
+ghost use Rattle.giop_commands.specs.Session.FaultLines.{last_in};
+ghost use Rattle.giop_commands.specs.Session.Printed.{connection_in, serve_status};
+ghost use Rattle.giop_commands.specs.Serve.StreamLines.{answered_in, question_brought, question_ins, server_told_in};
+ghost use Rattle.giop_commands.specs.Serve.Streaming.{StreamsOver, left_text};
+ghost use Rattle.giop_commands.specs.Session.Traffic.{traffic};
 
 use crate::serve::given::Serving;
 use crate::serve::in_turn::Passed;
 use crate::serve::shown::{AnsweredObject, AnsweredShownLine, question_shown};
-use crate::serve::{answer_all, serve_status, write_connection};
+use crate::serve::turns::turn_of_answers;
+use crate::serve::{serve_status, write_connection};
 use crate::session::ending::{Ending, ending_of};
+use crate::session::given::{Pipes, Showing};
 use crate::session::streaming::{Streamed, tell_left, tell_over};
 use crate::session::table::Tabled;
-use crate::session::{TURNS, goes_on, told, write_session_fault};
+use crate::session::{SessionTurn, TURNS, told, write_session_fault};
 use giop_calls::{Question, ServerEntry, ServerRule};
 use giop_end::{ServerEnd, SessionFault};
 use giop_lines::{AnsweredJson, AnsweredLine, RestJson, RestLine};
@@ -33,7 +34,7 @@ use std::alloc::{AllocError, Global};
 use std::io::{Read, Write};
 
 impl Streamed for ServerRule {
-    ghost use Rattle.giop_commands.specs.StreamLines.{server_told_in};
+    ghost use Rattle.giop_commands.specs.Serve.StreamLines.{server_told_in};
 
     ghost told = { server_told_in };
 
@@ -50,7 +51,8 @@ impl Streamed for ServerRule {
     ) -> Result<String, AllocError> {
         match entry {
             ServerEntry::Answered { asked, reply, .. } => {
-                answered_text(alloc, lines, interface, id, asked, &reply.body)
+                let showing = Showing { lines, interface };
+                answered_text(alloc, showing, id, asked, &reply.body)
             }
             _ => ServerRule::entry_text(alloc, lines, interface, id, entry),
         }
@@ -60,15 +62,15 @@ impl Streamed for ServerRule {
 // The line of a call that was answered, without its newline.
 fn answered_text(
     alloc: Global,
-    lines: LineForm,
-    interface: &Interface,
+    showing: Showing<'_>,
     id: u32,
     asked: &Question,
     body: &ReplyBody,
 ) -> Result<String, AllocError>
     ensures { IfOk result (λ text. string_bytes text
-        ≡ answered_in lines interface.now id asked.now body.now) }
+        ≡ answered_in showing.entry.lines showing.entry.interface.now id asked.now body.now) }
 {
+    let (lines, interface) = (showing.lines, showing.interface);
     let ins = question_ins(alloc, lines.numbers(), interface, asked)?;
     let brought = question_brought(alloc, lines.numbers(), interface, asked, body)?;
     let (ins, brought) = (ins.as_str(), brought.as_str());
@@ -125,43 +127,39 @@ fn question_brought(
 }
 
 /// Serves a connection of this number as `serve_over` does, and tells its calls in a form as they
-/// end. The line of the connection is written at first. After the answers to each read, each call that is
-/// over has its line, in ascending order of the ids, and is taken out. So a connection of any number
-/// of calls takes the memory of those that are open. At the end there are the lines of the calls
-/// that are left, and then how many octets are unread, or the fault. `out` is flushed before each
-/// read.
+/// end. The line of the connection is written at first. After the answers to each read, each call
+/// that is over has its line, in ascending order of the ids, and is taken out. So a connection of
+/// any number of calls takes the memory of those that are open. At the end there are the lines of
+/// the calls that are left, and then how many octets are unread, or the fault. `out` is flushed
+/// before each read.
 ///
-/// What it comes to is that of `serve_over`, and so are the failures. Where the connection fails, the
-/// calls that are left have their lines before the failure is returned.
+/// What it comes to is that of `serve_over`, and so are the failures. Where the connection fails,
+/// the calls that are left have their lines before the failure is returned.
 pub fn stream_over<R: Read, W: Write, O: Write>(
     alloc: Global,
     number: u32,
     serving: Serving<'_>,
     passed: &mut Passed,
-    lines: LineForm,
-    reader: &mut R,
-    writer: &mut W,
-    out: &mut O,
+    pipes: &mut Pipes<R, W, O>,
 ) -> Result<Ending, Failure>
-    ensures { IfOk result (ServesStreamEndOver number serving.entry lines
-        (change R.remaining reader.old reader.new) (change W.contents writer.old writer.new)
-        passed.old passed.new (change O.contents out.old out.new)) }
+    ensures { IfOk result (ServesStreamEndOver number serving.entry passed.old passed.new
+        (traffic R.remaining W.contents O.contents pipes.old pipes.new)) }
 {
-    let interface = serving.interface;
-    tell_begin(lines, number, out)?;
+    let (lines, interface) = (serving.lines, serving.interface);
+    let showing = Showing { lines, interface };
+    tell_begin(lines, number, &mut pipes.out)?;
     let mut end = ServerEnd::new(alloc, interface, serving.limits);
-    match converse(alloc, &mut end, serving, passed, lines, reader, writer, out) {
+    match stream_answers(alloc, &mut end, serving, passed, pipes) {
         Ok(refused) => tell_end(
             alloc,
-            lines,
-            interface,
+            showing,
             &end,
             told(refused, end.fault()),
-            out,
+            &mut pipes.out,
         ),
         Err(failure) => {
-            tell_left(alloc, lines, interface, &end, out)?;
-            out.flush()?;
+            tell_left(alloc, showing, &end, &mut pipes.out)?;
+            pipes.out.flush()?;
             Err(failure)
         }
     }
@@ -181,20 +179,19 @@ fn tell_begin<O: Write>(lines: LineForm, number: u32, out: &mut O) -> Result<(),
 // came to.
 fn tell_end<O: Write>(
     alloc: Global,
-    lines: LineForm,
-    interface: &Interface,
+    showing: Showing<'_>,
     end: &ServerEnd<'_>,
     fault: Option<SessionFault>,
     out: &mut O,
 ) -> Result<Ending, Failure>
     ensures text { OnOk result (Appends (O.contents out.old) (O.contents out.new)
-        (table_text (server_told_in lines interface.now) end.now.calls.table
-        ++ ended (last_in lines fault (length end.now.framer.octets)))) }
+        (left_text showing.entry.lines showing.entry.interface.now end.now.calls fault
+        end.now.framer)) }
     ensures ok { IfOk result (λ ending. ending.status ≡ serve_status fault) }
     ensures ends { IfOk result (Ends is_closed fault end.now.calls.table end.now.framer) }
 {
-    tell_left(alloc, lines, interface, end, out)?;
-    write_last(lines, fault, end.rest(), out)?;
+    tell_left(alloc, showing, end, out)?;
+    write_last(showing.lines, fault, end.rest(), out)?;
     Ok(ending_of(alloc, end, fault, serve_status(fault))?)
 }
 
@@ -216,30 +213,24 @@ fn write_last<W: Write>(
 
 // Takes turns, answers after each, and tells the calls that are over, until the input ends or the
 // end fails. Returns the fault of what could not be sent, at which it stops.
-fn converse<R: Read, W: Write, O: Write>(
+fn stream_answers<R: Read, W: Write, O: Write>(
     alloc: Global,
     end: &mut ServerEnd<'_>,
     serving: Serving<'_>,
     passed: &mut Passed,
-    lines: LineForm,
-    reader: &mut R,
-    writer: &mut W,
-    out: &mut O,
+    pipes: &mut Pipes<R, W, O>,
 ) -> Result<Option<SessionFault>, Failure>
     requires { end.old.interface.now ≡ serving.interface.now }
-    ensures { IfOk result (λ refused. Streams (served_of serving.entry) end.old.limits lines (shown
-        (session_at (R.remaining reader.old) (W.contents writer.old) end.old passed.old)
-        (O.contents out.old)) refused (shown (session_at (R.remaining reader.new)
-        (W.contents writer.new) end.new passed.new) (O.contents out.new))) }
+    ensures { IfOk result (λ refused. StreamsOver serving.entry end.old end.new passed.old
+        passed.new refused (traffic R.remaining W.contents O.contents pipes.old pipes.new)) }
 {
+    let (lines, interface) = (serving.lines, serving.interface);
+    let showing = Showing { lines, interface };
     'turns: for done in 0..TURNS {
-        if !goes_on(end, reader, writer)? {
-            return Ok(None);
+        if let SessionTurn::Ends(refused) = turn_of_answers(alloc, end, serving, passed, pipes)? {
+            return Ok(refused);
         }
-        if let Some(fault) = answer_all(alloc, end, serving, passed)? {
-            return Ok(Some(fault));
-        }
-        tell_over(alloc, lines, serving.interface, end, out)?;
+        tell_over(alloc, showing, end, &mut pipes.out)?;
     }
     Err(Failure::TurnsSpent)
 }

@@ -1,8 +1,8 @@
-//! The lines of a server's table, in a form. Their text is specs/Table.antt, of the lines of
-//! giop_lines.
+//! The lines of a server's table, in a form. Their text is specs/Session/Table.antt, of the lines
+//! of giop_lines.
 ghost use Rattle.std.specs.Prelude.{◌≡◌, IfOk};
 ghost use Rattle.std.specs.String.{string_bytes};
-ghost use Rattle.giop_commands.specs.EntryBodies.{ins_text};
+ghost use Rattle.giop_commands.specs.Session.EntryBodies.{ins_text};
 
 use crate::serve::shown::{EntryObject, EntryShownLine, entry_shown};
 use crate::session::table::Tabled;
@@ -14,7 +14,7 @@ use giop_types::{Interface, NumberForm};
 use std::alloc::{AllocError, Global};
 
 impl Tabled for ServerRule {
-    ghost use Rattle.giop_commands.specs.Table.{server_entry_in};
+    ghost use Rattle.giop_commands.specs.Session.Table.{server_entry_in};
 
     ghost line = { server_entry_in };
 

@@ -62,7 +62,7 @@ impl Ahead {
     ///
     /// Another error of the writer or of the reader is returned, and `OutOfMemory` where there is
     /// no room for what would be read.
-    #[tactic(auto, using(crate::proofs::AheadLemmas::kept, crate::proofs::AheadLemmas::kept_on, crate::proofs::AheadLemmas::written_on))]
+    #[tactic(auto, using(crate::proofs::OnSession::AheadLemmas::kept, crate::proofs::OnSession::AheadLemmas::kept_on, crate::proofs::OnSession::AheadLemmas::written_on))]
     pub fn write<R: Read, W: Write>(
         &mut self,
         reader: &mut R,
@@ -86,7 +86,7 @@ impl Ahead {
     }
 
     // Reads all that is there, as far as there is room for it.
-    #[tactic(auto, using(crate::proofs::AheadLemmas::kept, crate::proofs::AheadLemmas::kept_on, crate::proofs::AheadLemmas::written_on))]
+    #[tactic(auto, using(crate::proofs::OnSession::AheadLemmas::kept, crate::proofs::OnSession::AheadLemmas::kept_on, crate::proofs::OnSession::AheadLemmas::written_on))]
     fn read_there<R: Read>(&mut self, reader: &mut R) -> io::Result<()>
         ensures kept { Keeps (prepend_known self.old (R.remaining reader.old))
             (prepend_known self.new (R.remaining reader.new)) }

@@ -1,6 +1,7 @@
-//! The exit status of a session that a fault broke off. It is specs/BrokenStatus.antt: change both.
+//! The exit status of a session that a fault broke off. It is specs/Session/BrokenStatus.antt:
+//! change both.
 ghost use Rattle.std.specs.Prelude.{◌≡◌};
-ghost use Rattle.giop_commands.specs.BrokenStatus.{broken_status};
+ghost use Rattle.giop_commands.specs.Session.BrokenStatus.{broken_status};
 
 use giop_end::SessionFault;
 use giop_show::status::{Limit, Status};

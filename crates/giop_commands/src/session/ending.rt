@@ -1,7 +1,7 @@
 //! What a session comes to, and what it leaves where its input ends. Its meaning is
-//! specs/Endings.antt: change both.
+//! specs/Session/Endings.antt: change both.
 ghost use Rattle.std.specs.Prelude.{◌≡◌, IfOk};
-ghost use Rattle.giop_commands.specs.Endings.{Ends, open_ids};
+ghost use Rattle.giop_commands.specs.Session.Endings.{Ends, open_ids};
 
 use crate::session::streaming::{Streamed, is_over_at};
 use giop_end::{End, SessionFault};

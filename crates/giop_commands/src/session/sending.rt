@@ -1,7 +1,7 @@
 //! Pieces of calls and of answers (CORBA 3.3 Part 2, 9.4.9) are put out, one of each id in turn.
-//! The order is `SendsAll` in specs/Acts.antt: change both.
+//! The order is `SendsAll` in specs/Session/Acts.antt: change both.
 ghost use Rattle.std.specs.Prelude.{◌≡◌, map, max, IfOk};
-ghost use Rattle.giop_commands.specs.Acts.{left_at, most, outbox_of, SendsAll, SendsNext, SendsRound};
+ghost use Rattle.giop_commands.specs.Session.Acts.{left_at, most, outbox_of, SendsAll, SendsNext, SendsRound};
 ghost use Rattle.giop_end.specs.Ends.View.{IsActedOn};
 
 use crate::session::told_of;
@@ -14,7 +14,7 @@ use std::alloc::Global;
 /// A side of a connection whose program puts out messages in pieces.
 pub trait Sender: Hearing {
     ghost use Rattle.std.specs.Prelude.{◌≡◌, ℕ};
-    ghost use Rattle.giop_commands.specs.Acts.{SendsPiece};
+    ghost use Rattle.giop_commands.specs.Session.Acts.{SendsPiece};
 
     ghost left_in: { Self.Entry → ℕ };
 

@@ -1,13 +1,14 @@
 //! The calls of an end that are over: each is told and taken out. Its meaning is
-//! specs/Streaming.antt: change both.
+//! specs/Serve/Streaming.antt: change both.
 ghost use Rattle.std.specs.Prelude.{◌≡◌, None, IsErrOf, OnErr, OnOk};
 ghost use Rattle.std.specs.FinMap as finite;
-ghost use Rattle.std.specs.List.{IsDistinct, flat_map};
+ghost use Rattle.std.specs.List.{IsDistinct};
 ghost use Rattle.std.specs.Ordering.{eq_by_cmp, nat_cmp};
 ghost use Rattle.std.specs.Io.KnownBytes.{Appends, Keeps};
-ghost use Rattle.giop_commands.specs.Streaming.{OutInPart, ToldInPart, ended_at, over_at, over_text, without_ended, without_over};
-ghost use Rattle.giop_commands.specs.Table.{table_text, text_at};
+ghost use Rattle.giop_commands.specs.Serve.Streaming.{OutInPart, SomeTold, over_lines, ended_at, over_at, over_text, without_ended, without_over};
+ghost use Rattle.giop_commands.specs.Session.Table.{table_text, text_at};
 
+use crate::session::given::Showing;
 use crate::session::table::Tabled;
 use crate::session::untold::Untold;
 use giop_end::{End, Hearing};
@@ -43,30 +44,30 @@ pub trait Streamed: Tabled {
         ensures { IfOk result (λ text. string_bytes text ≡ told lines interface.now id entry.now) };
 }
 
-/// Writes the line of each call that is over in a form, in ascending order of the ids, and takes it
+/// Writes the line of each call that is over, in ascending order of the ids, and takes it
 /// out as soon as it is written; then it flushes the writer.
 ///
-/// Where that fails, the calls up to some id are out, and all others stay: where it is out of memory,
-/// these are exactly those whose lines were written, and nothing else was.
+/// Where that fails, the calls up to some id are out, and all others stay: where it is out of
+/// memory, these are exactly those whose lines were written, and nothing else was.
 pub fn tell_over<R: Streamed, W: Write>(
     alloc: Global,
-    lines: LineForm,
-    interface: &Interface,
+    showing: Showing<'_>,
     end: &mut End<'_, R>,
     writer: &mut W,
 ) -> Result<(), Untold>
     requires { end.old.fault ≡ None }
     ensures text { OnOk result (Appends (W.contents writer.old) (W.contents writer.new)
-        (over_text (R.closed end.old.calls.rule) (R.told lines interface.now) end.old.calls.table)) }
+        (over_text (R.closed end.old.calls.rule)
+        (R.told showing.entry.lines showing.entry.interface.now) end.old.calls.table)) }
     ensures left { OnOk result (end.new ≡ record end.old {
       calls = record end.old.calls {
         table = without_over (R.closed end.old.calls.rule) (finite.keys end.old.calls.table)
             end.old.calls.table;
       };
     }) }
-    ensures memory { IsErrOf result Untold.Memory → ToldInPart (R.closed end.old.calls.rule)
-        (R.told lines interface.now) (finite.keys end.old.calls.table) end.old.calls.table
-        end.new.calls.table (W.contents writer.old) (W.contents writer.new) }
+    ensures memory { IsErrOf result Untold.Memory → SomeTold R.closed R.told showing.entry
+        (finite.keys end.old.calls.table) end.old.calls end.new.calls
+        (W.contents writer.old) (W.contents writer.new) }
     ensures err { OnErr result (OutInPart (R.closed end.old.calls.rule)
         (finite.keys end.old.calls.table) end.old.calls.table end.new.calls.table) }
     ensures others { end.new ≡ record end.old {
@@ -74,7 +75,7 @@ pub fn tell_over<R: Streamed, W: Write>(
     } }
 {
     let ids = end.ids(alloc)?;
-    tell_each_over(alloc, lines, interface, end, ids.as_slice(), writer)?;
+    tell_each_over(alloc, showing, end, ids.as_slice(), writer)?;
     writer.flush()?;
     Ok(())
 }
@@ -82,8 +83,7 @@ pub fn tell_over<R: Streamed, W: Write>(
 // Tells those of these ids whose calls are over, one after the other, and takes them out.
 fn tell_each_over<R: Streamed, W: Write>(
     alloc: Global,
-    lines: LineForm,
-    interface: &Interface,
+    showing: Showing<'_>,
     end: &mut End<'_, R>,
     ids: &[u32],
     writer: &mut W,
@@ -91,13 +91,11 @@ fn tell_each_over<R: Streamed, W: Write>(
     requires fault { end.old.fault ≡ None }
     requires apart { IsDistinct (eq_by_cmp nat_cmp) ids.now }
     ensures text { OnOk result (Appends (W.contents writer.old) (W.contents writer.new)
-        (flat_map (over_at (R.closed end.old.calls.rule) (R.told lines interface.now)
-        end.old.calls.table) ids.now)) }
+        (over_lines R.closed R.told showing.entry ids.now end.old.calls)) }
     ensures left { OnOk result (end.new.calls.table
         ≡ without_over (R.closed end.old.calls.rule) ids.now end.old.calls.table) }
-    ensures memory { IsErrOf result Untold.Memory → ToldInPart (R.closed end.old.calls.rule)
-        (R.told lines interface.now) ids.now end.old.calls.table
-        end.new.calls.table (W.contents writer.old) (W.contents writer.new) }
+    ensures memory { IsErrOf result Untold.Memory → SomeTold R.closed R.told showing.entry ids.now
+        end.old.calls end.new.calls (W.contents writer.old) (W.contents writer.new) }
     ensures err { OnErr result (OutInPart (R.closed end.old.calls.rule)
         ids.now end.old.calls.table end.new.calls.table) }
     ensures others { end.new ≡ record end.old {
@@ -105,7 +103,7 @@ fn tell_each_over<R: Streamed, W: Write>(
     } }
 {
     for id in ids {
-        tell_if_over(alloc, lines, interface, end, *id, writer)?;
+        tell_if_over(alloc, showing, end, *id, writer)?;
     }
     Ok(())
 }
@@ -114,15 +112,15 @@ fn tell_each_over<R: Streamed, W: Write>(
 // call stays.
 fn tell_if_over<R: Streamed, W: Write>(
     alloc: Global,
-    lines: LineForm,
-    interface: &Interface,
+    showing: Showing<'_>,
     end: &mut End<'_, R>,
     id: u32,
     writer: &mut W,
 ) -> Result<(), Untold>
     requires { end.old.fault ≡ None }
     ensures text { OnOk result (Appends (W.contents writer.old) (W.contents writer.new)
-        (over_at (R.closed end.old.calls.rule) (R.told lines interface.now) end.old.calls.table id)) }
+        (over_at (R.closed end.old.calls.rule)
+        (R.told showing.entry.lines showing.entry.interface.now) end.old.calls.table id)) }
     ensures left { OnOk result (end.new ≡ record end.old {
       calls = record end.old.calls {
         table = without_ended (R.closed end.old.calls.rule) id end.old.calls.table;
@@ -133,7 +131,7 @@ fn tell_if_over<R: Streamed, W: Write>(
     ensures kept { OnErr result (end.new ≡ end.old) }
 {
     if is_over_at(end, id) {
-        write_at(alloc, lines, interface, end, id, writer)?;
+        write_at(alloc, showing, end, id, writer)?;
         let _ = end.take(id);
     }
     Ok(())
@@ -142,19 +140,18 @@ fn tell_if_over<R: Streamed, W: Write>(
 // Writes the line of what is stored for an id, if anything is. Out of memory, nothing is written.
 fn write_at<R: Streamed, W: Write>(
     alloc: Global,
-    lines: LineForm,
-    interface: &Interface,
+    showing: Showing<'_>,
     end: &End<'_, R>,
     id: u32,
     writer: &mut W,
 ) -> Result<(), Untold>
     ensures text { OnOk result (Appends (W.contents writer.old) (W.contents writer.new)
-        (text_at (R.told lines interface.now) end.now.calls.table id)) }
+        (text_at (R.told showing.entry.lines showing.entry.interface.now) end.now.calls.table id)) }
     ensures memory { IsErrOf result Untold.Memory
         → Keeps (W.contents writer.old) (W.contents writer.new) }
 {
     if let Some(entry) = end.entry(id) {
-        let line = R::told_text(alloc, lines, interface, id, entry)?;
+        let line = R::told_text(alloc, showing.lines, showing.interface, id, entry)?;
         writeln!(writer, "{line}")?;
     }
     Ok(())
@@ -170,20 +167,19 @@ pub fn is_over_at<R: Streamed>(end: &End<'_, R>, id: u32) -> bool
     }
 }
 
-/// Writes the line of each id for which something is stored in a form, in ascending order.
+/// Writes the line of each id for which something is stored, in ascending order.
 pub fn tell_left<R: Streamed, W: Write>(
     alloc: Global,
-    lines: LineForm,
-    interface: &Interface,
+    showing: Showing<'_>,
     end: &End<'_, R>,
     writer: &mut W,
 ) -> Result<(), Failure>
     ensures { OnOk result (Appends (W.contents writer.old) (W.contents writer.new)
-        (table_text (R.told lines interface.now) end.now.calls.table)) }
+        (table_text (R.told showing.entry.lines showing.entry.interface.now) end.now.calls.table)) }
 {
     let ids = end.ids(alloc)?;
     for id in &ids {
-        write_at(alloc, lines, interface, end, *id, writer)?;
+        write_at(alloc, showing, end, *id, writer)?;
     }
     Ok(())
 }

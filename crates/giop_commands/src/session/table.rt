@@ -1,8 +1,8 @@
 //! The table of the calls of an end, a line for each, in a form. Its text is `table_text` in
-//! specs/Table.antt: change both.
+//! specs/Session/Table.antt: change both.
 ghost use Rattle.std.specs.Prelude.{◌≡◌, OnOk};
 ghost use Rattle.std.specs.Io.KnownBytes.{Appends};
-ghost use Rattle.giop_commands.specs.Table.{table_text};
+ghost use Rattle.giop_commands.specs.Session.Table.{table_text};
 
 use giop_end::{End, Hearing};
 use giop_mux::CallRule;

@@ -1,5 +1,5 @@
 //! The object that is called, by the text of its reference (CORBA 3.3 Part 2, 7.6.9) or by a
-//! corbaloc (7.6.10.1). Its meaning is specs/Target.antt: change both.
+//! corbaloc (7.6.10.1). Its meaning is specs/Session/Target.antt: change both.
 ghost use Rattle.std.specs.Prelude.{◌≡◌, IfOk, IfErr};
 ghost use Rattle.giop_ior.specs.CorbalocReading.{corbaloc_of};
 ghost use Rattle.giop_ior.specs.CorbalocWriting.{corbaloc_text};
@@ -7,7 +7,7 @@ ghost use Rattle.giop_ior.specs.Ior.{ior_layout};
 ghost use Rattle.giop_msg.specs.Version.{version_of};
 ghost use Rattle.giop_types.specs.IorText.{ior_text_of};
 ghost use Rattle.giop_show.specs.declared.failure.Failure.TheVariants.{Memory};
-ghost use Rattle.giop_commands.specs.Target.{at_first, at_profile, by_corbaloc, by_reference, corbaloc_at, first_iiop, iiop_in, is_reference, place_in, said, target_of};
+ghost use Rattle.giop_commands.specs.Session.Target.{at_first, at_profile, by_corbaloc, by_reference, corbaloc_at, first_iiop, iiop_in, is_reference, place_in, said, target_of};
 
 use giop_cdr::{CdrKind, OctetList};
 use giop_ior::{
@@ -76,8 +76,8 @@ fn by_reference(alloc: Global, text: &[u8]) -> Result<Targeted, Failure>
     }
 }
 
-/// Where the object of a reference is reached, by the first IIOP profile that can be read, if it has
-/// one.
+/// Where the object of a reference is reached, by the first IIOP profile that can be read, if it
+/// has one.
 pub fn place_in(alloc: Global, ior: &Ior) -> Result<Option<Endpoint>, Failure>
     ensures ok { IfOk result (λ place. place ≡ place_in ior.now) }
     ensures err { IfErr result (λ failure. failure ≡ Memory) }

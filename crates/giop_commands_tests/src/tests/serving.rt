@@ -5,9 +5,11 @@ use giop_commands::serve::answers::{Answers, answers_from_json};
 use giop_commands::serve::given::{Sending, ServedObject, Serving};
 use giop_commands::serve::in_turn::Passed;
 use giop_commands::serve_session;
+use giop_commands::session::given::Pipes;
 use giop_end::{Form, Limits};
+use giop_show::form::LineForm;
 use giop_show::status::Status;
-use giop_types::Interface;
+use giop_types::{Interface, NumberForm};
 use std::alloc::Global;
 use std::io;
 use std::io::{ErrorKind, Read, Write};
@@ -50,10 +52,10 @@ impl Write for Breaking {
     }
 }
 
-fn served<R: Read, W: Write>(
+fn served<R: Read + Drop, W: Write + Drop>(
     alloc: Global,
-    reader: &mut R,
-    writer: &mut W,
+    reader: R,
+    writer: W,
 ) -> Result<Status, Fail> {
     let interface = interface(alloc)?;
     let answers = answers(alloc, &interface, ANSWERS)?;
@@ -66,14 +68,19 @@ fn served<R: Read, W: Write>(
         key: KEY,
         answers: &answers,
     }];
-    let mut out: Vec<u8> = Vec::new(alloc);
     let serving = Serving {
         interface: &interface,
         objects: &objects,
         form,
         limits: Limits::default(),
+        lines: LineForm::Text(NumberForm::Plain),
     };
-    Ok(serve_session(alloc, 1, serving, &mut passed, reader, writer, &mut out))
+    let mut pipes = Pipes {
+        reader,
+        writer,
+        out: Vec::new(alloc),
+    };
+    Ok(serve_session(alloc, 1, serving, &mut passed, &mut pipes))
 }
 
 #[test]
@@ -84,15 +91,14 @@ fn a_writer_that_fails_ends_a_connection(rt: HostRuntime) -> Result<(), Fail> {
         6164640000000000000000000000000200000005",
     )?;
     for room in 0..29 {
-        let mut reader = octets.as_slice();
-        let mut writer = Breaking { room };
+        let writer = Breaking { room };
         let wanted = if room < 28 {
             Status::InputOutput
         } else {
             Status::Done
         };
         assert_eq!(rt;
-            served(rt.alloc(), &mut reader, &mut writer)?,
+            served(rt.alloc(), octets.as_slice(), writer)?,
             wanted,
             "{room}"
         );

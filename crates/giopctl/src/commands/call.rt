@@ -17,6 +17,7 @@ use crate::files::interfaces::{NOTHING, Offered, interface_of_each, own_of, read
 use crate::report;
 use giop_commands::call::calls::CallLine;
 use giop_commands::call::streaming::call_stream;
+use giop_commands::session::given::Pipes;
 use giop_commands::{Calling, Ending, Endpoint, call_over};
 use giop_show::failure::Failure;
 use giop_show::status::Status;
@@ -105,6 +106,7 @@ pub fn calling_of<'a>(
         version: endpoint.version,
         form: words.form,
         limits: words.limits,
+        lines: words.lines,
     }
 }
 
@@ -117,14 +119,16 @@ fn call_at(
     calling: Calling<'_>,
 ) -> Result<Ending, Failure> {
     let link = connect(rt, endpoint, words.timeout)?;
-    let mut out = BufWriter::with_capacity(rt.alloc(), OUTPUT_BUFFER, io::writer(rt))?;
-    let (mut reader, mut writer) = (&link, &link);
-    let (reader, writer) = (&mut reader, &mut writer);
-    let (alloc, lines) = (rt.alloc(), words.lines);
-    let ending = match words.telling {
-        Telling::AtTheEnd => call_over(alloc, calling, calls, lines, reader, writer, &mut out)?,
-        Telling::WhenOver => call_stream(alloc, calling, calls, lines, reader, writer, &mut out)?,
+    let out = BufWriter::with_capacity(rt.alloc(), OUTPUT_BUFFER, io::writer(rt))?;
+    let mut pipes = Pipes {
+        reader: &link,
+        writer: &link,
+        out,
     };
-    out.flush()?;
+    let ending = match words.telling {
+        Telling::AtTheEnd => call_over(rt.alloc(), calling, calls, &mut pipes)?,
+        Telling::WhenOver => call_stream(rt.alloc(), calling, calls, &mut pipes)?,
+    };
+    pipes.out.flush()?;
     Ok(ending)
 }

@@ -5,7 +5,7 @@ use crate::files::OUTPUT_BUFFER;
 use crate::files::interfaces::{By, Joined, join_offers, read_each};
 use crate::report::texts;
 use crate::{files, report};
-use giop_commands::{check_stream, check_text};
+use giop_commands::{Checking, check_stream, check_text};
 use giop_show::BehindFault;
 use giop_show::failure::Failure;
 use giop_show::status::Status;
@@ -49,13 +49,15 @@ fn check_from<R: Read>(
     behind: BehindFault,
 ) -> Result<Status, Failure> {
     let mut writer = BufWriter::with_capacity(rt.alloc(), OUTPUT_BUFFER, io::writer(rt))?;
-    let (limits, strict, form) = (words.limits, words.strict, words.form);
-    let (alloc, writer_in) = (rt.alloc(), &mut writer);
+    let checking = Checking {
+        limits: words.limits,
+        strict: words.strict,
+        lines: words.form,
+        behind,
+    };
     let status = match by {
-        By::Interface(all) => {
-            check_stream(alloc, all, limits, strict, form, reader, writer_in, behind)?
-        }
-        By::Text(text) => check_text(alloc, text, limits, strict, form, reader, writer_in, behind)?,
+        By::Interface(all) => check_stream(rt.alloc(), all, checking, reader, &mut writer)?,
+        By::Text(text) => check_text(rt.alloc(), text, checking, reader, &mut writer)?,
     };
     writer.flush()?;
     Ok(status)

@@ -10,6 +10,7 @@ use crate::connection::target::{endpoint_of, peer_of, target_text};
 use crate::files::OUTPUT_BUFFER;
 use crate::report;
 use giop_commands::call::locating::locate_over;
+use giop_commands::session::given::Pipes;
 use giop_commands::{Ending, Endpoint};
 use giop_end::Limits;
 use giop_show::failure::Failure;
@@ -46,11 +47,13 @@ fn ask(rt: &HostRuntime, endpoint: &Endpoint, words: ObjectWords) -> Result<Endi
     let interface = object_interface(rt.alloc())?;
     let calling = calling_at(words, &interface, endpoint, Limits::default());
     let link = connect(rt, endpoint, words.timeout)?;
-    let mut out = BufWriter::with_capacity(rt.alloc(), OUTPUT_BUFFER, io::writer(rt))?;
-    let (mut reader, mut writer) = (&link, &link);
-    let (reader, writer) = (&mut reader, &mut writer);
-    let (alloc, lines) = (rt.alloc(), words.lines);
-    let ended = locate_over(alloc, calling, lines, reader, writer, &mut out)?;
-    out.flush()?;
+    let out = BufWriter::with_capacity(rt.alloc(), OUTPUT_BUFFER, io::writer(rt))?;
+    let mut pipes = Pipes {
+        reader: &link,
+        writer: &link,
+        out,
+    };
+    let ended = locate_over(rt.alloc(), calling, &mut pipes)?;
+    pipes.out.flush()?;
     Ok(ended)
 }

@@ -49,5 +49,6 @@ pub fn calling_at<'a>(
             piece: 4_096,
         },
         limits,
+        lines: words.lines,
     }
 }

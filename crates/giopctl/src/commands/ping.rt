@@ -8,6 +8,7 @@ use crate::connection::target::{endpoint_of, peer_of, target_text};
 use crate::files::OUTPUT_BUFFER;
 use crate::report;
 use giop_commands::call::words::call_from_words;
+use giop_commands::session::given::Pipes;
 use giop_commands::{Ending, Endpoint, call_over};
 use giop_end::Limits;
 use giop_show::failure::Failure;
@@ -49,11 +50,13 @@ fn ask(rt: &HostRuntime, endpoint: &Endpoint, words: ObjectWords) -> Result<Endi
     };
     let calling = calling_at(words, &interface, endpoint, Limits::default());
     let link = connect(rt, endpoint, words.timeout)?;
-    let mut out = BufWriter::with_capacity(rt.alloc(), OUTPUT_BUFFER, io::writer(rt))?;
-    let (mut reader, mut writer) = (&link, &link);
-    let (reader, writer) = (&mut reader, &mut writer);
-    let (alloc, lines) = (rt.alloc(), words.lines);
-    let ended = call_over(alloc, calling, calls, lines, reader, writer, &mut out)?;
-    out.flush()?;
+    let out = BufWriter::with_capacity(rt.alloc(), OUTPUT_BUFFER, io::writer(rt))?;
+    let mut pipes = Pipes {
+        reader: &link,
+        writer: &link,
+        out,
+    };
+    let ended = call_over(rt.alloc(), calling, calls, &mut pipes)?;
+    pipes.out.flush()?;
     Ok(ended)
 }

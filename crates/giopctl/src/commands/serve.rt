@@ -16,6 +16,7 @@ use crate::report;
 use giop_commands::serve::given::ServedObject;
 use giop_commands::serve::in_turn::Passed;
 use giop_commands::serve::streaming::stream_over;
+use giop_commands::session::given::Pipes;
 use giop_commands::{Ending, Serving, serve_over};
 use giop_show::failure::Failure;
 use giop_show::status::Status;
@@ -61,6 +62,7 @@ fn try_serve(rt: &HostRuntime, words: &ServeWords<'_>) -> Result<Status, Status>
         objects: objects.as_slice(),
         form: words.form,
         limits: words.limits,
+        lines: words.lines,
     };
     let listener = listen(rt, words, all.type_id.as_slice(), key.as_slice())?;
     match Door::new(rt, listener, words.connections) {
@@ -132,22 +134,17 @@ fn serve_stream(
         Ok(link) => link,
         Err(error) => return Err(Failure::connection(error)),
     };
-    let (mut reader, mut writer) = (&link, &link);
-    let mut out = BufWriter::with_capacity(rt.alloc(), OUTPUT_BUFFER, io::writer(rt))?;
-    let (reader, writer) = (&mut reader, &mut writer);
-    let (alloc, lines) = (rt.alloc(), words.lines);
-    let ending = match words.telling {
-        Telling::AtTheEnd => {
-            serve_over(
-                alloc, number, *serving, passed, lines, reader, writer, &mut out,
-            )?
-        }
-        Telling::WhenOver => {
-            stream_over(
-                alloc, number, *serving, passed, lines, reader, writer, &mut out,
-            )?
-        }
+    let out = BufWriter::with_capacity(rt.alloc(), OUTPUT_BUFFER, io::writer(rt))?;
+    let mut pipes = Pipes {
+        reader: &link,
+        writer: &link,
+        out,
     };
-    out.flush()?;
+    let alloc = rt.alloc();
+    let ending = match words.telling {
+        Telling::AtTheEnd => serve_over(alloc, number, *serving, passed, &mut pipes)?,
+        Telling::WhenOver => stream_over(alloc, number, *serving, passed, &mut pipes)?,
+    };
+    pipes.out.flush()?;
     Ok(ending)
 }

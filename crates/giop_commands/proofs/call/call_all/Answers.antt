@@ -1,8 +1,8 @@
-use Rattle.giop_commands.specs.Acts.{outbox}
-use Rattle.giop_commands.specs.Calling.{CallsOne, CallsSent, asked_of}
-use Rattle.giop_commands.specs.Steps.{Upto}
-use Rattle.giop_commands.proofs.ActLemmas.{same_fault}
-use Rattle.giop_commands.proofs.StepLemmas.{and_then}
+use Rattle.giop_commands.specs.Session.Acts.{outbox}
+use Rattle.giop_commands.specs.Call.Calling.{CallsOne, CallsSent, asked_of}
+use Rattle.giop_commands.specs.Session.Steps.{Upto}
+use Rattle.giop_commands.proofs.OnSession.ActLemmas.{same_fault}
+use Rattle.giop_commands.proofs.OnSession.StepLemmas.{and_then}
 use Rattle.giop_commands.proofs.call.call_all.Goals as goal
 
 pub returns-clause-calls : goal.returns-clause-calls

@@ -1,10 +1,10 @@
 use Rattle.std.proofs.Common.{◌≡◌, ◌∷◌, length, refl, sym, ap, ◌∙◌, rules, arith}
 use Rattle.std.specs.Vec.Iter.{into_iter_items, into_iter_len}
 use Rattle.giop_types.proofs.JsonForms.InterfaceLemmas.{nothing_left}
-use Rattle.giop_commands.specs.Acts.{outbox}
-use Rattle.giop_commands.specs.Calling.{CallsOne, asked_of}
-use Rattle.giop_commands.proofs.ActLemmas.{others_on, same_fault, same_interface, same_limits}
-use Rattle.giop_commands.proofs.StepLemmas.{before_none, before_more, before_all, before_stops}
+use Rattle.giop_commands.specs.Session.Acts.{outbox}
+use Rattle.giop_commands.specs.Call.Calling.{CallsOne, asked_of}
+use Rattle.giop_commands.proofs.OnSession.ActLemmas.{others_on, same_fault, same_interface, same_limits}
+use Rattle.giop_commands.proofs.OnSession.StepLemmas.{before_none, before_more, before_all, before_stops}
 use Rattle.giop_commands.proofs.call.call_each.Goals as goal
 
 pub calls-init : goal.calls-init

@@ -1,8 +1,8 @@
 use Rattle.std.proofs.Common.{◌≡◌, None, length}
 use Rattle.std.specs.Vec.Iter.{into_iter_items, into_iter_len}
-use Rattle.giop_commands.specs.Acts.{outbox}
-use Rattle.giop_commands.specs.Calling.{CallsOne, asked_of}
-use Rattle.giop_commands.proofs.StepLemmas.{Before}
+use Rattle.giop_commands.specs.Session.Acts.{outbox}
+use Rattle.giop_commands.specs.Call.Calling.{CallsOne, asked_of}
+use Rattle.giop_commands.proofs.OnSession.StepLemmas.{Before}
 use Rattle.giop_commands.proofs.call.call_each.Given as goal
 
 abbrev pub invariant-calls : goal.invariant-calls

@@ -1,5 +1,5 @@
 use Rattle.std.proofs.Common.{sym, ◌∙◌}
-use Rattle.giop_commands.proofs.SessionsLemmas.{converses_by}
+use Rattle.giop_commands.proofs.OnSession.PrintedLemmas.{converses_by}
 use Rattle.giop_commands.proofs.call.converse.Goals as goal
 
 pub returns-clause-converses : goal.returns-clause-converses

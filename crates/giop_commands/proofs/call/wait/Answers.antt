@@ -1,9 +1,9 @@
 use Rattle.std.proofs.Common.{◌≡◌, true, false, Err, refl, sym, inl, inr, arith}
 use Rattle.std.proofs.lemmas.Result.{err_from_is_err_and}
 use Rattle.giop_end.specs.Pumping.{between}
-use Rattle.giop_commands.proofs.ActLemmas.{turned_on, turned_interface}
-use Rattle.giop_commands.proofs.StepLemmas.{counted_none, counted_more}
-use Rattle.giop_commands.proofs.TurnLemmas.{waited}
+use Rattle.giop_commands.proofs.OnSession.ActLemmas.{turned_on, turned_interface}
+use Rattle.giop_commands.proofs.OnSession.StepLemmas.{counted_none, counted_more}
+use Rattle.giop_commands.proofs.OnSession.TurnLemmas.{waited}
 use Rattle.giop_commands.proofs.call.wait.Goals as goal
 
 pub turns-init : goal.turns-init

@@ -1,8 +1,8 @@
 use Rattle.std.proofs.Common.{◌≡◌}
 use Rattle.giop_end.specs.Pumping.{between}
-use Rattle.giop_commands.specs.Calling.{are_over, client_hears}
-use Rattle.giop_commands.specs.Turns.{WaitsOn}
-use Rattle.giop_commands.proofs.StepLemmas.{Counted}
+use Rattle.giop_commands.specs.Call.Calling.{are_over, client_hears}
+use Rattle.giop_commands.specs.Session.Turns.{WaitsOn}
+use Rattle.giop_commands.proofs.OnSession.StepLemmas.{Counted}
 use Rattle.giop_commands.proofs.call.wait.Given as goal
 
 abbrev pub invariant-turns : goal.invariant-turns

@@ -1,12 +1,11 @@
-use Rattle.giop_end.specs.Pumping.{between}
-use Rattle.giop_commands.specs.Serving.{Served, served_of}
-use Rattle.giop_commands.proofs.SessionsLemmas.{served}
+use Rattle.giop_commands.specs.Serve.Serving.{Served, served_of}
+use Rattle.giop_commands.proofs.OnSession.PrintedLemmas.{served}
 use Rattle.giop_commands.proofs.serve.serve_over.Goals as goal
 
 pub returns-in-Ok : goal.returns-in-Ok
 returns-in-Ok g c =
     let it : Served = served_of c.args.serving in
-    served c.args.number it c.args.lines _ _ _ _ _ _ c.in-Ok.refused c.converse.new.end.outgoing c.converse.new.end.framer c.converse.new.end.calls
+    served c.args.number it c.args.serving.lines _ _ _ _ _ _ c.in-Ok.refused c.converse.new.end.outgoing c.converse.new.end.framer c.converse.new.end.calls
     c.converse.new.end.fault c.tell.result
     (rw (
       c.new-end.ensures.limits,
@@ -16,5 +15,5 @@ returns-in-Ok g c =
       c.new-end.ensures.unread,
     )
     at c.in-Ok.ensures.converses)
-    (rw (c.told.ensures, c.fault.ensures) at c.tell.ensures.text) (rw (c.told.ensures, c.fault.ensures) at c.tell.ensures.ok)
+    (rw (c.told.ensures, c.fault.ensures, c.converse.ensures.out) at c.tell.ensures.text) (rw (c.told.ensures, c.fault.ensures) at c.tell.ensures.ok)
     (rw (c.told.ensures, c.fault.ensures) at c.tell.ensures.ends)

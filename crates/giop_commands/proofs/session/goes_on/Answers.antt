@@ -1,5 +1,5 @@
 use Rattle.giop_end.specs.Pumping.{between}
-use Rattle.giop_commands.proofs.TurnLemmas.{broke_off}
+use Rattle.giop_commands.proofs.OnSession.TurnLemmas.{broke_off}
 use Rattle.giop_commands.proofs.session.goes_on.Goals as goal
 
 pub returns-in-Err-Session-clause-goes : goal.returns-in-Err-Session-clause-goes

@@ -1,33 +1,33 @@
-//! `call --stream` with calls that come as lines: they are read while the session goes on, so memory
-//! is taken for the open calls and for what one read gave. Its meaning is specs/CallFeeding.antt:
-//! change both.
-ghost use Rattle.std.specs.Prelude.{◌≡◌, ◌&&◌, [], None, IfOk, OnOk};
-ghost use Rattle.giop_commands.specs.CallFeeding.{fed_of, FedEndOver, FedStreams, Feeds};
-ghost use Rattle.giop_commands.specs.CallLines.{feed_at};
-ghost use Rattle.giop_commands.specs.Calling.{asked_of};
-ghost use Rattle.giop_commands.specs.Sessions.{change};
+//! `call --stream` with calls that come as lines: they are read while the session goes on, so
+//! memory is taken for the open calls and for what one read gave. Its meaning is
+//! specs/Call/Feeding.antt: change both.
+ghost use Rattle.std.specs.Prelude.{◌≡◌, ◌&&◌, None, IfOk, OnOk};
+ghost use Rattle.giop_commands.specs.Call.Feeding.{FedEndOver, FedOver, Feeds, feeding};
+ghost use Rattle.giop_commands.specs.Call.Lines.{feed_at};
+ghost use Rattle.giop_commands.specs.Session.Traffic.{traffic};
 
 use crate::call::feed::LineFeed;
 use crate::call::given::Calling;
 use crate::call::lines::CallLines;
-use crate::call::streaming::turns::{CallTurn, turn_of_calls};
+use crate::call::streaming::turns::turn_of_calls;
 use crate::call::streaming::{tell_end, tell_open};
-use crate::session::TURNS;
 use crate::session::ending::Ending;
+use crate::session::given::{Pipes, Showing};
+use crate::session::{SessionTurn, TURNS};
 use giop_end::{ClientEnd, SessionFault};
 use giop_show::failure::Failure;
-use giop_show::form::LineForm;
 use giop_types::Interface;
 use std::alloc::Global;
 use std::io::{Read, Write};
 
-/// Calls as `call_stream` does, with the calls of lines of JSON, a call a line. Where no call is left
-/// that came, lines are read, until one is there: whenever there is room, or where a read may wait,
-/// when no call is open. What one read gave is held, and the octets of a line that hasn't ended.
+/// Calls as `call_stream` does, with the calls of lines of JSON, a call a line. Where no call is
+/// left that came, lines are read, until one is there: whenever there is room, or where a read may
+/// wait, when no call is open. What one read gave is held, and the octets of a line that hasn't
+/// ended.
 ///
-/// A line that is refused ends the lines. The calls before it are made, and told as any; then `feed`
-/// says why it is refused. At the end there are the lines of the calls that are open, and of those
-/// that came and weren't made.
+/// A line that is refused ends the lines. The calls before it are made, and told as any; then
+/// `feed` says why it is refused. At the end there are the lines of the calls that are open, and of
+/// those that came and weren't made.
 ///
 /// It is `Done` where all calls went well and the lines are over, else as `call_stream` is. Where
 /// something fails, what failed is returned, and what is left has its lines before; where that is
@@ -36,45 +36,24 @@ pub fn call_fed<S: Read + Drop, R: Read, W: Write, O: Write>(
     alloc: Global,
     calling: Calling<'_>,
     source: &mut LineFeed<S>,
-    lines: LineForm,
-    reader: &mut R,
-    writer: &mut W,
-    out: &mut O,
+    pipes: &mut Pipes<R, W, O>,
 ) -> Result<Ending, Failure>
-    ensures { IfOk result (FedEndOver calling.entry lines source.old.waits (feed_at
-        (S.remaining source.old.source) source.old) (feed_at (S.remaining source.new.source)
-        source.new) (change R.remaining reader.old reader.new)
-        (change W.contents writer.old writer.new) (change O.contents out.old out.new)) }
+    ensures { IfOk result (FedEndOver calling.entry (feeding S.remaining source.old source.new)
+        (traffic R.remaining W.contents O.contents pipes.old pipes.new)) }
 {
-    let mut end = ClientEnd::new(alloc, calling.interface, calling.limits);
+    let (lines, interface) = (calling.lines, calling.interface);
+    let showing = Showing { lines, interface };
+    let mut end = ClientEnd::new(alloc, interface, calling.limits);
     let mut well = true;
-    match converse(
-        alloc, &mut end, calling, lines, source, &mut well, reader, writer, out,
-    ) {
+    match stream_fed(alloc, &mut end, calling, source, &mut well, pipes) {
         Ok(refused) => {
             let all = ended_well(well, &source.lines);
             let left = &source.lines.calls;
-            tell_end(
-                alloc,
-                lines,
-                calling.interface,
-                &end,
-                left,
-                all,
-                refused,
-                out,
-            )
+            tell_end(alloc, showing, &end, left, all, refused, &mut pipes.out)
         }
         Err(failure) => {
-            tell_open(
-                alloc,
-                lines,
-                calling.interface,
-                &end,
-                &source.lines.calls,
-                None,
-                out,
-            )?;
+            let left = &source.lines.calls;
+            tell_open(alloc, showing, &end, left, None, &mut pipes.out)?;
             Err(failure)
         }
     }
@@ -88,41 +67,27 @@ fn ended_well(well: bool, lines: &CallLines) -> bool
 }
 
 // Reads lines, makes calls, takes turns, and tells the calls that are over, until none is left and
-// the lines are over, the input ends or the end fails. Returns the fault of a call that was refused,
-// at which it stops.
-fn converse<S: Read + Drop, R: Read, W: Write, O: Write>(
+// the lines are over, the input ends or the end fails. Returns the fault of a call that was
+// refused, at which it stops.
+fn stream_fed<S: Read + Drop, R: Read, W: Write, O: Write>(
     alloc: Global,
     end: &mut ClientEnd<'_>,
     calling: Calling<'_>,
-    lines: LineForm,
     source: &mut LineFeed<S>,
     well: &mut bool,
-    reader: &mut R,
-    writer: &mut W,
-    out: &mut O,
+    pipes: &mut Pipes<R, W, O>,
 ) -> Result<Option<SessionFault>, Failure>
     requires interface { end.old.interface.now ≡ calling.interface.now }
     requires limits { end.old.limits ≡ calling.limits }
     requires fault { end.old.fault ≡ None }
-    ensures { IfOk result (λ refused. FedStreams (asked_of calling.entry []) lines source.old.waits
-        (fed_of (R.remaining reader.old) (W.contents writer.old) (O.contents out.old) (feed_at
-        (S.remaining source.old.source) source.old) end.old well.old) refused (fed_of
-        (R.remaining reader.new) (W.contents writer.new) (O.contents out.new) (feed_at
-        (S.remaining source.new.source) source.new) end.new well.new)) }
+    ensures { IfOk result (λ refused. FedOver calling.entry
+        (feeding S.remaining source.old source.new) end.old end.new well.old well.new refused
+        (traffic R.remaining W.contents O.contents pipes.old pipes.new)) }
 {
     'turns: for done in 0..TURNS {
         feed_next(alloc, end, calling.interface, source)?;
-        if let CallTurn::Ends(refused) = turn_of_calls(
-            alloc,
-            end,
-            calling,
-            lines,
-            &mut source.lines.calls,
-            well,
-            reader,
-            writer,
-            out,
-        )? {
+        let left = &mut source.lines.calls;
+        if let SessionTurn::Ends(refused) = turn_of_calls(alloc, end, calling, left, well, pipes)? {
             return Ok(refused);
         }
     }

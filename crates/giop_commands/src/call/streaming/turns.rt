@@ -1,27 +1,27 @@
-//! A turn of `call --stream`: calls are made as there is room for them, what is outgoing is written,
-//! the peer is read once, and the calls that are over are told. Its meaning is `Goes` in
-//! specs/CallStreaming.antt: change both.
+//! A turn of `call --stream`: calls are made as there is room for them, what is outgoing is
+//! written, the peer is read once, and the calls that are over are told. Its meaning is `Goes` in
+//! specs/Call/Streaming.antt: change both.
 ghost use Rattle.std.specs.Prelude.{◌≡◌, ◌&&◌, None, IfOk, OnOk};
 ghost use Rattle.std.specs.Io.KnownBytes.{Appends};
 ghost use Rattle.giop_end.specs.Ends.View.{IsActedOn, IsTurned};
 ghost use Rattle.giop_calls.specs.ClientTable.{is_closed};
-ghost use Rattle.giop_commands.specs.Acts.{outbox_of};
-ghost use Rattle.giop_commands.specs.Calling.{asked_of};
-ghost use Rattle.giop_commands.specs.CallStreaming.{CallsNext, Goes, Makes, TakesNext, TurnsAt, all_over_well, course_of, has_room, is_done, next_has_room, still_open};
-ghost use Rattle.giop_commands.specs.Streaming.{over_text};
-ghost use Rattle.giop_commands.specs.Table.{client_entry_in};
+ghost use Rattle.giop_commands.specs.Session.Acts.{outbox_of};
+ghost use Rattle.giop_commands.specs.Call.Calling.{asked_of};
+ghost use Rattle.giop_commands.specs.Call.Streaming.{CallsNext, GoesOver, Makes, TakesNext, TurnsAt, all_over_well, has_room, is_done, next_has_room, still_open};
+ghost use Rattle.giop_commands.specs.Serve.Streaming.{over_text};
+ghost use Rattle.giop_commands.specs.Session.Table.{client_entry_in};
+ghost use Rattle.giop_commands.specs.Session.Traffic.{traffic};
 
 use crate::call::call_one;
 use crate::call::calls::CallLine;
 use crate::call::given::Calling;
 use crate::call::well::{all_over_well, are_over};
+use crate::session::given::{Pipes, Showing};
 use crate::session::sending::send_all;
 use crate::session::streaming::tell_over;
-use crate::session::{TURNS, goes_on, write_all_out};
+use crate::session::{SessionTurn, TURNS, goes_on, write_all_out};
 use giop_end::{ClientEnd, Limits, SessionFault};
 use giop_show::failure::Failure;
-use giop_show::form::LineForm;
-use giop_types::Interface;
 use std::alloc::{AllocError, Global};
 use std::collections::VecDeque;
 use std::io::{Read, Write};
@@ -29,50 +29,38 @@ use std::io::{Read, Write};
 // Another call is made while fewer octets are outgoing: as many as one read may give.
 const MOST_OUTGOING: usize = 4_096;
 
-/// What a turn of a stream of calls came to.
-#[derive(Clone, Copy, Debug, PartialEq, Eq)]
-pub enum CallTurn {
-    /// The session goes on, and the calls that were over are told.
-    GoesOn,
-    /// It ends: no call is left, the input ended, the end failed, or a call was refused at this end
-    /// for this fault.
-    Ends(Option<SessionFault>),
-}
-
 /// Makes calls, takes a turn, and tells the calls that are over; unless no call is left, the input
 /// ends, the end fails, or a call is refused.
 pub fn turn_of_calls<R: Read, W: Write, O: Write>(
     alloc: Global,
     end: &mut ClientEnd<'_>,
     calling: Calling<'_>,
-    lines: LineForm,
     left: &mut VecDeque<CallLine>,
     well: &mut bool,
-    reader: &mut R,
-    writer: &mut W,
-    out: &mut O,
-) -> Result<CallTurn, Failure>
+    pipes: &mut Pipes<R, W, O>,
+) -> Result<SessionTurn, Failure>
     requires interface { end.old.interface.now ≡ calling.interface.now }
     requires limits { end.old.limits ≡ calling.limits }
     requires fault { end.old.fault ≡ None }
-    ensures goes { (all : _) → IfOk result (λ turn. Goes (asked_of calling.entry all) lines
-        (course_of (R.remaining reader.old) (W.contents writer.old) (O.contents out.old) end.old
-        left.old.items well.old) turn (course_of (R.remaining reader.new) (W.contents writer.new)
-        (O.contents out.new) end.new left.new.items well.new)) }
-    ensures fault { IfOk result (λ turn. turn ≡ CallTurn.GoesOn → end.new.fault ≡ None) }
+    ensures goes { (all : _) → IfOk result (λ turn. GoesOver calling.entry all end.old end.new
+        left.old.items left.new.items well.old well.new turn
+        (traffic R.remaining W.contents O.contents pipes.old pipes.new)) }
+    ensures fault { IfOk result (λ turn. turn ≡ SessionTurn.GoesOn → end.new.fault ≡ None) }
     ensures others { OnOk result (IsTurned end.old end.new) }
 {
     if is_done(alloc, end, left)? {
-        return Ok(CallTurn::Ends(None));
+        return Ok(SessionTurn::Ends(None));
     }
     if let Some(fault) = call_next(alloc, end, calling, left)? {
-        return Ok(CallTurn::Ends(Some(fault)));
+        return Ok(SessionTurn::Ends(Some(fault)));
     }
-    if !take_turn(alloc, end, reader, writer)? {
-        return Ok(CallTurn::Ends(None));
+    if !take_turn(alloc, end, &mut pipes.reader, &mut pipes.writer)? {
+        return Ok(SessionTurn::Ends(None));
     }
-    *well = tell_turn(alloc, lines, calling.interface, end, *well, out)?;
-    Ok(CallTurn::GoesOn)
+    let (lines, interface) = (calling.lines, calling.interface);
+    let showing = Showing { lines, interface };
+    *well = tell_turn(alloc, showing, end, *well, &mut pipes.out)?;
+    Ok(SessionTurn::GoesOn)
 }
 
 // Whether no call is left to be made, and none is open.
@@ -205,8 +193,7 @@ fn take_turn<R: Read, W: Write>(
 // Tells the calls that are over and takes them out. Returns whether they and all before went well.
 fn tell_turn<O: Write>(
     alloc: Global,
-    lines: LineForm,
-    interface: &Interface,
+    showing: Showing<'_>,
     end: &mut ClientEnd<'_>,
     well: bool,
     out: &mut O,
@@ -214,10 +201,11 @@ fn tell_turn<O: Write>(
     requires { end.old.fault ≡ None }
     ensures well { IfOk result (λ all. all ≡ (well && all_over_well end.old.calls.table)) }
     ensures text { OnOk result (Appends (O.contents out.old) (O.contents out.new)
-        (over_text is_closed (client_entry_in lines interface.now) end.old.calls.table)) }
+        (over_text is_closed (client_entry_in showing.entry.lines showing.entry.interface.now)
+        end.old.calls.table)) }
     ensures left { OnOk result (end.new ≡ record end.old { calls = still_open end.old.calls }) }
 {
     let over_well = all_over_well(alloc, end)?;
-    tell_over(alloc, lines, interface, end, out)?;
+    tell_over(alloc, showing, end, out)?;
     Ok(well && over_well)
 }

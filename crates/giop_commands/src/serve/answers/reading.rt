@@ -1,12 +1,12 @@
 //! Reading one answer of a file: a result, an exception, or where the object is. Its form is
-//! specs/AnswerForms.antt: change both.
+//! specs/Serve/AnswerForms.antt: change both.
 ghost use Rattle.std.specs.Prelude.{Some};
 ghost use Rattle.serde_json.specs.View.{view};
 ghost use Rattle.giop_types.specs.JsonForms.FromJson.{Shows};
-ghost use Rattle.giop_commands.specs.AnswerForms.{given_by, given_under, raised, raised_in, result_in};
+ghost use Rattle.giop_commands.specs.Serve.AnswerForms.{given_by, given_under, raised, raised_in, result_in};
 
+use crate::serve::answers::general::general_of;
 use crate::serve::answers::{AnswerGiven, text_of};
-use crate::serve::general::general_of;
 use crate::serve::in_turn::due_in;
 use crate::serve::is_a::is_a_of;
 use crate::session::json::{is_object_of, octets_of, values_of};
@@ -15,8 +15,8 @@ use giop_types::{FormFault, Offer, Operation, Parameter, Parameters};
 use serde_json::Value as Json;
 use std::alloc::Global;
 
-/// What an operation is answered behind so many answers of its list, by the member of its name, else
-/// by the default.
+/// What an operation is answered behind so many answers of its list, by the member of its name,
+/// else by the default.
 pub fn given_under(
     alloc: Global,
     offer: &Offer,

@@ -13,6 +13,7 @@ use giop_commands::Endpoint;
 use giop_commands::call::calls::CallLine;
 use giop_commands::call::following::{Forward, call_at, calls_of, forwards_of, tell_followed};
 use giop_commands::session::ending::ending_of;
+use giop_commands::session::given::Showing;
 use giop_commands::session::told;
 use giop_end::{ClientEnd, SessionFault};
 use giop_show::failure::Failure;
@@ -254,10 +255,13 @@ fn tell_sessions(
         Some(_) => None,
         None => sessions.fault(),
     };
+    let showing = Showing {
+        lines: words.lines,
+        interface,
+    };
     let status = tell_followed(
         rt.alloc(),
-        words.lines,
-        interface,
+        showing,
         sessions.ends.as_slice(),
         sessions.refused,
         fault,

@@ -10,6 +10,7 @@ use crate::report::refusals::refuse_form;
 use giop_commands::call::feed::LineFeed;
 use giop_commands::call::lines::CallLines;
 use giop_commands::call::streaming::feeding::call_fed;
+use giop_commands::session::given::Pipes;
 use giop_commands::{Calling, Ending, Endpoint};
 use giop_show::failure::Failure;
 use giop_show::status::Status;
@@ -54,19 +55,14 @@ fn call_lines_at<S: Read + Drop>(
     calling: Calling<'_>,
 ) -> Result<Ending, Failure> {
     let link = connect(rt, endpoint, words.timeout)?;
-    let mut out = BufWriter::with_capacity(rt.alloc(), OUTPUT_BUFFER, io::writer(rt))?;
-    let (mut reader, mut writer) = (&link, &link);
-    let (reader, writer) = (&mut reader, &mut writer);
-    let ending = call_fed(
-        rt.alloc(),
-        calling,
-        feed,
-        words.lines,
-        reader,
-        writer,
-        &mut out,
-    )?;
-    out.flush()?;
+    let out = BufWriter::with_capacity(rt.alloc(), OUTPUT_BUFFER, io::writer(rt))?;
+    let mut pipes = Pipes {
+        reader: &link,
+        writer: &link,
+        out,
+    };
+    let ending = call_fed(rt.alloc(), calling, feed, &mut pipes)?;
+    pipes.out.flush()?;
     Ok(ending)
 }
 

@@ -11,6 +11,7 @@ use crate::files::OUTPUT_BUFFER;
 use crate::report;
 use giop_commands::call::locate_following::{locate_at, located_place};
 use giop_commands::call::locating::tell_located;
+use giop_commands::session::given::Showing;
 use giop_commands::session::write_session;
 use giop_commands::{Ending, Endpoint};
 use giop_end::{ClientEnd, Limits, SessionFault};
@@ -136,7 +137,9 @@ fn write_line(
     end: &ClientEnd<'_>,
 ) -> Result<(), Failure> {
     let mut out = BufWriter::with_capacity(rt.alloc(), OUTPUT_BUFFER, io::writer(rt))?;
-    write_session(rt.alloc(), words.lines, interface, end, None, &mut out)?;
+    let lines = words.lines;
+    let showing = Showing { lines, interface };
+    write_session(rt.alloc(), showing, end, None, &mut out)?;
     out.flush()?;
     Ok(())
 }
@@ -150,7 +153,9 @@ fn tell_answer(
     refused: Option<SessionFault>,
 ) -> Result<Ending, Failure> {
     let mut out = BufWriter::with_capacity(rt.alloc(), OUTPUT_BUFFER, io::writer(rt))?;
-    let ended = tell_located(rt.alloc(), words.lines, interface, end, refused, &mut out)?;
+    let lines = words.lines;
+    let showing = Showing { lines, interface };
+    let ended = tell_located(rt.alloc(), showing, end, refused, &mut out)?;
     out.flush()?;
     Ok(ended)
 }

@@ -1,6 +1,6 @@
 use Rattle.std.proofs.Common.{Some, None, inl, refl}
 use Rattle.serde_json.specs.View.{view}
-use Rattle.giop_commands.proofs.FoundLemmas.{call_found}
+use Rattle.giop_commands.proofs.OnSession.FoundLemmas.{call_found}
 use Rattle.giop_commands.proofs.call.calls.call_named.Goals as goal
 
 pub returns-in-Some : goal.returns-in-Some

@@ -1,5 +1,5 @@
 use Rattle.std.proofs.Common.{option_map}
-use Rattle.giop_commands.proofs.FitLemmas.{calls_read}
+use Rattle.giop_commands.proofs.OnServe.FitLemmas.{calls_read}
 use Rattle.giop_commands.proofs.call.calls.calls_by.Goals as goal
 
 pub returns : goal.returns

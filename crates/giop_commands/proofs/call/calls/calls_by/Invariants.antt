@@ -1,7 +1,7 @@
 use Rattle.std.proofs.Common.{◌≡◌, drop, option_map}
 use Rattle.serde_json.specs.View.{items_view}
-use Rattle.giop_commands.specs.CallForms.{each_call}
-use Rattle.giop_commands.proofs.FitLemmas.{made_before}
+use Rattle.giop_commands.specs.Call.Forms.{each_call}
+use Rattle.giop_commands.proofs.OnServe.FitLemmas.{made_before}
 use Rattle.giop_commands.proofs.call.calls.calls_by.Given as goal
 
 -- what was read so far, and what is still to be read

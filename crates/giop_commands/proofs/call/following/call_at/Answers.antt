@@ -1,9 +1,9 @@
 use Rattle.std.proofs.Common.{◌∙◌}
 use Rattle.giop_end.specs.Pumping.{between}
-use Rattle.giop_commands.specs.Acts.{outbox}
-use Rattle.giop_commands.specs.Calling.{asked_of}
-use Rattle.giop_commands.proofs.ActLemmas.{acted_on, same_fault, same_interface, same_unread, turned_on}
-use Rattle.giop_commands.proofs.FollowingLemmas.{called_at}
+use Rattle.giop_commands.specs.Session.Acts.{outbox}
+use Rattle.giop_commands.specs.Call.Calling.{asked_of}
+use Rattle.giop_commands.proofs.OnSession.ActLemmas.{acted_on, same_fault, same_interface, same_unread, turned_on}
+use Rattle.giop_commands.proofs.OnCall.FollowingLemmas.{called_at}
 use Rattle.giop_commands.proofs.call.following.call_at.Goals as goal
 
 pub returns-clause-calls : goal.returns-clause-calls

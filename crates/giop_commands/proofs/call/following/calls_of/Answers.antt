@@ -1,7 +1,7 @@
 use Rattle.std.proofs.Common.{rules}
 use Rattle.std.proofs.lemmas.Fn.{filter_same}
 use Rattle.giop_commands.specs.declared.call.calls.CallLine.{CallLine}
-use Rattle.giop_commands.specs.Following.{is_one_of}
+use Rattle.giop_commands.specs.Call.Following.{is_one_of}
 use Rattle.giop_commands.proofs.call.following.calls_of.Goals as goal
 
 pub returns : goal.returns

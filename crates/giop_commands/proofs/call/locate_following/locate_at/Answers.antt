@@ -1,9 +1,9 @@
 use Rattle.std.proofs.Common.{◌∙◌, []}
 use Rattle.giop_end.specs.Pumping.{between}
-use Rattle.giop_commands.specs.Acts.{outbox}
-use Rattle.giop_commands.specs.Calling.{asked_of}
-use Rattle.giop_commands.proofs.ActLemmas.{same_fault, same_interface, same_unread}
-use Rattle.giop_commands.proofs.LocateFollowingLemmas.{located_at}
+use Rattle.giop_commands.specs.Session.Acts.{outbox}
+use Rattle.giop_commands.specs.Call.Calling.{asked_of}
+use Rattle.giop_commands.proofs.OnSession.ActLemmas.{same_fault, same_interface, same_unread}
+use Rattle.giop_commands.proofs.OnCall.LocateFollowingLemmas.{located_at}
 use Rattle.giop_commands.proofs.call.locate_following.locate_at.Goals as goal
 
 pub returns-clause-located : goal.returns-clause-located

@@ -1,9 +1,9 @@
 use Rattle.std.proofs.Common.{[]}
-use Rattle.giop_commands.specs.Acts.{outbox}
-use Rattle.giop_commands.specs.Calling.{Asked, CallsSent, asked_of}
-use Rattle.giop_commands.specs.Locating.{LocatesOne}
-use Rattle.giop_commands.proofs.ActLemmas.{same_fault}
-use Rattle.giop_commands.proofs.StepLemmas.{and_then}
+use Rattle.giop_commands.specs.Session.Acts.{outbox}
+use Rattle.giop_commands.specs.Call.Calling.{Asked, CallsSent, asked_of}
+use Rattle.giop_commands.specs.Call.Locating.{LocatesOne}
+use Rattle.giop_commands.proofs.OnSession.ActLemmas.{same_fault}
+use Rattle.giop_commands.proofs.OnSession.StepLemmas.{and_then}
 use Rattle.giop_commands.proofs.call.locating.locate_all.Goals as goal
 
 pub returns-clause-locates : goal.returns-clause-locates

@@ -1,6 +1,6 @@
 use Rattle.std.proofs.Common.{ap}
-use Rattle.giop_commands.specs.Acts.{outbox}
-use Rattle.giop_commands.proofs.ActLemmas.{acts_told}
+use Rattle.giop_commands.specs.Session.Acts.{outbox}
+use Rattle.giop_commands.proofs.OnSession.ActLemmas.{acts_told}
 use Rattle.giop_commands.proofs.call.locating.locate_one.Goals as goal
 
 pub returns-clause-locates : goal.returns-clause-locates

@@ -1,8 +1,8 @@
 use Rattle.std.proofs.Common.{take}
 use Rattle.std.specs.List.{flat_map}
 use Rattle.std.specs.Io.KnownBytes.{Appends}
-use Rattle.giop_show.specs.Dump.{ended}
-use Rattle.giop_commands.specs.CallStreaming.{unsent_in}
+use Rattle.giop_show.specs.Dump.Text.{ended}
+use Rattle.giop_commands.specs.Call.Streaming.{unsent_in}
 use Rattle.giop_commands.proofs.call.streaming.tell_each_unsent.Given as goal
 
 abbrev pub invariant-loop-call : goal.invariant-loop-call

@@ -1,7 +1,7 @@
 use Rattle.std.proofs.Common.{◌≡◌, ◌+◌}
 use Rattle.std.specs.List.{count_by}
 use Rattle.serde_json.specs.View.{view}
-use Rattle.giop_commands.specs.AnswerFiles.{has_own, own_count}
+use Rattle.giop_commands.specs.Serve.AnswerFiles.{has_own, own_count}
 use Rattle.giop_commands.proofs.serve.answers.own_count.Given as goal
 
 -- how many were counted, and how many are still to be counted

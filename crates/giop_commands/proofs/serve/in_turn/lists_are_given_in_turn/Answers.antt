@@ -1,4 +1,4 @@
-use Rattle.giop_commands.proofs.InTurnLemmas.{in_turn, objects_apart}
+use Rattle.giop_commands.proofs.OnServe.InTurnLemmas.{in_turn, objects_apart}
 use Rattle.giop_commands.proofs.serve.in_turn.lists_are_given_in_turn.Goals as goal
 
 pub returns : goal.returns

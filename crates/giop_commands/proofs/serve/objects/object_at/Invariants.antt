@@ -1,5 +1,5 @@
 use Rattle.std.proofs.Common.{◌≡◌, drop, map}
-use Rattle.giop_commands.specs.Objects.{object_at, object_of}
+use Rattle.giop_commands.specs.Serve.Objects.{object_at, object_of}
 use Rattle.giop_commands.proofs.serve.objects.object_at.Given as goal
 
 abbrev pub invariant-loop-object : goal.invariant-loop-object

@@ -1,12 +1,12 @@
-use Rattle.giop_commands.specs.Serving.{Served, served_of}
-use Rattle.giop_commands.proofs.StreamingLemmas.{is_streamed}
+use Rattle.giop_commands.specs.Serve.Serving.{Served, served_of}
+use Rattle.giop_commands.proofs.OnServe.StreamingLemmas.{is_streamed}
 use Rattle.giop_commands.proofs.serve.streaming.stream_over.Goals as goal
 
 pub returns-in-Ok : goal.returns-in-Ok
 returns-in-Ok g c =
     let it : Served = served_of c.args.serving in
-    is_streamed c.args.number it c.args.lines _ _ _ _ _ _ _ _ c.in-Ok.refused c.converse.new.end.outgoing c.converse.new.end.framer c.converse.new.end.calls
-    c.converse.new.end.fault c.tell_end.result c.in_ok-tell_begin.ensures
+    is_streamed c.args.number it c.args.serving.lines _ _ _ _ _ _ _ _ c.in-Ok.refused c.stream_answers.new.end.outgoing c.stream_answers.new.end.framer c.stream_answers.new.end.calls
+    c.stream_answers.new.end.fault c.tell_end.result c.in_ok-tell_begin.ensures
     (rw (
       c.new-end.ensures.limits,
       c.new-end.ensures.fault,

@@ -1,7 +1,7 @@
 use Rattle.std.proofs.Common.{◌≡◌, ℕ, ◌+◌, ◌∷◌, [], get_or, map, max, take, sym, ap, ◌∙◌}
 use Rattle.std.proofs.lemmas.List.{map-append, take_more}
-use Rattle.giop_commands.specs.Acts.{left_at, most}
-use Rattle.giop_commands.proofs.ActLemmas.{most_more}
+use Rattle.giop_commands.specs.Session.Acts.{left_at, most}
+use Rattle.giop_commands.proofs.OnSession.ActLemmas.{most_more}
 use Rattle.giop_commands.proofs.session.sending.most_left.Goals as goal
 
 pub loop-id-preserved : goal.loop-id-preserved

@@ -1,5 +1,5 @@
 use Rattle.std.proofs.Common.{◌≡◌, map, take}
-use Rattle.giop_commands.specs.Acts.{left_at, most}
+use Rattle.giop_commands.specs.Session.Acts.{left_at, most}
 use Rattle.giop_commands.proofs.session.sending.most_left.Given as goal
 
 abbrev pub invariant-loop-id : goal.invariant-loop-id

@@ -1,7 +1,7 @@
 use Rattle.std.proofs.Common.{◌≡◌, refl, arith}
-use Rattle.giop_commands.specs.Acts.{SendsRound, outbox}
-use Rattle.giop_commands.proofs.ActLemmas.{others_on, same_fault}
-use Rattle.giop_commands.proofs.StepLemmas.{counted_none, counted_more, counted_all, counted_stops}
+use Rattle.giop_commands.specs.Session.Acts.{SendsRound, outbox}
+use Rattle.giop_commands.proofs.OnSession.ActLemmas.{others_on, same_fault}
+use Rattle.giop_commands.proofs.OnSession.StepLemmas.{counted_none, counted_more, counted_all, counted_stops}
 use Rattle.giop_commands.proofs.session.sending.send_all.Goals as goal
 
 pub rounds-init : goal.rounds-init

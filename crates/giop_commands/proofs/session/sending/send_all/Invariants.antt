@@ -1,6 +1,6 @@
 use Rattle.std.proofs.Common.{◌≡◌, None}
-use Rattle.giop_commands.specs.Acts.{SendsRound, outbox}
-use Rattle.giop_commands.proofs.StepLemmas.{Counted}
+use Rattle.giop_commands.specs.Session.Acts.{SendsRound, outbox}
+use Rattle.giop_commands.proofs.OnSession.StepLemmas.{Counted}
 use Rattle.giop_commands.proofs.session.sending.send_all.Given as goal
 
 abbrev pub invariant-rounds : goal.invariant-rounds

@@ -1,7 +1,7 @@
 use Rattle.std.proofs.Common.{◌≤◌, length, refl, arith}
-use Rattle.giop_commands.specs.Acts.{SendsNext, outbox}
-use Rattle.giop_commands.proofs.ActLemmas.{others_on, same_fault}
-use Rattle.giop_commands.proofs.StepLemmas.{sofar_none, sofar_more, sofar_all, stopped}
+use Rattle.giop_commands.specs.Session.Acts.{SendsNext, outbox}
+use Rattle.giop_commands.proofs.OnSession.ActLemmas.{others_on, same_fault}
+use Rattle.giop_commands.proofs.OnSession.StepLemmas.{sofar_none, sofar_more, sofar_all, stopped}
 use Rattle.giop_commands.proofs.session.sending.send_each.Goals as goal
 
 pub ids-init : goal.ids-init

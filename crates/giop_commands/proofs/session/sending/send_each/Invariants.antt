@@ -1,6 +1,6 @@
 use Rattle.std.proofs.Common.{◌≡◌, None}
-use Rattle.giop_commands.specs.Acts.{SendsNext, outbox}
-use Rattle.giop_commands.proofs.StepLemmas.{Sofar}
+use Rattle.giop_commands.specs.Session.Acts.{SendsNext, outbox}
+use Rattle.giop_commands.proofs.OnSession.StepLemmas.{Sofar}
 use Rattle.giop_commands.proofs.session.sending.send_each.Given as goal
 
 abbrev pub invariant-ids : goal.invariant-ids

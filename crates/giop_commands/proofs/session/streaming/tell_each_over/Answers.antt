@@ -1,7 +1,7 @@
 use Rattle.std.proofs.Common.{◌∙◌, refl}
 use Rattle.giop_show.proofs.DumpLemmas.{Appends-nil}
-use Rattle.giop_commands.proofs.StreamingLemmas.{same_rule, table_stepped, tables_on, unfailed_on}
-use Rattle.giop_commands.proofs.ToldLemmas.{one_more_out, one_more_told}
+use Rattle.giop_commands.proofs.OnServe.StreamingLemmas.{same_rule, table_stepped, tables_on, unfailed_on}
+use Rattle.giop_commands.proofs.OnSession.ToldLemmas.{one_more_out, one_more_told}
 use Rattle.giop_commands.proofs.session.streaming.tell_each_over.Goals as goal
 
 pub loop-id-init : goal.loop-id-init

@@ -3,7 +3,7 @@ use Rattle.std.specs.Result.{IsErrAnd}
 use Rattle.giop_commands.specs.declared.session.untold.Untold.{Untold}
 use Rattle.giop_commands.specs.declared.session.untold.Untold.TheVariants.{Memory}
 use Rattle.giop_show.proofs.DumpLemmas.{Appends-kept}
-use Rattle.giop_commands.proofs.ToldLemmas.{keys_apart}
+use Rattle.giop_commands.proofs.OnSession.ToldLemmas.{keys_apart}
 use Rattle.giop_commands.proofs.session.streaming.tell_over.Goals as goal
 
 is_memory : (r : Result (Unit {0}) Untold) (e : Untold) → IsErrAnd r (λ x. x ≡ e) → r ≡ Err Memory → e ≡ Memory

@@ -1,5 +1,5 @@
 use Rattle.std.proofs.Common.{◌≤◌, length, arith}
-use Rattle.giop_commands.proofs.TargetLemmas.{first_passed, first_found, first_absent}
+use Rattle.giop_commands.proofs.OnSession.TargetLemmas.{first_passed, first_found, first_absent}
 use Rattle.giop_commands.proofs.session.target.first_iiop.Goals as goal
 
 pub loop-profile-preserved : goal.loop-profile-preserved

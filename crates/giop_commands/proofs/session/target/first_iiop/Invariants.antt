@@ -1,5 +1,5 @@
 use Rattle.std.proofs.Common.{◌≡◌, drop}
-use Rattle.giop_commands.specs.Target.{first_iiop}
+use Rattle.giop_commands.specs.Session.Target.{first_iiop}
 use Rattle.giop_commands.proofs.session.target.first_iiop.Given as goal
 
 abbrev pub invariant-loop-profile : goal.invariant-loop-profile

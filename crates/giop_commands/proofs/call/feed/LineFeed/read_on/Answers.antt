@@ -1,6 +1,6 @@
 use Rattle.std.proofs.Common.{rules, ◌≡◌, ◌∙◌, sym, true}
-use Rattle.giop_commands.specs.CallLines.{ReadsOnce, feed, so_far, wants_more}
-use Rattle.giop_commands.proofs.StepLemmas.{counted_more}
+use Rattle.giop_commands.specs.Call.Lines.{ReadsOnce, feed, so_far, wants_more}
+use Rattle.giop_commands.proofs.OnSession.StepLemmas.{counted_more}
 use Rattle.giop_commands.proofs.call.feed.LineFeed.read_on.Goals as goal
 
 pub reads-preserved : goal.reads-preserved

@@ -1,6 +1,6 @@
 use Rattle.std.proofs.Common.{◌≡◌}
-use Rattle.giop_commands.specs.CallLines.{ReadsOnce, feed, so_far}
-use Rattle.giop_commands.proofs.StepLemmas.{Counted}
+use Rattle.giop_commands.specs.Call.Lines.{ReadsOnce, feed, so_far}
+use Rattle.giop_commands.proofs.OnSession.StepLemmas.{Counted}
 use Rattle.giop_commands.proofs.call.feed.LineFeed.read_on.Given as goal
 
 abbrev pub invariant-reads : goal.invariant-reads

@@ -1,5 +1,5 @@
 use Rattle.std.proofs.Common.{◌≡◌, take}
-use Rattle.giop_commands.specs.CallLines.{octets_taken, so_far}
+use Rattle.giop_commands.specs.Call.Lines.{octets_taken, so_far}
 use Rattle.giop_commands.proofs.call.lines.CallLines.take_octets.Given as goal
 
 abbrev pub invariant-octets : goal.invariant-octets

@@ -1,9 +1,9 @@
 use Rattle.std.proofs.Common.{inl}
-use Rattle.giop_commands.specs.Acts.{outbox}
-use Rattle.giop_commands.specs.Calling.{CallsSent, asked_of}
-use Rattle.giop_commands.specs.CallStreaming.{Makes}
-use Rattle.giop_commands.proofs.ActLemmas.{same_fault}
-use Rattle.giop_commands.proofs.StepLemmas.{and_then}
+use Rattle.giop_commands.specs.Session.Acts.{outbox}
+use Rattle.giop_commands.specs.Call.Calling.{CallsSent, asked_of}
+use Rattle.giop_commands.specs.Call.Streaming.{Makes}
+use Rattle.giop_commands.proofs.OnSession.ActLemmas.{same_fault}
+use Rattle.giop_commands.proofs.OnSession.StepLemmas.{and_then}
 use Rattle.giop_commands.proofs.call.streaming.turns.call_next.Goals as goal
 
 pub returns-in-Some-clause-calls : goal.returns-in-Some-clause-calls

@@ -1,9 +1,9 @@
 use Rattle.std.proofs.Common.{◌≡◌, None, List}
 use Rattle.giop_commands.specs.declared.call.calls.CallLine.{CallLine}
-use Rattle.giop_commands.specs.Acts.{outbox}
-use Rattle.giop_commands.specs.Calling.{asked_of}
-use Rattle.giop_commands.specs.CallStreaming.{MakesOne}
-use Rattle.giop_commands.proofs.StepLemmas.{Before}
+use Rattle.giop_commands.specs.Session.Acts.{outbox}
+use Rattle.giop_commands.specs.Call.Calling.{asked_of}
+use Rattle.giop_commands.specs.Call.Streaming.{MakesOne}
+use Rattle.giop_commands.proofs.OnSession.StepLemmas.{Before}
 use Rattle.giop_commands.proofs.call.streaming.turns.make_calls.Given as goal
 
 abbrev pub invariant-calls : goal.invariant-calls

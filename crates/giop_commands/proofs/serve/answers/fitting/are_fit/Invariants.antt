@@ -1,6 +1,6 @@
 use Rattle.std.proofs.Common.{◌≡◌, ◌&&◌, option_map}
 use Rattle.serde_json.specs.View.{view}
-use Rattle.giop_commands.specs.AnswerFiles.{are_fit}
+use Rattle.giop_commands.specs.Serve.AnswerFiles.{are_fit}
 use Rattle.giop_commands.proofs.serve.answers.fitting.are_fit.Given as goal
 
 -- whether what was read so far fits, and what is still to be read

@@ -1,6 +1,6 @@
 use Rattle.std.proofs.Common.{Some, None, inl, refl, sym}
 use Rattle.serde_json.specs.View.{view}
-use Rattle.giop_commands.proofs.FoundLemmas.{raised_found}
+use Rattle.giop_commands.proofs.OnSession.FoundLemmas.{raised_found}
 use Rattle.giop_commands.proofs.serve.answers.reading.exception_of.Goals as goal
 
 pub returns-in-Some-exception : goal.returns-in-Some-exception

@@ -1,5 +1,5 @@
 use Rattle.std.proofs.Common.{◌≡◌, ◌+◌, drop}
-use Rattle.giop_commands.specs.InTurn.{passed_of}
+use Rattle.giop_commands.specs.Serve.InTurn.{passed_of}
 use Rattle.giop_commands.proofs.serve.in_turn.Passed.of.Given as goal
 
 -- how many were counted, and how many are still to be counted

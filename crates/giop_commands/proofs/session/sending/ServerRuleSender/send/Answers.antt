@@ -1,5 +1,5 @@
 use Rattle.std.proofs.Common.{ap}
-use Rattle.giop_commands.specs.Acts.{outbox}
+use Rattle.giop_commands.specs.Session.Acts.{outbox}
 use Rattle.giop_commands.proofs.session.sending.ServerRuleSender.send.Goals as goal
 
 pub returns-clause-sent : goal.returns-clause-sent

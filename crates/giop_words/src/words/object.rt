@@ -1,0 +1,54 @@
+//! What `locate` and `ping` are asked for, and the options that both have. A change here is one in
+//! docs/giopctl.md and tests/program too.
+
+use crate::words::form::{json_option, plain_lines_of};
+use crate::words::session::{little_option, target_option, timeout_of, timeout_option};
+use clap::{ArgMatches, Command};
+use giop_show::LineForm;
+use std::alloc::{AllocError, Global};
+
+/// What `locate` and `ping` are asked for.
+#[derive(Clone, Copy, Debug)]
+pub struct ObjectWords<'a> {
+    /// The text of the object's reference, or a corbaloc; behind `@` the name of a file of it, or
+    /// `-` for the standard input.
+    pub target: &'a str,
+    /// For how many seconds nothing may come or go, 1 to 86,400; any number where it is `None`.
+    pub timeout: Option<u32>,
+    /// Whether the message is sent little-endian.
+    pub little: bool,
+    /// Whether forwards are followed.
+    pub follow: bool,
+    /// The form of the lines.
+    pub lines: LineForm,
+}
+
+/// A command that asks something of an object, by its name, with what it does and its help.
+pub(crate) fn object_command<'a>(
+    alloc: Global,
+    name: &'a str,
+    about: &'a str,
+    help: &'a str,
+) -> Result<Command<'a>, AllocError> {
+    Command::new(alloc, name)
+        .about(about)
+        .after_help(help)
+        .arg(target_option(alloc))?
+        .arg(timeout_option(alloc))?
+        .arg(json_option(alloc))?
+        .arg(little_option(alloc))
+}
+
+/// What such a command is asked for, or what is wrong with a word. Forwards aren't followed.
+pub(crate) fn object_words<'a>(matches: &ArgMatches<'a>) -> Result<ObjectWords<'a>, &'static str> {
+    match matches.get_str("target") {
+        Some(target) => Ok(ObjectWords {
+            target,
+            timeout: timeout_of(matches)?,
+            little: matches.get_flag("little"),
+            follow: false,
+            lines: plain_lines_of(matches),
+        }),
+        None => Err("--target is wanted"),
+    }
+}
