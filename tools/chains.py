@@ -1,0 +1,53 @@
+"""Which of several checks, each behind others, is begun next, and with how many jobs."""
+
+# How far a check steps back behind the one at the head of the longest chain, where its own is nearly as long, and else.
+NEARLY, BESIDE = 3, 10
+# From which part of the head's lines on a chain is nearly as long.
+NEAR = 0.6
+
+
+def behind_each(waits, lines):
+    """The lines of the longest chain of checks that wait for each, its own among them.
+
+    waits: by each check those that it waits for, which stand before it; lines: how many lines each has.
+    """
+    behind = dict.fromkeys(waits, 0)
+    for it in reversed(list(waits)):
+        behind[it] += lines[it]
+        for below in waits[it]:
+            behind[below] = max(behind[below], behind[it])
+    return behind
+
+
+class Order:
+    """The check at the head of the longest chain of those that are left goes first, with all jobs.
+
+    A check ends with minutes in which few functions are left, so others go beside it at a lower priority, as far as
+    memory bears them: with as many jobs where their chain is nearly as long, since it comes to the head soon and would be
+    held up, and else with half as many.
+    """
+
+    def __init__(self, waits, lines, most, memory, takes):
+        """most: how many jobs a check may have; takes: how much of the memory it takes with so many."""
+        self.waits, self.behind = waits, behind_each(waits, lines)
+        self.most, self.memory, self.takes = most, memory, takes
+
+    def next(self, left, running):
+        """The next check, its jobs, and how far it steps back; None where none is ready, or memory bears none.
+
+        left: those that aren't begun; running: the jobs of each that isn't ended.
+        """
+        ready = [it for it in left if not any(below in left or below in running for below in self.waits[it])]
+        head = max((self.behind[it] for it in running), default=0)
+        room = self.memory - sum(self.takes(it, jobs) for it, jobs in running.items())
+        for it in sorted(ready, key=self.behind.get, reverse=True):
+            is_near = self.behind[it] >= NEAR * head
+            most = self.most(it)
+            half = max(1, most // 2)
+            for jobs in (most, half) if is_near else (half, 1):
+                if not running or self.takes(it, jobs) <= room:
+                    return it, jobs, 0 if self.behind[it] >= head else NEARLY if is_near else BESIDE
+            if is_near:
+                # What would begin in its place would take its room again and again.
+                return None
+        return None
