@@ -5,8 +5,8 @@ mod ior_texts;
 mod references;
 
 pub use addresses::{
-    corbalocs_are_read, corbalocs_are_refused, faults_are_the_first, kinds_are_numbered,
-    written_corbalocs_are_read_back,
+    corbalocs_are_read, corbalocs_are_refused, faults_are_the_first, faulty_texts_are_no_corbalocs,
+    kinds_are_numbered, written_corbalocs_are_read_back,
 };
 pub use ior_texts::{reference_texts_are_read, written_reference_texts_are_read_back};
 pub use references::{

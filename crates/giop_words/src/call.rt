@@ -1,12 +1,16 @@
 //! The words of `call`. A change here is one in docs/giopctl.md and tests/program too.
 ghost use Rattle.giop_end.specs.Acts.Form.{IsForm};
-ghost use Rattle.std.specs.Prelude.{◌≤◌, ◌^◌};
+ghost use Rattle.std.specs.Prelude.{◌+◌, ◌≤◌, ◌^◌};
+ghost use Rattle.std.proofs.Props.{props};
+ghost use Rattle.giop_words.specs.Inputs.{input, inputs_among, target_input};
+ghost use Rattle.giop_words.specs.Timeout.{IsTimeout};
 
 mod help;
 
 use crate::call::help::CALL_HELP;
-use crate::task::Task;
-use crate::words::file::{FileWord, Files, apart, apart_from, interface_option};
+use crate::words::file::{
+    FileWord, Files, input, inputs_among, interface_option, once, target_input,
+};
 use crate::words::form::{lines_of, with_lines};
 use crate::words::limit::limits_of;
 use crate::words::session::{
@@ -45,6 +49,9 @@ pub struct CallWords<'a> {
     pub limits: Limits,
     pub ghost sent: { IsForm form },
     pub ghost bounded: { limits.gathered ≤ 2 ^ 62 },
+    pub ghost timed: { IsTimeout timeout } by { Prim.hlevel props },
+    pub ghost once: { inputs_among interfaces.items
+        + (input file.now + target_input target.now) ≤ 1 },
 }
 
 /// The command `call`.
@@ -80,29 +87,21 @@ fn with_calls<'a>(alloc: Global, command: Command<'a>) -> Result<Command<'a>, Al
 }
 
 /// What `call` is asked for with these files and values, or what is wrong with a word.
-pub(crate) fn call_task<'a>(
+pub(crate) fn call_words<'a>(
     matches: &ArgMatches<'a>,
     interfaces: Files<'a>,
     values: Vec<&'a str>,
-) -> Result<Option<Task<'a>>, &'static str> {
-    Ok(Some(Task::Call(call_words(matches, interfaces?, values)?)))
-}
-
-fn call_words<'a>(
-    matches: &ArgMatches<'a>,
-    interfaces: Vec<FileWord<'a>>,
-    values: Vec<&'a str>,
 ) -> Result<CallWords<'a>, &'static str> {
+    let interfaces = interfaces?;
     let form = message_form_of(matches)?;
     let limits = limits_of(matches)?;
     let (Some(target), Some(file)) = (matches.get_str("target"), matches.get_str("FILE")) else {
         return Err("--target and FILE are wanted");
     };
-    apart_from(interfaces.as_slice(), file)?;
-    if let Some(reference) = target.strip_prefix('@') {
-        apart_from(interfaces.as_slice(), reference)?;
-        apart(reference, file)?;
-    }
+    once(
+        inputs_among(interfaces.as_slice()),
+        input(file) + target_input(target),
+    )?;
     let (telling, follow) = (telling_of(matches), matches.get_flag("follow"));
     if follow && telling == Telling::WhenOver {
         return Err("--follow and --stream exclude each other");

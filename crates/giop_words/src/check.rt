@@ -1,11 +1,11 @@
 //! The words of `check`. A change here is one in docs/giopctl.md and tests/program too.
-ghost use Rattle.std.specs.Prelude.{◌≤◌, ◌^◌};
+ghost use Rattle.std.specs.Prelude.{◌+◌, ◌≤◌, ◌^◌};
+ghost use Rattle.giop_words.specs.Inputs.{input, inputs_among};
 
 mod help;
 
 use crate::check::help::CHECK_HELP;
-use crate::task::Task;
-use crate::words::file::{FileWord, Files, apart_from, interface_option};
+use crate::words::file::{FileWord, Files, input, inputs_among, interface_option, once};
 use crate::words::form::{lines_of, with_lines};
 use crate::words::limit::{limits_of, with_limits};
 use clap::{Arg, ArgAction, ArgMatches, Command};
@@ -27,6 +27,7 @@ pub struct CheckWords<'a> {
     /// The form of its lines.
     pub form: LineForm,
     pub ghost bounded: { limits.gathered ≤ 2 ^ 62 },
+    pub ghost once: { inputs_among interfaces.items + input file.now ≤ 1 },
 }
 
 /// The command `check`.
@@ -47,22 +48,22 @@ pub(crate) fn check_command<'a>(alloc: Global) -> Result<Command<'a>, AllocError
 }
 
 /// What `check` is asked for with these files, or what is wrong with a word.
-pub(crate) fn check_task<'a>(
+pub(crate) fn check_words<'a>(
     matches: &ArgMatches<'a>,
     interfaces: Files<'a>,
-) -> Result<Option<Task<'a>>, &'static str> {
+) -> Result<Option<CheckWords<'a>>, &'static str> {
     let limits = limits_of(matches)?;
     let interfaces = interfaces?;
     let Some(file) = matches.get_str("FILE") else {
         return Ok(None);
     };
-    apart_from(interfaces.as_slice(), file)?;
+    once(inputs_among(interfaces.as_slice()), input(file))?;
     let strict = matches.get_flag("strict");
-    Ok(Some(Task::Check(CheckWords {
+    Ok(Some(CheckWords {
         interfaces,
         file,
         limits,
         strict,
         form: lines_of(matches),
-    })))
+    }))
 }

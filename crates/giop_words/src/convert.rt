@@ -1,11 +1,12 @@
 //! The words of `convert`, a command for each kind. A change here is one in docs/giopctl.md and
 //! tests/program too.
+ghost use Rattle.std.specs.Prelude.{◌+◌, ◌≤◌};
+ghost use Rattle.giop_words.specs.Inputs.{input, kind_inputs};
 
 mod help;
 
 use crate::convert::help::{CONVERT_HELP, CORBALOC_HELP, DECODE_HELP, ENCODE_HELP, IOR_HELP};
-use crate::task::Task;
-use crate::words::file::apart;
+use crate::words::file::{input, once};
 use crate::words::form::{json_numbers_option, json_option, numbers_of, plain_lines_of};
 use clap::{Arg, ArgAction, ArgMatches, Command};
 use giop_cdr::Order;
@@ -28,6 +29,16 @@ pub enum ConvertKind<'a> {
         /// The byte order of the octets.
         order: Order,
     },
+}
+
+/// What `convert` is asked for.
+#[derive(Clone, Copy, Debug)]
+pub(crate) struct ConvertWords<'a> {
+    /// The file's name, or `-` for the standard input.
+    pub file: &'a str,
+    /// From what, and into what.
+    pub kind: ConvertKind<'a>,
+    pub ghost once: { kind_inputs kind + input file.now ≤ 1 },
 }
 
 /// The command `convert`.
@@ -116,42 +127,53 @@ fn kind<'a>(
 }
 
 /// What `convert` is asked for, or what is wrong with a word.
-pub(crate) fn convert_task<'a>(convert: &ArgMatches<'a>) -> Result<Option<Task<'a>>, &'static str> {
+pub(crate) fn convert_words<'a>(
+    convert: &ArgMatches<'a>,
+) -> Result<Option<ConvertWords<'a>>, &'static str> {
     if let Some(ior) = convert.subcommand_matches("ior") {
-        return Ok(task_of_kind(ior, Some(ConvertKind::Ior(plain_lines_of(ior)))));
+        return Ok(ior_words(ior));
     }
     if let Some(corbaloc) = convert.subcommand_matches("corbaloc") {
-        let form = plain_lines_of(corbaloc);
-        return Ok(task_of_kind(corbaloc, Some(ConvertKind::Corbaloc(form))));
+        return Ok(corbaloc_words(corbaloc));
     }
     if let Some(encode) = convert.subcommand_matches("encode") {
-        return value_task(encode, Way::Encode);
+        return value_words(encode, Way::Encode);
     }
     match convert.subcommand_matches("decode") {
-        Some(decode) => value_task(decode, Way::Decode(numbers_of(decode))),
+        Some(decode) => value_words(decode, Way::Decode(numbers_of(decode))),
         None => Ok(None),
     }
 }
 
-fn value_task<'a>(matches: &ArgMatches<'a>, way: Way) -> Result<Option<Task<'a>>, &'static str> {
-    if let (Some(desc), Some(file)) = (matches.get_str("desc"), matches.get_str("FILE")) {
-        apart(desc, file)?;
-    }
-    Ok(task_of_kind(matches, kind_of_value(matches, way)))
-}
-
-fn task_of_kind<'a>(matches: &ArgMatches<'a>, kind: Option<ConvertKind<'a>>) -> Option<Task<'a>> {
+fn ior_words<'a>(matches: &ArgMatches<'a>) -> Option<ConvertWords<'a>> {
     let file = matches.get_str("FILE")?;
-    let kind = kind?;
-    Some(Task::Convert { file, kind })
+    let kind = ConvertKind::Ior(plain_lines_of(matches));
+    Some(ConvertWords { file, kind })
 }
 
-fn kind_of_value<'a>(matches: &ArgMatches<'a>, way: Way) -> Option<ConvertKind<'a>> {
-    let desc = matches.get_str("desc")?;
-    let order = if matches.get_flag("little") {
+fn corbaloc_words<'a>(matches: &ArgMatches<'a>) -> Option<ConvertWords<'a>> {
+    let file = matches.get_str("FILE")?;
+    let kind = ConvertKind::Corbaloc(plain_lines_of(matches));
+    Some(ConvertWords { file, kind })
+}
+
+fn value_words<'a>(
+    matches: &ArgMatches<'a>,
+    way: Way,
+) -> Result<Option<ConvertWords<'a>>, &'static str> {
+    let (Some(desc), Some(file)) = (matches.get_str("desc"), matches.get_str("FILE")) else {
+        return Ok(None);
+    };
+    once(input(desc), input(file))?;
+    let order = order_of(matches);
+    let kind = ConvertKind::Value { way, desc, order };
+    Ok(Some(ConvertWords { file, kind }))
+}
+
+fn order_of(matches: &ArgMatches) -> Order {
+    if matches.get_flag("little") {
         Order::Little
     } else {
         Order::Big
-    };
-    Some(ConvertKind::Value { way, desc, order })
+    }
 }

@@ -1,11 +1,12 @@
 //! The words of `dump`. A change here is one in docs/giopctl.md and tests/program too.
-ghost use Rattle.std.specs.Prelude.{◌≤◌, ◌^◌};
+ghost use Rattle.std.specs.Prelude.{◌+◌, ◌≤◌, ◌^◌};
+ghost use Rattle.std.specs.Option.{option_map_or};
+ghost use Rattle.giop_words.specs.Inputs.{input};
 
 mod help;
 
 use crate::dump::help::DUMP_HELP;
-use crate::task::Task;
-use crate::words::file::apart;
+use crate::words::file::{input, input_of, once};
 use crate::words::form::{lines_of, with_lines};
 use crate::words::limit::{
     gathered_limit_of, gathered_limit_option, message_limit_of, message_limit_option,
@@ -29,6 +30,7 @@ pub struct DumpWords<'a> {
     /// The form of its lines.
     pub form: LineForm,
     pub ghost bounded: { gathered ≤ 2 ^ 62 },
+    pub ghost once: { option_map_or (λ name. input name.now) interface 0 + input file.now ≤ 1 },
 }
 
 /// The command `dump`.
@@ -51,21 +53,21 @@ pub(crate) fn dump_command<'a>(alloc: Global) -> Result<Command<'a>, AllocError>
 }
 
 /// What `dump` is asked for, or what is wrong with a word.
-pub(crate) fn dump_task<'a>(matches: &ArgMatches<'a>) -> Result<Option<Task<'a>>, &'static str> {
+pub(crate) fn dump_words<'a>(
+    matches: &ArgMatches<'a>,
+) -> Result<Option<DumpWords<'a>>, &'static str> {
     let limit = message_limit_of(matches)?;
     let gathered = gathered_limit_of(matches)?;
     let Some(file) = matches.get_str("FILE") else {
         return Ok(None);
     };
     let interface = matches.get_str("interface");
-    if let Some(interface) = interface {
-        apart(interface, file)?;
-    }
-    Ok(Some(Task::Dump(DumpWords {
+    once(input_of(interface), input(file))?;
+    Ok(Some(DumpWords {
         interface,
         file,
         limit,
         gathered,
         form: lines_of(matches),
-    })))
+    }))
 }

@@ -3,7 +3,6 @@
 mod help;
 
 use crate::locate::help::LOCATE_HELP;
-use crate::task::Task;
 use crate::words::object::{ObjectWords, object_command, object_words};
 use crate::words::session::follow_option;
 use clap::{ArgMatches, Command};
@@ -17,11 +16,7 @@ pub(crate) fn locate_command<'a>(alloc: Global) -> Result<Command<'a>, AllocErro
 }
 
 /// What `locate` is asked for, or what is wrong with a word.
-pub(crate) fn locate_task<'a>(matches: &ArgMatches<'a>) -> Result<Option<Task<'a>>, &'static str> {
-    Ok(Some(Task::Locate(locate_words(matches)?)))
-}
-
-fn locate_words<'a>(matches: &ArgMatches<'a>) -> Result<ObjectWords<'a>, &'static str> {
+pub(crate) fn locate_words<'a>(matches: &ArgMatches<'a>) -> Result<ObjectWords<'a>, &'static str> {
     let mut words = object_words(matches)?;
     words.follow = matches.get_flag("follow");
     Ok(words)

@@ -1,12 +1,15 @@
 //! The words of `serve`. A change here is one in docs/giopctl.md and tests/program too.
 ghost use Rattle.giop_end.specs.Acts.Form.{IsForm};
-ghost use Rattle.std.specs.Prelude.{◌≤◌, ◌^◌};
+ghost use Rattle.std.specs.Prelude.{◌≡◌, ◌+◌, ◌≤◌, ◌^◌, IfOk, IfSome, true};
+ghost use Rattle.std.specs.Char.{is_ascii_hexdigit};
+ghost use Rattle.std.specs.List.{list_all};
+ghost use Rattle.giop_words.specs.Inputs.{inputs_among};
+ghost use Rattle.giop_words.specs.Key.{is_hexadecimal, is_key};
 
 mod help;
 
 use crate::serve::help::SERVE_HELP;
-use crate::task::Task;
-use crate::words::file::{FileWord, Files, answers_option, apart_from, interface_option};
+use crate::words::file::{FileWord, Files, answers_option, inputs_among, interface_option, once};
 use crate::words::form::{lines_of, with_lines};
 use crate::words::limit::limits_of;
 use crate::words::number::{number_option, short_number_of};
@@ -53,6 +56,9 @@ pub struct ServeWords<'a> {
     pub limits: Limits,
     pub ghost sent: { IsForm form },
     pub ghost bounded: { limits.gathered ≤ 2 ^ 62 },
+    pub ghost keyed: { is_key key ≡ true },
+    pub ghost served: { (1 ≤ connections) × (connections ≤ 65535) },
+    pub ghost once: { inputs_among interfaces.items + inputs_among answers.items ≤ 1 },
 }
 
 /// The command `serve`.
@@ -126,19 +132,13 @@ fn key_group<'a>(alloc: Global) -> Result<ArgGroup<'a>, AllocError> {
 }
 
 /// What `serve` is asked for with these files, or what is wrong with a word.
-pub(crate) fn serve_task<'a>(
+pub(crate) fn serve_words<'a>(
     matches: &ArgMatches<'a>,
     interfaces: Files<'a>,
     answers: Files<'a>,
-) -> Result<Option<Task<'a>>, &'static str> {
-    Ok(Some(Task::Serve(serve_words(matches, interfaces?, answers?)?)))
-}
-
-fn serve_words<'a>(
-    matches: &ArgMatches<'a>,
-    interfaces: Vec<FileWord<'a>>,
-    answers: Vec<FileWord<'a>>,
 ) -> Result<ServeWords<'a>, &'static str> {
+    let interfaces = interfaces?;
+    let answers = answers?;
     let form = message_form_of(matches)?;
     let limits = limits_of(matches)?;
     let Some(port) = port_of(matches) else {
@@ -147,10 +147,10 @@ fn serve_words<'a>(
     let Some(connections) = connections_of(matches) else {
         return Err("--connections is a number from 1 to 65535, in decimal digits");
     };
-    for answer in &answers {
-        apart_from(interfaces.as_slice(), answer.file)?;
-    }
-    apart_from(answers.as_slice(), "")?;
+    once(
+        inputs_among(interfaces.as_slice()),
+        inputs_among(answers.as_slice()),
+    )?;
     Ok(ServeWords {
         port,
         interfaces,
@@ -167,7 +167,9 @@ fn serve_words<'a>(
 }
 
 // The object key, of which there is one word.
-fn key_of<'a>(matches: &ArgMatches<'a>) -> Result<KeyWord<'a>, &'static str> {
+fn key_of<'a>(matches: &ArgMatches<'a>) -> Result<KeyWord<'a>, &'static str>
+    ensures { IfOk result (λ key. is_key key ≡ true) }
+{
     match (matches.get_str("key"), matches.get_str("key-text")) {
         (Some(digits), None) if is_hexadecimal(digits) => Ok(KeyWord::Hex(digits)),
         (Some(_), None) => Err("--key is pairs of hexadecimal digits"),
@@ -180,7 +182,9 @@ fn port_of(matches: &ArgMatches) -> Option<u16> {
     u16::try_from(short_number_of(matches, "port")?).ok()
 }
 
-fn connections_of(matches: &ArgMatches) -> Option<u32> {
+fn connections_of(matches: &ArgMatches) -> Option<u32>
+    ensures { IfSome result (λ connections. (1 ≤ connections) × (connections ≤ 65535)) }
+{
     match short_number_of(matches, "connections")? {
         connections if connections > 0 && connections <= 65_535 => Some(connections),
         _ => None,
@@ -188,10 +192,15 @@ fn connections_of(matches: &ArgMatches) -> Option<u32> {
 }
 
 // Whether a text is pairs of hexadecimal digits.
-fn is_hexadecimal(text: &str) -> bool {
-    text.len() % 2 == 0
-        && text
-            .as_bytes()
-            .iter()
-            .all(|octet| octet.is_ascii_hexdigit())
+fn is_hexadecimal(text: &str) -> bool
+    ensures { result ≡ is_hexadecimal text.now }
+{
+    text.len() % 2 == 0 && are_digits(text.as_bytes())
+}
+
+// Whether octets are hexadecimal digits.
+fn are_digits(octets: &[u8]) -> bool
+    ensures { result ≡ list_all is_ascii_hexdigit octets.now }
+{
+    octets.iter().all(|octet| octet.is_ascii_hexdigit())
 }

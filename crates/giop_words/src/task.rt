@@ -1,15 +1,17 @@
 //! What the command line asks for. A change here is one in docs/giopctl.md and tests/program too.
+ghost use Rattle.std.specs.Prelude.{IfOk, IfSome};
+ghost use Rattle.giop_words.specs.Task.{ReadsOnce};
 
-use crate::call::{CallWords, call_command, call_task, values_of};
-use crate::check::{CheckWords, check_command, check_task};
-use crate::convert::{ConvertKind, convert_command, convert_task};
-use crate::dump::{DumpWords, dump_command, dump_task};
-use crate::locate::{locate_command, locate_task};
-use crate::ping::{ping_command, ping_task};
-use crate::serve::{ServeWords, serve_command, serve_task};
-use crate::trace::{TraceWords, trace_command, trace_task};
+use crate::call::{CallWords, call_command, call_words, values_of};
+use crate::check::{CheckWords, check_command, check_words};
+use crate::convert::{ConvertKind, convert_command, convert_words};
+use crate::dump::{DumpWords, dump_command, dump_words};
+use crate::locate::{locate_command, locate_words};
+use crate::ping::ping_command;
+use crate::serve::{ServeWords, serve_command, serve_words};
+use crate::trace::{TraceWords, trace_command, trace_words};
 use crate::words::file::file_words;
-use crate::words::object::ObjectWords;
+use crate::words::object::{ObjectWords, object_words};
 use clap::error::ErrorKind;
 use clap::{ArgMatches, Command, Error};
 use std::alloc::{AllocError, Global};
@@ -60,7 +62,9 @@ examples/calls.json
 
 /// What the words ask for, of which the first is the program's name. There is no task where they
 /// are refused or ask for help or the version: then the error has the text to print.
-pub fn task_of<'a>(alloc: Global, words: &'a [String]) -> Result<Option<Task<'a>>, Error> {
+pub fn task_of<'a>(alloc: Global, words: &'a [String]) -> Result<Option<Task<'a>>, Error>
+    ensures once { IfOk result (λ task. IfSome task ReadsOnce) }
+{
     let matches = giopctl(alloc)?.try_get_matches_from(words)?;
     match file_task(alloc, &matches)? {
         Some(task) => Ok(Some(task)),
@@ -69,53 +73,121 @@ pub fn task_of<'a>(alloc: Global, words: &'a [String]) -> Result<Option<Task<'a>
 }
 
 // What is asked for of a file, if that is.
-fn file_task<'a>(alloc: Global, matches: &ArgMatches<'a>) -> Result<Option<Task<'a>>, Error> {
+fn file_task<'a>(alloc: Global, matches: &ArgMatches<'a>) -> Result<Option<Task<'a>>, Error>
+    ensures { IfOk result (λ task. IfSome task ReadsOnce) }
+{
     if let Some(dump) = matches.subcommand_matches("dump") {
-        return or_usage_error(alloc, dump_task(dump));
+        return dump_task(alloc, dump);
     }
     if let Some(check) = matches.subcommand_matches("check") {
-        let interfaces = file_words(alloc, check, "interface")?;
-        return or_usage_error(alloc, check_task(check, interfaces));
+        return check_task(alloc, check);
     }
     if let Some(trace) = matches.subcommand_matches("trace") {
-        let interfaces = file_words(alloc, trace, "interface")?;
-        return or_usage_error(alloc, trace_task(trace, interfaces));
+        return trace_task(alloc, trace);
     }
     match matches.subcommand_matches("convert") {
-        Some(convert) => or_usage_error(alloc, convert_task(convert)),
+        Some(convert) => convert_task(alloc, convert),
         None => Ok(None),
     }
 }
 
 // What is asked for of an object, if that is.
-fn object_task<'a>(alloc: Global, matches: &ArgMatches<'a>) -> Result<Option<Task<'a>>, Error> {
+fn object_task<'a>(alloc: Global, matches: &ArgMatches<'a>) -> Result<Option<Task<'a>>, Error>
+    ensures { IfOk result (λ task. IfSome task ReadsOnce) }
+{
     if let Some(call) = matches.subcommand_matches("call") {
-        let interfaces = file_words(alloc, call, "interface")?;
-        return or_usage_error(alloc, call_task(call, interfaces, values_of(alloc, call)?));
+        return call_task(alloc, call);
     }
     if let Some(locate) = matches.subcommand_matches("locate") {
-        return or_usage_error(alloc, locate_task(locate));
+        return locate_task(alloc, locate);
     }
     if let Some(ping) = matches.subcommand_matches("ping") {
-        return or_usage_error(alloc, ping_task(ping));
+        return ping_task(alloc, ping);
     }
     match matches.subcommand_matches("serve") {
-        Some(serve) => {
-            let interfaces = file_words(alloc, serve, "interface")?;
-            let answers = file_words(alloc, serve, "answers")?;
-            or_usage_error(alloc, serve_task(serve, interfaces, answers))
-        }
+        Some(serve) => serve_task(alloc, serve),
         None => Ok(None),
     }
 }
 
-// What a command asks for, or the error of what is wrong with one of its words.
-fn or_usage_error<'a>(
-    alloc: Global,
-    task: Result<Option<Task<'a>>, &'static str>,
-) -> Result<Option<Task<'a>>, Error> {
-    match task {
-        Ok(task) => Ok(task),
+fn dump_task<'a>(alloc: Global, dump: &ArgMatches<'a>) -> Result<Option<Task<'a>>, Error>
+    ensures { IfOk result (λ task. IfSome task ReadsOnce) }
+{
+    match dump_words(dump) {
+        Ok(Some(words)) => Ok(Some(Task::Dump(words))),
+        Ok(None) => Ok(None),
+        Err(wrong) => Err(usage_error(alloc, wrong)?),
+    }
+}
+
+fn check_task<'a>(alloc: Global, check: &ArgMatches<'a>) -> Result<Option<Task<'a>>, Error>
+    ensures { IfOk result (λ task. IfSome task ReadsOnce) }
+{
+    match check_words(check, file_words(alloc, check, "interface")?) {
+        Ok(Some(words)) => Ok(Some(Task::Check(words))),
+        Ok(None) => Ok(None),
+        Err(wrong) => Err(usage_error(alloc, wrong)?),
+    }
+}
+
+fn trace_task<'a>(alloc: Global, trace: &ArgMatches<'a>) -> Result<Option<Task<'a>>, Error>
+    ensures { IfOk result (λ task. IfSome task ReadsOnce) }
+{
+    match trace_words(trace, file_words(alloc, trace, "interface")?) {
+        Ok(Some(words)) => Ok(Some(Task::Trace(words))),
+        Ok(None) => Ok(None),
+        Err(wrong) => Err(usage_error(alloc, wrong)?),
+    }
+}
+
+fn convert_task<'a>(alloc: Global, convert: &ArgMatches<'a>) -> Result<Option<Task<'a>>, Error>
+    ensures { IfOk result (λ task. IfSome task ReadsOnce) }
+{
+    match convert_words(convert) {
+        Ok(Some(words)) => Ok(Some(Task::Convert {
+            file: words.file,
+            kind: words.kind,
+        })),
+        Ok(None) => Ok(None),
+        Err(wrong) => Err(usage_error(alloc, wrong)?),
+    }
+}
+
+fn call_task<'a>(alloc: Global, call: &ArgMatches<'a>) -> Result<Option<Task<'a>>, Error>
+    ensures { IfOk result (λ task. IfSome task ReadsOnce) }
+{
+    let interfaces = file_words(alloc, call, "interface")?;
+    match call_words(call, interfaces, values_of(alloc, call)?) {
+        Ok(words) => Ok(Some(Task::Call(words))),
+        Err(wrong) => Err(usage_error(alloc, wrong)?),
+    }
+}
+
+fn locate_task<'a>(alloc: Global, locate: &ArgMatches<'a>) -> Result<Option<Task<'a>>, Error>
+    ensures { IfOk result (λ task. IfSome task ReadsOnce) }
+{
+    match locate_words(locate) {
+        Ok(words) => Ok(Some(Task::Locate(words))),
+        Err(wrong) => Err(usage_error(alloc, wrong)?),
+    }
+}
+
+fn ping_task<'a>(alloc: Global, ping: &ArgMatches<'a>) -> Result<Option<Task<'a>>, Error>
+    ensures { IfOk result (λ task. IfSome task ReadsOnce) }
+{
+    match object_words(ping) {
+        Ok(words) => Ok(Some(Task::Ping(words))),
+        Err(wrong) => Err(usage_error(alloc, wrong)?),
+    }
+}
+
+fn serve_task<'a>(alloc: Global, serve: &ArgMatches<'a>) -> Result<Option<Task<'a>>, Error>
+    ensures { IfOk result (λ task. IfSome task ReadsOnce) }
+{
+    let interfaces = file_words(alloc, serve, "interface")?;
+    let answers = file_words(alloc, serve, "answers")?;
+    match serve_words(serve, interfaces, answers) {
+        Ok(words) => Ok(Some(Task::Serve(words))),
         Err(wrong) => Err(usage_error(alloc, wrong)?),
     }
 }

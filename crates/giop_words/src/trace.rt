@@ -1,10 +1,12 @@
 //! The words of `trace`. A change here is one in docs/giopctl.md and tests/program too.
+ghost use Rattle.std.specs.Prelude.{◌+◌, ◌≤◌};
+ghost use Rattle.std.specs.Option.{option_map_or};
+ghost use Rattle.giop_words.specs.Inputs.{input, inputs_among};
 
 mod help;
 
-use crate::task::Task;
 use crate::trace::help::TRACE_HELP;
-use crate::words::file::{FileWord, Files, apart, apart_from, interface_option};
+use crate::words::file::{FileWord, Files, input, input_of, inputs_among, interface_option, once};
 use crate::words::form::{lines_of, with_lines};
 use crate::words::limit::{message_limit_of, message_limit_option};
 use clap::{Arg, ArgMatches, Command};
@@ -24,6 +26,8 @@ pub struct TraceWords<'a> {
     pub limit: u32,
     /// The form of its lines.
     pub form: LineForm,
+    pub ghost once: { inputs_among interfaces.items
+        + (input client.now + option_map_or (λ name. input name.now) server 0) ≤ 1 },
 }
 
 /// The command `trace`.
@@ -43,27 +47,26 @@ pub(crate) fn trace_command<'a>(alloc: Global) -> Result<Command<'a>, AllocError
 }
 
 /// What `trace` is asked for with these files, or what is wrong with a word.
-pub(crate) fn trace_task<'a>(
+pub(crate) fn trace_words<'a>(
     matches: &ArgMatches<'a>,
     interfaces: Files<'a>,
-) -> Result<Option<Task<'a>>, &'static str> {
+) -> Result<Option<TraceWords<'a>>, &'static str> {
     let limit = message_limit_of(matches)?;
     let interfaces = interfaces?;
     let Some(client) = matches.get_str("CLIENT") else {
         return Ok(None);
     };
     let server = matches.get_str("SERVER");
-    apart_from(interfaces.as_slice(), client)?;
-    if let Some(server) = server {
-        apart_from(interfaces.as_slice(), server)?;
-        apart(client, server)?;
-    }
+    once(
+        inputs_among(interfaces.as_slice()),
+        input(client) + input_of(server),
+    )?;
     let form = lines_of(matches);
-    Ok(Some(Task::Trace(TraceWords {
+    Ok(Some(TraceWords {
         interfaces,
         client,
         server,
         limit,
         form,
-    })))
+    }))
 }

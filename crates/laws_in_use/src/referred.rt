@@ -12,7 +12,8 @@ ghost use Rattle.giop_ior.specs.CorbalocReading.{corbaloc_of};
 ghost use Rattle.giop_ior.specs.CorbalocWriting.{corbaloc_text, is_writable, IsInRange};
 ghost use Rattle.giop_ior.specs.declared.addresses.corbaloc.Corbaloc.{Corbaloc};
 ghost use Rattle.giop_ior.specs.declared.addresses.corbaloc_fault.CorbalocFault.{CorbalocFault};
-ghost use Rattle.giop_ior.specs.declared.addresses.corbaloc_fault.CorbalocKind.TheVariants.{BadChar};
+ghost use Rattle.giop_ior.specs.declared.addresses.corbaloc_fault.CorbalocKind.TheVariants.{BadChar, BadProtocol};
+ghost use Rattle.giop_ior.specs.FirstFault.{IsFirstFault};
 ghost use Rattle.giop_ior.specs.Iiop.{iiop_layout, iiop_of, IiopOctets, Profile};
 ghost use Rattle.giop_ior.specs.Ior.{ior_layout, Reference};
 ghost use Rattle.giop_ior.specs.Refused.{RefusedCorbaloc};
@@ -22,8 +23,8 @@ ghost use Rattle.laws_in_use.specs.Referred.{address, profile, profile_octets, r
 
 use giop_ior::laws::{
     addresses_are_profiles, corbalocs_are_read, corbalocs_are_refused, faults_are_the_first,
-    profiles_are_read, reference_texts_are_read, references_are_spelled,
-    written_corbalocs_are_read_back, written_reference_texts_are_read_back,
+    faulty_texts_are_no_corbalocs, profiles_are_read, reference_texts_are_read,
+    references_are_spelled, written_corbalocs_are_read_back, written_reference_texts_are_read_back,
     written_references_are_read_back,
 };
 
@@ -46,12 +47,14 @@ pub fn the_text_of_an_address()
       host = codes "h";
       port = 9;
     })).octets ≡ Ok profile }
+    ensures first { IsFirstFault (codes "corbaloc:http://h") (record { at = 9; kind = BadProtocol }) }
     ensures fault { (c : Corbaloc) → CorbalocText c (codes "corbaloc:http://h") → ⊥ }
 {
     corbalocs_are_read();
     written_corbalocs_are_read_back();
     addresses_are_profiles();
     faults_are_the_first();
+    faulty_texts_are_no_corbalocs();
 }
 
 /// A text whose key has an octet that stands for none has that fault, at that octet, and no other.

@@ -29,6 +29,12 @@ pub fn faults_are_the_first()
         → IsFirstFault text e }
 {}
 
+/// A text that has a first fault is no corbaloc.
+pub fn faulty_texts_are_no_corbalocs()
+    ensures { (text : List ℕ) (e : CorbalocFault) → IsFirstFault text e
+        → (c : Corbaloc) → CorbalocText c text → ⊥ }
+{}
+
 /// Which fault a text has, its kind and its place, by the grammar alone: the one that is returned is
 /// the text's, and the text's is returned. So a text has one fault at most, and none beside a value.
 pub fn corbalocs_are_refused()

@@ -1,7 +1,9 @@
 //! The words of files that objects may have of their own: --interface and --answers, as FILE or
 //! KEY=FILE. A change here is one in docs/giopctl.md and tests/program too.
 
-ghost use Rattle.std.specs.Prelude.{◌≡◌, ◌≢◌, codes, option_map, IfErr, OnOk};
+ghost use Rattle.std.specs.Prelude.{◌≡◌, ◌+◌, ◌<◌, ◌≤◌, option_map, OnErr, OnOk};
+ghost use Rattle.std.specs.Option.{option_map_or};
+ghost use Rattle.giop_words.specs.Inputs.{input, inputs_among, is_input, target_input};
 
 use clap::{Arg, ArgAction, ArgMatches};
 use giop_ior::{CorbalocKind, corbaloc_from_text};
@@ -111,27 +113,56 @@ fn key_of(alloc: Global, text: &[u8]) -> Result<Option<Vec<u8>>, AllocError> {
     }
 }
 
-/// Refuses two files that are both the standard input, which is read once. It says why.
-pub fn apart(one: &str, other: &str) -> Result<(), &'static str>
-    ensures ok { OnOk result (one.now ≡ codes "-" → other.now ≢ codes "-") }
-    ensures err { IfErr result (λ _. (one.now ≡ codes "-") × (other.now ≡ codes "-")) }
+/// Whether a file is the standard input.
+pub fn is_input(name: &str) -> bool
+    ensures { result ≡ is_input name.now }
 {
-    if one == "-" && other == "-" {
-        Err("- is the standard input, and stands for one file alone")
-    } else {
-        Ok(())
+    name == "-"
+}
+
+/// 1 where a file is the standard input, else 0.
+pub fn input(name: &str) -> usize
+    ensures value { result ≡ input name.now }
+    ensures within { result ≤ 1 }
+{
+    if is_input(name) { 1 } else { 0 }
+}
+
+/// 1 where there is such a file and it is the standard input, else 0.
+pub fn input_of(name: Option<&str>) -> usize
+    ensures value { result ≡ option_map_or (λ name. input name.now) name.entry 0 }
+    ensures within { result ≤ 1 }
+{
+    match name {
+        Some(name) => input(name),
+        None => 0,
     }
 }
 
-/// Refuses files of which more than one is the standard input, which is read once; one other file
-/// is judged with them. It says why.
-pub(crate) fn apart_from(words: &[FileWord<'_>], other: &str) -> Result<(), &'static str> {
-    let mut one = other;
-    for word in words {
-        apart(one, word.file)?;
-        if word.file == "-" {
-            one = word.file;
-        }
+/// 1 where the text of a target is in the standard input, else 0.
+pub fn target_input(target: &str) -> usize
+    ensures value { result ≡ target_input target.now }
+    ensures within { result ≤ 1 }
+{
+    if target == "@-" { 1 } else { 0 }
+}
+
+/// How many files of an option are the standard input.
+pub fn inputs_among(words: &[FileWord<'_>]) -> usize
+    ensures { result ≡ inputs_among words.now }
+{
+    words.iter().filter(|word| is_input(word.file)).count()
+}
+
+/// Refuses more than one file that is the standard input, which is read once: so many are among
+/// these and so many among others. It says why.
+pub fn once(these: usize, others: usize) -> Result<(), &'static str>
+    ensures ok { OnOk result (these + others ≤ 1) }
+    ensures err { OnErr result (1 < these + others) }
+{
+    if these <= 1 && others <= 1 - these {
+        Ok(())
+    } else {
+        Err("- is the standard input, and stands for one file alone")
     }
-    Ok(())
 }

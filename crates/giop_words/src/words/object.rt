@@ -1,5 +1,7 @@
 //! What `locate` and `ping` are asked for, and the options that both have. A change here is one in
 //! docs/giopctl.md and tests/program too.
+ghost use Rattle.std.proofs.Props.{props};
+ghost use Rattle.giop_words.specs.Timeout.{IsTimeout};
 
 use crate::words::form::{json_option, plain_lines_of};
 use crate::words::session::{little_option, target_option, timeout_of, timeout_option};
@@ -21,6 +23,7 @@ pub struct ObjectWords<'a> {
     pub follow: bool,
     /// The form of the lines.
     pub lines: LineForm,
+    pub ghost timed: { IsTimeout timeout } by { Prim.hlevel props },
 }
 
 /// A command that asks something of an object, by its name, with what it does and its help.

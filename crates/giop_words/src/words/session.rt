@@ -1,7 +1,8 @@
 //! The options of a session that several commands have: the object that is called, how messages are
 //! sent, and when calls are told. A change here is one in docs/giopctl.md and tests/program too.
-ghost use Rattle.std.specs.Prelude.{◌≤◌, IfOk, IfSome};
+ghost use Rattle.std.specs.Prelude.{IfOk};
 ghost use Rattle.giop_end.specs.Acts.Form.{IsForm};
+ghost use Rattle.giop_words.specs.Timeout.{IsTimeout};
 
 use crate::words::limit::with_limits;
 use crate::words::number::{number_option, short_number_of};
@@ -89,8 +90,7 @@ pub(crate) fn telling_of(matches: &ArgMatches) -> Telling {
 /// For how many seconds nothing may come or go, where that is bounded; or what is wrong with the
 /// word.
 pub fn timeout_of(matches: &ArgMatches) -> Result<Option<u32>, &'static str>
-    ensures { IfOk result (λ timeout. IfSome timeout (λ seconds.
-        (1 ≤ seconds) × (seconds ≤ 86400))) }
+    ensures { IfOk result IsTimeout }
 {
     if matches.get_str("timeout").is_none() {
         return Ok(None);

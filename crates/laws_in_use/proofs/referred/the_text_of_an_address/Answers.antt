@@ -57,6 +57,8 @@ another : corbaloc_of (codes "corbaloc:http://h") ≡ Err (record { at = 9; kind
 unfolding corbaloc_of address_at key_at
 another = refl
 
+pub returns-clause-first : goal.returns-clause-first
+returns-clause-first c = c.faults_are_the_first.ensures (codes "corbaloc:http://h") _ another
+
 pub returns-clause-fault : goal.returns-clause-fault
-returns-clause-fault c = λ other says.
-    (c.faults_are_the_first.ensures (codes "corbaloc:http://h") _ another).after (codes "corbaloc:http://h") refl other says
+returns-clause-fault c = c.faulty_texts_are_no_corbalocs.ensures (codes "corbaloc:http://h") _ (returns-clause-first c)

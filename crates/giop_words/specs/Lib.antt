@@ -1,0 +1,4 @@
+pub mod Inputs
+pub mod Key
+pub mod Task
+pub mod Timeout
