@@ -1,6 +1,7 @@
 //! A connection to where an object is reached.
 
 pub mod door;
+pub mod endings;
 pub mod forwards;
 pub mod link;
 pub mod target;

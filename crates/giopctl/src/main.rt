@@ -4,11 +4,9 @@
 
 mod commands;
 mod connection;
-mod files;
-mod places;
-mod report;
 
-use commands::{call, check, convert, dump, locate, ping, serve, trace};
+use commands::{call, check, locate, ping, serve};
+use giop_files::{convert, dump, report, trace};
 use giop_show::status::Status;
 use giop_words::{Task, task_of};
 use std::process::ExitCode;

@@ -10,15 +10,15 @@ mod places;
 use crate::commands::call::asked::{Asked, asked_in, calls_given};
 use crate::commands::call::following::call_and_follow;
 use crate::commands::call::lines::call_lines;
-use crate::connection::connect;
 use crate::connection::target::{endpoint_of, peer_of, target_text};
-use crate::files::OUTPUT_BUFFER;
-use crate::files::interfaces::{NOTHING, Offered, interface_of_each, own_of, read_each};
-use crate::report;
+use crate::connection::{connect, endings};
 use giop_commands::call::calls::CallLine;
 use giop_commands::call::streaming::call_stream;
 use giop_commands::session::given::Pipes;
 use giop_commands::{Calling, Ending, Endpoint, call_over};
+use giop_files::files::OUTPUT_BUFFER;
+use giop_files::files::interfaces::{NOTHING, Offered, interface_of_each, own_of, read_each};
+use giop_files::report;
 use giop_show::failure::Failure;
 use giop_show::status::Status;
 use giop_types::Interface;
@@ -72,7 +72,7 @@ fn try_call(rt: &HostRuntime, words: CallWords) -> Result<Status, Status> {
         &words,
         calling_of(&words, &interface, &endpoint),
     );
-    Ok(report::call_status(rt, peer.as_str(), words.timeout, answered))
+    Ok(endings::call_status(rt, peer.as_str(), words.timeout, answered))
 }
 
 // What the object of a key offers, and the text of that.

@@ -1,11 +1,11 @@
 //! `check` over files and the standard output. What it prints is giop_commands' check.rt, over any
 //! reader and writer.
 
-use crate::files::OUTPUT_BUFFER;
-use crate::files::interfaces::{By, Joined, join_offers, read_each};
-use crate::report::texts;
-use crate::{files, report};
 use giop_commands::{Checking, check_stream, check_text};
+use giop_files::files::OUTPUT_BUFFER;
+use giop_files::files::interfaces::{By, Joined, join_offers, read_each};
+use giop_files::report::texts;
+use giop_files::{files, report};
 use giop_show::BehindFault;
 use giop_show::failure::Failure;
 use giop_show::status::Status;

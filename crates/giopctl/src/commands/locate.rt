@@ -5,14 +5,13 @@ mod following;
 
 use crate::commands::locate::following::locate_and_follow;
 use crate::commands::object::{calling_at, object_interface};
-use crate::connection::connect;
 use crate::connection::target::{endpoint_of, peer_of, target_text};
-use crate::files::OUTPUT_BUFFER;
-use crate::report;
+use crate::connection::{connect, endings};
 use giop_commands::call::locating::locate_over;
 use giop_commands::session::given::Pipes;
 use giop_commands::{Ending, Endpoint};
 use giop_end::Limits;
+use giop_files::files::OUTPUT_BUFFER;
 use giop_show::failure::Failure;
 use giop_show::status::Status;
 use giop_words::ObjectWords;
@@ -39,7 +38,7 @@ fn locate_once(rt: &HostRuntime, words: ObjectWords) -> Result<Status, Status> {
     let endpoint = endpoint_of(rt, words.lines, words.target, text.as_slice())?;
     let peer = peer_of(rt, words.target, &endpoint)?;
     let ended = ask(rt, &endpoint, words);
-    Ok(report::call_status(rt, peer.as_str(), words.timeout, ended))
+    Ok(endings::call_status(rt, peer.as_str(), words.timeout, ended))
 }
 
 // Asks over a connection, and writes what came of it.

@@ -3,14 +3,13 @@
 //! that took.
 
 use crate::commands::object::{NON_EXISTENT, calling_at, object_interface};
-use crate::connection::connect;
 use crate::connection::target::{endpoint_of, peer_of, target_text};
-use crate::files::OUTPUT_BUFFER;
-use crate::report;
+use crate::connection::{connect, endings};
 use giop_commands::call::words::call_from_words;
 use giop_commands::session::given::Pipes;
 use giop_commands::{Ending, Endpoint, call_over};
 use giop_end::Limits;
+use giop_files::files::OUTPUT_BUFFER;
 use giop_show::failure::Failure;
 use giop_show::status::Status;
 use giop_words::ObjectWords;
@@ -38,7 +37,7 @@ fn try_ping(rt: &HostRuntime, words: ObjectWords) -> Result<Status, Status> {
             let _ = eprintln!(rt; "giopctl: {}: took {} us", peer.as_str(), time.as_micros());
         }
     }
-    Ok(report::call_status(rt, peer.as_str(), words.timeout, ended))
+    Ok(endings::call_status(rt, peer.as_str(), words.timeout, ended))
 }
 
 // Asks over a connection, and writes what came of it.

@@ -9,15 +9,16 @@ mod places;
 use crate::commands::serve::listening::{HERE, listen};
 use crate::commands::serve::objects::{Asked, objects_of, read_answers};
 use crate::connection::door::Door;
+use crate::connection::endings;
 use crate::connection::link::Link;
-use crate::files::OUTPUT_BUFFER;
-use crate::files::interfaces::{interface_of_each, read_each};
-use crate::report;
 use giop_commands::serve::given::ServedObject;
 use giop_commands::serve::in_turn::Passed;
 use giop_commands::serve::streaming::stream_over;
 use giop_commands::session::given::Pipes;
 use giop_commands::{Ending, Serving, serve_over};
+use giop_files::files::OUTPUT_BUFFER;
+use giop_files::files::interfaces::{interface_of_each, read_each};
+use giop_files::report;
 use giop_show::failure::Failure;
 use giop_show::status::Status;
 use giop_words::{KeyWord, ServeWords, Telling};
@@ -116,8 +117,8 @@ fn serve_next(
     let _ = eprintln!(rt; "giopctl: connection {number} from {peer}");
     let answered = serve_stream(rt, door, stream, number, words, serving, passed);
     match format!(in rt.alloc(); "connection {number}") {
-        Ok(name) => report::serve_status(rt, name.as_str(), answered),
-        Err(_) => report::serve_status(rt, HERE, answered),
+        Ok(name) => endings::serve_status(rt, name.as_str(), answered),
+        Err(_) => endings::serve_status(rt, HERE, answered),
     }
 }
 

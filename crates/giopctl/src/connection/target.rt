@@ -1,9 +1,9 @@
 //! The target of a command: the object that is called, and where it is reached.
 
-use crate::files::read_or_report;
-use crate::report;
-use crate::report::refusals::refuse;
 use giop_commands::{Endpoint, Targeted, target_of};
+use giop_files::files::read_or_report;
+use giop_files::report;
+use giop_files::report::refusals::refuse;
 use giop_lines::EscapedText;
 use giop_show::LineForm;
 use giop_show::convert::unended;

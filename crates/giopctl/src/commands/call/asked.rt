@@ -2,12 +2,12 @@
 
 use crate::commands::call::Object;
 use crate::commands::call::places::{each_json, of_calls, of_words};
-use crate::files::FileFront;
-use crate::files::interfaces::Offered;
-use crate::report::refusals::{refuse_form, refuse_words};
-use crate::{files, report};
 use giop_commands::call::calls::{CallLine, calls_from_json};
 use giop_commands::call::words::call_from_words;
+use giop_files::files::FileFront;
+use giop_files::files::interfaces::Offered;
+use giop_files::report::refusals::{refuse_form, refuse_words};
+use giop_files::{files, report};
 use giop_show::failure::Failure;
 use giop_show::status::Status;
 use giop_types::{FormFault, Interface};

@@ -4,11 +4,9 @@ ghost use Rattle.std.specs.Prelude.{◌≡◌};
 
 use crate::commands::call::asked::{Given, calls_given};
 use crate::commands::call::{Object, calling_of};
-use crate::connection::connect;
 use crate::connection::forwards::{MOST_FORWARDS, place_text};
 use crate::connection::target::peer_of;
-use crate::files::OUTPUT_BUFFER;
-use crate::report;
+use crate::connection::{connect, endings};
 use giop_commands::Endpoint;
 use giop_commands::call::calls::CallLine;
 use giop_commands::call::following::{Forward, call_at, calls_of, forwards_of, tell_followed};
@@ -16,6 +14,8 @@ use giop_commands::session::ending::ending_of;
 use giop_commands::session::given::Showing;
 use giop_commands::session::told;
 use giop_end::{ClientEnd, SessionFault};
+use giop_files::files::OUTPUT_BUFFER;
+use giop_files::report;
 use giop_show::failure::Failure;
 use giop_show::status::Status;
 use giop_types::Interface;
@@ -188,7 +188,7 @@ fn print_open_calls(
         Ok(ending) => Ok(ending),
         Err(_) => Err(Failure::Memory),
     };
-    match report::call_status(rt, peer, words.timeout, ended) {
+    match endings::call_status(rt, peer, words.timeout, ended) {
         Status::Done => Ok(()),
         status => Err(status),
     }
@@ -233,7 +233,7 @@ fn tell_calls(
     let Sessions { ends, failed, .. } = sessions;
     drop(ends);
     match failed {
-        Some((peer, failure)) => report::call_status(
+        Some((peer, failure)) => endings::call_status(
             rt,
             peer.as_str(),
             words.timeout,

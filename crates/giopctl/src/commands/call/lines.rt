@@ -2,16 +2,16 @@
 
 use crate::commands::call::places::of_call;
 use crate::commands::call::{Object, calling_of};
-use crate::connection::connect;
 use crate::connection::target::peer_of;
-use crate::files::{FileFront, OUTPUT_BUFFER};
-use crate::report;
-use crate::report::refusals::refuse_form;
+use crate::connection::{connect, endings};
 use giop_commands::call::feed::LineFeed;
 use giop_commands::call::lines::CallLines;
 use giop_commands::call::streaming::feeding::call_fed;
 use giop_commands::session::given::Pipes;
 use giop_commands::{Calling, Ending, Endpoint};
+use giop_files::files::{FileFront, OUTPUT_BUFFER};
+use giop_files::report;
+use giop_files::report::refusals::refuse_form;
 use giop_show::failure::Failure;
 use giop_show::status::Status;
 use giop_types::FormFault;
@@ -39,7 +39,7 @@ pub(super) fn call_lines(
         Err(Failure::Input(error)) => {
             report::status_of(rt, words.file, Err(Failure::Input(error)))
         }
-        answered => report::call_status(rt, peer.as_str(), words.timeout, answered),
+        answered => endings::call_status(rt, peer.as_str(), words.timeout, answered),
     };
     match feed.lines.refused {
         Some(fault) => Ok(refuse_line(rt, words, object.text, &feed.lines, fault, status)),

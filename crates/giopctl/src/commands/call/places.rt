@@ -1,8 +1,8 @@
 //! Where refused calls are at fault: the first call that alone is refused with the fault of the
 //! file, and in it the first part that is.
 
-use crate::places::parts::{arguments_place, key, leaf_place, whole};
 use giop_commands::call::calls::calls_from_json;
+use giop_files::places::parts::{arguments_place, key, leaf_place, whole};
 use giop_types::{FormFault, Interface, parse_json};
 use giop_where::{NoPlace, Place, Role, Step, fault_code};
 use serde_json::{Value as Json, json};

@@ -4,17 +4,17 @@ ghost use Rattle.std.specs.Prelude.{◌≡◌};
 ghost use Rattle.giop_commands.specs.Check.{AreLimits};
 
 use crate::commands::object::{calling_at, object_interface};
-use crate::connection::connect;
 use crate::connection::forwards::{MOST_FORWARDS, place_text};
 use crate::connection::target::{endpoint_of, peer_of, target_text};
-use crate::files::OUTPUT_BUFFER;
-use crate::report;
+use crate::connection::{connect, endings};
 use giop_commands::call::locate_following::{locate_at, located_place};
 use giop_commands::call::locating::tell_located;
 use giop_commands::session::given::Showing;
 use giop_commands::session::write_session;
 use giop_commands::{Ending, Endpoint};
 use giop_end::{ClientEnd, Limits, SessionFault};
+use giop_files::files::OUTPUT_BUFFER;
+use giop_files::report;
 use giop_show::failure::Failure;
 use giop_show::status::Status;
 use giop_types::Interface;
@@ -71,7 +71,7 @@ fn session_at(
         Ok(refused) => refused,
         Err(failure) => {
             let failed = tell_failure(rt, words, interface, &end, failure);
-            return Ok(Outcome::Told(report::call_status(
+            return Ok(Outcome::Told(endings::call_status(
                 rt,
                 peer.as_str(),
                 words.timeout,
@@ -90,7 +90,7 @@ fn session_at(
         Err(failure) => return Err(report::status_of(rt, words.target, Err(failure))),
     }
     let told = tell_answer(rt, words, interface, &end, refused);
-    Ok(Outcome::Told(report::call_status(rt, peer.as_str(), words.timeout, told)))
+    Ok(Outcome::Told(endings::call_status(rt, peer.as_str(), words.timeout, told)))
 }
 
 fn ask_at(

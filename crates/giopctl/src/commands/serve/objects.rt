@@ -3,15 +3,15 @@
 
 use crate::commands::serve::object_operations::{Texts, texts_of};
 use crate::commands::serve::places::{WIDE, of_answers};
-use crate::files::interface_text::InterfaceText;
-use crate::files::interfaces::{NOTHING, Offered, own_of};
-use crate::files::read_or_report;
-use crate::report;
-use crate::report::refusals::{refuse_form, refuse_unsent};
-use crate::report::texts;
 use giop_commands::serve::answers::{Answers, answers_from_json};
 use giop_commands::serve::given::Sending;
 use giop_end::Limits;
+use giop_files::files::interface_text::InterfaceText;
+use giop_files::files::interfaces::{NOTHING, Offered, own_of};
+use giop_files::files::read_or_report;
+use giop_files::report;
+use giop_files::report::refusals::{refuse_form, refuse_unsent};
+use giop_files::report::texts;
 use giop_names::interface_id;
 use giop_show::failure::Failure;
 use giop_show::status::{Limit, Status};

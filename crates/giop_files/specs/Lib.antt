@@ -1,0 +1,3 @@
+pub mod InterfaceText
+pub mod Places
+pub mod Report

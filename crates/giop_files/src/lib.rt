@@ -1,0 +1,11 @@
+//! What giopctl does over files: its commands that hold no connection, `dump`, `trace` and
+//! `convert`, and what the others have in common with them: files that are read, where a refused
+//! one is at fault, and what standard error says.
+#![tactic(auto)]
+
+pub mod convert;
+pub mod dump;
+pub mod files;
+pub mod places;
+pub mod report;
+pub mod trace;
