@@ -9,7 +9,7 @@ use crate::connection::connect;
 use crate::connection::target::{endpoint_of, peer_of, target_text};
 use crate::files::OUTPUT_BUFFER;
 use crate::report;
-use giop_commands::call::locating::locate_over;
+use giop_calling::call::locating::locate_over;
 use giop_commands::session::given::Pipes;
 use giop_commands::{Ending, Endpoint};
 use giop_end::Limits;

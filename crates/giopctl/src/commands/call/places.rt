@@ -2,7 +2,7 @@
 //! file, and in it the first part that is.
 
 use crate::places::parts::{arguments_place, key, leaf_place, whole};
-use giop_commands::call::calls::calls_from_json;
+use giop_calling::call::calls::calls_from_json;
 use giop_types::{FormFault, Interface, parse_json};
 use giop_where::{NoPlace, Place, Role, Step, fault_code};
 use serde_json::{Value as Json, json};
