@@ -1,4 +1,2 @@
 pub mod CheckLemmas
-pub mod OnCall
-pub mod OnServe
 pub mod OnSession

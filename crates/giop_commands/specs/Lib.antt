@@ -1,4 +1,2 @@
 pub mod Check
-pub mod Call
-pub mod Serve
 pub mod Session

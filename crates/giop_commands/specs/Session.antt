@@ -5,8 +5,12 @@ pub mod Endings
 pub mod EntryBodies
 pub mod FaultJson
 pub mod FaultLines
+pub mod Forms
 pub mod Printed
+pub mod Shown
 pub mod Steps
+pub mod StreamLines
+pub mod Streaming
 pub mod Table
 pub mod Target
 pub mod Traffic

@@ -23,6 +23,7 @@ pub mod fault_line;
 pub mod given;
 pub mod json;
 pub mod sending;
+pub mod shown;
 pub mod streaming;
 pub mod table;
 pub mod target;

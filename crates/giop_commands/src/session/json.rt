@@ -1,11 +1,11 @@
 //! Parts of the JSON of calls and answers (docs/FORMATS.md, "Calls and answers"). Their forms are
-//! specs/Call/Forms.antt: change both.
+//! specs/Session/Forms.antt: change both.
 ghost use Rattle.std.specs.Prelude.{◌≡◌, ◌++◌, ◌∷◌, [], option_map, IfOk};
 ghost use Rattle.serde_json.specs.View.{view, items_view};
 ghost use Rattle.giop_types.specs.Descriptions.CheckedShape.{checked_shape};
 ghost use Rattle.giop_types.specs.JsonForms.FromJson.{Shows, is_object_of};
 ghost use Rattle.giop_types.specs.Values.Views.{value_view};
-ghost use Rattle.giop_commands.specs.Call.Forms.{each_value, made_of, number_in, octets_in, value_in, values_in};
+ghost use Rattle.giop_commands.specs.Session.Forms.{each_value, made_of, number_in, octets_in, value_in, values_in};
 
 use giop_cdr::OctetList;
 use giop_types::{CheckedDesc, Desc, FormFault, Parameter, Value, ValueList, value_from_json};

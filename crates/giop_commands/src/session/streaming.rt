@@ -1,12 +1,15 @@
 //! The calls of an end that are over: each is told and taken out. Its meaning is
-//! specs/Serve/Streaming.antt: change both.
+//! specs/Session/Streaming.antt: change both.
 ghost use Rattle.std.specs.Prelude.{◌≡◌, None, IsErrOf, OnErr, OnOk};
 ghost use Rattle.std.specs.FinMap as finite;
 ghost use Rattle.std.specs.List.{IsDistinct};
 ghost use Rattle.std.specs.Ordering.{eq_by_cmp, nat_cmp};
 ghost use Rattle.std.specs.Io.KnownBytes.{Appends, Keeps};
-ghost use Rattle.giop_commands.specs.Serve.Streaming.{OutInPart, SomeTold, over_lines, ended_at, over_at, over_text, without_ended, without_over};
+ghost use Rattle.giop_commands.specs.Session.Streaming.{OutInPart, SomeTold, over_lines, ended_at, over_at, over_text, without_ended, without_over};
 ghost use Rattle.giop_commands.specs.Session.Table.{table_text, text_at};
+
+pub mod client;
+pub mod server;
 
 use crate::session::given::Showing;
 use crate::session::table::Tabled;

@@ -4,6 +4,9 @@ ghost use Rattle.std.specs.Prelude.{◌≡◌, OnOk};
 ghost use Rattle.std.specs.Io.KnownBytes.{Appends};
 ghost use Rattle.giop_commands.specs.Session.Table.{table_text};
 
+pub mod client;
+pub mod server;
+
 use giop_end::{End, Hearing};
 use giop_mux::CallRule;
 use giop_show::failure::Failure;

@@ -7,7 +7,7 @@ use crate::commands::locate::following::locate_and_follow;
 use crate::commands::object::{calling_at, object_interface};
 use crate::connection::target::{endpoint_of, peer_of, target_text};
 use crate::connection::{connect, endings};
-use giop_commands::call::locating::locate_over;
+use giop_calling::call::locating::locate_over;
 use giop_commands::session::given::Pipes;
 use giop_commands::{Ending, Endpoint};
 use giop_end::Limits;

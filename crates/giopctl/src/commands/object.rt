@@ -2,8 +2,9 @@
 ghost use Rattle.std.specs.Prelude.{◌≡◌};
 ghost use Rattle.giop_commands.specs.Check.{AreLimits};
 
+use giop_calling::Calling;
 use giop_cdr::Order;
-use giop_commands::{Calling, Endpoint};
+use giop_commands::Endpoint;
 use giop_end::{Form, Limits};
 use giop_show::failure::Failure;
 use giop_types::Interface;

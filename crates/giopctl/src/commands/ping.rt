@@ -5,9 +5,10 @@
 use crate::commands::object::{NON_EXISTENT, calling_at, object_interface};
 use crate::connection::target::{endpoint_of, peer_of, target_text};
 use crate::connection::{connect, endings};
-use giop_commands::call::words::call_from_words;
+use giop_calling::call::words::call_from_words;
+use giop_calling::call_over;
 use giop_commands::session::given::Pipes;
-use giop_commands::{Ending, Endpoint, call_over};
+use giop_commands::{Ending, Endpoint};
 use giop_end::Limits;
 use giop_files::files::OUTPUT_BUFFER;
 use giop_show::failure::Failure;

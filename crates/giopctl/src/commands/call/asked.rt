@@ -2,8 +2,8 @@
 
 use crate::commands::call::Object;
 use crate::commands::call::places::{each_json, of_calls, of_words};
-use giop_commands::call::calls::{CallLine, calls_from_json};
-use giop_commands::call::words::call_from_words;
+use giop_calling::call::calls::{CallLine, calls_from_json};
+use giop_calling::call::words::call_from_words;
 use giop_files::files::FileFront;
 use giop_files::files::interfaces::Offered;
 use giop_files::report::refusals::{refuse_form, refuse_words};

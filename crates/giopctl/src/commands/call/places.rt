@@ -1,7 +1,7 @@
 //! Where refused calls are at fault: the first call that alone is refused with the fault of the
 //! file, and in it the first part that is.
 
-use giop_commands::call::calls::calls_from_json;
+use giop_calling::call::calls::calls_from_json;
 use giop_files::places::parts::{arguments_place, key, leaf_place, whole};
 use giop_types::{FormFault, Interface, parse_json};
 use giop_where::{NoPlace, Place, Role, Step, fault_code};

@@ -1,7 +1,7 @@
 //! The port at which `serve` listens, and the file of the reference of its object.
 
-use giop_commands::serve::reference::reference_text;
 use giop_files::report;
+use giop_serving::serve::reference::reference_text;
 use giop_show::failure::Failure;
 use giop_show::status::Status;
 use giop_words::ServeWords;

@@ -3,8 +3,6 @@
 
 use crate::commands::serve::object_operations::{Texts, texts_of};
 use crate::commands::serve::places::{WIDE, of_answers};
-use giop_commands::serve::answers::{Answers, answers_from_json};
-use giop_commands::serve::given::Sending;
 use giop_end::Limits;
 use giop_files::files::interface_text::InterfaceText;
 use giop_files::files::interfaces::{NOTHING, Offered, own_of};
@@ -13,6 +11,8 @@ use giop_files::report;
 use giop_files::report::refusals::{refuse_form, refuse_unsent};
 use giop_files::report::texts;
 use giop_names::interface_id;
+use giop_serving::serve::answers::{Answers, answers_from_json};
+use giop_serving::serve::given::Sending;
 use giop_show::failure::Failure;
 use giop_show::status::{Limit, Status};
 use giop_types::{FormFault, Interface};

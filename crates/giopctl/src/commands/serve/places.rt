@@ -1,10 +1,10 @@
 //! Where refused answers are at fault: the first answer that alone is refused with the fault of the
 //! file, and in it the first part that is.
 
-use giop_commands::serve::answers::answers_from_json;
-use giop_commands::serve::given::Sending;
 use giop_end::Limits;
 use giop_files::places::parts::{arguments_place, key, leaf_place, whole};
+use giop_serving::serve::answers::answers_from_json;
+use giop_serving::serve::given::Sending;
 use giop_types::{FormFault, Interface, parse_json};
 use giop_where::{NoPlace, Part, Place, Role, Step, fault_code};
 use serde_json::{Value as Json, json};

@@ -1,6 +1,6 @@
 use Rattle.std.proofs.Common.{rules, not}
 use Rattle.std.proofs.lemmas.Fn.{filter_same}
-use Rattle.giop_commands.specs.Serve.Streaming.{ended_at}
+use Rattle.giop_commands.specs.Session.Streaming.{ended_at}
 use Rattle.giop_commands.proofs.session.ending.open_ids.Goals as goal
 
 pub returns : goal.returns

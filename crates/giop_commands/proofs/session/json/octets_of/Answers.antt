@@ -1,5 +1,5 @@
 use Rattle.std.proofs.Common.{sym, ◌∙◌}
-use Rattle.giop_commands.proofs.OnCall.FormLemmas.{string_sound}
+use Rattle.giop_commands.proofs.OnSession.FormLemmas.{string_sound}
 use Rattle.giop_commands.proofs.session.json.octets_of.Goals as goal
 
 pub returns-in_default : goal.returns-in_default

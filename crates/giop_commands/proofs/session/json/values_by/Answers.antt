@@ -1,6 +1,6 @@
 use Rattle.std.proofs.Common.{◌≡◌, ◌≢◌, arith, length, map, min, option_map}
 use Rattle.giop_types.specs.Values.Views.{value_view}
-use Rattle.giop_commands.proofs.OnServe.FitLemmas.{values_unmatched}
+use Rattle.giop_commands.proofs.OnSession.PartLemmas.{values_unmatched}
 use Rattle.giop_commands.proofs.session.json.values_by.Goals as goal
 
 pub returns-then-list-parameters : goal.returns-then-list-parameters

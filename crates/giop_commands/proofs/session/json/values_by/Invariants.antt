@@ -1,8 +1,8 @@
 use Rattle.std.proofs.Common.{◌≡◌, map, drop, option_map}
 use Rattle.serde_json.specs.View.{items_view}
 use Rattle.giop_types.specs.Values.Views.{value_view}
-use Rattle.giop_commands.specs.Call.Forms.{each_value}
-use Rattle.giop_commands.proofs.OnServe.FitLemmas.{made_before}
+use Rattle.giop_commands.specs.Session.Forms.{each_value}
+use Rattle.giop_commands.proofs.OnSession.PartLemmas.{made_before}
 use Rattle.giop_commands.proofs.session.json.values_by.Given as goal
 
 -- what was read so far, and what is still to be read

@@ -1,7 +1,0 @@
--- What `call` and `locate` rest on.
-pub mod FeedingLemmas
-pub mod FollowingLemmas
-pub mod FormLemmas
-pub mod LocateFollowingLemmas
-pub mod LocatingLemmas
-pub mod StreamingLemmas

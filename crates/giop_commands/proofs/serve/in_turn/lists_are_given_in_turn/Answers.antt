@@ -1,5 +1,0 @@
-use Rattle.giop_commands.proofs.OnServe.InTurnLemmas.{in_turn, objects_apart}
-use Rattle.giop_commands.proofs.serve.in_turn.lists_are_given_in_turn.Goals as goal
-
-pub returns : goal.returns
-returns c = record { turn = in_turn; apart = objects_apart }

@@ -1,9 +1,0 @@
--- What `call`, `locate` and `ping` do, and what stands in their files.
-pub mod Calling
-pub mod Feeding
-pub mod Following
-pub mod Forms
-pub mod Lines
-pub mod LocateFollowing
-pub mod Locating
-pub mod Streaming
