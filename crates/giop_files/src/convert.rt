@@ -17,7 +17,8 @@ use std::io;
 use std::io::{BufWriter, Write};
 
 /// Reads the file, then that of the description where the kind has one, and writes what becomes of
-/// it. Where a text is refused, it says which file is at fault, and where.
+/// it. Where a text is refused, it says which file is at fault, and where. Returns the status that
+/// the program ends with.
 pub fn convert(rt: &HostRuntime, file: &str, kind: ConvertKind) -> Status {
     let octets = match read(rt, file) {
         Ok(octets) => octets,

@@ -12,7 +12,7 @@ use std::io;
 use std::io::{BufWriter, Read, Write};
 
 /// Reads the file of the interface, if there is one, then shows the messages of the other one piece
-/// by piece.
+/// by piece. Returns the status that the program ends with.
 pub fn dump(rt: &HostRuntime, words: DumpWords) -> Status {
     let Some(interface) = words.interface else {
         return report::status_of(rt, words.file, dump_file(rt, None, words));

@@ -18,7 +18,8 @@ use std::{fs, io};
 /// The size of the buffer that output is written through, in octets.
 pub const OUTPUT_BUFFER: usize = 65_536;
 
-/// The octets of a file, or of the standard input where it is `-`.
+/// The octets of a file, or of the standard input where it is `-`. It fails with Input or Memory
+/// where that can't be read, and reports nothing.
 pub fn read(rt: &HostRuntime, file: &str) -> Result<Vec<u8>, Failure> {
     if file != "-" {
         return fs::read(rt, file).map_err(Failure::input);
@@ -30,7 +31,8 @@ pub fn read(rt: &HostRuntime, file: &str) -> Result<Vec<u8>, Failure> {
     }
 }
 
-/// The octets of a file, or the status where it can't be read, which is reported.
+/// The octets of a file as `read` gives them, or the status where it can't be read, which is
+/// reported.
 #[tactic(auto, using(crate::proofs::ReportLemmas::failed_status))]
 pub fn read_or_report(rt: &HostRuntime, file: &str) -> Result<Vec<u8>, Status>
     ensures { IfErr result IsFailed }
@@ -46,8 +48,8 @@ pub(crate) fn read_interface(rt: &HostRuntime, file: &str) -> Result<InterfaceTe
     InterfaceText::new(rt.alloc(), read(rt, file)?)
 }
 
-/// A file to be read piece by piece. A regular one is read to its end even behind a fault; a pipe
-/// or a device may have no end.
+/// A file to be read piece by piece, and whether the rest of it is read behind a fault: a regular one
+/// is, but a pipe or a device may have no end. It fails with Input or Memory where it can't be opened.
 pub fn open_in_pieces(rt: &HostRuntime, file: &str) -> Result<(fs::File, BehindFault), Failure> {
     match open(rt, file) {
         Ok(opened) => Ok(opened),
@@ -100,7 +102,7 @@ impl FileFront {
         self.front.iter().find(|octet| !is_white(**octet)) == Some(&b'[')
     }
 
-    /// All of its octets.
+    /// All of its octets, those that are read before first. It fails with Input or Memory.
     pub fn whole(mut self) -> Result<Vec<u8>, Failure> {
         match self.rest.read_to_end(&mut self.front) {
             Ok(_) => Ok(self.front),
@@ -109,7 +111,8 @@ impl FileFront {
     }
 }
 
-/// A file, or the standard input where it is `-`, read up to an octet that is no white space.
+/// A file, or the standard input where it is `-`, read up to an octet that is no white space. It
+/// fails with Input or Memory.
 pub fn front_of(rt: &HostRuntime, file: &str) -> Result<FileFront, Failure> {
     if file == "-" {
         return front_at(rt.alloc(), Pieces::Input(rt.reader()), true);

@@ -16,7 +16,7 @@ use std::io::{BufWriter, Read, Write};
 const EITHER: &str = "CLIENT or SERVER";
 
 /// Reads the files of interfaces, then traces the others piece by piece. A file that can't be
-/// opened is named; nothing is written then.
+/// opened is named; nothing is written then. Returns the status that the program ends with.
 pub fn trace(rt: &HostRuntime, words: &TraceWords<'_>) -> Status {
     let offered = match read_each(rt, words.interfaces.as_slice()) {
         Ok(offered) => offered,

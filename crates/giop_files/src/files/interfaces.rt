@@ -72,7 +72,8 @@ pub fn read_each<'a>(
 }
 
 /// What these files offer: each object that has one what its own says, and all others what the one
-/// without a key does; nothing where there is none.
+/// without a key does; nothing where there is none. Where one is no interface, that is the first of
+/// them.
 pub fn join_offers<'b, 'a>(
     alloc: Global,
     offered: &'b [Offered<'a>],
