@@ -1,5 +1,5 @@
 -- Calls that come as lines.
-use Rattle.std.proofs.Common.{◌≡◌, ℕ, ◌<◌, ◌&&◌, Bool, true, List, Option, Some, None, Result, Ok, Err, IfOk, OnOk, refl, sym, subst, inl}
+use Rattle.std.proofs.Common.{◌≡◌, ℕ, ◌<◌, ◌&&◌, Bool, true, List, Option, Result, Ok, Err, IfOk, OnOk, refl, sym, subst}
 use Rattle.std.specs.Io.KnownBytes.{Appends}
 use Rattle.giop_calls.specs.ClientTable.{is_closed}
 use Rattle.giop_msg.specs.Stream.{Unread}

@@ -1,6 +1,6 @@
 -- What the program of `locate` does at its end: it asks where the object of a key is, and waits for
 -- the answer (CORBA 3.3 Part 2, 9.4.5, 9.4.6).
-use Rattle.std.specs.Prelude.{◌≡◌, ℕ, ◌==◌, if◌then◌else◌, Bool, true, false, List, [], Option, Some, None}
+use Rattle.std.specs.Prelude.{◌≡◌, ℕ, ◌==◌, if◌then◌else◌, Bool, false, List, [], Option, Some, None}
 use Rattle.std.specs.FinMap as finite
 use Rattle.std.specs.Io.KnownBytes.{Appends}
 use Rattle.giop_ids.specs.ById.{ById}

@@ -1,6 +1,6 @@
 -- What `call --stream` does at its end: calls are made as there is room for them, and after each
 -- turn those that are over are told and taken out (CORBA 3.3 Part 2, 9.4.2).
-use Rattle.std.specs.Prelude.{◌≡◌, ◌⊎◌, ℕ, nat_lt, ◌<◌, ◌==◌, ◌&&◌, Bool, true, false, List, [], ◌∷◌, ◌++◌, length, Option, Some, None, Result, Ok, if◌then◌else◌}
+use Rattle.std.specs.Prelude.{◌≡◌, ◌⊎◌, ℕ, nat_lt, ◌<◌, ◌==◌, ◌&&◌, Bool, true, false, List, [], ◌∷◌, ◌++◌, length, Option, Some, None, Ok, if◌then◌else◌}
 use Rattle.std.specs.FinMap as finite
 use Rattle.std.specs.List.{flat_map, list_all}
 use Rattle.std.specs.Io.KnownBytes.{Appends}
@@ -22,7 +22,6 @@ use Rattle.giop_calling.specs.declared.call.calls.CallLine.{CallLine}
 use Rattle.giop_calling.specs.declared.call.given.Calling.{Calling}
 use Rattle.giop_commands.specs.declared.session.SessionTurn.{SessionTurn}
 use Rattle.giop_commands.specs.declared.session.SessionTurn.TheVariants.{Ends, GoesOn as goes_on}
-use Rattle.giop_show.specs.declared.failure.Failure.{Failure}
 use Rattle.giop_show.specs.declared.form.LineForm.{LineForm}
 use Rattle.giop_show.specs.declared.status.Status.{Status}
 use Rattle.giop_show.specs.declared.status.Status.TheVariants.{Done}

@@ -1,5 +1,5 @@
 -- What is read ahead is kept, and what is written is appended, from one try to the next.
-use Rattle.std.proofs.Common.{◌≡◌, ℕ, List, Option, Some, None, Result, Ok, Err, refl, sym, ap, ◌∙◌, ◌++◌, subst}
+use Rattle.std.proofs.Common.{◌≡◌, ℕ, List, Option, Some, None, Result, Ok, Err, refl, ◌∙◌, ◌++◌, subst}
 use Rattle.std.specs.Io.KnownBytes.{Appends, Keeps, WriteAppends}
 
 -- known octets are themselves

@@ -1,5 +1,5 @@
 -- What `serve` answers to what is stored for an id.
-use Rattle.std.specs.Prelude.{◌≡◌, ℕ, pos, ◌==◌, Bool, true, false, List, [], Option, Some, None, is_some, if◌then◌else◌, codes}
+use Rattle.std.specs.Prelude.{ℕ, pos, ◌==◌, Bool, true, false, List, [], Option, Some, None, is_some, if◌then◌else◌, codes}
 use Rattle.giop_types.specs.declared.json.interface.Interface.{Interface}
 use Rattle.giop_types.specs.declared.json.offer.Offer.{Offer}
 use Rattle.giop_types.specs.Values.Tree.{Tree}
@@ -7,7 +7,6 @@ use Rattle.giop_msg.specs.declared.messages.completion.Completion.TheVariants.{N
 use Rattle.giop_msg.specs.declared.messages.reply.Reply.{Reply as AnyReply}
 use Rattle.giop_msg.specs.declared.messages.reply_body.ReplyBody.{ReplyBody}
 use Rattle.giop_msg.specs.declared.messages.reply_body.ReplyBody.TheVariants.{NoException, UserException, SystemException, Forward, ForwardPerm, NeedsAddressing}
-use Rattle.giop_msg.specs.declared.messages.request.Request.{Request}
 use Rattle.giop_msg.specs.declared.messages.request_fault.RequestFault.{RequestFault}
 use Rattle.giop_msg.specs.declared.messages.request_fault.RequestFault.TheVariants.{Header, Operation, Body}
 use Rattle.giop_msg.specs.declared.target.Target.TheVariants.{Key, Profile, Reference}
@@ -18,7 +17,6 @@ use Rattle.giop_calls.specs.declared.kind.CallKind.{CallKind}
 use Rattle.giop_calls.specs.declared.kind.CallKind.TheVariants as kind
 use Rattle.giop_calls.specs.declared.server.entry.ServerEntry.{ServerEntry}
 use Rattle.giop_calls.specs.declared.server.entry.ServerEntry.TheVariants.{Asked, Undecoded, LocateAsked}
-use Rattle.giop_calls.specs.declared.server.undecoded.UndecodedCall.{UndecodedCall}
 use Rattle.giop_serving.specs.declared.serve.answers.AnswerGiven.{AnswerGiven}
 use Rattle.giop_serving.specs.declared.serve.answers.AnswerGiven.TheVariants as given
 use Rattle.giop_serving.specs.declared.serve.answers.AnswerGiven.TheVariants.{Ok as ok, User, System, IsA}

@@ -1,4 +1,4 @@
-use Rattle.std.proofs.Common.{◌≡◌, true, false, Err, refl, sym, inl, inr, arith}
+use Rattle.std.proofs.Common.{◌≡◌, Err, refl, sym, inl, inr, arith}
 use Rattle.std.proofs.lemmas.Result.{err_from_is_err_and}
 use Rattle.giop_end.specs.Pumping.{between}
 use Rattle.giop_commands.proofs.OnSession.ActLemmas.{turned_on, turned_interface}

@@ -2,7 +2,7 @@ use Rattle.std.proofs.Common.{◌∙◌}
 use Rattle.giop_end.specs.Pumping.{between}
 use Rattle.giop_commands.specs.Session.Acts.{outbox}
 use Rattle.giop_calling.specs.Call.Calling.{asked_of}
-use Rattle.giop_commands.proofs.OnSession.ActLemmas.{acted_on, same_fault, same_interface, same_unread, turned_on}
+use Rattle.giop_commands.proofs.OnSession.ActLemmas.{same_fault, same_interface, same_unread}
 use Rattle.giop_calling.proofs.OnCall.FollowingLemmas.{called_at}
 use Rattle.giop_calling.proofs.call.following.call_at.Goals as goal
 

@@ -1,7 +1,6 @@
-use Rattle.std.proofs.Common.{refl}
 use Rattle.giop_calling.specs.Call.Calling.{asked_of}
 use Rattle.giop_calling.specs.Call.Streaming.{course_of}
-use Rattle.giop_commands.proofs.OnSession.ActLemmas.{turned_interface, turned_limits, turned_on}
+use Rattle.giop_commands.proofs.OnSession.ActLemmas.{turned_on}
 use Rattle.giop_calling.proofs.OnCall.StreamingLemmas.{streamed}
 use Rattle.giop_commands.proofs.OnSession.StepLemmas.{counted_more}
 use Rattle.giop_calling.proofs.call.streaming.stream_calls.Goals as goal

@@ -1,5 +1,5 @@
-use Rattle.std.proofs.Common.{rules, ◌≡◌, ◌∙◌, sym, true}
-use Rattle.giop_calling.specs.Call.Lines.{ReadsOnce, feed, so_far, wants_more}
+use Rattle.std.proofs.Common.{rules, ◌≡◌, ◌∙◌, true}
+use Rattle.giop_calling.specs.Call.Lines.{feed, so_far, wants_more}
 use Rattle.giop_commands.proofs.OnSession.StepLemmas.{counted_more}
 use Rattle.giop_calling.proofs.call.feed.LineFeed.read_on.Goals as goal
 

@@ -1,4 +1,4 @@
-use Rattle.std.proofs.Common.{◌∙◌, [], refl}
+use Rattle.std.proofs.Common.{◌∙◌, []}
 use Rattle.giop_end.specs.Ends.View.{end_between}
 use Rattle.giop_calling.specs.Call.Feeding.{fed_of}
 use Rattle.giop_calling.specs.Call.Lines.{feed_at}

@@ -1,11 +1,10 @@
-use Rattle.std.proofs.Common.{◌≡◌, ◌∙◌, None, Some, List, refl}
-use Rattle.giop_calling.specs.declared.call.calls.CallLine.{CallLine}
+use Rattle.std.proofs.Common.{◌∙◌, None}
 use Rattle.giop_commands.specs.Session.Acts.{outbox}
 use Rattle.giop_calling.specs.Call.Calling.{asked_of}
 use Rattle.giop_calling.specs.Call.Streaming.{MakesOne}
 use Rattle.giop_commands.proofs.OnSession.ActLemmas.{others_on, same_fault, same_interface, same_limits}
 use Rattle.giop_calling.proofs.OnCall.StreamingLemmas.{made_some, made_up_to}
-use Rattle.giop_commands.proofs.OnSession.StepLemmas.{before_none, before_more}
+use Rattle.giop_commands.proofs.OnSession.StepLemmas.{before_more}
 use Rattle.giop_calling.proofs.call.streaming.turns.make_calls.Goals as goal
 
 pub returns-in_default-clause-calls : goal.returns-in_default-clause-calls
