@@ -1,5 +1,5 @@
 //! `call` over files, a connection and the standard output. What it sends, reads and prints is
-//! giop_commands' call.rt, over any reader and writer.
+//! giop_calling's call.rt, over any reader and writer.
 ghost use Rattle.std.specs.Prelude.{◌≡◌};
 
 mod asked;

@@ -1,5 +1,5 @@
 //! `locate` over a connection and the standard output. It sends a LocateRequest (CORBA 3.3 Part 2,
-//! 9.4.5). What is sent and told is giop_commands' call/locating.rt.
+//! 9.4.5). What is sent and told is giop_calling's call/locating.rt.
 
 mod following;
 

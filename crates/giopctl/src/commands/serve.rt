@@ -1,5 +1,5 @@
 //! `serve` over files, connections and the standard output. What it reads, sends and prints is
-//! giop_commands' serve.rt, over any reader and writer.
+//! giop_serving's serve.rt, over any reader and writer.
 
 mod listening;
 mod object_operations;

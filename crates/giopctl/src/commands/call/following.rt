@@ -1,5 +1,5 @@
 //! `call --follow`: calls that are forwarded are made again where the reference says, over a
-//! connection of their own. What is sent and told is giop_commands' call/following.rt.
+//! connection of their own. What is sent and told is giop_calling's call/following.rt.
 ghost use Rattle.std.specs.Prelude.{◌≡◌};
 
 use crate::commands::call::asked::{Given, calls_given};

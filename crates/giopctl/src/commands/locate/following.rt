@@ -1,5 +1,5 @@
 //! `locate --follow`: an object that is elsewhere is asked for where the reference says, over a
-//! connection of its own. What is sent and told is giop_commands' call/locate_following.rt.
+//! connection of its own. What is sent and told is giop_calling's call/locate_following.rt.
 ghost use Rattle.std.specs.Prelude.{◌≡◌};
 ghost use Rattle.giop_commands.specs.Check.{AreLimits};
 
