@@ -16,6 +16,14 @@ usage_status _ = Usage
 abbrev pub IsFailed : Status → Type 0
 IsFailed status = (status ≡ InputOutput) ⊎ (status ≡ Memory)
 
+-- a status of what is converted or refused
+abbrev pub IsDecided : Status → Type 0
+IsDecided status = (status ≡ Done) ⊎ (status ≡ Refused)
+
+-- a status that `convert` ends with: its file is converted or refused, or something failed
+abbrev pub IsConverted : Status → Type 0
+IsConverted status = IsDecided status ⊎ IsFailed status
+
 -- a status of what is refused: it is told so, or telling it failed
 abbrev pub IsRefused : Status → Type 0
 IsRefused status = (status ≡ Refused) ⊎ IsFailed status
