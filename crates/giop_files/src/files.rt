@@ -1,5 +1,7 @@
 //! The files that a command reads; `-` is the standard input.
-ghost use Rattle.std.specs.Prelude.{IfErr};
+ghost use Rattle.std.specs.Prelude.{◌≡◌, IfErr, IfOk, IsTrue, ◌↔◌};
+ghost use Rattle.std.specs.Io.{StartsWith};
+ghost use Rattle.giop_files.specs.Files.{first_black, is_white};
 ghost use Rattle.giop_files.specs.Report.{IsFailed};
 
 pub mod interface_text;
@@ -98,12 +100,16 @@ pub struct FileFront {
 
 impl FileFront {
     /// Whether its first octet that is no white space begins a JSON list.
-    pub fn is_list(&self) -> bool {
+    pub fn is_list(&self) -> bool
+        ensures { IsTrue result ↔ (first_black self.now.front.items ≡ Some 91) }
+    {
         self.front.iter().find(|octet| !is_white(**octet)) == Some(&b'[')
     }
 
     /// All of its octets, those that are read before first. It fails with Input or Memory.
-    pub fn whole(mut self) -> Result<Vec<u8>, Failure> {
+    pub fn whole(mut self) -> Result<Vec<u8>, Failure>
+        ensures { IfOk result (λ octets. StartsWith octets.items self.front.items) }
+    {
         match self.rest.read_to_end(&mut self.front) {
             Ok(_) => Ok(self.front),
             Err(error) => Err(Failure::input(error)),
@@ -143,6 +149,8 @@ fn extend(octets: &mut Vec<u8>, more: &[u8]) -> Result<(), AllocError> {
 }
 
 // Whether an octet is white space of JSON.
-fn is_white(octet: u8) -> bool {
+fn is_white(octet: u8) -> bool
+    ensures { result ≡ is_white octet }
+{
     octet == b' ' || octet == b'\t' || octet == b'\n' || octet == b'\r'
 }

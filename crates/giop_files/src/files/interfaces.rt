@@ -1,5 +1,7 @@
 //! The files of interfaces: of all objects, and of single ones by their keys.
-ghost use Rattle.std.specs.Prelude.{IfErr};
+ghost use Rattle.std.specs.Prelude.{◌≡◌, IfErr};
+ghost use Rattle.std.specs.Option.{option_map};
+ghost use Rattle.giop_files.specs.Files.{own_file};
 ghost use Rattle.giop_files.specs.Report.{IsFailed};
 
 use crate::files::interface_text::InterfaceText;
@@ -113,7 +115,9 @@ pub fn interface_of_each(
 
 /// The file of the object of a key: its own, else that of all others; `None` where there is
 /// neither.
-pub fn own_of<'b, 'a>(offered: &'b [Offered<'a>], key: &[u8]) -> Option<&'b Offered<'a>> {
+pub fn own_of<'b, 'a>(offered: &'b [Offered<'a>], key: &[u8]) -> Option<&'b Offered<'a>>
+    ensures { option_map (λ one. one.now) result ≡ own_file offered.now key.now }
+{
     match offered.iter().find(|one| one.key == Some(key)) {
         Some(own) => Some(own),
         None => offered.iter().find(|one| one.key.is_none()),
