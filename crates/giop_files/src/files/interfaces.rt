@@ -1,8 +1,8 @@
 //! The files of interfaces: of all objects, and of single ones by their keys.
-ghost use Rattle.std.specs.Prelude.{◌≡◌, IfErr};
+ghost use Rattle.std.specs.Prelude.{◌≡◌, IfErr, IfOk};
 ghost use Rattle.std.specs.Option.{option_map};
-ghost use Rattle.giop_files.specs.Files.{own_file};
-ghost use Rattle.giop_files.specs.Report.{IsFailed};
+ghost use Rattle.giop_files.specs.Files.{IsJoined, own_file};
+ghost use Rattle.giop_files.specs.Report.{IsFailed, IsRefused};
 
 use crate::files::interface_text::InterfaceText;
 use crate::report::refusals::refuse_interface;
@@ -79,7 +79,9 @@ pub fn read_each<'a>(
 pub fn join_offers<'b, 'a>(
     alloc: Global,
     offered: &'b [Offered<'a>],
-) -> Result<Joined<'b, 'a>, AllocError> {
+) -> Result<Joined<'b, 'a>, AllocError>
+    ensures { IfOk result IsJoined }
+{
     let mut all = Interface::empty(alloc);
     let mut own: Vec<(Vec<u8>, Interface)> = Vec::new(alloc);
     for one in offered {
@@ -105,7 +107,9 @@ pub fn interface_of_each(
     rt: &HostRuntime,
     lines: LineForm,
     offered: &[Offered<'_>],
-) -> Result<Interface, Status> {
+) -> Result<Interface, Status>
+    ensures { IfErr result IsRefused }
+{
     match join_offers(rt.alloc(), offered) {
         Ok(Joined::Whole(interface)) => Ok(interface),
         Ok(Joined::Refused(one)) => Err(refuse_interface(rt, lines, one.file, &one.text)),
