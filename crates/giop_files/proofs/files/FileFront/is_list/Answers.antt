@@ -11,5 +11,5 @@ pub returns : goal.returns
 returns c =
     let items = c.args.self.now.front.items in
     let found : option_map (λ octet. octet.now) c.find.result ≡ first_black items
-    = find_from_yields_List (λ octet. not (is_white octet)) _ _ c.find.result c.find.ensures.ran (YieldsList-from_slice items cc) (λ x b q k. search (rules, tests)) in
+    = find_from_yields_List (λ o. not (is_white o)) _ _ c.find.result c.find.ensures.ran (YieldsList-from_slice items cc) (λ x b q k. search (rules, tests)) in
     begins_with 91 c.find.result _ _ _ refl found c.eq.ensures
