@@ -1,3 +1,4 @@
+pub mod Files
 pub mod InterfaceText
 pub mod Places
 pub mod Report

@@ -1,7 +1,9 @@
 -- The exit statuses of a command line that asks for no task, of what fails and of what is refused.
-use Rattle.std.specs.Prelude.{◌≡◌, ◌⊎◌}
+use Rattle.std.specs.Prelude.{◌≡◌, ◌⊎◌, ⊤}
 use Rattle.clap.specs.declared.error.kind.ErrorKind.{ErrorKind}
 use Rattle.clap.specs.declared.error.kind.ErrorKind.TheVariants.{OutOfMemory, DisplayHelp, DisplayVersion}
+use Rattle.giop_show.specs.declared.failure.Failure.{Failure}
+use Rattle.giop_show.specs.declared.failure.Failure.TheVariants.{Input, Memory as memory_failure}
 use Rattle.giop_show.specs.declared.status.Status.{Status}
 use Rattle.giop_show.specs.declared.status.Status.TheVariants.{Done, Refused, Usage, InputOutput, Memory}
 
@@ -15,6 +17,20 @@ usage_status _ = Usage
 -- a status that something failed with
 abbrev pub IsFailed : Status → Type 0
 IsFailed status = (status ≡ InputOutput) ⊎ (status ≡ Memory)
+
+-- a failure of reading a file
+abbrev pub IsUnread : Failure → Type 0
+IsUnread memory_failure = ⊤
+IsUnread (Input e) = ⊤
+IsUnread _ = ⊥
+
+-- a status of what is converted or refused
+abbrev pub IsDecided : Status → Type 0
+IsDecided status = (status ≡ Done) ⊎ (status ≡ Refused)
+
+-- a status that `convert` ends with: its file is converted or refused, or something failed
+abbrev pub IsConverted : Status → Type 0
+IsConverted status = IsDecided status ⊎ IsFailed status
 
 -- a status of what is refused: it is told so, or telling it failed
 abbrev pub IsRefused : Status → Type 0

@@ -1,5 +1,7 @@
 //! `convert` over files and the standard output. What it prints is giop_show's
 //! convert/reference.rt and convert/described.rt, over any writer.
+ghost use Rattle.std.specs.Prelude.{IfOk};
+ghost use Rattle.giop_files.specs.Report.{IsConverted, IsDecided};
 
 mod faults;
 
@@ -19,7 +21,10 @@ use std::io::{BufWriter, Write};
 /// Reads the file, then that of the description where the kind has one, and writes what becomes of
 /// it. Where a text is refused, it says which file is at fault, and where. Returns the status that
 /// the program ends with.
-pub fn convert(rt: &HostRuntime, file: &str, kind: ConvertKind) -> Status {
+#[tactic(auto, using(crate::proofs::ReportLemmas::converted_status))]
+pub fn convert(rt: &HostRuntime, file: &str, kind: ConvertKind) -> Status
+    ensures { IsConverted result }
+{
     let octets = match read(rt, file) {
         Ok(octets) => octets,
         Err(failure) => return report::status_of(rt, file, Err(failure)),
@@ -55,27 +60,36 @@ pub fn convert(rt: &HostRuntime, file: &str, kind: ConvertKind) -> Status {
     report::status_of(rt, file, answered)
 }
 
-fn write_ior(rt: &HostRuntime, octets: &[u8], form: LineForm) -> Result<Status, Failure> {
+#[tactic(auto, using(crate::proofs::ReportLemmas::decided_ior))]
+fn write_ior(rt: &HostRuntime, octets: &[u8], form: LineForm) -> Result<Status, Failure>
+    ensures { IfOk result IsDecided }
+{
     let mut writer = BufWriter::with_capacity(rt.alloc(), OUTPUT_BUFFER, io::writer(rt))?;
     let status = convert_ior(rt.alloc(), octets, form, &mut writer)?;
     writer.flush()?;
     Ok(status)
 }
 
-fn write_corbaloc(rt: &HostRuntime, octets: &[u8], form: LineForm) -> Result<Status, Failure> {
+#[tactic(auto, using(crate::proofs::ReportLemmas::decided_corbaloc))]
+fn write_corbaloc(rt: &HostRuntime, octets: &[u8], form: LineForm) -> Result<Status, Failure>
+    ensures { IfOk result IsDecided }
+{
     let mut writer = BufWriter::with_capacity(rt.alloc(), OUTPUT_BUFFER, io::writer(rt))?;
     let status = convert_corbaloc(rt.alloc(), octets, form, &mut writer)?;
     writer.flush()?;
     Ok(status)
 }
 
+#[tactic(auto, using(crate::proofs::ReportLemmas::decided_value))]
 fn write_value(
     rt: &HostRuntime,
     octets: &[u8],
     description: &[u8],
     way: Way,
     order: Order,
-) -> Result<Status, Failure> {
+) -> Result<Status, Failure>
+    ensures { IfOk result IsDecided }
+{
     let mut writer = BufWriter::with_capacity(rt.alloc(), OUTPUT_BUFFER, io::writer(rt))?;
     let status = convert_value(rt.alloc(), octets, description, way, order, &mut writer)?;
     writer.flush()?;

@@ -1,6 +1,8 @@
 //! The files that a command reads; `-` is the standard input.
-ghost use Rattle.std.specs.Prelude.{IfErr};
-ghost use Rattle.giop_files.specs.Report.{IsFailed};
+ghost use Rattle.std.specs.Prelude.{◌≡◌, codes, IfErr, IfOk, IsTrue, ◌↔◌};
+ghost use Rattle.std.specs.Io.{StartsWith};
+ghost use Rattle.giop_files.specs.Files.{first_black, is_white};
+ghost use Rattle.giop_files.specs.Report.{IsFailed, IsUnread};
 
 pub mod interface_text;
 pub mod interfaces;
@@ -20,7 +22,9 @@ pub const OUTPUT_BUFFER: usize = 65_536;
 
 /// The octets of a file, or of the standard input where it is `-`. It fails with Input or Memory
 /// where that can't be read, and reports nothing.
-pub fn read(rt: &HostRuntime, file: &str) -> Result<Vec<u8>, Failure> {
+pub fn read(rt: &HostRuntime, file: &str) -> Result<Vec<u8>, Failure>
+    ensures { IfErr result IsUnread }
+{
     if file != "-" {
         return fs::read(rt, file).map_err(Failure::input);
     }
@@ -50,7 +54,9 @@ pub(crate) fn read_interface(rt: &HostRuntime, file: &str) -> Result<InterfaceTe
 
 /// A file to be read piece by piece, and whether the rest of it is read behind a fault: a regular one
 /// is, but a pipe or a device may have no end. It fails with Input or Memory where it can't be opened.
-pub fn open_in_pieces(rt: &HostRuntime, file: &str) -> Result<(fs::File, BehindFault), Failure> {
+pub fn open_in_pieces(rt: &HostRuntime, file: &str) -> Result<(fs::File, BehindFault), Failure>
+    ensures { IfErr result IsUnread }
+{
     match open(rt, file) {
         Ok(opened) => Ok(opened),
         Err(error) => Err(Failure::input(error)),
@@ -98,12 +104,17 @@ pub struct FileFront {
 
 impl FileFront {
     /// Whether its first octet that is no white space begins a JSON list.
-    pub fn is_list(&self) -> bool {
+    pub fn is_list(&self) -> bool
+        ensures { IsTrue result ↔ (first_black self.now.front.items ≡ Some 91) }
+    {
         self.front.iter().find(|octet| !is_white(**octet)) == Some(&b'[')
     }
 
     /// All of its octets, those that are read before first. It fails with Input or Memory.
-    pub fn whole(mut self) -> Result<Vec<u8>, Failure> {
+    pub fn whole(mut self) -> Result<Vec<u8>, Failure>
+        ensures err { IfErr result IsUnread }
+        ensures ok { IfOk result (λ octets. StartsWith octets.items self.front.items) }
+    {
         match self.rest.read_to_end(&mut self.front) {
             Ok(_) => Ok(self.front),
             Err(error) => Err(Failure::input(error)),
@@ -113,7 +124,9 @@ impl FileFront {
 
 /// A file, or the standard input where it is `-`, read up to an octet that is no white space. It
 /// fails with Input or Memory.
-pub fn front_of(rt: &HostRuntime, file: &str) -> Result<FileFront, Failure> {
+pub fn front_of(rt: &HostRuntime, file: &str) -> Result<FileFront, Failure>
+    ensures { file.now ≡ codes "-" → IfOk result (λ front. IsTrue front.waits) }
+{
     if file == "-" {
         return front_at(rt.alloc(), Pieces::Input(rt.reader()), true);
     }
@@ -122,7 +135,9 @@ pub fn front_of(rt: &HostRuntime, file: &str) -> Result<FileFront, Failure> {
     front_at(rt.alloc(), Pieces::File(file), waits)
 }
 
-fn front_at(alloc: Global, mut rest: Pieces, waits: bool) -> Result<FileFront, Failure> {
+fn front_at(alloc: Global, mut rest: Pieces, waits: bool) -> Result<FileFront, Failure>
+    ensures { IfOk result (λ front. front.waits ≡ waits) }
+{
     let mut buffer = PieceBuffer::new(alloc)?;
     let mut front = Vec::new(alloc);
     for _ in 0..u64::MAX {
@@ -143,6 +158,8 @@ fn extend(octets: &mut Vec<u8>, more: &[u8]) -> Result<(), AllocError> {
 }
 
 // Whether an octet is white space of JSON.
-fn is_white(octet: u8) -> bool {
+fn is_white(octet: u8) -> bool
+    ensures { result ≡ is_white octet }
+{
     octet == b' ' || octet == b'\t' || octet == b'\n' || octet == b'\r'
 }

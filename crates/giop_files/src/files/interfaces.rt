@@ -1,6 +1,8 @@
 //! The files of interfaces: of all objects, and of single ones by their keys.
-ghost use Rattle.std.specs.Prelude.{IfErr};
-ghost use Rattle.giop_files.specs.Report.{IsFailed};
+ghost use Rattle.std.specs.Prelude.{◌≡◌, IfErr, IfOk};
+ghost use Rattle.std.specs.Option.{option_map};
+ghost use Rattle.giop_files.specs.Files.{IsJoined, own_file};
+ghost use Rattle.giop_files.specs.Report.{IsFailed, IsRefused};
 
 use crate::files::interface_text::InterfaceText;
 use crate::report::refusals::refuse_interface;
@@ -77,7 +79,9 @@ pub fn read_each<'a>(
 pub fn join_offers<'b, 'a>(
     alloc: Global,
     offered: &'b [Offered<'a>],
-) -> Result<Joined<'b, 'a>, AllocError> {
+) -> Result<Joined<'b, 'a>, AllocError>
+    ensures { IfOk result IsJoined }
+{
     let mut all = Interface::empty(alloc);
     let mut own: Vec<(Vec<u8>, Interface)> = Vec::new(alloc);
     for one in offered {
@@ -103,7 +107,9 @@ pub fn interface_of_each(
     rt: &HostRuntime,
     lines: LineForm,
     offered: &[Offered<'_>],
-) -> Result<Interface, Status> {
+) -> Result<Interface, Status>
+    ensures { IfErr result IsRefused }
+{
     match join_offers(rt.alloc(), offered) {
         Ok(Joined::Whole(interface)) => Ok(interface),
         Ok(Joined::Refused(one)) => Err(refuse_interface(rt, lines, one.file, &one.text)),
@@ -113,7 +119,9 @@ pub fn interface_of_each(
 
 /// The file of the object of a key: its own, else that of all others; `None` where there is
 /// neither.
-pub fn own_of<'b, 'a>(offered: &'b [Offered<'a>], key: &[u8]) -> Option<&'b Offered<'a>> {
+pub fn own_of<'b, 'a>(offered: &'b [Offered<'a>], key: &[u8]) -> Option<&'b Offered<'a>>
+    ensures { option_map (λ one. one.now) result ≡ own_file offered.now key.now }
+{
     match offered.iter().find(|one| one.key == Some(key)) {
         Some(own) => Some(own),
         None => offered.iter().find(|one| one.key.is_none()),

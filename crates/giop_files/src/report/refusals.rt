@@ -1,6 +1,7 @@
 //! Refused files of a session: what standard error says of them, and the line of the refusal, which
 //! goes to the standard output.
 ghost use Rattle.std.specs.Prelude.{◌≡◌, IfOk};
+ghost use Rattle.giop_files.specs.InterfaceText.{IsNoInterface};
 ghost use Rattle.giop_files.specs.Report.{IsRefused};
 
 use crate::files::OUTPUT_BUFFER;
@@ -22,7 +23,9 @@ pub(crate) fn refuse_interface(
     lines: LineForm,
     file: &str,
     text: &InterfaceText,
-) -> Status {
+) -> Status
+    ensures { IsNoInterface text.now → IsRefused result }
+{
     match Interface::from_json(rt.alloc(), text.as_slice()) {
         Ok(_) => Status::Done,
         Err(fault) => {
