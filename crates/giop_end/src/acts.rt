@@ -5,6 +5,7 @@ pub mod answering;
 pub mod calling;
 pub mod cancelling;
 pub mod form;
+pub mod in_pieces;
 pub mod local;
 pub mod locating;
 pub mod outgoing;

@@ -1,6 +1,6 @@
 //! One end of a connection (CORBA 3.3 Part 2, 9.4): it is made, fed with octets of the peer, looked
 //! at and closed. What its own program answers is end/answering.rt, what it calls is
-//! end/calling.rt, and end/writing.rt writes what is outgoing. What feeding does is `Fed` in
+//! end/calling.rt, both in pieces end/sending.rt, and end/writing.rt writes what is outgoing. What feeding does is `Fed` in
 //! specs/Hearing/Feeding.antt.
 ghost use Rattle.std.specs.Prelude.{◌≡◌, ◌≤◌, ◌^◌, ◌+◌, ◌/◌, ◌++◌, [], drop, None, Some, Err, Ok, length, option_copied, IfErr, IfOk, OnErr, OnOk};
 ghost use Rattle.std.specs.FinMap as finite;
@@ -20,6 +20,7 @@ mod answering;
 mod calling;
 mod detached;
 mod parts;
+mod sending;
 mod writing;
 
 use crate::acts::outgoing::Outgoing;

@@ -16,6 +16,7 @@ mod pumping;
 mod session_fault;
 
 pub use acts::form::Form;
+pub use acts::in_pieces::SendsPieces;
 pub use acts::outgoing::Outgoing;
 pub use end::{ClientEnd, Detached, End, ServerEnd, write_out};
 pub use hearing::Hearing;

@@ -16,14 +16,10 @@ use Rattle.giop_calls.specs.declared.kind.CallKind.{CallKind}
 use Rattle.giop_calls.specs.declared.kind.CallKind.TheVariants as kind
 use Rattle.giop_calls.specs.declared.fault.CallFault.{CallFault}
 use Rattle.giop_calls.specs.declared.fault.CallFault.TheVariants.{NotOpen, NothingToSend, Unfit, WrongKind}
-use Rattle.giop_calls.specs.declared.client.entry.ClientEntry.{ClientEntry}
-use Rattle.giop_calls.specs.declared.client.entry.ClientEntry.TheVariants as client
-use Rattle.giop_calls.specs.declared.client.event.ClientEvent.TheVariants as client_event
 use Rattle.giop_calls.specs.declared.server.entry.ServerEntry.{ServerEntry}
 use Rattle.giop_calls.specs.declared.server.entry.ServerEntry.TheVariants as server
 use Rattle.giop_calls.specs.declared.server.event.ServerEvent.{ServerEvent}
 use Rattle.giop_calls.specs.declared.server.event.ServerEvent.TheVariants as event
-use Rattle.giop_calls.specs.ClientTable as client_table
 use Rattle.giop_calls.specs.ServerTable as server_table
 use Rattle.giop_end.specs.declared.acts.form.Form.{Form}
 use Rattle.giop_end.specs.declared.limits.Limits.{Limits}
@@ -34,6 +30,7 @@ use Rattle.giop_table.specs.declared.table_fault.TableFault.{TableFault}
 use Rattle.giop_table.specs.declared.table_fault.TableFault.TheVariants as table
 use Rattle.giop_end.specs.declared.session_fault.SessionFault.{SessionFault}
 use Rattle.giop_end.specs.declared.session_fault.SessionFault.TheVariants.{NoMemory}
+use Rattle.giop_end.specs.Acts.InPieces.{SendsBy}
 use Rattle.giop_end.specs.Acts.Putting.{ActsOnCall, Puts}
 use Rattle.giop_end.specs.Acts.ServerAnswers.{IsAnswer, IsFitAnswer, answer_fault, expects_locate, locate_of, question_of, unasked_fault, undecoded_locate, undecoded_question}
 use Rattle.giop_table.specs.CallTable.{Held, Hears, Nothing, at, brought, limit, rules_of, turned}
@@ -92,6 +89,21 @@ module _ {E V A : Type 0} (next : Option E → V → Step E A CallFault) (closed
       (next (entry_of (finite.get h.table id)) planned.event).entry planned.plan (unsent_of (finite.get h.table id))
       (next (entry_of (finite.get h.table id)) planned.event).outcome does.refusal
 
+-- ---- at either
+
+-- a piece that isn't left isn't sent
+pub sends_none : {R E V A : Type 0} (next : R → Option E → V → Step E A CallFault) (closed : R → E → Bool) (gathering : E → Bool) (send : V)
+    (h : Held R E) (id : ℕ) (out : List ℕ) (result : Result (Unit {0}) SessionFault) → SendsBy (next h.rule) gathering send
+    → is_ok (next h.rule (entry_of (finite.get h.table id)) send).outcome ≡ false → result ≡ Err (in_call id NothingToSend)
+    → Puts (rules_of (next h.rule) (closed h.rule) gathering) in_call id None (λ planned. planned ≡ record { event = send; plan = Next }) h out result h out
+sends_none next closed gathering send h id out result by none told =
+    inr (
+      record { event = send; plan = Next },
+      refl,
+      act_refused (next h.rule) (closed h.rule) gathering h id (record { event = send; plan = Next }) NothingToSend out result
+          (by.nothing (entry_of (finite.get h.table id)) none) told,
+    )
+
 -- ---- at a server
 
 abbrev ServerPuts : {R : Type 0} → ℕ → Option CallFault → (Planned ServerEvent → Type 0) → Held R ServerEntry → List ℕ
@@ -118,45 +130,6 @@ server_has_piece (server.Cancelled answered left) = by_left (left == 0)
         (server_table.becomes (server.Cancelled answered (left - 1)))).outcome
     by_left true = refl
     by_left false = refl
-
--- a piece that isn't sent isn't there
-server_nothing : (entry : Option ServerEntry) → is_ok (server_table.server_step entry event.Send).outcome ≡ false
-    → (server_table.server_step entry event.Send).outcome ≡ Err NothingToSend
-server_nothing None is = refl
-server_nothing (Some (server.Gathering kind)) is = refl
-server_nothing (Some (server.Asked request)) is = refl
-server_nothing (Some (server.Undecoded call)) is = refl
-server_nothing (Some (server.LocateAsked request)) is = refl
-server_nothing (Some (server.LocateAnswered target here)) is = refl
-server_nothing (Some (server.Delivered request)) is = refl
-server_nothing (Some (server.Answered asked reply left)) is = by_left (left == 0) is
-  where
-    by_left : (b : Bool) → is_ok (cond b (server_table.refused (Some (server.Answered asked reply left)) NothingToSend)
-        (server_table.becomes (server.Answered asked reply (left - 1)))).outcome ≡ false
-        → (cond b (server_table.refused (Some (server.Answered asked reply left)) NothingToSend)
-        (server_table.becomes (server.Answered asked reply (left - 1)))).outcome ≡ Err NothingToSend
-    by_left true is = refl
-    by_left false is = absurd cc
-server_nothing (Some (server.Cancelled answered left)) is = by_left (left == 0) is
-  where
-    by_left : (b : Bool) → is_ok (cond b (server_table.refused (Some (server.Cancelled answered left)) NothingToSend)
-        (server_table.becomes (server.Cancelled answered (left - 1)))).outcome ≡ false
-        → (cond b (server_table.refused (Some (server.Cancelled answered left)) NothingToSend)
-        (server_table.becomes (server.Cancelled answered (left - 1)))).outcome ≡ Err NothingToSend
-    by_left true is = refl
-    by_left false is = absurd cc
-
-pub server_sends_none : {R : Type 0} (h : Held R ServerEntry) (id : ℕ) (out : List ℕ) (result : Result (Unit {0}) SessionFault)
-    → is_ok (server_table.server_step (entry_of (finite.get h.table id)) event.Send).outcome ≡ false
-    → result ≡ Err (in_call id NothingToSend)
-    → ServerPuts id None (λ planned. planned ≡ record { event = event.Send; plan = Next }) h out result h out
-server_sends_none h id out result none told =
-    inr (
-      record { event = event.Send; plan = Next },
-      refl,
-      act_refused server_table.server_step server_table.is_closed server_table.is_gathering h id
-          (record { event = event.Send; plan = Next }) NothingToSend out result (server_nothing (entry_of (finite.get h.table id)) none) told,
-    )
 
 -- where no Request waits, the table refuses the Reply for this
 unasked : (entry : Option ServerEntry) (answer : Reply) (pieces : ℕ) → question_of entry ≡ None
@@ -232,34 +205,3 @@ pub wanted_accepted : {R : Type 0} (h k : Held R ServerEntry) (id : ℕ) (planne
     → Err NoMemory ≡ result_of (in_call id) answered
     → IsOk (server_table.server_step (entry_of (finite.get h.table id)) planned.event).outcome
 wanted_accepted = wanted_by server_table.server_step server_table.is_closed server_table.is_gathering
-
--- ---- at a client
-
-pub client_has_piece : (entry : ClientEntry) → is_ok (client_table.client_step (Some entry) client_event.Send).outcome
-    ≡ is_ok (client_table.send (Some entry)).outcome
-client_has_piece entry = refl
-
-client_nothing : (entry : Option ClientEntry) → is_ok (client_table.client_step entry client_event.Send).outcome ≡ false
-    → (client_table.client_step entry client_event.Send).outcome ≡ Err NothingToSend
-client_nothing None is = refl
-client_nothing (Some (client.Sending call left)) is = absurd cc
-client_nothing (Some (client.Waiting call)) is = refl
-client_nothing (Some (client.Gathering call)) is = refl
-client_nothing (Some (client.Done request reply)) is = refl
-client_nothing (Some (client.LocateDone request reply)) is = refl
-client_nothing (Some (client.Undecoded call fault)) is = refl
-client_nothing (Some (client.OnewaySent request)) is = refl
-client_nothing (Some (client.Cancelled late)) is = refl
-
-pub client_sends_none : {R : Type 0} (h : Held R ClientEntry) (id : ℕ) (out : List ℕ) (result : Result (Unit {0}) SessionFault)
-    → is_ok (client_table.client_step (entry_of (finite.get h.table id)) client_event.Send).outcome ≡ false
-    → result ≡ Err (in_call id NothingToSend)
-    → Puts (rules_of client_table.client_step client_table.is_closed client_table.is_gathering) in_call id None
-    (λ planned. planned ≡ record { event = client_event.Send; plan = Next }) h out result h out
-client_sends_none h id out result none told =
-    inr (
-      record { event = client_event.Send; plan = Next },
-      refl,
-      act_refused client_table.client_step client_table.is_closed client_table.is_gathering h id
-          (record { event = client_event.Send; plan = Next }) NothingToSend out result (client_nothing (entry_of (finite.get h.table id)) none) told,
-    )

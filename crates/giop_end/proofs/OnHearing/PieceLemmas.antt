@@ -31,12 +31,12 @@ isnt_full true free = absurd cc
 isnt_full false free = refl
 
 -- a slot gathers where its entry does
-slot_gathers : {E : Type 0} (gathering : E → Bool) (entry : Option E) (unsent : List Msg)
+pub slot_gathers : {E : Type 0} (gathering : E → Bool) (entry : Option E) (unsent : List Msg)
     → gathers gathering (slot_of entry unsent) ≡ gathers_in gathering entry
 slot_gathers gathering None unsent = refl
 slot_gathers gathering (Some entry) unsent = refl
 
-entry_gathers : {E : Type 0} (gathering : E → Bool) (slot : Option (Slot E)) → gathers gathering slot ≡ gathers_in gathering (entry_of slot)
+pub entry_gathers : {E : Type 0} (gathering : E → Bool) (slot : Option (Slot E)) → gathers gathering slot ≡ gathers_in gathering (entry_of slot)
 entry_gathers gathering None = refl
 entry_gathers gathering (Some slot) = refl
 

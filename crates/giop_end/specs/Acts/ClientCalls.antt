@@ -22,7 +22,6 @@ use Rattle.giop_calls.specs.declared.client.rule.ClientRule.{ClientRule}
 use Rattle.giop_calls.specs.ClientTable.{client_step, is_closed, is_free, is_gathering}
 use Rattle.giop_end.specs.declared.acts.form.Form.{Form}
 use Rattle.giop_end.specs.declared.limits.Limits.{Limits}
-use Rattle.giop_table.specs.declared.plan.Plan.TheVariants.{Next}
 use Rattle.giop_table.specs.declared.plan.Planned.{Planned}
 use Rattle.giop_end.specs.declared.session_fault.SessionFault.{SessionFault}
 use Rattle.giop_end.specs.Acts.Form.{is_sendable}
@@ -143,9 +142,3 @@ abbrev pub PutsCancel : ℕ → Order
 PutsCancel id order h =
     ClientPuts id (cancel_fault (open_version (entry_at h id)))
     (IsCancel id order (open_version (entry_at h id))) h
-
--- it sends the next piece of a call
-abbrev pub PutsNext : ℕ
-    → Held ClientRule ClientEntry → List ℕ → Result (Unit {0}) SessionFault
-    → Held ClientRule ClientEntry → List ℕ → Type 0
-PutsNext id = ClientPuts id None (λ planned. planned ≡ record { event = event.Send; plan = Next })

@@ -24,7 +24,6 @@ use Rattle.giop_calls.specs.declared.server.undecoded.UndecodedCall.{UndecodedCa
 use Rattle.giop_calls.specs.ServerTable.{is_closed, is_gathering, server_step}
 use Rattle.giop_end.specs.declared.acts.form.Form.{Form}
 use Rattle.giop_end.specs.declared.limits.Limits.{Limits}
-use Rattle.giop_table.specs.declared.plan.Plan.TheVariants.{Next}
 use Rattle.giop_table.specs.declared.plan.Planned.{Planned}
 use Rattle.giop_end.specs.declared.session_fault.SessionFault.{SessionFault}
 use Rattle.giop_end.specs.Acts.Form.{is_sendable}
@@ -158,9 +157,3 @@ abbrev pub PutsLocateAnswer : ℕ → Bool → Order
     → Held ServerRule ServerEntry → List ℕ → Type 0
 PutsLocateAnswer id here order h =
     ServerPuts id None (IsLocateAnswer id here order (locate_of here (entry_at h id))) h
-
--- the next piece of a Reply is sent
-abbrev pub PutsNext : ℕ
-    → Held ServerRule ServerEntry → List ℕ → Result (Unit {0}) SessionFault
-    → Held ServerRule ServerEntry → List ℕ → Type 0
-PutsNext id = ServerPuts id None (λ planned. planned ≡ record { event = event.Send; plan = Next })

@@ -1,12 +1,11 @@
 //! What a server's own program answers to a Request: a Reply (CORBA 3.3 Part 2, 9.4.3), as acts on
 //! the parts of an end that hasn't failed. Its meaning is `IsAnswer` in
 //! specs/Acts/ServerAnswers.antt: change both.
-ghost use Rattle.std.specs.Prelude.{◌≡◌, ◌<◌, ◌^◌, true, None, Err, length, is_ok, IfErr, IfOk, IsOk, option_copied};
+ghost use Rattle.std.specs.Prelude.{◌≡◌, ◌<◌, ◌^◌, true, None, Err, length, IfErr, IfOk, option_copied};
 ghost use Rattle.std.specs.Option.{option_map};
 ghost use Rattle.giop_msg.specs.declared.kind.Kind.TheVariants as message;
 ghost use Rattle.giop_msg.specs.Cut.{IsCut};
 ghost use Rattle.giop_msg.specs.Messages.Reply as replies;
-ghost use Rattle.giop_calls.specs.ServerTable as table;
 ghost use Rattle.giop_calls.specs.declared.server.event.ServerEvent.TheVariants as event;
 ghost use Rattle.giop_table.specs.declared.plan.Plan.TheVariants.{Put};
 ghost use Rattle.giop_end.specs.declared.session_fault.SessionFault.TheVariants.{NoMemory};
@@ -14,7 +13,7 @@ ghost use Rattle.giop_table.specs.CallTable.{entry_at};
 ghost use Rattle.giop_end.specs.Acts.Form.{IsForm};
 ghost use Rattle.giop_end.specs.Acts.Refused.{IsRefusal, unfit_unless};
 ghost use Rattle.giop_end.specs.Acts.Sent.{InRange};
-ghost use Rattle.giop_end.specs.Acts.ServerAnswers.{is_locate, is_reply_sendable, IsFitAnswer, PutsAnswer, PutsNext, question_in, question_of, reply_octets, ServerPuts, unasked_fault};
+ghost use Rattle.giop_end.specs.Acts.ServerAnswers.{is_locate, is_reply_sendable, IsFitAnswer, PutsAnswer, question_in, question_of, reply_octets, ServerPuts, unasked_fault};
 
 use crate::acts::form::Form;
 use crate::acts::local::{act_result, messages_to_send};
@@ -54,29 +53,6 @@ pub fn answer(
     put_reply(alloc, calls, outgoing, reply, messages)
 }
 
-/// Puts out the next piece of a Reply at an end that hasn't failed, of which these are parts, as
-/// `End::send`.
-#[tactic(auto, using(crate::proofs::OnActs::ActedLemmas::acted, crate::proofs::OnActs::QuietLemmas::server_send_quiet, crate::proofs::OnActs::LastLemmas::server_sends_none))]
-pub fn send(
-    calls: &mut CallTable<ServerRule>,
-    outgoing: &mut Outgoing,
-    id: u32,
-) -> Result<(), SessionFault>
-    ensures last { result ≡ Err NoMemory
-        → IsOk (table.server_step (entry_at calls.old id) event.Send).outcome }
-    ensures sent { PutsNext id calls.old outgoing.old result calls.new outgoing.new }
-{
-    if !has_piece(calls, id) {
-        let fault = CallFault::NothingToSend;
-        return Err(SessionFault::Call { id, fault });
-    }
-    let planned = Planned {
-        event: ServerEvent::Send,
-        plan: Plan::Next,
-    };
-    act_result(id, put(calls, outgoing, id, planned))
-}
-
 // The call is answered by a Reply in these messages.
 #[tactic(auto, using(crate::proofs::OnActs::ActedLemmas::acted, crate::proofs::OnActs::QuietLemmas::answer_quiet, crate::proofs::OnActs::LocalLemmas::wanted_puts))]
 #[inline(always)]
@@ -104,17 +80,6 @@ fn put_reply(
         plan: Plan::Put(messages),
     };
     act_result(id, put(calls, outgoing, id, planned))
-}
-
-// Whether a piece of the Reply of an id is left to be sent.
-#[tactic(auto, using(crate::proofs::OnActs::LastLemmas::server_has_piece))]
-fn has_piece(calls: &CallTable<ServerRule>, id: u32) -> bool
-    ensures { result ≡ is_ok (table.server_step (entry_at calls.now id) event.Send).outcome }
-{
-    match calls.slot(id) {
-        Some(slot) => slot.entry.left() != 0,
-        None => false,
-    }
 }
 
 // Why no Reply is sent under an id, where no Request waits for one.

@@ -1,16 +1,15 @@
 //! What a client's own program does: it calls, and asks where an object is (CORBA 3.3 Part 2, 9.4.2
 //! and 9.4.5), as acts on the parts of an end that hasn't failed. Its meaning is `IsCall` and
 //! `IsLocate` in specs/Acts/ClientCalls.antt: change both.
-ghost use Rattle.std.specs.Prelude.{◌≡◌, ◌<◌, ◌^◌, None, Err, length, is_ok, IfErr, IfOk, IsOk};
+ghost use Rattle.std.specs.Prelude.{◌≡◌, ◌<◌, ◌^◌, None, Err, length, IfErr, IfOk};
 ghost use Rattle.giop_cdr.specs.Ending.{ended};
 ghost use Rattle.giop_msg.specs.declared.kind.Kind.TheVariants as message;
 ghost use Rattle.giop_msg.specs.Cut.{IsCut};
 ghost use Rattle.giop_msg.specs.Locate.{locate_request};
 ghost use Rattle.giop_msg.specs.Messages.Request as requests;
 ghost use Rattle.giop_calls.specs.ClientTable as table;
-ghost use Rattle.giop_calls.specs.declared.client.event.ClientEvent.TheVariants as event;
 ghost use Rattle.giop_end.specs.declared.session_fault.SessionFault.TheVariants.{NoMemory};
-ghost use Rattle.giop_end.specs.Acts.ClientCalls.{begin_fault, call_fault, locate_fault, locate_octets, PutsCall, PutsLocate, PutsNext, request_octets};
+ghost use Rattle.giop_end.specs.Acts.ClientCalls.{begin_fault, call_fault, locate_fault, locate_octets, PutsCall, PutsLocate, request_octets};
 ghost use Rattle.giop_table.specs.CallTable.{entry_at};
 ghost use Rattle.giop_end.specs.Acts.Form.{IsForm};
 ghost use Rattle.giop_end.specs.Acts.Refused.{IsRefusal};
@@ -22,7 +21,7 @@ use crate::acts::outgoing::Outgoing;
 use crate::acts::putting::put;
 use crate::limits::Limits;
 use crate::session_fault::SessionFault;
-use giop_calls::{Aside, Call, CallFault, ClientEntry, ClientEvent, ClientRule, with_target_aside};
+use giop_calls::{Aside, Call, CallFault, ClientEvent, ClientRule, with_target_aside};
 use giop_msg::{Kind, LocateRequest, Request};
 use giop_table::{CallTable, Messages, Plan, Planned};
 use giop_types::Interface;
@@ -85,29 +84,6 @@ pub fn locate(
     let planned = Planned {
         event,
         plan: Plan::Put(messages),
-    };
-    act_result(id, put(calls, outgoing, id, planned))
-}
-
-/// Puts out the next piece of a call at an end that hasn't failed, of which these are parts, as
-/// `End::send`.
-#[tactic(auto, using(crate::proofs::OnActs::ActedLemmas::acted, crate::proofs::OnActs::QuietLemmas::client_send_quiet, crate::proofs::OnActs::LastLemmas::client_sends_none))]
-pub fn send(
-    calls: &mut CallTable<ClientRule>,
-    outgoing: &mut Outgoing,
-    id: u32,
-) -> Result<(), SessionFault>
-    ensures last { result ≡ Err NoMemory
-        → IsOk (table.client_step (entry_at calls.old id) event.Send).outcome }
-    ensures sent { PutsNext id calls.old outgoing.old result calls.new outgoing.new }
-{
-    if !has_piece(calls, id) {
-        let fault = CallFault::NothingToSend;
-        return Err(SessionFault::Call { id, fault });
-    }
-    let planned = Planned {
-        event: ClientEvent::Send,
-        plan: Plan::Next,
     };
     act_result(id, put(calls, outgoing, id, planned))
 }
@@ -188,17 +164,6 @@ fn pieces_of_locate(
         id,
         encoded,
     )
-}
-
-// Whether a piece of the call of an id is left to be sent.
-#[tactic(auto, using(crate::proofs::OnActs::LastLemmas::client_has_piece))]
-fn has_piece(calls: &CallTable<ClientRule>, id: u32) -> bool
-    ensures { result ≡ is_ok (table.client_step (entry_at calls.now id) event.Send).outcome }
-{
-    match calls.slot(id) {
-        Some(slot) => matches!(slot.entry, ClientEntry::Sending { .. }),
-        None => false,
-    }
 }
 
 // Why no call of the operation may take the id, where something forbids it.

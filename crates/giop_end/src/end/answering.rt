@@ -1,7 +1,6 @@
 //! What a server's end answers to what its own program says: a Reply or a LocateReply (CORBA 3.3
 //! Part 2, 9.4.3 and 9.4.6). What an end's parts undergo is acts/answering.rt.
 ghost use Rattle.std.specs.Prelude.{◌≡◌, Some, None, Err, IsOk};
-ghost use Rattle.std.specs.FinMap as finite;
 ghost use Rattle.std.specs.Option.{option_map};
 ghost use Rattle.giop_calls.specs.ServerTable as table;
 ghost use Rattle.giop_calls.specs.declared.server.event.ServerEvent.TheVariants as event;
@@ -9,10 +8,10 @@ ghost use Rattle.giop_calls.specs.Outcomes.{copied};
 ghost use Rattle.giop_end.specs.declared.session_fault.SessionFault.TheVariants.{NoMemory};
 ghost use Rattle.giop_table.specs.CallTable.{entry_at};
 ghost use Rattle.giop_end.specs.Acts.Form.{IsForm};
-ghost use Rattle.giop_end.specs.Acts.ServerAnswers.{IsFitAnswer, PutsAnswer, PutsLocateAnswer, PutsNext, question_of};
+ghost use Rattle.giop_end.specs.Acts.ServerAnswers.{IsFitAnswer, PutsAnswer, PutsLocateAnswer, question_of};
 ghost use Rattle.giop_end.specs.Ends.View.{IsActedOn};
 
-use crate::acts::answering::{answer, send};
+use crate::acts::answering::answer;
 use crate::acts::form::Form;
 use crate::acts::locating::answer_locate;
 use crate::end::ServerEnd;
@@ -93,26 +92,6 @@ impl<'a> ServerEnd<'a> {
             here,
             order,
         )
-    }
-
-    /// Puts out the next piece of a Reply.
-    ///
-    /// A failed end returns its fault. An id of which no piece is left is refused as
-    /// `NothingToSend`. Else `NoMemory` is returned where it is out of memory. A refusal changes
-    /// nothing.
-    pub fn send(&mut self, id: u32) -> Result<(), SessionFault>
-        ensures failed { (why : _) → self.old.fault ≡ Some why
-            → (result ≡ Err why) × (self.new ≡ self.old) }
-        ensures last { result ≡ Err NoMemory → self.old.fault ≡ None
-            → IsOk (table.server_step (entry_at self.old.calls id) event.Send).outcome }
-        ensures sent { self.old.fault ≡ None
-            → PutsNext id self.old.calls self.old.outgoing result self.new.calls self.new.outgoing }
-        ensures others { IsActedOn self.old self.new }
-    {
-        if let Some(fault) = self.fault {
-            return Err(fault);
-        }
-        send(&mut self.calls, &mut self.outgoing, id)
     }
 
     /// What the call of an id came to; `None` where nothing is stored for the id. It takes no

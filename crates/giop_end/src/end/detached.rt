@@ -1,7 +1,7 @@
 //! An end apart from its interface. It borrows nothing, so it can lie in a struct beside its
 //! interface, as in a handle of C. Its acts are those of the end; the ones that need the interface
 //! are given it. What a server's program answers is detached/answering.rt, what a client's asks
-//! detached/calling.rt.
+//! detached/calling.rt, and both in pieces detached/sending.rt.
 ghost use Rattle.std.specs.Prelude.{◌≡◌, ◌≤◌, ◌^◌, ◌+◌, ◌/◌, ◌++◌, [], drop, None, Some, Err, Ok, length, option_copied, IfErr, IfOk, OnErr, OnOk};
 ghost use Rattle.std.specs.FinMap as finite;
 ghost use Rattle.giop_cdr.specs.declared.order.Order.TheVariants.{Big};
@@ -18,6 +18,7 @@ ghost use Rattle.giop_end.specs.Ends.Detached.{IsFedOnly};
 
 mod answering;
 mod calling;
+mod sending;
 
 use crate::acts::outgoing::Outgoing;
 use crate::end::End;

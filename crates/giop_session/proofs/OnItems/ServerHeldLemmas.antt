@@ -60,7 +60,8 @@ use Rattle.giop_session.proofs.OnItems.HeldLemmas.{Each, Ends, Goes, GoesOn, IsO
 use Rattle.giop_session.proofs.OnItems.ItemLemmas.{call_of, heard}
 use Rattle.giop_session.proofs.OnItems.SeriesLemmas.{continued_version, fragment_version, joined_on, message_is, orders, series_on, twice}
 use Rattle.giop_session.proofs.OnItems.ServerItemLemmas.{begun, first_act, more_act, server_item_leaves, server_turn}
-use Rattle.giop_end.proofs.OnActs.QuietLemmas.{answer_locate_quiet, answer_quiet, server_send_quiet}
+use Rattle.giop_end.specs.Acts.InPieces.{server_sends}
+use Rattle.giop_end.proofs.OnActs.QuietLemmas.{answer_locate_quiet, answer_quiet, piece_quiet}
 
 -- the acts that a server's end does itself
 abbrev pub is_own : ServerEvent → Bool
@@ -116,7 +117,7 @@ own_away (Some entry) (event.AnswerLocate here) owned away =
     (answer_locate_quiet (Some (record { entry = entry; unsent = [] })) here Leave away)
 own_away (Some entry) event.Send owned away =
     quiet_is (table.send (Some entry)).entry Leave [] (table.send (Some entry)).outcome
-    (server_send_quiet (Some (record { entry = entry; unsent = [] })) Leave away)
+    (piece_quiet table.server_step table.is_gathering event.Send (Some (record { entry = entry; unsent = [] })) Leave server_sends away)
 own_away entry (event.First kind) owned away = absurd cc
 own_away entry (event.Whole call) owned away = absurd cc
 own_away entry (event.More in_order) owned away = absurd cc

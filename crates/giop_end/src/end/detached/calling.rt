@@ -1,16 +1,13 @@
 //! What a client's end that is apart from its interface does for its own program. What its parts
 //! undergo is acts/calling.rt.
-ghost use Rattle.std.specs.Prelude.{◌≡◌, Some, None, Err, IsOk};
-ghost use Rattle.std.specs.FinMap as finite;
-ghost use Rattle.giop_calls.specs.ClientTable as table;
-ghost use Rattle.giop_calls.specs.declared.client.event.ClientEvent.TheVariants as event;
+ghost use Rattle.std.specs.Prelude.{◌≡◌, Some, None, Err};
 ghost use Rattle.giop_end.specs.declared.session_fault.SessionFault.TheVariants.{NoMemory};
-ghost use Rattle.giop_end.specs.Acts.ClientCalls.{cancel_fault, open_version, PutsCall, PutsCancel, PutsLocate, PutsNext};
+ghost use Rattle.giop_end.specs.Acts.ClientCalls.{cancel_fault, open_version, PutsCall, PutsCancel, PutsLocate};
 ghost use Rattle.giop_table.specs.CallTable.{entry_at};
 ghost use Rattle.giop_end.specs.Acts.Form.{IsForm};
 ghost use Rattle.giop_end.specs.Ends.Detached.{IsActedOn};
 
-use crate::acts::calling::{call, locate, send};
+use crate::acts::calling::{call, locate};
 use crate::acts::cancelling::cancel;
 use crate::acts::form::Form;
 use crate::end::Detached;
@@ -85,21 +82,5 @@ impl Detached<ClientRule> {
             return Err(fault);
         }
         cancel(self.alloc, &mut self.calls, &mut self.outgoing, id, order)
-    }
-
-    /// Puts out the next piece of a call, as `End::send`.
-    pub fn send(&mut self, id: u32) -> Result<(), SessionFault>
-        ensures failed { (why : _) → self.old.fault ≡ Some why
-            → (result ≡ Err why) × (self.new ≡ self.old) }
-        ensures last { result ≡ Err NoMemory → self.old.fault ≡ None
-            → IsOk (table.client_step (entry_at self.old.calls id) event.Send).outcome }
-        ensures sent { self.old.fault ≡ None
-            → PutsNext id self.old.calls self.old.outgoing result self.new.calls self.new.outgoing }
-        ensures others { IsActedOn self.old self.new }
-    {
-        if let Some(fault) = self.fault {
-            return Err(fault);
-        }
-        send(&mut self.calls, &mut self.outgoing, id)
     }
 }
