@@ -29,7 +29,7 @@ use crate::call::calls::CallLine;
 use crate::call::given::Calling;
 use crate::call::well::{all_well, are_over};
 use giop_cdr::OctetList;
-use giop_commands::session::broken::broken_status;
+use giop_commands::session::faults::broken::broken_status;
 use giop_commands::session::ending::{Ending, ending_of};
 use giop_commands::session::given::{Pipes, Showing};
 use giop_commands::session::sending::send_all;

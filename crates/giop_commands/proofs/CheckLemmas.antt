@@ -23,9 +23,9 @@ use Rattle.giop_types.specs.declared.json.number_form.NumberForm.TheVariants.{Pl
 use Rattle.giop_show.specs.declared.form.LineForm.{LineForm}
 use Rattle.giop_show.specs.declared.form.LineForm.TheVariants.{Text}
 use Rattle.giop_commands.specs.Check.{Checks, ChecksKnown, HeardKnown, Hears, IsChecked, last_status, nothing_read, server_hears, strict_status}
-use Rattle.giop_commands.specs.Session.FaultLines.{last_in}
+use Rattle.giop_commands.specs.Session.Faults.Lines.{last_in}
 use Rattle.giop_show.specs.Dump.Text.{ended}
-use Rattle.giop_commands.specs.Session.Table.{server_entry_in, table_text}
+use Rattle.giop_commands.specs.Session.Tables.Table.{server_entry_in, table_text}
 use Rattle.giop_show.proofs.DumpLemmas.{Appends-append, nothing_left}
 
 -- where nothing is unread, no message stands at the front, and no fault

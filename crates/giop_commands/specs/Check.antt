@@ -32,9 +32,9 @@ use Rattle.giop_types.specs.declared.json.number_form.NumberForm.TheVariants.{Pl
 use Rattle.giop_show.specs.declared.form.LineForm.TheVariants.{Text}
 use Rattle.giop_show.specs.Dump.Text.{ended}
 use Rattle.giop_show.specs.Forms.{refused_in}
-use Rattle.giop_commands.specs.Session.FaultLines.{last_in}
-use Rattle.giop_commands.specs.Session.BrokenStatus.{broken_status}
-use Rattle.giop_commands.specs.Session.Table.{server_entry_in, table_text}
+use Rattle.giop_commands.specs.Session.Faults.Lines.{last_in}
+use Rattle.giop_commands.specs.Session.Faults.Broken.{broken_status}
+use Rattle.giop_commands.specs.Session.Tables.Table.{server_entry_in, table_text}
 
 -- the status of a session that ended with a fault: an orderly end is none of its own
 abbrev pub fault_status : SessionFault → Status

@@ -5,13 +5,13 @@ ghost use Rattle.giop_end.specs.declared.session_fault.SessionFault.TheVariants.
 ghost use Rattle.giop_end.specs.Hearing.Heard.{hears_in};
 ghost use Rattle.giop_commands.specs.Check.{AreLimits, Checks, ChecksKnown, HeardKnown, default_limits, fault_status, last_status};
 ghost use Rattle.giop_show.specs.Dump.Text.{ended};
-ghost use Rattle.giop_commands.specs.Session.FaultLines.{last_in, session_fault_in};
+ghost use Rattle.giop_commands.specs.Session.Faults.Lines.{last_in, session_fault_in};
 
 pub mod strict;
 pub mod text;
 
 use crate::check::strict::strictly;
-use crate::session::broken::broken_status;
+use crate::session::faults::broken::broken_status;
 use crate::session::table::write_table;
 use crate::session::write_session_fault;
 use giop_end::{End, Hearing, Limits, ServerEnd, SessionFault};

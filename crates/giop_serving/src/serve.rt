@@ -25,7 +25,7 @@ mod turns;
 use crate::serve::given::Serving;
 use crate::serve::in_turn::Passed;
 use crate::serve::turns::turn_of_answers;
-use giop_commands::session::broken::broken_status;
+use giop_commands::session::faults::broken::broken_status;
 use giop_commands::session::ending::{Ending, ending_of};
 use giop_commands::session::given::{Pipes, Showing};
 use giop_commands::session::{SessionTurn, TURNS, told, write_session};

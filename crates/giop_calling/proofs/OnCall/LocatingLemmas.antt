@@ -13,7 +13,7 @@ use Rattle.giop_calling.specs.Call.Calling.{Asked, ClientCalls, Talks, begun, ne
 use Rattle.giop_commands.specs.Session.Endings.{Ends}
 use Rattle.giop_calling.specs.Call.Locating.{Locates, LocatesEnd, locate_status}
 use Rattle.giop_commands.specs.Session.Printed.{Wire, session_text, told}
-use Rattle.giop_commands.specs.Session.Table.{client_entry_in}
+use Rattle.giop_commands.specs.Session.Tables.Table.{client_entry_in}
 
 -- the LocateRequest of a client's end, its table and its fault
 pub located : (asked : Asked) (lines : LineForm) (before after : Wire) (old new : Option (List ℕ)) (refused : Option SessionFault) (box : Outbox ClientCalls)

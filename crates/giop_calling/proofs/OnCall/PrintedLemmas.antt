@@ -19,7 +19,7 @@ use Rattle.giop_commands.specs.Session.Endings.{Ends}
 use Rattle.giop_calling.specs.Call.Printed.{Calls, IsCalled, call_status}
 use Rattle.giop_commands.specs.Session.Printed.{Wire, session_text, told}
 use Rattle.giop_commands.specs.Session.Turns.{Waits}
-use Rattle.giop_commands.specs.Session.Table.{client_entry_in}
+use Rattle.giop_commands.specs.Session.Tables.Table.{client_entry_in}
 
 -- the calls of a client's end, its table and its fault
 pub called : (asked : Asked) (lines : LineForm) (before after : Wire) (old new : Option (List ℕ)) (refused : Option SessionFault)

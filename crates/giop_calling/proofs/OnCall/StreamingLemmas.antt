@@ -24,7 +24,7 @@ use Rattle.giop_calling.specs.Call.Endings.{CallsStreamEnd}
 use Rattle.giop_commands.specs.Session.Endings.{Ends}
 use Rattle.giop_commands.specs.Session.Printed.{Wire, told}
 use Rattle.giop_commands.specs.Session.Streaming.{over_text}
-use Rattle.giop_commands.specs.Session.Table.{client_entry_in}
+use Rattle.giop_commands.specs.Session.Tables.Table.{client_entry_in}
 use Rattle.giop_commands.specs.Session.Turns.{most_turns}
 use Rattle.giop_show.proofs.DumpLemmas.{Appends-append}
 use Rattle.giop_commands.proofs.OnSession.StepLemmas.{Before, Counted}

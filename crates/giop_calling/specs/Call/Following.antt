@@ -23,7 +23,7 @@ use Rattle.giop_calling.specs.Call.Streaming.{box_of, with_box}
 use Rattle.giop_calling.specs.Call.Calling.{Asked, CallsAll, ClientCalls, ClientSide, Talks, asked_of, entry_at}
 use Rattle.giop_commands.specs.Session.Printed.{fault_text}
 use Rattle.giop_calling.specs.Call.Printed.{is_well}
-use Rattle.giop_commands.specs.Session.Table.{client_entry_in, entry_text}
+use Rattle.giop_commands.specs.Session.Tables.Table.{client_entry_in, entry_text}
 use Rattle.giop_commands.specs.Session.Target.{place_in}
 
 -- ---- where a call is forwarded to

@@ -29,9 +29,9 @@ use Rattle.giop_commands.specs.Session.Endings.{Ends}
 use Rattle.giop_commands.specs.Session.Printed.{Wire, session_text, told, wire}
 use Rattle.giop_calling.specs.Call.Printed.{unwell_status}
 use Rattle.giop_commands.specs.Session.Traffic.{Traffic}
-use Rattle.giop_commands.specs.Session.BrokenStatus.{broken_status}
+use Rattle.giop_commands.specs.Session.Faults.Broken.{broken_status}
 use Rattle.giop_commands.specs.Session.Steps.{AndThen}
-use Rattle.giop_commands.specs.Session.Table.{client_entry_in}
+use Rattle.giop_commands.specs.Session.Tables.Table.{client_entry_in}
 
 -- the LocateRequest of the object of a key, under the id 1
 abbrev pub locate_of : List ℕ → Version → AnyLocateRequest

@@ -20,8 +20,8 @@ use Rattle.giop_show.specs.declared.status.Status.{Status}
 use Rattle.giop_show.specs.declared.status.Status.TheVariants.{Done, Refused, InputOutput, Memory}
 use Rattle.giop_commands.specs.Session.Acts.{Outbox}
 use Rattle.giop_calling.specs.Call.Calling.{Asked, CallsAll, ClientCalls, Talks, asked_of, begun, new_box}
-use Rattle.giop_commands.specs.Session.BrokenStatus.{broken_status}
-use Rattle.giop_commands.specs.Session.Table.{client_entry_in}
+use Rattle.giop_commands.specs.Session.Faults.Broken.{broken_status}
+use Rattle.giop_commands.specs.Session.Tables.Table.{client_entry_in}
 use Rattle.giop_commands.specs.Session.Traffic.{Traffic}
 use Rattle.giop_commands.specs.Session.Printed.{Wire, session_text, told, wire}
 

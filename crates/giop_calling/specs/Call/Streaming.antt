@@ -32,10 +32,10 @@ use Rattle.giop_show.specs.Dump.Text.{ended}
 use Rattle.giop_show.specs.Forms.{line_in}
 use Rattle.giop_commands.specs.Session.Printed.{Wire, fault_text, told}
 use Rattle.giop_calling.specs.Call.Printed.{all_well, is_well, unwell_status}
-use Rattle.giop_commands.specs.Session.BrokenStatus.{broken_status}
+use Rattle.giop_commands.specs.Session.Faults.Broken.{broken_status}
 use Rattle.giop_commands.specs.Session.Steps.{AndThen, Each}
 use Rattle.giop_commands.specs.Session.Streaming.{has_ended, over_text, without_over}
-use Rattle.giop_commands.specs.Session.Table.{client_entry_in, table_text}
+use Rattle.giop_commands.specs.Session.Tables.Table.{client_entry_in, table_text}
 use Rattle.giop_commands.specs.Session.Turns.{GoesOn, WritesOut, most_turns}
 use Rattle.giop_commands.specs.Session.Traffic.{Traffic}
 

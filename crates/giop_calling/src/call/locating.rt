@@ -17,7 +17,7 @@ use crate::call::given::Calling;
 use crate::call::talk;
 use giop_calls::ClientEntry;
 use giop_cdr::OctetList;
-use giop_commands::session::broken::broken_status;
+use giop_commands::session::faults::broken::broken_status;
 use giop_commands::session::ending::{Ending, ending_of};
 use giop_commands::session::given::{Pipes, Showing};
 use giop_commands::session::sending::send_all;

@@ -16,7 +16,7 @@ use crate::call::calls::CallLine;
 use crate::call::given::Calling;
 use crate::call::streaming::turns::turn_of_calls;
 use crate::call::well::all_well;
-use giop_commands::session::broken::broken_status;
+use giop_commands::session::faults::broken::broken_status;
 use giop_commands::session::ending::{Ending, ending_of};
 use giop_commands::session::given::{Pipes, Showing};
 use giop_commands::session::streaming::tell_left;

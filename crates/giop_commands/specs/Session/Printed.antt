@@ -5,8 +5,8 @@ use Rattle.giop_end.specs.declared.session_fault.SessionFault.{SessionFault}
 use Rattle.giop_table.specs.declared.slot.Slot.{Slot}
 use Rattle.giop_show.specs.declared.form.LineForm.{LineForm}
 use Rattle.giop_show.specs.Dump.Text.{ended}
-use Rattle.giop_commands.specs.Session.FaultLines.{session_fault_in}
-use Rattle.giop_commands.specs.Session.Table.{table_text}
+use Rattle.giop_commands.specs.Session.Faults.Lines.{session_fault_in}
+use Rattle.giop_commands.specs.Session.Tables.Table.{table_text}
 
 -- the line of the fault that ended a session, where one did, in a form
 abbrev pub fault_text : LineForm → Option SessionFault → List ℕ

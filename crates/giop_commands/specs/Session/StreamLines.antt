@@ -11,8 +11,8 @@ use Rattle.giop_lines.specs.TableLines.{answered_line}
 use Rattle.giop_show.specs.declared.form.LineForm.{LineForm}
 use Rattle.giop_show.specs.Bodies.{brought_by, request_ins}
 use Rattle.giop_show.specs.Forms.{line_in, numbers_of}
-use Rattle.giop_commands.specs.Session.Shown.{answered_object, question_shown}
-use Rattle.giop_commands.specs.Session.Table.{server_entry_in}
+use Rattle.giop_commands.specs.Session.Tables.Shown.{answered_object, question_shown}
+use Rattle.giop_commands.specs.Session.Tables.Table.{server_entry_in}
 
 -- the ins of what was asked, and what a Reply to it brings; none, where it couldn't be decoded
 abbrev pub question_ins : NumberForm → Interface → Question → List ℕ

@@ -11,7 +11,7 @@ use Rattle.giop_table.specs.Sending.{entry_of}
 use Rattle.giop_types.specs.declared.json.interface.Interface.{Interface}
 use Rattle.giop_commands.specs.declared.session.given.Showing.{Showing}
 use Rattle.giop_show.specs.declared.form.LineForm.{LineForm}
-use Rattle.giop_commands.specs.Session.Table.{text_at}
+use Rattle.giop_commands.specs.Session.Tables.Table.{text_at}
 
 -- of calls that are over by this
 module _ {E : Type 0} (closed : E → Bool) where

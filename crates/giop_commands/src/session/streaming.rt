@@ -6,7 +6,7 @@ ghost use Rattle.std.specs.List.{IsDistinct};
 ghost use Rattle.std.specs.Ordering.{eq_by_cmp, nat_cmp};
 ghost use Rattle.std.specs.Io.KnownBytes.{Appends, Keeps};
 ghost use Rattle.giop_commands.specs.Session.Streaming.{OutInPart, SomeTold, over_lines, ended_at, over_at, over_text, without_ended, without_over};
-ghost use Rattle.giop_commands.specs.Session.Table.{table_text, text_at};
+ghost use Rattle.giop_commands.specs.Session.Tables.Table.{table_text, text_at};
 
 pub mod client;
 pub mod server;

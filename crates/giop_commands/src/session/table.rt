@@ -1,11 +1,12 @@
 //! The table of the calls of an end, a line for each, in a form. Its text is `table_text` in
-//! specs/Session/Table.antt: change both.
+//! specs/Session/Tables/Table.antt: change both.
 ghost use Rattle.std.specs.Prelude.{◌≡◌, OnOk};
 ghost use Rattle.std.specs.Io.KnownBytes.{Appends};
-ghost use Rattle.giop_commands.specs.Session.Table.{table_text};
+ghost use Rattle.giop_commands.specs.Session.Tables.Table.{table_text};
 
 pub mod client;
 pub mod server;
+pub mod shown;
 
 use giop_end::{End, Hearing};
 use giop_mux::CallRule;

@@ -18,7 +18,7 @@ use Rattle.giop_serving.specs.Serve.Printed.{IsServed, Serves, connection_in, se
 use Rattle.giop_commands.specs.Session.Printed.{Wire, session_text, told}
 use Rattle.giop_serving.specs.Serve.Serving as serving
 use Rattle.giop_serving.specs.Serve.Serving.{Served, ServerCalls, new_server, session}
-use Rattle.giop_commands.specs.Session.Table.{server_entry_in}
+use Rattle.giop_commands.specs.Session.Tables.Table.{server_entry_in}
 
 -- the connection of a server's end: its number, its table and its fault
 pub served : (number : ℕ) (it : Served) (lines : LineForm) (before after : Wire) (was now_passed : List AnswerName) (old new : Option (List ℕ))

@@ -21,7 +21,7 @@ use Rattle.giop_show.specs.Dump.Text.{ended}
 use Rattle.giop_show.specs.Forms.{line_in}
 use Rattle.giop_serving.specs.Serve.Serving as serving
 use Rattle.giop_serving.specs.Serve.Serving.{Served, ServerCalls, new_server, served_of, session}
-use Rattle.giop_commands.specs.Session.Table.{server_entry_in}
+use Rattle.giop_commands.specs.Session.Tables.Table.{server_entry_in}
 use Rattle.giop_commands.specs.Session.Traffic.{Traffic}
 use Rattle.giop_commands.specs.Session.Printed.{Wire, session_text, told, wire}
 

@@ -15,13 +15,13 @@ use Rattle.giop_serving.specs.declared.serve.in_turn.Passed.{Passed}
 use Rattle.giop_show.specs.declared.form.LineForm.{LineForm}
 use Rattle.giop_show.specs.declared.status.Status.{Status}
 use Rattle.giop_show.specs.Dump.Text.{ended}
-use Rattle.giop_commands.specs.Session.FaultLines.{last_in}
+use Rattle.giop_commands.specs.Session.Faults.Lines.{last_in}
 use Rattle.giop_serving.specs.Serve.Serving.{ServeEnds, Served, ServerCalls, ServerSide, Session, TurnAnswers, new_server, served_of, session, session_at}
 use Rattle.giop_commands.specs.Session.Printed.{Wire, told}
 use Rattle.giop_serving.specs.Serve.Printed.{connection_in, serve_status}
 use Rattle.giop_commands.specs.Session.Steps.{Each}
 use Rattle.giop_commands.specs.Session.StreamLines.{server_told_in}
-use Rattle.giop_commands.specs.Session.Table.{table_text}
+use Rattle.giop_commands.specs.Session.Tables.Table.{table_text}
 use Rattle.giop_commands.specs.Session.Traffic.{Traffic}
 use Rattle.giop_commands.specs.Session.Turns.{most_turns}
 use Rattle.giop_commands.specs.Session.Streaming.{over_text, without_over}

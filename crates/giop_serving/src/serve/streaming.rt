@@ -6,7 +6,7 @@ ghost use Rattle.giop_calls.specs.ServerTable.{is_closed};
 ghost use Rattle.giop_show.specs.Dump.Text.{ended};
 ghost use Rattle.giop_commands.specs.Session.Endings.{Ends};
 ghost use Rattle.giop_serving.specs.Serve.Endings.{ServesStreamEndOver};
-ghost use Rattle.giop_commands.specs.Session.FaultLines.{last_in};
+ghost use Rattle.giop_commands.specs.Session.Faults.Lines.{last_in};
 ghost use Rattle.giop_serving.specs.Serve.Printed.{connection_in, serve_status};
 ghost use Rattle.giop_serving.specs.Serve.Streaming.{StreamsOver, left_text};
 ghost use Rattle.giop_commands.specs.Session.Traffic.{traffic};

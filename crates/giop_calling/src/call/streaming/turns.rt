@@ -9,7 +9,7 @@ ghost use Rattle.giop_commands.specs.Session.Acts.{outbox_of};
 ghost use Rattle.giop_calling.specs.Call.Calling.{asked_of};
 ghost use Rattle.giop_calling.specs.Call.Streaming.{CallsNext, GoesOver, Makes, TakesNext, TurnsAt, all_over_well, has_room, is_done, next_has_room, still_open};
 ghost use Rattle.giop_commands.specs.Session.Streaming.{over_text};
-ghost use Rattle.giop_commands.specs.Session.Table.{client_entry_in};
+ghost use Rattle.giop_commands.specs.Session.Tables.Table.{client_entry_in};
 ghost use Rattle.giop_commands.specs.Session.Traffic.{traffic};
 
 use crate::call::call_one;

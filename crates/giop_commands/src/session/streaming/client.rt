@@ -7,7 +7,7 @@ use giop_types::Interface;
 use std::alloc::{AllocError, Global};
 
 impl Streamed for ClientRule {
-    ghost use Rattle.giop_commands.specs.Session.Table.{client_entry_in};
+    ghost use Rattle.giop_commands.specs.Session.Tables.Table.{client_entry_in};
 
     ghost told = { client_entry_in };
 

@@ -1,8 +1,8 @@
-//! The lines of a client's table, in a form. Their text is specs/Session/Table.antt, of the lines
+//! The lines of a client's table, in a form. Their text is specs/Session/Tables/Table.antt, of the lines
 //! of giop_lines.
 ghost use Rattle.std.specs.Prelude.{◌≡◌, IfOk};
 ghost use Rattle.std.specs.String.{string_bytes};
-ghost use Rattle.giop_commands.specs.Session.EntryBodies.{brought_text};
+ghost use Rattle.giop_commands.specs.Session.Tables.Bodies.{brought_text};
 
 use crate::session::table::Tabled;
 use giop_calls::{ClientEntry, ClientRule};
@@ -13,7 +13,7 @@ use giop_types::{Interface, NumberForm};
 use std::alloc::{AllocError, Global};
 
 impl Tabled for ClientRule {
-    ghost use Rattle.giop_commands.specs.Session.Table.{client_entry_in};
+    ghost use Rattle.giop_commands.specs.Session.Tables.Table.{client_entry_in};
 
     ghost line = { client_entry_in };
 

@@ -1,10 +1,10 @@
-//! The lines of a server's table, in a form. Their text is specs/Session/Table.antt, of the lines
+//! The lines of a server's table, in a form. Their text is specs/Session/Tables/Table.antt, of the lines
 //! of giop_lines.
 ghost use Rattle.std.specs.Prelude.{◌≡◌, IfOk};
 ghost use Rattle.std.specs.String.{string_bytes};
-ghost use Rattle.giop_commands.specs.Session.EntryBodies.{ins_text};
+ghost use Rattle.giop_commands.specs.Session.Tables.Bodies.{ins_text};
 
-use crate::session::shown::{EntryObject, EntryShownLine, entry_shown};
+use crate::session::table::shown::{EntryObject, EntryShownLine, entry_shown};
 use crate::session::table::Tabled;
 use giop_calls::{ServerEntry, ServerRule};
 use giop_lines::ServerEntryLine;
@@ -14,7 +14,7 @@ use giop_types::{Interface, NumberForm};
 use std::alloc::{AllocError, Global};
 
 impl Tabled for ServerRule {
-    ghost use Rattle.giop_commands.specs.Session.Table.{server_entry_in};
+    ghost use Rattle.giop_commands.specs.Session.Tables.Table.{server_entry_in};
 
     ghost line = { server_entry_in };
 

@@ -1,7 +1,7 @@
 use Rattle.std.proofs.Common.{take}
 use Rattle.std.specs.List.{flat_map}
 use Rattle.std.specs.Io.KnownBytes.{Appends}
-use Rattle.giop_commands.specs.Session.Table.{text_at}
+use Rattle.giop_commands.specs.Session.Tables.Table.{text_at}
 use Rattle.giop_commands.proofs.session.table.write_table.Given as goal
 
 abbrev pub invariant-loop-id : goal.invariant-loop-id

@@ -1,5 +1,5 @@
 //! The JSON line of the fault that ended a session. Its text is `session_fault_json` in
-//! specs/Session/FaultJson.antt; the numbers are giop_end's: change all three.
+//! specs/Session/Faults/Json.antt; the numbers are giop_end's: change all three.
 use giop_calls::CallFault;
 use giop_end::SessionFault;
 use giop_lines::{CdrFaultJson, WireFaultJson};
@@ -12,11 +12,11 @@ pub struct SessionFaultJson(pub SessionFault);
 
 impl fmt::Display for SessionFaultJson {
     ghost use Rattle.std.specs.Prelude.{Some};
-    ghost use Rattle.giop_commands.specs.Session.FaultJson.{session_fault_json};
+    ghost use Rattle.giop_commands.specs.Session.Faults.Json.{session_fault_json};
 
     ghost output = { λ l. Some (session_fault_json l.0) };
 
-    #[tactic(auto, unfolding(crate::specs::Session::FaultJson::session_fault_json))]
+    #[tactic(auto, unfolding(crate::specs::Session::Faults::Json::session_fault_json))]
     fn fmt<W: fmt::Write>(&self, f: &mut fmt::Formatter<W>) -> fmt::Result {
         write!(f, "{{\"fault\":{{\"number\":{}}}}}", WhyJson(self.0))
     }
@@ -28,7 +28,7 @@ struct WhyJson(SessionFault);
 
 impl fmt::Display for WhyJson {
     ghost use Rattle.std.specs.Prelude.{Some};
-    ghost use Rattle.giop_commands.specs.Session.FaultJson.{why_json};
+    ghost use Rattle.giop_commands.specs.Session.Faults.Json.{why_json};
 
     ghost output = { λ w. Some (why_json w.0) };
 
@@ -61,11 +61,11 @@ struct CallFaultJson(CallFault);
 
 impl fmt::Display for CallFaultJson {
     ghost use Rattle.std.specs.Prelude.{Some};
-    ghost use Rattle.giop_commands.specs.Session.FaultJson.{call_fault_json};
+    ghost use Rattle.giop_commands.specs.Session.Faults.Json.{call_fault_json};
 
     ghost output = { λ l. Some (call_fault_json l.0) };
 
-    #[tactic(auto, unfolding(crate::specs::Session::FaultJson::call_fault_json))]
+    #[tactic(auto, unfolding(crate::specs::Session::Faults::Json::call_fault_json))]
     fn fmt<W: fmt::Write>(&self, f: &mut fmt::Formatter<W>) -> fmt::Result {
         let (number, name) = (self.0.number(), self.0);
         write!(f, "{{\"number\":{number},\"name\":\"{name}\"}}")

@@ -10,7 +10,7 @@ pub struct SessionFaultLine(pub SessionFault);
 
 impl fmt::Display for SessionFaultLine {
     ghost use Rattle.std.specs.Prelude.{Some};
-    ghost use Rattle.giop_commands.specs.Session.FaultLines.{session_fault_line};
+    ghost use Rattle.giop_commands.specs.Session.Faults.Lines.{session_fault_line};
 
     ghost output = { λ l. Some (session_fault_line l.0) };
 

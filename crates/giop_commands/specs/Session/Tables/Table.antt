@@ -8,11 +8,11 @@ use Rattle.giop_calls.specs.declared.server.entry.ServerEntry.{ServerEntry}
 use Rattle.giop_calls.specs.declared.client.entry.ClientEntry.{ClientEntry}
 use Rattle.giop_table.specs.declared.slot.Slot.{Slot}
 use Rattle.giop_table.specs.Sending.{entry_of}
-use Rattle.giop_commands.specs.Session.EntryBodies.{brought_text, ins_text}
+use Rattle.giop_commands.specs.Session.Tables.Bodies.{brought_text, ins_text}
 use Rattle.giop_show.specs.declared.form.LineForm.{LineForm}
 use Rattle.giop_show.specs.Dump.Text.{ended}
 use Rattle.giop_show.specs.Forms.{line_in, numbers_of}
-use Rattle.giop_commands.specs.Session.Shown.{entry_object, entry_shown}
+use Rattle.giop_commands.specs.Session.Tables.Shown.{entry_object, entry_shown}
 use Rattle.giop_lines.specs.SessionJson.{client_json}
 use Rattle.giop_lines.specs.TableLines.{client_line, server_line}
 

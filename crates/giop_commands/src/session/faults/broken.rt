@@ -1,7 +1,7 @@
-//! The exit status of a session that a fault broke off. It is specs/Session/BrokenStatus.antt:
+//! The exit status of a session that a fault broke off. It is specs/Session/Faults/Broken.antt:
 //! change both.
 ghost use Rattle.std.specs.Prelude.{◌≡◌};
-ghost use Rattle.giop_commands.specs.Session.BrokenStatus.{broken_status};
+ghost use Rattle.giop_commands.specs.Session.Faults.Broken.{broken_status};
 
 use giop_end::SessionFault;
 use giop_show::status::{Limit, Status};

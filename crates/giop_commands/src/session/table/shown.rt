@@ -1,8 +1,8 @@
 //! Which object is asked, behind a line of a server, where objects are told apart. Its meaning is
-//! specs/Session/Shown.antt: change both.
+//! specs/Session/Tables/Shown.antt: change both.
 ghost use Rattle.std.specs.Prelude.{◌≡◌, IfOk, option_copied};
 ghost use Rattle.std.specs.String.{string_bytes};
-ghost use Rattle.giop_commands.specs.Session.Shown.{are_told_apart, entry_shown, located_shown, question_shown, target_shown};
+ghost use Rattle.giop_commands.specs.Session.Tables.Shown.{are_told_apart, entry_shown, located_shown, question_shown, target_shown};
 
 use giop_calls::{Question, ServerEntry};
 use giop_lines::{
@@ -113,11 +113,11 @@ pub struct EntryObject<'a> {
 
 impl fmt::Display for EntryObject<'_> {
     ghost use Rattle.std.specs.Prelude.{Some};
-    ghost use Rattle.giop_commands.specs.Session.Shown.{entry_object};
+    ghost use Rattle.giop_commands.specs.Session.Tables.Shown.{entry_object};
 
     ghost output = { λ l. Some (entry_object l.id l.entry.now l.ins.now l.shown.now) };
 
-    #[tactic(auto, unfolding(crate::specs::Session::Shown::entry_object))]
+    #[tactic(auto, unfolding(crate::specs::Session::Tables::Shown::entry_object))]
     fn fmt<W: fmt::Write>(&self, f: &mut fmt::Formatter<W>) -> fmt::Result {
         let (id, entry, shown) = (self.id, EntryJson(self.entry, self.ins), self.shown);
         write!(f, "{{\"id\":{id},\"what\":{entry}{shown}}}")
@@ -147,12 +147,12 @@ pub struct AnsweredObject<'a>(pub AnsweredJson<'a>, pub &'a str);
 
 impl fmt::Display for AnsweredObject<'_> {
     ghost use Rattle.std.specs.Prelude.{Some};
-    ghost use Rattle.giop_commands.specs.Session.Shown.{answered_object};
+    ghost use Rattle.giop_commands.specs.Session.Tables.Shown.{answered_object};
 
     ghost output = { λ l. Some (answered_object l.0.id l.0.asked.now l.0.ins.now l.0.body.now
         l.0.brought.now l.1.now) };
 
-    #[tactic(auto, unfolding(crate::specs::Session::Shown::answered_object))]
+    #[tactic(auto, unfolding(crate::specs::Session::Tables::Shown::answered_object))]
     fn fmt<W: fmt::Write>(&self, f: &mut fmt::Formatter<W>) -> fmt::Result {
         let (id, answer, shown) = (self.0.id, AnswerJson(self.0), self.1);
         write!(f, "{{\"id\":{id},\"what\":{answer}{shown}}}")
