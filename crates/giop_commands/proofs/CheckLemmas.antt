@@ -1,5 +1,5 @@
 -- An end that hears what a reader gives, and what is told of it.
-use Rattle.std.proofs.Common.{◌≡◌, ℕ, ◌+◌, ◌≤◌, Bool, false, List, [], ◌++◌, length, length-append, Option, Some, None, Result, Ok, Err, IfOk, refl, sym, ap, subst, ◌∙◌, inl, inr, append_assoc, arith}
+use Rattle.std.proofs.Common.{◌≡◌, ◌≢◌, ℕ, ◌+◌, ◌≤◌, Bool, false, List, [], ◌++◌, length, length-append, Option, Some, None, Result, Ok, Err, IfOk, refl, sym, ap, subst, ◌∙◌, inl, inr, append_assoc, arith}
 use Rattle.std.specs.List.{flat_map}
 use Rattle.std.specs.Io.KnownBytes.{Appends, Consumes, IsAtEnd}
 use Rattle.std.proofs.lemmas.List.{append-nil}
@@ -10,6 +10,7 @@ use Rattle.giop_msg.proofs.StreamLemmas.{fault_stands, length-message_octets}
 use Rattle.giop_types.specs.declared.json.interface.Interface.{Interface}
 use Rattle.giop_end.specs.declared.limits.Limits.{Limits}
 use Rattle.giop_end.specs.declared.session_fault.SessionFault.{SessionFault}
+use Rattle.giop_end.specs.declared.session_fault.SessionFault.TheVariants.{NoMemory}
 use Rattle.giop_end.specs.Hearing.Feeding.{Fed, Stops, with_octets}
 use Rattle.giop_end.proofs.OnHearing.FeedingLemmas.{fed_in_turn}
 use Rattle.giop_calls.specs.declared.server.entry.ServerEntry.{ServerEntry}
@@ -41,7 +42,7 @@ nothing_waits unread none = record {
 
 module _ {S : Type 0} (hears : Msg → S → Result (Unit {0}) SessionFault → S → Type 0) where
   -- no octets are heard
-  fed_nothing : (unread : Unread) (h : S) → Waits unread → Fed hears (with_octets unread []) h (Ok tt) unread h
+  pub fed_nothing : (unread : Unread) (h : S) → Waits unread → Fed hears (with_octets unread []) h (Ok tt) unread h
   fed_nothing unread h waits = record {
     messages = [];
     rest = unread;
@@ -200,18 +201,19 @@ pub checked : (interface : Interface) (limits : Limits) (strict : Bool) (form : 
     (fault : Option SessionFault) (left : Unread)
     (calls : Held ServerRule ServerEntry) (s : Status) (r : Result Status Failure)
     → HeardKnown (server_hears interface) all (nothing_read limits) (no_calls (record {}) limits) fault left calls
-    → Appends old middle (table_text (server_entry_in form interface) calls.table)
+    → fault ≢ Some NoMemory → Appends old middle (table_text (server_entry_in form interface) calls.table)
     → Appends middle new (ended (last_in form fault (length left.octets)))
     → s ≡ last_status fault (length left.octets)
     → IfOk r (λ status. status ≡ strict_status strict calls.table s)
     → IfOk r (ChecksKnown interface limits strict form all old new)
-checked interface limits strict form all old middle new fault left calls s (Err failure) heard table line last status = tt
-checked interface limits strict form None old middle new fault left calls s (Ok t) heard table line last status = tt
-checked interface limits strict form (Some octets) old middle new fault left calls s (Ok t) heard table line last status = record {
+checked interface limits strict form all old middle new fault left calls s (Err failure) heard memory table line last status = tt
+checked interface limits strict form None old middle new fault left calls s (Ok t) heard memory table line last status = tt
+checked interface limits strict form (Some octets) old middle new fault left calls s (Ok t) heard memory table line last status = record {
   fault = fault;
   left = left;
   calls = calls;
   heard = heard;
+  memory = memory;
   text =
       Appends-append old middle new (table_text (server_entry_in form interface) calls.table) (ended (last_in form fault (length left.octets)))
       table line;

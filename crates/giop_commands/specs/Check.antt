@@ -1,5 +1,5 @@
 -- What a run of `check` does: a server's end hears the octets of a file.
-use Rattle.std.specs.Prelude.{◌≡◌, ◌≤◌, ◌^◌, ◌⊎◌, ℕ, ◌==◌, Bool, true, false, List, [], ◌++◌, Option, Some, None, Result, Ok, Err, ⊤, if◌then◌else◌, length}
+use Rattle.std.specs.Prelude.{◌≡◌, ◌≢◌, ◌≤◌, ◌^◌, ◌⊎◌, ℕ, ◌==◌, Bool, true, false, List, [], ◌++◌, Option, Some, None, Result, Ok, Err, ⊤, if◌then◌else◌, length}
 use Rattle.std.specs.FinMap as finite
 use Rattle.std.specs.List.{list_all}
 use Rattle.std.specs.Io.KnownBytes.{Appends}
@@ -16,7 +16,7 @@ use Rattle.giop_calls.specs.declared.server.rule.ServerRule.{ServerRule}
 use Rattle.giop_calls.specs.ServerTable.{server_step, is_closed, is_gathering}
 use Rattle.giop_end.specs.declared.limits.Limits.{Limits}
 use Rattle.giop_end.specs.declared.session_fault.SessionFault.{SessionFault}
-use Rattle.giop_end.specs.declared.session_fault.SessionFault.TheVariants.{Closed}
+use Rattle.giop_end.specs.declared.session_fault.SessionFault.TheVariants.{Closed, NoMemory}
 use Rattle.giop_table.specs.declared.slot.Slot.{Slot}
 use Rattle.giop_end.specs.Ends.Begun.{no_calls}
 use Rattle.giop_table.specs.CallTable.{Held}
@@ -107,8 +107,8 @@ abbrev pub end_text : Interface → LineForm → Held ServerRule ServerEntry →
 end_text interface form calls fault unread =
     table_text (server_entry_in form interface) calls.table ++ ended (last_in form fault unread)
 
--- a new server's end of an interface, with these limits, heard these octets, the writer's contents
--- grew by its text, and this is its status, strictly or not
+-- a new server's end of an interface, with these limits, heard these octets and never wanted memory,
+-- the writer's contents grew by its text, and this is its status, strictly or not
 pub record IsChecked (interface : Interface) (limits : Limits) (strict : Bool) (form : LineForm)
     (octets : List ℕ) (old new : Option (List ℕ)) (status : Status) : Type 0 where
   pub fault : Option SessionFault
@@ -117,6 +117,7 @@ pub record IsChecked (interface : Interface) (limits : Limits) (strict : Bool) (
   pub heard :
       Hears (server_hears interface) octets (nothing_read limits) (no_calls (record {}) limits) fault
       left calls
+  pub memory : fault ≢ Some NoMemory
   pub text : Appends old new (end_text interface form calls fault (length left.octets))
   pub is : status ≡ strict_status strict calls.table (last_status fault (length left.octets))
 

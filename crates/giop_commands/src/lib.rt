@@ -5,6 +5,7 @@
 #![tactic(auto)]
 
 pub mod check;
+pub mod laws;
 pub mod session;
 
 pub use check::text::check_text;

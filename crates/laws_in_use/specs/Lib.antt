@@ -1,4 +1,5 @@
 pub mod Asking
+pub mod Checked
 pub mod ClientCalls
 pub mod Described
 pub mod Doors

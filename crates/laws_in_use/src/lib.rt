@@ -6,6 +6,7 @@ mod agreement;
 mod asking;
 mod calls;
 mod cdr;
+mod checked;
 mod classes;
 mod described;
 mod doors;
