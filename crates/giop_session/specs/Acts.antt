@@ -3,6 +3,7 @@ pub mod Acting
 pub mod PutOut
 pub use Rattle.giop_end.specs.Acts.ClientCalls
 pub use Rattle.giop_end.specs.Acts.Form
+pub use Rattle.giop_end.specs.Acts.InPieces
 pub use Rattle.giop_end.specs.Acts.Putting
 pub use Rattle.giop_end.specs.Acts.Refused
 pub use Rattle.giop_end.specs.Acts.Sent

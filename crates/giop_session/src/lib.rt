@@ -7,8 +7,8 @@
 pub mod laws;
 
 pub use giop_end::{
-    ClientEnd, Detached, End, Form, Hearing, Limits, Outgoing, PumpFault, ServerEnd, SessionFault,
-    WithLast, pump, turn, write_out,
+    ClientEnd, Detached, End, Form, Hearing, Limits, Outgoing, PumpFault, SendsPieces, ServerEnd,
+    SessionFault, WithLast, pump, turn, write_out,
 };
 pub use giop_mux::Side;
 pub use giop_table::{CallTable, Messages, Plan, Planned, Sending, Slot, TableFault, Unsent};
