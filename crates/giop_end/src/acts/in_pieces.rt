@@ -11,8 +11,9 @@ use crate::acts::outgoing::Outgoing;
 use crate::acts::putting::put;
 use crate::hearing::Hearing;
 use crate::session_fault::SessionFault;
-use giop_calls::{CallFault, ClientEntry, ClientEvent, ClientRule, ServerEntry, ServerEvent};
-use giop_calls::ServerRule;
+use giop_calls::{
+    CallFault, ClientEntry, ClientEvent, ClientRule, ServerEntry, ServerEvent, ServerRule,
+};
 use giop_mux::{CallRule, Side};
 use giop_table::{CallTable, Plan, Planned};
 

@@ -6,9 +6,9 @@ ghost use Rattle.std.specs.String.{string_bytes};
 ghost use Rattle.giop_commands.specs.Session.StreamLines.{answered_in, question_brought, question_ins};
 
 use crate::session::given::Showing;
-use crate::session::table::shown::{AnsweredObject, AnsweredShownLine, question_shown};
 use crate::session::streaming::Streamed;
 use crate::session::table::Tabled;
+use crate::session::table::shown::{AnsweredObject, AnsweredShownLine, question_shown};
 use giop_calls::{Question, ServerEntry, ServerRule};
 use giop_lines::{AnsweredJson, AnsweredLine};
 use giop_msg::ReplyBody;

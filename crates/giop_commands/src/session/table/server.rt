@@ -4,8 +4,8 @@ ghost use Rattle.std.specs.Prelude.{◌≡◌, IfOk};
 ghost use Rattle.std.specs.String.{string_bytes};
 ghost use Rattle.giop_commands.specs.Session.Tables.Bodies.{ins_text};
 
-use crate::session::table::shown::{EntryObject, EntryShownLine, entry_shown};
 use crate::session::table::Tabled;
+use crate::session::table::shown::{EntryObject, EntryShownLine, entry_shown};
 use giop_calls::{ServerEntry, ServerRule};
 use giop_lines::ServerEntryLine;
 use giop_show::bodies::request_ins;

@@ -71,8 +71,7 @@ told_same interface limits strict form octets one other status status' a b same 
     let fault : b.fault ≡ a.fault = ap (λ (s : State Calls). s.fault) same in
     let left : a.fault ≡ None → a.left ≡ b.left = λ none. sym (a.heard.whole none) ∙ sym (ap (λ (s : State Calls). s.unread) same)
     ∙ b.heard.whole (fault ∙ none) in
-    let n = length b.left.octets in
-    (
+    let n = length b.left.octets in (
       a.text ∙ ap (λ line. table_text (server_entry_in form interface) a.calls.table ++ ended line) (line_same form a.fault a.left b.left left)
           ∙ ap (λ (s : State Calls). end_text interface form s.calls s.fault n) (sym same) ∙ sym b.text,
       a.is ∙ ap (strict_status strict a.calls.table) (status_same a.fault a.left b.left left)
