@@ -1,4 +1,5 @@
 use Rattle.std.proofs.Common.{◌≡◌, refl, arith}
+use Rattle.giop_end.specs.Hearing.Heard.{in_call}
 use Rattle.giop_commands.specs.Session.Acts.{SendsRound, outbox}
 use Rattle.giop_commands.proofs.OnSession.ActLemmas.{others_on, same_fault}
 use Rattle.giop_commands.proofs.OnSession.StepLemmas.{counted_none, counted_more, counted_all, counted_stops}
@@ -25,7 +26,7 @@ returns-in-Some-clause-sends g c =
     let stops = rw (c.in-Some.is, fault, c.as_slice-in-rounds.ensures.value, ids) at c.in_ok-fault.ensures.sends in
     rw (← count)
     (counted_stops
-    (SendsRound g.R.CallRule.next g.R.CallRule.closed g.R.Side.gathering g.R.Hearing.in_call g.R.Sender.sends c.args.end.now.fault g.R.Sender.left_in _)
+    (SendsRound g.R.CallRule.next g.R.CallRule.closed g.R.Side.gathering in_call g.R.SendsPieces.sends c.args.end.now.fault g.R.Sender.left_in _)
     c.rounds.done c.most_left-most.result (outbox c.args.end.now.calls c.args.end.now.outgoing) (outbox c.rounds.end.calls c.rounds.end.outgoing)
     (outbox c.send_each.new.end.calls c.send_each.new.end.outgoing) c.in-Some.fault c.rounds-test.true sent stops)
 
@@ -37,5 +38,5 @@ returns-clause-sends g c =
     let sent = rw (ids, done) at c.rounds.invariant.sent in
     rw (← count)
     (counted_all
-    (SendsRound g.R.CallRule.next g.R.CallRule.closed g.R.Side.gathering g.R.Hearing.in_call g.R.Sender.sends c.args.end.now.fault g.R.Sender.left_in _)
+    (SendsRound g.R.CallRule.next g.R.CallRule.closed g.R.Side.gathering in_call g.R.SendsPieces.sends c.args.end.now.fault g.R.Sender.left_in _)
     c.most_left-most.result (outbox c.args.end.now.calls c.args.end.now.outgoing) (outbox c.rounds.end.calls c.rounds.end.outgoing) sent)

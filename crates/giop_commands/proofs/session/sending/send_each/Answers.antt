@@ -1,4 +1,5 @@
 use Rattle.std.proofs.Common.{◌≤◌, length, refl, arith}
+use Rattle.giop_end.specs.Hearing.Heard.{in_call}
 use Rattle.giop_commands.specs.Session.Acts.{SendsNext, outbox}
 use Rattle.giop_commands.proofs.OnSession.ActLemmas.{others_on, same_fault}
 use Rattle.giop_commands.proofs.OnSession.StepLemmas.{sofar_none, sofar_more, sofar_all, stopped}
@@ -26,5 +27,5 @@ pub returns-clause-sends : goal.returns-clause-sends
 returns-clause-sends g c =
     let all : length c.args.ids.now ≤ c.ids.id-index = omega arith in
     sofar_all
-    (SendsNext g.R.CallRule.next g.R.CallRule.closed g.R.Side.gathering g.R.Hearing.in_call g.R.Sender.sends c.args.end.now.fault g.R.Sender.left_in)
+    (SendsNext g.R.CallRule.next g.R.CallRule.closed g.R.Side.gathering in_call g.R.SendsPieces.sends c.args.end.now.fault g.R.Sender.left_in)
     c.args.ids.now c.ids.id-index (outbox c.args.end.now.calls c.args.end.now.outgoing) (outbox c.ids.end.calls c.ids.end.outgoing) all c.ids.invariant.sent

@@ -1,9 +1,0 @@
-use Rattle.std.proofs.Common.{ap}
-use Rattle.giop_commands.specs.Session.Acts.{outbox}
-use Rattle.giop_commands.proofs.session.sending.ClientRuleSender.send.Goals as goal
-
-pub returns-clause-sent : goal.returns-clause-sent
-returns-clause-sent c = record {
-  failed = λ why stands. let was = c.send.ensures.failed why stands in (was.0, ap (λ e. outbox e.calls e.outgoing) was.1);
-  puts = c.send.ensures.sent;
-}
