@@ -20,11 +20,11 @@ not_both told offer e is is' = let both : ◌≡◌ {A = Result Offer FormFault}
 pub returns-clause-interface : goal.returns-clause-interface
 returns-clause-interface c = λ text offer limits strict form octets old new status told checks. elim checks [
   | inl by ↦ (by.0, same_offer _ (interface_view by.0) offer by.1 told, by.2, by.3)
-  | inr none ↦ absurd (not_both _ offer none.1 told none.2)
+  | inr none ↦ absurd (not_both _ offer none.1.0 told none.1.1)
 ]
 
 pub returns-clause-refused : goal.returns-clause-refused
 returns-clause-refused c = λ text e limits strict form octets old new status told checks. elim checks [
   | inl by ↦ absurd (not_both _ (interface_view by.0) e by.1 told)
-  | inr none ↦ (none.0, subst (λ e. Appends old new (ended (refused_in form (Form e)))) (same_fault _ none.1 e none.2 told) none.3)
+  | inr none ↦ (none.0, subst (λ e. Appends old new (ended (refused_in form (Form e)))) (same_fault _ none.1.0 e none.1.1 told) none.1.2)
 ]
