@@ -62,7 +62,8 @@ use Rattle.giop_session.proofs.OnHearing.ClientReplyLemmas.{Nobody, Waits, await
 use Rattle.giop_session.proofs.OnItems.ClientItemLemmas.{client_item_leaves}
 use Rattle.giop_session.proofs.OnItems.HeldLemmas.{Each, Ends, Goes, GoesOn, IsOwnInput, IsTakenEvent, Said, all_said, ends_with, one_said}
 use Rattle.giop_session.proofs.OnItems.SeriesLemmas.{continued_version, fragment_version, joined_on, message_is, orders, series_on, twice}
-use Rattle.giop_end.proofs.OnActs.QuietLemmas.{call_quiet, cancel_quiet, client_send_quiet}
+use Rattle.giop_end.specs.Acts.InPieces.{client_sends}
+use Rattle.giop_end.proofs.OnActs.QuietLemmas.{call_quiet, cancel_quiet, piece_quiet}
 
 -- the acts that a client's end does itself
 abbrev pub is_own : ClientEvent → Bool
@@ -117,7 +118,7 @@ own_away (Some entry) (event.Call call pieces) owned away =
     (call_quiet (Some (record { entry = entry; unsent = [] })) call pieces Leave away)
 own_away (Some entry) event.Send owned away =
     quiet_is (table.send (Some entry)).entry Leave [] (table.send (Some entry)).outcome
-    (client_send_quiet (Some (record { entry = entry; unsent = [] })) Leave away)
+    (piece_quiet table.client_step table.is_gathering event.Send (Some (record { entry = entry; unsent = [] })) Leave client_sends away)
 own_away (Some entry) event.Cancel owned away =
     quiet_is (table.cancel (Some entry)).entry Leave [] (table.cancel (Some entry)).outcome
     (cancel_quiet (Some (record { entry = entry; unsent = [] })) Leave away)
