@@ -13,6 +13,7 @@ ghost use Rattle.laws_in_use.specs.InJson.{adding, adding_told};
 use giop_calls::ServerRule;
 use giop_commands::laws::texts_are_interfaces_or_refused;
 use giop_session::laws::any_reads_leave_the_same;
+use giop_types::laws::json_gives_interfaces_back;
 
 /// Two checks of the same octets write one text and end with one status. Of a file without octets
 /// that is one line, and done.
@@ -46,4 +47,5 @@ pub fn a_text_is_an_interface_or_none()
         × ChecksKnown interface default_limits false as_text octets (Some []) (Some new) status }
 {
     texts_are_interfaces_or_refused();
+    json_gives_interfaces_back();
 }

@@ -1,4 +1,9 @@
-use Rattle.std.proofs.Common.{◌≡◌, ◌≢◌, ℕ, Bool, false, List, [], ◌++◌, length, Option, Some, None, Result, Ok, Err, refl, sym, ap, ◌∙◌}
+use Rattle.std.proofs.Common.{◌≡◌, ◌≢◌, ℕ, Bool, false, List, [], ◌∷◌, ◌++◌, length, map, Option, Some, None, Result, Ok, Err, refl, sym, ap, ◌∙◌}
+use Rattle.std.specs.FinMap as finite
+use Rattle.std.specs.FinMap.{len-empty, len-entries}
+use Rattle.std.specs.Fmt.{digits}
+use Rattle.std.specs.List.{flat_map}
+use Rattle.std.specs.Ordering.{nat_cmp}
 use Rattle.giop_types.specs.declared.json.interface.Interface.{Interface}
 use Rattle.giop_msg.specs.declared.msg.Msg.{Msg}
 use Rattle.giop_msg.specs.Stream.{Unread}
@@ -10,6 +15,7 @@ use Rattle.giop_end.specs.declared.session_fault.SessionFault.TheVariants.{NoMem
 use Rattle.giop_end.specs.Ends.Begun.{no_calls}
 use Rattle.giop_end.specs.Hearing.Feeding.{Fed, standing, with_octets}
 use Rattle.giop_end.specs.Pumping.{Feeds, State}
+use Rattle.giop_table.specs.declared.slot.Slot.{Slot}
 use Rattle.giop_table.specs.CallTable.{Held}
 use Rattle.giop_show.specs.declared.form.LineForm.{LineForm}
 use Rattle.giop_show.specs.declared.status.Status.{Status}
@@ -17,7 +23,7 @@ use Rattle.giop_show.specs.declared.status.Status.TheVariants.{Done}
 use Rattle.giop_show.specs.Dump.Text.{ended}
 use Rattle.giop_commands.specs.Check.{IsChecked, answer_of, default_limits, end_text, last_status, nothing_read, server_hears, strict_status}
 use Rattle.giop_commands.specs.Session.Faults.Lines.{last_in}
-use Rattle.giop_commands.specs.Session.Tables.Table.{server_entry_in, table_text}
+use Rattle.giop_commands.specs.Session.Tables.Table.{server_entry_in, table_text, text_at}
 use Rattle.giop_commands.proofs.CheckLemmas.{fed_nothing, nothing_waits}
 use Rattle.laws_in_use.specs.Checked.{as_text, nothing_left}
 use Rattle.laws_in_use.proofs.checked.a_file_is_told_in_one_way.Goals as goal
@@ -88,6 +94,20 @@ returns-clause-same c = λ interface limits strict form octets one other status 
     (fed_with (server_hears interface) octets (nothing_read limits) b.heard.behind begun b.calls b.fault b.heard.fed) in
     told_same interface limits strict form octets one other status status' a b all.1
 
+-- of no calls nothing is told
+no_keys : {A B : Type 0} (f : A → B) (xs : List A) → length xs ≡ 0 → map f xs ≡ []
+no_keys f [] none = refl
+no_keys f (x ∷ xs) none = absurd cc
+
+no_lines : (line : ℕ → ServerEntry → List ℕ) → table_text line finite.empty ≡ []
+no_lines line =
+    ap (flat_map (text_at line finite.empty))
+    (no_keys _ _ (sym (len-entries (finite.empty {X = Slot ServerEntry} {R = nat_cmp})) ∙ len-empty nat_cmp (Slot ServerEntry)))
+
+rest_none : nothing_left ≡ ended (last_in as_text None 0)
+unfolding digits
+rest_none = refl
+
 nothing_heard : (interface : Interface) → IsChecked interface default_limits false as_text [] (Some []) (Some nothing_left) Done
 nothing_heard interface = record {
   fault = None;
@@ -100,7 +120,7 @@ nothing_heard interface = record {
     whole = λ none. refl;
   };
   memory = λ is. cc;
-  text = refl;
+  text = rest_none ∙ ap (λ lines. lines ++ ended (last_in as_text None 0)) (sym (no_lines (server_entry_in as_text interface)));
   is = refl;
 }
 
