@@ -7,13 +7,13 @@ use Rattle.giop_show.specs.declared.convert.described.Way.TheVariants.{Encode, D
 use Rattle.giop_show.specs.declared.form.LineForm.{LineForm}
 use Rattle.giop_types.specs.declared.json.number_form.NumberForm.{NumberForm}
 use Rattle.giop_types.specs.Descriptions.Shape.{Shape}
-use Rattle.giop_show.specs.Status.{answered_status, failure_status}
+use Rattle.giop_show.specs.Status.{IsJudged, answered_status, failure_status}
 use Rattle.giop_show.specs.declared.failure.Failure.{Failure}
 use Rattle.giop_show.specs.declared.failure.Failure.TheVariants.{Memory, Input, Output, Connection, TurnsSpent}
 use Rattle.giop_show.specs.declared.status.Status.{Status}
 use Rattle.giop_show.specs.declared.status.Status.TheVariants.{Done, Refused, LimitPassed, Usage, InputOutput}
 use Rattle.giop_show.specs.declared.status.Status.TheVariants.{Memory as memory_status}
-use Rattle.giop_files.specs.Report.{IsConverted, IsDecided, IsFailed, IsRefused}
+use Rattle.giop_files.specs.Report.{IsConverted, IsDecided, IsFailed, IsRefused, IsShown}
 
 pub failed_status : (failure : Failure) → IsFailed (failure_status failure)
 failed_status Memory = inr refl
@@ -29,6 +29,10 @@ refused_status (Err failure) _ = inr (failed_status failure)
 pub converted_status : (answered : Result Status Failure) → IfOk answered IsDecided → IsConverted (answered_status answered)
 converted_status (Ok status) is = inl is
 converted_status (Err failure) _ = inr (failed_status failure)
+
+pub shown_status : (answered : Result Status Failure) → IfOk answered IsJudged → IsShown (answered_status answered)
+shown_status (Ok status) is = inl is
+shown_status (Err failure) _ = inr (failed_status failure)
 
 pub decided_ior : (form : LineForm) (octets : List ℕ) (old new : Option (List ℕ)) (status : Status) → ConvertsIor form octets old new status → IsDecided status
 decided_ior form octets old new Done is = inl refl

@@ -6,6 +6,7 @@ use Rattle.giop_show.specs.declared.failure.Failure.{Failure}
 use Rattle.giop_show.specs.declared.failure.Failure.TheVariants.{Input, Memory as memory_failure}
 use Rattle.giop_show.specs.declared.status.Status.{Status}
 use Rattle.giop_show.specs.declared.status.Status.TheVariants.{Done, Refused, Usage, InputOutput, Memory}
+use Rattle.giop_show.specs.Status.{IsJudged}
 
 -- the status of a command line that asks for no task, where its text can be written
 abbrev pub usage_status : ErrorKind → Status
@@ -31,6 +32,10 @@ IsDecided status = (status ≡ Done) ⊎ (status ≡ Refused)
 -- a status that `convert` ends with: its file is converted or refused, or something failed
 abbrev pub IsConverted : Status → Type 0
 IsConverted status = IsDecided status ⊎ IsFailed status
+
+-- a status that `dump` and `trace` end with: the messages are judged, or something failed
+abbrev pub IsShown : Status → Type 0
+IsShown status = IsJudged status ⊎ IsFailed status
 
 -- a status of what is refused: it is told so, or telling it failed
 abbrev pub IsRefused : Status → Type 0

@@ -1,5 +1,8 @@
 //! `dump` over files and the standard output. What it prints is giop_show's dump.rt, over any
 //! reader and writer.
+ghost use Rattle.std.specs.Prelude.{IfOk};
+ghost use Rattle.giop_show.specs.Status.{IsJudged};
+ghost use Rattle.giop_files.specs.Report.{IsShown};
 
 use crate::files::OUTPUT_BUFFER;
 use crate::report::texts;
@@ -13,7 +16,10 @@ use std::io::{BufWriter, Read, Write};
 
 /// Reads the file of the interface, if there is one, then shows the messages of the other one piece
 /// by piece. Returns the status that the program ends with.
-pub fn dump(rt: &HostRuntime, words: DumpWords) -> Status {
+#[tactic(auto, using(crate::proofs::ReportLemmas::shown_status))]
+pub fn dump(rt: &HostRuntime, words: DumpWords) -> Status
+    ensures { IsShown result }
+{
     let Some(interface) = words.interface else {
         return report::status_of(rt, words.file, dump_file(rt, None, words));
     };
@@ -32,7 +38,9 @@ fn dump_file(
     rt: &HostRuntime,
     interface: Option<&[u8]>,
     words: DumpWords,
-) -> Result<Status, Failure> {
+) -> Result<Status, Failure>
+    ensures { IfOk result IsJudged }
+{
     if words.file == "-" {
         let behind = BehindFault::Leave;
         return dump_from(rt, interface, words, &mut rt.reader(), behind);
@@ -47,7 +55,9 @@ fn dump_from<R: Read>(
     words: DumpWords,
     reader: &mut R,
     behind: BehindFault,
-) -> Result<Status, Failure> {
+) -> Result<Status, Failure>
+    ensures { IfOk result IsJudged }
+{
     let mut writer = BufWriter::with_capacity(rt.alloc(), OUTPUT_BUFFER, io::writer(rt))?;
     let (alloc, limit, form) = (rt.alloc(), words.limit, words.form);
     let status = match interface {

@@ -3,7 +3,7 @@
 ghost use Rattle.std.specs.Prelude.{IfSome};
 ghost use Rattle.serde_json.specs.View.{view};
 ghost use Rattle.giop_where.specs.First.{IsPlace};
-ghost use Rattle.giop_files.specs.Places.{IsPlaceIn};
+ghost use Rattle.giop_files.specs.Places.{IsPlaceIn, part_of};
 
 mod names;
 pub mod parts;
@@ -49,8 +49,7 @@ pub(crate) fn of_value(alloc: Global, desc: &[u8], text: &[u8], fault: FormFault
 
 // The first fault of this number in a part, by what stands beside it.
 fn first_place(alloc: Global, role: Role, beside: &Json, json: &Json, number: u8) -> Option<Place>
-    ensures { IfSome result (IsPlace number
-        (record { role = role; beside = view beside.now; content = view json.now })) }
+    ensures { IfSome result (IsPlace number (part_of role (view beside.now) (view json.now))) }
 {
     match Place::find(alloc, Part { role, beside, json }, number) {
         Ok(place) => Some(place),

@@ -1,5 +1,8 @@
 //! `trace` over files and the standard output. What it prints is giop_show's trace.rt, over any
 //! readers and writer.
+ghost use Rattle.std.specs.Prelude.{IfOk};
+ghost use Rattle.giop_show.specs.Status.{IsJudged};
+ghost use Rattle.giop_files.specs.Report.{IsShown};
 
 use crate::files::OUTPUT_BUFFER;
 use crate::files::interfaces::{By, Joined, join_offers, read_each};
@@ -17,7 +20,10 @@ const EITHER: &str = "CLIENT or SERVER";
 
 /// Reads the files of interfaces, then traces the others piece by piece. A file that can't be
 /// opened is named; nothing is written then. Returns the status that the program ends with.
-pub fn trace(rt: &HostRuntime, words: &TraceWords<'_>) -> Status {
+#[tactic(auto, using(crate::proofs::ReportLemmas::shown_status))]
+pub fn trace(rt: &HostRuntime, words: &TraceWords<'_>) -> Status
+    ensures { IsShown result }
+{
     let offered = match read_each(rt, words.interfaces.as_slice()) {
         Ok(offered) => offered,
         Err(status) => return status,
@@ -36,7 +42,10 @@ pub fn trace(rt: &HostRuntime, words: &TraceWords<'_>) -> Status {
 }
 
 // Traces the files of what the two ends sent: that of the client is opened first.
-fn trace_files(rt: &HostRuntime, by: By<'_>, words: &TraceWords<'_>) -> Status {
+#[tactic(auto, using(crate::proofs::ReportLemmas::shown_status))]
+fn trace_files(rt: &HostRuntime, by: By<'_>, words: &TraceWords<'_>) -> Status
+    ensures { IsShown result }
+{
     if words.client == "-" {
         return trace_client(rt, by, words, &mut rt.reader());
     }
@@ -47,12 +56,15 @@ fn trace_files(rt: &HostRuntime, by: By<'_>, words: &TraceWords<'_>) -> Status {
 }
 
 // Traces what a client sent, and the file of what the server did where that is given.
+#[tactic(auto, using(crate::proofs::ReportLemmas::shown_status))]
 fn trace_client<C: Read>(
     rt: &HostRuntime,
     by: By<'_>,
     words: &TraceWords<'_>,
     client: &mut C,
-) -> Status {
+) -> Status
+    ensures { IsShown result }
+{
     let Some(server) = words.server else {
         let mut nothing = [0u8; 0].as_slice();
         let answered = trace_both(rt, by, words, Heard::Client, client, &mut nothing);
@@ -79,7 +91,9 @@ fn trace_both<C: Read, S: Read>(
     heard: Heard,
     client: &mut C,
     server: &mut S,
-) -> Result<Status, Failure> {
+) -> Result<Status, Failure>
+    ensures { IfOk result IsJudged }
+{
     let mut writer = BufWriter::with_capacity(rt.alloc(), OUTPUT_BUFFER, io::writer(rt))?;
     let (alloc, limit, form) = (rt.alloc(), words.limit, words.form);
     let out = &mut writer;

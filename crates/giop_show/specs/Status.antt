@@ -1,5 +1,5 @@
 -- The exit statuses of the program.
-use Rattle.std.specs.Prelude.{ℕ, List, codes, Result, Ok, Err}
+use Rattle.std.specs.Prelude.{◌≡◌, ◌⊎◌, ℕ, List, codes, Result, Ok, Err}
 use Rattle.giop_msg.specs.declared.fault.WireKind.{WireKind}
 use Rattle.giop_msg.specs.declared.fault.WireKind.TheVariants.{TooLarge}
 use Rattle.giop_show.specs.declared.status.Limit.{Limit}
@@ -30,6 +30,11 @@ limit_option Gathered = codes "--gathered-limit"
 abbrev pub header_status : WireKind → Status
 header_status TooLarge = LimitPassed Message
 header_status _ = Refused
+
+-- a status of messages that were read: all is well, something is refused, or one is too large; so
+-- it is none of the command line's, and none of what failed
+abbrev pub IsJudged : Status → Type 0
+IsJudged status = (status ≡ Done) ⊎ ((status ≡ Refused) ⊎ (status ≡ LimitPassed Message))
 
 -- the status that a failure ends with
 abbrev pub failure_status : Failure → Status

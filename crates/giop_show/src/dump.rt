@@ -7,6 +7,7 @@ ghost use Rattle.giop_types.specs.declared.json.number_form.NumberForm.TheVarian
 ghost use Rattle.giop_show.specs.Dump.Bodies.{telling_of};
 ghost use Rattle.giop_show.specs.Dump.Text.{Dumps, DumpsKnown, no_lists};
 ghost use Rattle.giop_show.specs.Dump.Heads.{heads_alone};
+ghost use Rattle.giop_show.specs.Status.{IsJudged};
 
 pub mod bodies;
 pub mod heads;
@@ -47,8 +48,8 @@ pub enum BehindFault {
 /// Where writing fails, it is `InputOutput`. Where it is out of memory, it is `Memory`. After
 /// either, a part of the text may be written.
 pub fn dump_octets<W: Write>(alloc: Global, octets: &[u8], writer: &mut W) -> Status
-    ensures { Dumps (heads_alone (LineForm.Text Plain)) MESSAGE_LIMIT octets.now (W.contents writer.old)
-        (W.contents writer.new) result }
+    ensures { Dumps (heads_alone (LineForm.Text Plain)) MESSAGE_LIMIT octets.now
+        (W.contents writer.old) (W.contents writer.new) result }
 {
     let mut left = octets;
     let (limit, form) = (MESSAGE_LIMIT, LineForm::Text(NumberForm::Plain));
@@ -76,6 +77,7 @@ pub fn dump_stream<R: Read, W: Write>(
         (W.contents writer.old) (W.contents writer.new)) }
     ensures end { OnOk result (behind ≡ BehindFault.Read → IsAtEnd (R.remaining reader.new)) }
     ensures done { IfOk result (λ status. status ≡ Status.Done → IsAtEnd (R.remaining reader.new)) }
+    ensures judged { IfOk result IsJudged }
 {
     let mut teller = Teller::of_heads(alloc, form);
     dump_by(alloc, &mut teller, limit, reader, writer, behind)
@@ -95,6 +97,7 @@ pub fn dump_by<R: Read, W: Write>(
         (W.contents writer.old) (W.contents writer.new)) }
     ensures end { OnOk result (behind ≡ BehindFault.Read → IsAtEnd (R.remaining reader.new)) }
     ensures done { IfOk result (λ status. status ≡ Status.Done → IsAtEnd (R.remaining reader.new)) }
+    ensures judged { IfOk result IsJudged }
 {
     let mut framer = Framer::new(alloc, limit);
     let mut buffer = PieceBuffer::new(alloc)?;

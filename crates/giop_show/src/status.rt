@@ -52,11 +52,12 @@ pub enum Status {
 
 impl Status {
     ghost use Rattle.std.specs.Prelude.{max};
-    ghost use Rattle.giop_show.specs.Status.{header_status, status_number};
+    ghost use Rattle.giop_show.specs.Status.{IsJudged, header_status, status_number};
 
     /// The status of what ends at a header with a fault of this kind.
     pub fn of_header(kind: WireKind) -> Status
-        ensures { result ≡ header_status kind }
+        ensures value { result ≡ header_status kind }
+        ensures judged { IsJudged result }
     {
         match kind {
             WireKind::TooLarge => Status::LimitPassed(Limit::Message),

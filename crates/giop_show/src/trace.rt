@@ -3,6 +3,7 @@ ghost use Rattle.std.specs.Prelude.{◌≡◌, ◌↔◌, [], None, IfNone, IfSo
 ghost use Rattle.std.specs.FinMap as finite;
 ghost use Rattle.std.specs.Io.KnownBytes.{Appends, IsAtEnd, Keeps};
 ghost use Rattle.giop_trace.specs.Observing.{left};
+ghost use Rattle.giop_show.specs.Status.{IsJudged};
 ghost use Rattle.giop_show.specs.Trace.Outcome.{status_of_both};
 ghost use Rattle.giop_show.specs.Trace.Loops.{BothAreHeard, ClientIsHeard, IsHeardOut, IsNextOfServer, SameForm, ServerEnds, ServerIsHeard, lines_by};
 ghost use Rattle.giop_show.specs.Trace.Text.{Traces, all_open, flow_line, is_alone, over_as, still_open};
@@ -96,6 +97,7 @@ pub fn trace_stream<C: Read, S: Read, W: Write>(
     ensures text { OnOk result (Traces form interface.now limit heard
         (C.remaining client.old) (S.remaining server.old)
         (W.contents writer.old) (W.contents writer.new)) }
+    ensures judged { IfOk result IsJudged }
 {
     let mut tracing = begun(alloc, limit, form, heard)?;
     match heard {
@@ -139,6 +141,7 @@ fn begun(alloc: Global, limit: u32, form: LineForm, heard: Heard) -> Result<Trac
 fn status_of_both(client: Status, server: Status) -> Status
     ensures value { result ≡ status_of_both client server }
     ensures done { (result ≡ Status.Done) ↔ ((client ≡ Status.Done) × (server ≡ Status.Done)) }
+    ensures judged { IsJudged client → IsJudged server → IsJudged result }
 {
     match (client, server) {
         (Status::Done, _) => server,

@@ -1,10 +1,10 @@
 //! Where a part of calls or answers is at fault, by the number of the fault.
-ghost use Rattle.std.specs.Prelude.{◌≡◌, ◌⊎◌, IfOk, IfSome};
+ghost use Rattle.std.specs.Prelude.{◌≡◌, IfOk, IfSome};
 ghost use Rattle.serde_json.specs.Data.{string};
 ghost use Rattle.serde_json.specs.View.{view};
 ghost use Rattle.giop_where.specs.First.{IsPlace};
 ghost use Rattle.giop_where.specs.Parts.{key as key_step, step_view};
-ghost use Rattle.giop_files.specs.Places.{IsPlaceUnder};
+ghost use Rattle.giop_files.specs.Places.{IsPlaceInWhole, IsPlaceUnder, part_of, whole_of};
 
 use giop_where::{NoPlace, Part, Place, Role, Step};
 use serde_json::Value as Json;
@@ -19,7 +19,7 @@ pub fn leaf_place(
     number: u8,
 ) -> Result<Option<Place>, NoPlace>
     ensures { IfOk result (λ found. IfSome found (IsPlaceUnder name.now number
-        (record { role = Role.Value; beside = string desc.now; content = view json.now }))) }
+        (part_of Role.Value (string desc.now) (view json.now)))) }
 {
     let beside = Json::try_from_str(alloc, desc)?;
     let part = Part {
@@ -44,10 +44,8 @@ pub fn arguments_place(
     role: Role,
     number: u8,
 ) -> Result<Place, NoPlace>
-    ensures { IfOk result (λ place. IsPlaceUnder name.now number
-        (record { role = Role.Arguments; beside = view beside.now; content = view json.now }) place
-        ⊎ IsPlace number
-        (record { role = role; beside = view all.now; content = view all.now }) place) }
+    ensures { IfOk result (IsPlaceInWhole name.now number
+        (part_of Role.Arguments (view beside.now) (view json.now)) (whole_of role (view all.now))) }
 {
     let part = Part {
         role: Role::Arguments,
@@ -63,8 +61,7 @@ pub fn arguments_place(
 
 /// A part that is at fault as a whole.
 pub fn whole(alloc: Global, role: Role, json: &Json, number: u8) -> Result<Place, NoPlace>
-    ensures { IfOk result (IsPlace number
-        (record { role = role; beside = view json.now; content = view json.now })) }
+    ensures { IfOk result (IsPlace number (whole_of role (view json.now))) }
 {
     let part = Part {
         role,

@@ -4,7 +4,7 @@ ghost use Rattle.std.specs.Io.KnownBytes.{Appends};
 ghost use Rattle.giop_msg.specs.declared.fault.WireKind.TheVariants.{NoMemory};
 ghost use Rattle.giop_show.specs.Dump.Text.{ended};
 ghost use Rattle.giop_show.specs.Dump.Heads.{fault_in, message_text, rest_in};
-ghost use Rattle.giop_show.specs.Status.{header_status};
+ghost use Rattle.giop_show.specs.Status.{IsJudged, header_status};
 
 use crate::dump::heads::write_second;
 use crate::failure::Failure;
@@ -43,6 +43,7 @@ pub fn write_rest<W: Write>(form: LineForm, rest: usize, writer: &mut W) -> Resu
     ensures text { OnOk result
         (Appends (W.contents writer.old) (W.contents writer.new) (ended (rest_in form rest))) }
     ensures ok { IfOk result (λ s. s ≡ (if rest == 0 then Status.Done else Status.Refused)) }
+    ensures judged { IfOk result IsJudged }
 {
     write_line(form, RestLine(rest), RestJson(rest), writer)?;
     Ok(if rest == 0 {
@@ -62,6 +63,7 @@ pub fn write_fault<W: Write>(
     ensures text { OnOk result
         (Appends (W.contents writer.old) (W.contents writer.new) (ended (fault_in form at fault))) }
     ensures ok { IfOk result (λ s. (s ≡ header_status fault.kind) × (fault.kind ≢ NoMemory)) }
+    ensures judged { IfOk result IsJudged }
 {
     if fault.kind == WireKind::NoMemory {
         return Err(Failure::Memory);

@@ -3,6 +3,7 @@
 ghost use Rattle.std.specs.Prelude.{◌≡◌, ◌≤◌, ◌^◌, IfOk};
 ghost use Rattle.std.specs.Io.KnownBytes.{IsAtEnd};
 ghost use Rattle.giop_show.specs.Dump.Bodies.{DumpsText};
+ghost use Rattle.giop_show.specs.Status.{IsJudged};
 
 use crate::convert::value::form_refusal;
 use crate::dump::teller::Teller;
@@ -31,6 +32,7 @@ pub fn dump_text<R: Read, W: Write>(
     ensures text { IfOk result (DumpsText interface.now limit gathered form
         (R.remaining reader.old) (W.contents writer.old) (W.contents writer.new)) }
     ensures done { IfOk result (λ status. status ≡ Status.Done → IsAtEnd (R.remaining reader.new)) }
+    ensures judged { IfOk result IsJudged }
 {
     match Interface::from_json(alloc, interface) {
         Ok(interface) => {

@@ -2,6 +2,7 @@
 ghost use Rattle.std.specs.Prelude.{◌≡◌, ◌^◌, ◌<◌, [], None, IfNone, IfSome, IfOk, OnOk, length};
 ghost use Rattle.std.specs.Io.KnownBytes.{Appends, IsAtEnd, Keeps};
 ghost use Rattle.giop_show.specs.Dump.Text.{ended};
+ghost use Rattle.giop_show.specs.Status.{IsJudged};
 ghost use Rattle.giop_show.specs.Trace.Incoming.{IsLast, IsNext, unheard};
 ghost use Rattle.giop_show.specs.Trace.Outcome.{direction_end_in, direction_status};
 
@@ -120,6 +121,7 @@ impl Incoming {
         ensures ok { IfOk result (λ status. status
             ≡ direction_status self.now.fault (length self.now.framer.octets)) }
         ensures done { IfOk result (λ status. status ≡ Status.Done → self.now.fault ≡ None) }
+        ensures judged { IfOk result IsJudged }
     {
         let (fault, rest) = (self.fault, self.framer.rest());
         match form {
@@ -148,7 +150,8 @@ impl Incoming {
 
 // The status of a direction that ends with this fault in a header, or with so many octets left.
 fn direction_status(fault: Option<WireFault>, rest: usize) -> Status
-    ensures { result ≡ direction_status fault rest }
+    ensures value { result ≡ direction_status fault rest }
+    ensures judged { IsJudged result }
 {
     match fault {
         Some(fault) => Status::of_header(fault.kind),

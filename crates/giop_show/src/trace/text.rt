@@ -2,6 +2,7 @@
 //! change both.
 ghost use Rattle.std.specs.Prelude.{◌≡◌, IfOk};
 ghost use Rattle.std.specs.Io.KnownBytes.{IsAtEnd};
+ghost use Rattle.giop_show.specs.Status.{IsJudged};
 ghost use Rattle.giop_show.specs.Trace.Text.{TracesText};
 
 use crate::convert::value::form_refusal;
@@ -34,6 +35,7 @@ pub fn trace_text<C: Read, S: Read, W: Write>(
     ensures text { IfOk result (TracesText interface.now limit form heard
         (C.remaining client.old) (S.remaining server.old)
         (W.contents writer.old) (W.contents writer.new)) }
+    ensures judged { IfOk result IsJudged }
 {
     match Interface::from_json(alloc, interface) {
         Ok(interface) => trace_stream(
