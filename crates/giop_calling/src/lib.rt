@@ -4,6 +4,7 @@
 #![tactic(auto)]
 
 pub mod call;
+pub mod laws;
 
 pub use call::given::Calling;
 pub use call::{call_over, call_session};

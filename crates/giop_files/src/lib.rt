@@ -6,6 +6,7 @@
 pub mod convert;
 pub mod dump;
 pub mod files;
+pub mod laws;
 pub mod places;
 pub mod report;
 pub mod trace;

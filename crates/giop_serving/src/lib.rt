@@ -2,6 +2,7 @@
 //! contract says what it prints. What it has in common with `call` is giop_commands.
 #![tactic(auto)]
 
+pub mod laws;
 pub mod serve;
 
 pub use serve::answering::{Answer, Due, due_to};

@@ -6,6 +6,7 @@ mod call;
 mod check;
 mod convert;
 mod dump;
+pub mod laws;
 mod locate;
 mod ping;
 mod serve;
