@@ -15,6 +15,7 @@ mod header_calls;
 mod interface_calls;
 mod interface_handle;
 mod json_values;
+pub mod laws;
 mod making_calls;
 mod parameters;
 mod reader;
