@@ -1,3 +1,4 @@
+mod AddingTold
 mod CdrSpelled
 mod Running
 mod DoorRuns

@@ -1,4 +1,5 @@
 pub mod Asking
+pub mod AtOnce
 pub mod Checked
 pub mod ClientCalls
 pub mod Described

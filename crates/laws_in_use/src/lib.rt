@@ -4,6 +4,7 @@
 
 mod agreement;
 mod asking;
+mod at_once;
 mod calls;
 mod cdr;
 mod checked;
@@ -12,6 +13,7 @@ mod described;
 mod doors;
 mod ends;
 mod feeding;
+mod files;
 mod gathering;
 mod heard;
 mod hearing;
@@ -36,4 +38,5 @@ mod sent;
 mod sides;
 mod spelled;
 mod tables;
+mod words;
 mod worlds;
