@@ -4,6 +4,8 @@ mod Running
 mod DoorRuns
 mod GatheringRuns
 mod Taking
+mod OneCall
+mod PiecesLeft
 mod LocatingMessages
 mod LocatingReads
 mod LocatingRuns

@@ -24,4 +24,5 @@ pub mod Refused
 pub mod Runs
 pub mod Sent
 pub mod ServerCalls
+pub mod Serving
 pub mod Worlds

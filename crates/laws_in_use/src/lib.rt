@@ -35,6 +35,7 @@ mod refused;
 mod replies;
 mod runs;
 mod sent;
+mod serving;
 mod sides;
 mod spelled;
 mod tables;
