@@ -1,5 +1,6 @@
 pub mod Asking
 pub mod AtOnce
+pub mod Calling
 pub mod Checked
 pub mod ClientCalls
 pub mod Described

@@ -5,6 +5,7 @@
 mod agreement;
 mod asking;
 mod at_once;
+mod calling;
 mod calls;
 mod cdr;
 mod checked;
