@@ -17,6 +17,7 @@ pub mod Lanes
 pub mod Left
 pub mod Limited
 pub mod Locating
+pub mod Named
 pub mod Observed
 pub mod OwnLanes
 pub mod Pinged

@@ -1,5 +1,5 @@
-//! Calls that `call` makes, in use: one for which there is room, one that waits for it, and one that
-//! is refused.
+//! Calls that `call` makes, in use: one for which there is room, one that waits for it, and one
+//! that is refused.
 ghost use Rattle.std.specs.Prelude.{◌≡◌, ◌≢◌, ◌∷◌, [], None, Some, length};
 ghost use Rattle.std.specs.FinMap as finite;
 ghost use Rattle.giop_types.specs.declared.json.interface.Interface.{Interface};

@@ -26,6 +26,7 @@ mod limited;
 mod limits;
 mod locating;
 mod messages;
+mod named;
 mod numbers;
 mod observed;
 mod on_the_way;

@@ -12,8 +12,8 @@ ghost use Rattle.laws_in_use.specs.Serving.{answering, has_answered, ping_passed
 use giop_commands::laws::failed_ends_send_nothing;
 use giop_serving::laws::pieces_pass_no_answers;
 
-/// The second piece of an answer is put out. At an end that its peer has closed it isn't: that fault
-/// is returned, and nothing changes.
+/// The second piece of an answer is put out. At an end that its peer has closed it isn't: that
+/// fault is returned, and nothing changes.
 pub fn a_piece_is_put_out_or_not()
     ensures sends { SendsPiece (λ rule. server_step) (λ rule. is_closed) is_gathering in_call
         event.Send None 7 answering (Ok tt) has_answered }
@@ -26,7 +26,8 @@ pub fn a_piece_is_put_out_or_not()
     failed_ends_send_nothing();
 }
 
-/// The same of all pieces that are left: the answer of a list that was passed is still the only one.
+/// The same of all pieces that are left: the answer of a list that was passed is still the only
+/// one.
 pub fn all_pieces_are_put_out_or_none()
     ensures sends { (served limits : _) → SendsLeft served limits None (desk answering ping_passed)
         None (desk has_answered ping_passed) }
