@@ -21,6 +21,7 @@ pub mod Named
 pub mod Observed
 pub mod OwnLanes
 pub mod Pinged
+pub mod Places
 pub mod Referred
 pub mod Refused
 pub mod Runs

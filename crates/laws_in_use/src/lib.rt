@@ -32,6 +32,7 @@ mod observed;
 mod on_the_way;
 mod own_lanes;
 mod pinged;
+mod places;
 mod referred;
 mod refused;
 mod replies;

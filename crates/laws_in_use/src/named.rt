@@ -13,8 +13,8 @@ ghost use Rattle.laws_in_use.specs.Named.{coin_named, tossing_told};
 
 use giop_names::laws::old_files_stay;
 
-/// The file of an interface of two operations has no name in it, and is its own plain form. One that
-/// names a type isn't as such files are.
+/// The file of an interface of two operations has no name in it, and is its own plain form. One
+/// that names a type isn't as such files are.
 pub fn a_file_without_names()
     ensures lawful { is_lawful adding_told ≡ true }
     ensures old { is_old Interface adding_told ≡ true }
