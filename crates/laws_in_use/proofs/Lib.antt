@@ -4,6 +4,7 @@ mod Running
 mod DoorRuns
 mod GatheringRuns
 mod Taking
+mod NoSuchName
 mod OneCall
 mod PiecesLeft
 mod LocatingMessages

@@ -2,6 +2,7 @@
 //! that is refused.
 ghost use Rattle.std.specs.Prelude.{◌≡◌, ◌≢◌, ◌∷◌, [], None, Some, length};
 ghost use Rattle.std.specs.FinMap as finite;
+ghost use Rattle.giop_types.specs.JsonForms.InterfaceFromJson.{interface_view};
 ghost use Rattle.giop_types.specs.declared.json.interface.Interface.{Interface};
 ghost use Rattle.giop_show.specs.declared.status.Status.TheVariants.{Refused};
 ghost use Rattle.giop_commands.specs.Session.Printed.{wire};
@@ -10,6 +11,7 @@ ghost use Rattle.giop_calling.specs.Call.Printed.{IsCalled};
 ghost use Rattle.giop_calling.specs.Call.Streaming.{Makes};
 ghost use Rattle.laws_in_use.specs.Calling.{HasNoPing, asked_for, has_called, no_ping, one_at_once, ping_line};
 ghost use Rattle.laws_in_use.specs.Checked.{as_text};
+ghost use Rattle.laws_in_use.specs.InJson.{adding};
 ghost use Rattle.laws_in_use.specs.Pinged.{HasPing};
 
 use giop_calling::laws::{calls_are_made_where_none_is_open, refused_calls_write_nothing};
@@ -27,9 +29,11 @@ pub fn one_call_waits_for_another()
     calls_are_made_where_none_is_open();
 }
 
-/// A call of an operation that its object hasn't is refused at this end: that is told, nothing is
-/// written, and the octets that would answer stay unread.
+/// An interface of `add` and `halt` has no `ping`. A call of an operation that its object hasn't is
+/// refused at this end: that is told, nothing is written, and what would answer stays unread.
 pub fn a_call_that_no_object_has()
+    ensures lacks { (interface : Interface) → interface_view interface ≡ adding
+        → interface.objects.entries ≡ [] → HasNoPing interface }
     ensures refused { (interface : Interface) → HasNoPing interface
         → IsCalled (asked_for interface (ping_line 7 ∷ [])) as_text
         (wire (Some (7 ∷ [])) (Some [])) (wire (Some (7 ∷ [])) (Some [])) (Some []) (Some no_ping)

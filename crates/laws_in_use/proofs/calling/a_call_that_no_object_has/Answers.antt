@@ -1,9 +1,11 @@
-use Rattle.std.proofs.Common.{◌≡◌, ◌∙◌, ◌++◌, [], ◌∷◌, is_none, if◌then◌else◌, Option, Some, None, Ok, Err, refl, sym, ap, subst, inl, inr}
+use Rattle.std.proofs.Common.{codes, false, ◌≡◌, ◌∙◌, ◌++◌, [], ◌∷◌, is_none, if◌then◌else◌, Option, Some, None, Ok, Err, refl, sym, ap, subst, inl, inr}
 use Rattle.std.specs.FinMap.{get-empty}
 use Rattle.std.specs.Fmt.{digits}
+use Rattle.std.specs.Str.{chars}
 use Rattle.std.specs.List.{flat_map}
 use Rattle.std.specs.Option.{option_or}
 use Rattle.std.specs.Ordering.{nat_cmp}
+use Rattle.giop_types.specs.JsonForms.InterfaceFromJson.{Offer}
 use Rattle.giop_types.specs.declared.json.interface.Interface.{Interface}
 use Rattle.giop_types.specs.declared.json.interface.Operation.{Operation}
 use Rattle.giop_msg.specs.declared.version.Version.TheVariants.{V12}
@@ -31,6 +33,8 @@ use Rattle.giop_calling.specs.Call.Calling.{CallsAll, ClientCalls, entry_at, new
 use Rattle.laws_in_use.specs.Calling.{HasNoPing, asked_for, no_ping, one_at_once, ping_line}
 use Rattle.laws_in_use.specs.Checked.{as_text}
 use Rattle.laws_in_use.specs.Exchange.{ping}
+use Rattle.laws_in_use.specs.InJson.{adding}
+use Rattle.laws_in_use.proofs.NoSuchName.{is_among, no_such_name}
 use Rattle.laws_in_use.proofs.OneCall.{keys_none}
 use Rattle.laws_in_use.proofs.calling.a_call_that_no_object_has.Goals as goal
 
@@ -82,6 +86,15 @@ module _ (interface : Interface) (none : HasNoPing interface) where
 told : no_ping ≡ ended (session_fault_in as_text unknown)
 unfolding digits
 told = refl
+
+none_named : is_among (codes "ping") adding.operations ≡ false
+unfolding chars
+none_named = refl
+
+pub returns-clause-lacks : goal.returns-clause-lacks
+returns-clause-lacks c = λ interface view alone.
+    no_such_name interface (codes "k") (codes "ping") alone
+    (ap (λ (offer : Offer). is_among (codes "ping") offer.operations) view ∙ none_named)
 
 pub returns-clause-refused : goal.returns-clause-refused
 returns-clause-refused c = λ interface none. record {
