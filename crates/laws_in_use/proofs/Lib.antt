@@ -1,8 +1,12 @@
+mod AddingTold
 mod CdrSpelled
 mod Running
 mod DoorRuns
 mod GatheringRuns
 mod Taking
+mod NoSuchName
+mod OneCall
+mod PiecesLeft
 mod LocatingMessages
 mod LocatingReads
 mod LocatingRuns

@@ -34,7 +34,7 @@ use Rattle.giop_calls.specs.declared.server.event.ServerEvent.{ServerEvent}
 use Rattle.giop_calls.specs.declared.server.event.ServerEvent.TheVariants as at_server
 use Rattle.giop_session.specs.declared.Planned.{Planned}
 use Rattle.giop_session.specs.Items.Carries.{IsWrittenAs}
-use Rattle.giop_session.specs.Acts.ClientCalls.{call_fault, is_request_sendable, request_octets}
+use Rattle.giop_session.specs.Acts.ClientCalls.{IsCall, call_fault, is_request_sendable, request_octets}
 use Rattle.giop_session.specs.Acts.Form.{is_sendable}
 use Rattle.giop_session.specs.Worlds.OwnLane.{PlansCall, PlansReply, alone, sends_cut}
 use Rattle.giop_session.specs.Acts.Refused.{unfit_unless}
@@ -99,7 +99,7 @@ module _ (interface : Interface) (has : HasPing interface) where
   unfolding request leads
   ping_written = body_written (operation_asked interface (ping V12).head) has.operation has.named has.no_ins
 
-  ping_unrefused : (form : Form) → form.order ≡ Big → is_sendable 64 64 V12 36 form.piece ≡ true
+  pub ping_unrefused : (form : Form) → form.order ≡ Big → is_sendable 64 64 V12 36 form.piece ≡ true
       → call_fault interface room None (ping V12) form ≡ None
   ping_unrefused form big fine =
       let known = ap (λ (o : Option Operation). option_or (if is_none o then Some UnknownOperation else None)
@@ -128,20 +128,24 @@ module _ (interface : Interface) (has : HasPing interface) where
     };
   }
 
+  -- in one message
+  pub ping_planned : IsCall interface (ping V12) (record { order = Big; piece = 64 }) (sends_cut (at_client.Call (asked.Request (ping V12))) (alone ping_whole))
+  ping_planned = record {
+    in_range = record { holds = ping_holds; piece = omega arith };
+    sent = (
+      ping_whole ∷ [],
+      subst (λ octets. IsCut V12 message.Request Big octets 64 (ping_whole ∷ [])) (sym ping_written) (refl, inr (omega arith)),
+      refl,
+    );
+  }
+
   pub pings_in_one : PlansCall interface None (asked.Request (ping V12)) (sends_cut (at_client.Call (asked.Request (ping V12))) (alone ping_whole))
   pings_in_one = record {
     limits = room;
     form = record { order = Big; piece = 64 };
     is_form = record { large = omega arith; multiple = refl };
     unrefused = ping_unrefused (record { order = Big; piece = 64 }) refl refl;
-    plans = record {
-      in_range = record { holds = ping_holds; piece = omega arith };
-      sent = (
-        ping_whole ∷ [],
-        subst (λ octets. IsCut V12 message.Request Big octets 64 (ping_whole ∷ [])) (sym ping_written) (refl, inr (omega arith)),
-        refl,
-      );
-    };
+    plans = ping_planned;
   }
 
   ping_can_cut : CanCut message.Request (request_octets interface (ping V12) Big) 40

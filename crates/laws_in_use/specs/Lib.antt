@@ -1,4 +1,6 @@
 pub mod Asking
+pub mod AtOnce
+pub mod Calling
 pub mod Checked
 pub mod ClientCalls
 pub mod Described
@@ -15,12 +17,15 @@ pub mod Lanes
 pub mod Left
 pub mod Limited
 pub mod Locating
+pub mod Named
 pub mod Observed
 pub mod OwnLanes
 pub mod Pinged
+pub mod Places
 pub mod Referred
 pub mod Refused
 pub mod Runs
 pub mod Sent
 pub mod ServerCalls
+pub mod Serving
 pub mod Worlds

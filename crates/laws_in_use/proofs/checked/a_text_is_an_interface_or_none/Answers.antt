@@ -1,15 +1,12 @@
-use Rattle.std.proofs.Common.{◌≡◌, [], false, true, Option, Some, Ok, ◌∙◌, refl, sym, ap, inr}
+use Rattle.std.proofs.Common.{[], false, Some, ◌∙◌, refl, ap, inr}
 use Rattle.std.specs.Fmt.{digits}
 use Rattle.std.specs.Str.{chars, is_utf8}
 use Rattle.giop_types.specs.declared.json.form_fault.FormFault.TheVariants.{BadJson}
-use Rattle.giop_types.specs.Descriptions.Checked.{desc_fault}
-use Rattle.giop_types.specs.JsonForms.DescToJson.{desc_data, is_sayable, members_data}
-use Rattle.giop_types.specs.JsonForms.InterfaceFromJson.{interface_told, offer_in, offered}
-use Rattle.giop_types.specs.JsonForms.InterfaceToJson.{offer_data, offer_sayable}
-use Rattle.giop_types.specs.JsonForms.Plain.{is_plain}
+use Rattle.giop_types.specs.JsonForms.InterfaceFromJson.{interface_told}
 use Rattle.giop_commands.specs.Check.{default_limits}
 use Rattle.laws_in_use.specs.Checked.{as_text, not_utf8}
-use Rattle.laws_in_use.specs.InJson.{adding, adding_told}
+use Rattle.laws_in_use.specs.InJson.{adding}
+use Rattle.laws_in_use.proofs.AddingTold.{adding_is_told, adding_sayable}
 use Rattle.laws_in_use.proofs.checked.a_text_is_an_interface_or_none.Goals as goal
 
 pub returns-clause-none : goal.returns-clause-none
@@ -26,20 +23,8 @@ returns-clause-only c = λ octets new status checks.
     c.texts_are_interfaces_or_refused.ensures.refused not_utf8 BadJson default_limits false as_text octets (Some []) (Some new) status
     (returns-clause-none c) checks
 
-sayable : offer_sayable adding ≡ true
-unfolding is_sayable is_plain desc_fault
-sayable = refl
-
-written : offer_data adding ≡ adding_told
-unfolding desc_data members_data
-written = refl
-
-judged : offered (Some adding) ≡ Ok adding
-unfolding desc_fault
-judged = refl
-
 pub returns-clause-by : goal.returns-clause-by
 returns-clause-by c = λ text octets new status told checks.
-    let read : offer_in adding_told ≡ Some adding = ap offer_in (sym written) ∙ c.json_gives_interfaces_back.ensures adding sayable in
+    let read = adding_is_told (c.json_gives_interfaces_back.ensures adding adding_sayable) in
     c.texts_are_interfaces_or_refused.ensures.interface text adding default_limits false as_text octets (Some []) (Some new) status
-    (ap interface_told told ∙ ap offered read ∙ judged) checks
+    (ap interface_told told ∙ read) checks
