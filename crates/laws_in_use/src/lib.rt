@@ -10,6 +10,7 @@ mod calls;
 mod cdr;
 mod checked;
 mod classes;
+mod converted;
 mod described;
 mod doors;
 mod ends;
