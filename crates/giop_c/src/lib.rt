@@ -16,6 +16,7 @@ mod interface_calls;
 mod interface_handle;
 mod json_values;
 pub mod laws;
+pub mod laws_in_use;
 mod making_calls;
 mod parameters;
 mod reader;

@@ -1,16 +1,17 @@
 //! Pieces of answers that an end of `serve` puts out, in use: one that is left, at an end that
-//! stands and at one that failed.
-ghost use Rattle.std.specs.Prelude.{◌≡◌, None, Some, Ok, Err};
+//! stands and at one that failed; and what is told of a connection that ends before any turn.
+ghost use Rattle.std.specs.Prelude.{◌≡◌, [], None, Some, Ok, Err, codes};
 ghost use Rattle.giop_calls.specs.ServerTable.{is_closed, is_gathering, server_step};
 ghost use Rattle.giop_calls.specs.declared.server.event.ServerEvent.TheVariants as event;
 ghost use Rattle.giop_end.specs.Hearing.Heard.{in_call};
 ghost use Rattle.giop_end.specs.declared.session_fault.SessionFault.TheVariants.{Closed};
 ghost use Rattle.giop_commands.specs.Session.Acts.{SendsPiece};
 ghost use Rattle.giop_serving.specs.Serve.Serving.{SendsLeft, desk};
+ghost use Rattle.giop_serving.specs.Serve.Streaming.{Streams};
 ghost use Rattle.laws_in_use.specs.Serving.{answering, has_answered, ping_passed};
 
 use giop_commands::laws::failed_ends_send_nothing;
-use giop_serving::laws::pieces_pass_no_answers;
+use giop_serving::laws::{no_turns_tell_no_calls, pieces_pass_no_answers};
 
 /// The second piece of an answer is put out. At an end that its peer has closed it isn't: that
 /// fault is returned, and nothing changes.
@@ -38,4 +39,13 @@ pub fn all_pieces_are_put_out_or_none()
         → t.passed ≡ ping_passed }
 {
     pieces_pass_no_answers();
+}
+
+/// Of a connection that ends before any turn its number is told, and no call.
+pub fn a_number_and_no_call()
+    ensures { (served limits lines s refused t : _)
+        → (streams : Streams served limits lines s refused t) → streams.turns ≡ []
+        → s.text ≡ Some (codes "connection 1") → t.text ≡ Some (codes "connection 1") }
+{
+    no_turns_tell_no_calls();
 }
