@@ -9,7 +9,8 @@ use Rattle.giop_msg.specs.Joined.{head_of_joined, joined_from, no_memory}
 use Rattle.giop_msg.proofs.JoinedLemmas.{copy_is, head_found, head_is, head_only, head_refused}
 
 -- a head that was read, and the place behind it
-pub head_viewed : {A : Type 0} {layout : Layout A} → IsLawful layout → (place : ℕ → ℕ) (order : Order) (octets : List ℕ) (start after : Cursor) (head : A) (at : ℕ)
+pub head_viewed : {A : Type 0} {layout : Layout A} → IsLawful layout → (place : ℕ → ℕ) (order : Order) (octets : List ℕ)
+    (start after : Cursor) (head : A) (at : ℕ)
     → start ≡ joined_from order octets → layout.read start ≡ Ok (head, after) → at ≡ place after.at
     → ViewsHead layout place order octets (Ok (head, at))
 head_viewed {A} {layout} lawful place order octets start after head at from read behind =

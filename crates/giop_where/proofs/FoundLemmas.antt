@@ -146,7 +146,8 @@ pub got_member : (k : List ℕ) (d : Data) (ms : Members) → get_member k ms �
 got_member k d json.no_members is = absurd cc
 got_member k d (json.member l e ms) is = by_order (got_member k d ms) (slice_cmp nat_cmp k l) refl is
   where
-    by_order : (get_member k ms ≡ Some d → HasMember ms k d) → (o : Ordering) → slice_cmp nat_cmp k l ≡ o → match_ordering o (get_member k ms) (Some e) (get_member k ms) ≡ Some d
+    by_order : (get_member k ms ≡ Some d → HasMember ms k d) → (o : Ordering) → slice_cmp nat_cmp k l ≡ o
+        → match_ordering o (get_member k ms) (Some e) (get_member k ms) ≡ Some d
         → ((l ≡ k) × (e ≡ d)) ⊎ HasMember ms k d
     by_order others Less same is = inr (others is)
     by_order others Equal same is = inl (sym (slice_cmp-IsAntisymmetric nat_cmp-IsAntisymmetric k l same), part_of_some is)

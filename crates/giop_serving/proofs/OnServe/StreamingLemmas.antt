@@ -62,7 +62,8 @@ pub is_streamed : (number : ℕ) (it : Served) (lines : LineForm) (before after 
     → Appends old named (ended (connection_in lines number))
     → Streams it it.limits lines (shown (session (new_server it.limits before.input before.output) was) named) refused
     (shown (session (between after.input after.output outgoing unread left fault) now_passed) text)
-    → OnOk r (Appends text new (left_text lines it.interface left (told refused fault) unread)) → IfOk r (λ ending. ending.status ≡ serve_status (told refused fault))
+    → OnOk r (Appends text new (left_text lines it.interface left (told refused fault) unread))
+    → IfOk r (λ ending. ending.status ≡ serve_status (told refused fault))
     → IfOk r (Ends is_closed (told refused fault) left.table unread) → IfOk r (ServesStreamEnd number it lines before after was now_passed old new)
 is_streamed number it lines before after was now_passed old named text new refused outgoing unread left fault (Err failure) name streams last is ends = tt
 is_streamed number it lines before after was now_passed old named text new refused outgoing unread left fault (Ok ending) name streams last is ends = record {

@@ -23,7 +23,8 @@ messages-preserved g c =
     let found = rw (c.in-Some.is, before.same.server_limit) at next.found in
     let on : waits && is_early flows m ≡ false =
     elim c.else-waits.branch [
-      | else-waits-via-then-waits+else-is_early w ↦ rw (w.if-waits.true, ← ap (λ o. is_early o.calls.entries m) observer) (sym w.is_early.ensures ∙ w.if-is_early.false)
+      | else-waits-via-then-waits+else-is_early w ↦ rw (w.if-waits.true, ← ap (λ o. is_early o.calls.entries m) observer)
+          (sym w.is_early.ensures ∙ w.if-is_early.false)
       | else-waits-via-else-waits w ↦ rw w.if-waits.false refl
     ]
     in

@@ -20,7 +20,8 @@ one_path number p q r (w ∷ one) (v ∷ other) a b =
     let (s, step, led) = a.led in
     let (t, step', led') = b.led in
     let same = part_of_some (sym step ∙ step') in
-    let moved : IsFirst number s other r = record { led = subst (λ x. Rattle.giop_where.specs.First.Leads number x other r) (sym (ap (λ x. x.1) same)) led'; own = b.own } in
+    let moved : IsFirst number s other r =
+    record { led = subst (λ x. Rattle.giop_where.specs.First.Leads number x other r) (sym (ap (λ x. x.1) same)) led'; own = b.own } in
     let rest = one_path number s q r one other (record { led = led; own = a.own }) moved in
     ((λ i. ap (λ x. x.0) same i ∷ rest.0 i), rest.1)
 

@@ -6,4 +6,5 @@ use Rattle.giop_calling.proofs.call.following.write_latest.Given as goal
 
 abbrev pub invariant-loop-id : goal.invariant-loop-id
 invariant-loop-id g l =
-    Appends (g.O.Write.contents l.fn.out) (g.O.Write.contents l.out) (flat_map (latest_at l.showing.lines l.showing.interface.now l.ends) (take l.id-index l.ids))
+    Appends (g.O.Write.contents l.fn.out) (g.O.Write.contents l.out)
+    (flat_map (latest_at l.showing.lines l.showing.interface.now l.ends) (take l.id-index l.ids))

@@ -9,7 +9,8 @@ returns-in-Ok g c =
     (wire (g.R.Read.remaining c.args.pipes.now.reader) (g.W.Write.contents c.args.pipes.now.writer))
     (wire (g.R.Read.remaining c.stream_calls.new.pipes.reader) (g.W.Write.contents c.stream_calls.new.pipes.writer)) (g.O.Write.contents c.args.pipes.now.out)
     (g.O.Write.contents c.stream_calls.new.pipes.out) (g.O.Write.contents c.tell_end.new.out) c.in-Ok.refused c.stream_calls.new.end.outgoing
-    c.stream_calls.new.end.framer c.stream_calls.new.end.calls c.stream_calls.new.end.fault c.stream_calls.new.left.items c.stream_calls.new.well c.tell_end.result
+    c.stream_calls.new.end.framer c.stream_calls.new.end.calls c.stream_calls.new.end.fault c.stream_calls.new.left.items
+    c.stream_calls.new.well c.tell_end.result
     (rw (
       c.new-end.ensures.fault,
       c.new-end.ensures.calls,

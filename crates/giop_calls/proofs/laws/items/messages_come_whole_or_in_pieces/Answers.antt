@@ -41,7 +41,15 @@ call_spells : (v : Option ServerEntry) (call : HeardCall) (acts : List (Happenin
     → CallComes call acts → Spells server_said.server_turn server_said.server_words v (Got call) acts
 call_spells v call acts (inl is) = inl is
 call_spells v call acts (inr (kind, further, last, is)) =
-    inr (kind, map (λ b. Hears (at_server.More b)) further, Hears (at_server.Last last call), tt, are_of (λ b. Hears (at_server.More b)) further, (last, refl), is)
+    inr (
+      kind,
+      map (λ b. Hears (at_server.More b)) further,
+      Hears (at_server.Last last call),
+      tt,
+      are_of (λ b. Hears (at_server.More b)) further,
+      (last, refl),
+      is,
+    )
 
 abbrev ReplyComes : client_said.Message → List (Happening ClientEvent) → Type 0
 ReplyComes m acts = (acts ≡ client_said.client_words.whole m ∷ [])
@@ -58,7 +66,15 @@ reply_spells : (v : Option ClientEntry) (m : client_said.Message) (acts : List (
     → ReplyComes m acts → Spells client_said.client_turn client_said.client_words v (Got m) acts
 reply_spells v m acts (inl is) = inl is
 reply_spells v m acts (inr (further, last, is)) =
-    inr (m.begun, map (λ b. Hears (at_client.More b)) further, Hears (at_client.Last last m.reply), refl, are_of (λ b. Hears (at_client.More b)) further, (last, refl), is)
+    inr (
+      m.begun,
+      map (λ b. Hears (at_client.More b)) further,
+      Hears (at_client.Last last m.reply),
+      refl,
+      are_of (λ b. Hears (at_client.More b)) further,
+      (last, refl),
+      is,
+    )
 
 pub returns-clause-call : goal.returns-clause-call
 returns-clause-call c = λ v call acts. (call_comes v call acts, call_spells v call acts)

@@ -14,10 +14,12 @@ pub loop-id-preserved : goal.loop-id-preserved
 loop-id-preserved g c =
     let rule = same_rule c.args.end.now c.loop-id.end c.loop-id.invariant.others in
     record {
-      text = one_more_told _ _ c.args.ids.now c.loop-id.id-index 0 c.args.end.now.calls.table c.loop-id.end.calls.table _ _ _ c.requires.apart c.loop-id-test.true
+      text = one_more_told _ _ c.args.ids.now c.loop-id.id-index 0 c.args.end.now.calls.table c.loop-id.end.calls.table
+          _ _ _ c.requires.apart c.loop-id-test.true
           c.loop-id.invariant.left c.loop-id.invariant.text (rw rule at c.in_ok-tell_if_over.ensures.text);
       left = one_more_out _ c.args.ids.now c.loop-id.id-index 0 c.args.end.now.calls.table c.loop-id.end.calls.table c.tell_if_over.new.end.calls.table
           c.loop-id-test.true c.loop-id.invariant.left
-          (table_stepped c.args.end.now c.loop-id.end c.tell_if_over.new.end g.R.CallRule.closed _ c.loop-id.invariant.others c.in_ok-tell_if_over.ensures.left);
+          (table_stepped c.args.end.now c.loop-id.end c.tell_if_over.new.end g.R.CallRule.closed _
+          c.loop-id.invariant.others c.in_ok-tell_if_over.ensures.left);
       others = tables_on c.args.end.now c.loop-id.end c.tell_if_over.new.end _ c.loop-id.invariant.others c.in_ok-tell_if_over.ensures.left;
     }

@@ -5,7 +5,8 @@ use Rattle.giop_serving.proofs.serve.streaming.stream_over.Goals as goal
 pub returns-in-Ok : goal.returns-in-Ok
 returns-in-Ok g c =
     let it : Served = served_of c.args.serving in
-    is_streamed c.args.number it c.args.serving.lines _ _ _ _ _ _ _ _ c.in-Ok.refused c.stream_answers.new.end.outgoing c.stream_answers.new.end.framer c.stream_answers.new.end.calls
+    is_streamed c.args.number it c.args.serving.lines _ _ _ _ _ _ _ _ c.in-Ok.refused
+    c.stream_answers.new.end.outgoing c.stream_answers.new.end.framer c.stream_answers.new.end.calls
     c.stream_answers.new.end.fault c.tell_end.result c.in_ok-tell_begin.ensures
     (rw (
       c.new-end.ensures.limits,

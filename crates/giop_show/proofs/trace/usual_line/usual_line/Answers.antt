@@ -10,7 +10,8 @@ returns-in-Ok c =
     let one = c.in-Some-Some.asked in
     let other = c.in-Some-Some.answer in
     let exact = rw c.in-Ok.is at c.decode.ensures.exact in
-    let decoded : request_of_joined c.args.interface.now one.version one.order one.payload ≡ Ok c.in-Ok.request = rw (c.new-joined.ensures, c.as_slice.ensures) at exact in
+    let decoded : request_of_joined c.args.interface.now one.version one.order one.payload ≡ Ok c.in-Ok.request =
+    rw (c.new-joined.ensures, c.as_slice.ensures) at exact in
     let requested : one.kind ≡ kind.Request = c.if-not-is_whole.ensures.kind refl in
     let whole : one.more ≡ false = c.if-not-is_whole.ensures.whole refl in
     let replied : other.kind ≡ kind.Reply = c.if-not-is_whole-2.ensures.kind refl in

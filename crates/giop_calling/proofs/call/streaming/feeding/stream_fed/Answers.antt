@@ -15,7 +15,8 @@ returns-in-Ends g c =
     let first = feed_at (g.S.Read.remaining c.turns.source.source) c.turns.source in
     let mid = feed_at (g.S.Read.remaining c.feed_next.new.source.source) c.feed_next.new.source in
     fed_streams (asked_of c.args.calling []) c.args.calling.lines c.args.source.now.waits c.turns.done _
-    (fed_of (g.R.Read.remaining c.turns.pipes.reader) (g.W.Write.contents c.turns.pipes.writer) (g.O.Write.contents c.turns.pipes.out) first c.turns.end c.turns.well)
+    (fed_of (g.R.Read.remaining c.turns.pipes.reader) (g.W.Write.contents c.turns.pipes.writer) (g.O.Write.contents c.turns.pipes.out)
+    first c.turns.end c.turns.well)
     _ c.in-Ends.refused c.turns.invariant.streamed c.turns-test.true
     (fed_ends (asked_of c.args.calling []) c.args.calling.lines c.args.source.now.waits s t (g.O.Write.contents c.turns.pipes.out)
     (g.O.Write.contents c.turn_of_calls.new.pipes.out) first mid c.turn_of_calls.new.left.items c.turns.well c.turn_of_calls.new.well c.in-Ends.refused

@@ -10,7 +10,8 @@ use Rattle.giop_calling.proofs.call.streaming.turns.turn_of_calls.Goals as goal
 pub returns-then-branch-clause-goes : goal.returns-then-branch-clause-goes
 returns-then-branch-clause-goes g c = λ all.
     ends_done (asked_of c.args.calling all) c.args.calling.lines
-    (end_between (g.R.Read.remaining c.args.pipes.now.reader) (g.W.Write.contents c.args.pipes.now.writer) c.args.end.now) (g.O.Write.contents c.args.pipes.now.out)
+    (end_between (g.R.Read.remaining c.args.pipes.now.reader) (g.W.Write.contents c.args.pipes.now.writer) c.args.end.now)
+    (g.O.Write.contents c.args.pipes.now.out)
     c.args.left.now.items c.args.well.now (sym c.in_ok-is_done.ensures ∙ c.if-branch.true)
 
 pub returns-in-Some-clause-goes : goal.returns-in-Some-clause-goes

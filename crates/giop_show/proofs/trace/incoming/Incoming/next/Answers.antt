@@ -11,7 +11,8 @@ use Rattle.giop_show.proofs.trace.incoming.Incoming.next.Goals as goal
 pub returns-in-Ok-Some-clause-found : goal.returns-in-Ok-Some-clause-found
 returns-in-Ok-Some-clause-found g c =
     let before = c.pieces.invariant in
-    let takes : TakesMessage c.pieces.self.framer c.in-Ok-Some.message c.next.new.self = rw (c.in-Ok-Some.is, c.in-Ok-Some.field-0-is) at c.next.ensures.found in
+    let takes : TakesMessage c.pieces.self.framer c.in-Ok-Some.message c.next.new.self =
+    rw (c.in-Ok-Some.is, c.in-Ok-Some.field-0-is) at c.next.ensures.found in
     next_kept c.args.self.now.framer.limit _ _ _ c.in-Ok-Some.message before.octets
     (is_next c.args.self.now.framer.limit c.pieces.self.framer c.next.new.self (g.R.Read.remaining c.pieces.reader) c.in-Ok-Some.message before.limit takes)
 

@@ -3,5 +3,9 @@ use Rattle.giop_show.proofs.trace.json.answer.write_body.Goals as goal
 
 pub returns-in_default-Some : goal.returns-in_default-Some
 returns-in_default-Some g c =
-    rw (c.in_default-Some.is-1, body_brought c.args.numbers c.args.interface.now c.in_default-Some.request.now c.args.body.now c.in_default-Some.not-SystemException-0)
+    rw (
+      c.in_default-Some.is-1,
+      body_brought c.args.numbers c.args.interface.now c.in_default-Some.request.now c.args.body.now
+          c.in_default-Some.not-SystemException-0,
+    )
     c.write_result.ensures
