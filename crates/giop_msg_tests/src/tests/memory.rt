@@ -5,7 +5,8 @@ use giop_msg::{
     Framer, Kind, LocateReply, LocateRequest, Reply, ReplyHead, Request, RequestHead, Version,
     WireFault, WireKind, can_cut, cut, read_pieces,
 };
-use giop_types::Interface;
+use giop_types::{FormFault, Interface};
+use std::alloc::Global;
 use std::test::Fail;
 
 const ADD_INTERFACE: &[u8] =
@@ -86,7 +87,7 @@ fn messages_are_taken_again(rt: HostRuntime) -> Result<(), Fail> {
 }
 
 #[test]
-fn a_head_without_memory_is_not_written(rt: HostRuntime) -> Result<(), Fail> {
+fn a_request_head_without_memory_is_not_written(rt: HostRuntime) -> Result<(), Fail> {
     let alloc = rt.alloc();
     let joined = SliceOctets::new(&ADD[12..]);
     let (head, _) = again(|| RequestHead::decode(alloc, &joined, Version::V12, Order::Big))?;
@@ -97,6 +98,12 @@ fn a_head_without_memory_is_not_written(rt: HostRuntime) -> Result<(), Fail> {
         head.write(&mut out)?;
     }
     assert_eq!(rt; out.as_slice(), &ADD[12..53]);
+    Ok(())
+}
+
+#[test]
+fn a_reply_head_without_memory_is_not_written(rt: HostRuntime) -> Result<(), Fail> {
+    let alloc = rt.alloc();
     let joined = SliceOctets::new(&SEVEN);
     let (head, _) = again(|| ReplyHead::decode(alloc, &joined, Version::V12, Order::Big))?;
     let mut out = CdrOut::new(alloc, Order::Big, 12);
@@ -109,42 +116,75 @@ fn a_head_without_memory_is_not_written(rt: HostRuntime) -> Result<(), Fail> {
     Ok(())
 }
 
-#[test]
-fn a_message_is_decoded_encoded_and_cut_again(rt: HostRuntime) -> Result<(), Fail> {
-    let alloc = rt.alloc();
-    let (version, order) = (Version::V12, Order::Big);
-    let interface = again(|| Interface::from_json(alloc, ADD_INTERFACE))?;
+fn add_interface(alloc: Global) -> Result<Interface, FormFault> {
+    again(|| Interface::from_json(alloc, ADD_INTERFACE))
+}
+
+fn add_request(alloc: Global, interface: &Interface) -> Option<Request> {
     let joined = SliceOctets::new(&ADD[12..]);
-    let request = again(|| Request::decode(alloc, &interface, &joined, version, order));
-    let request = request.ok().ok_or("no request")?;
-    let octets = again(|| request.encode(alloc, &interface, order))?;
+    again(|| Request::decode(alloc, interface, &joined, Version::V12, Order::Big)).ok()
+}
+
+#[test]
+fn a_request_is_decoded_and_encoded_again(rt: HostRuntime) -> Result<(), Fail> {
+    let interface = add_interface(rt.alloc())?;
+    let request = add_request(rt.alloc(), &interface).ok_or("no request")?;
+    let octets = again(|| request.encode(rt.alloc(), &interface, Order::Big))?;
     assert_eq!(rt; octets.as_slice(), &ADD[12..]);
+    Ok(())
+}
+
+// What the Reply `SEVEN` to the Request `ADD` says, written again.
+fn reply_again(alloc: Global, interface: &Interface, request: Option<&Request>) -> Option<Vec<u8>> {
     let joined = SliceOctets::new(&SEVEN);
     let reply = again(|| Reply::decode(
         alloc,
-        &interface,
-        Some(&request),
+        interface,
+        request,
         &joined,
-        version,
-        order,
-    ))?;
-    let octets = again(|| reply.encode(alloc, &interface, Some(&request), order))?;
+        Version::V12,
+        Order::Big,
+    ));
+    let reply = reply.ok()?;
+    again(|| reply.encode(alloc, interface, request, Order::Big)).ok()
+}
+
+#[test]
+fn a_reply_is_decoded_and_encoded_again(rt: HostRuntime) -> Result<(), Fail> {
+    let interface = add_interface(rt.alloc())?;
+    let request = add_request(rt.alloc(), &interface);
+    let octets = reply_again(rt.alloc(), &interface, request.as_ref()).ok_or("no reply")?;
     assert_eq!(rt; octets.as_slice(), SEVEN.as_slice());
+    Ok(())
+}
+
+#[test]
+fn a_reply_is_cut_again(rt: HostRuntime) -> Result<(), Fail> {
+    assert!(rt; can_cut(Kind::Reply, &SEVEN, 24));
     if can_cut(Kind::Reply, &SEVEN, 24) {
-        let messages = again(|| cut(alloc, version, Kind::Reply, order, &SEVEN, 24))?;
+        let (version, order) = (Version::V12, Order::Big);
+        let messages = again(|| cut(rt.alloc(), version, Kind::Reply, order, &SEVEN, 24))?;
         assert_eq!(rt; messages.len(), 4);
     }
+    Ok(())
+}
+
+#[test]
+fn a_locate_request_is_decoded_and_encoded_again(rt: HostRuntime) -> Result<(), Fail> {
     let joined = SliceOctets::new(&LOCATE);
-    let locate = again(|| LocateRequest::decode(alloc, &joined, version, order))?;
-    assert_eq!(rt;
-        again(|| locate.encode(alloc, order))?.as_slice(),
-        LOCATE.as_slice()
-    );
+    let (version, order) = (Version::V12, Order::Big);
+    let locate = again(|| LocateRequest::decode(rt.alloc(), &joined, version, order))?;
+    let octets = again(|| locate.encode(rt.alloc(), order))?;
+    assert_eq!(rt; octets.as_slice(), LOCATE.as_slice());
+    Ok(())
+}
+
+#[test]
+fn a_locate_reply_is_decoded_and_encoded_again(rt: HostRuntime) -> Result<(), Fail> {
     let joined = SliceOctets::new(&LOCATED);
-    let located = again(|| LocateReply::decode(alloc, &joined, version, order))?;
-    assert_eq!(rt;
-        again(|| located.encode(alloc, order))?.as_slice(),
-        LOCATED.as_slice()
-    );
+    let (version, order) = (Version::V12, Order::Big);
+    let located = again(|| LocateReply::decode(rt.alloc(), &joined, version, order))?;
+    let octets = again(|| located.encode(rt.alloc(), order))?;
+    assert_eq!(rt; octets.as_slice(), LOCATED.as_slice());
     Ok(())
 }
