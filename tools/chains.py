@@ -1,19 +1,35 @@
 """Which of several checks, each behind others, is begun next, and with how many jobs."""
+import functools
+import pathlib
 
+# What checks took of the processors when they were last measured, and what a line took of one that isn't there.
+COSTS, A_LINE = pathlib.Path(__file__).resolve().parent / "costs", 0.1
 # How far a check steps back behind the one at the head of the longest chain, where its own is nearly as long, and else.
 NEARLY, BESIDE = 3, 10
 # From which part of the head's lines on a chain is nearly as long.
 NEAR = 0.6
 
 
-def behind_each(waits, lines):
-    """The lines of the longest chain of checks that wait for each, its own among them.
+@functools.cache
+def measured():
+    """By each crate that was measured the seconds of its check, and those of the check with its tests (0: it has none)."""
+    rows = (row.split() for row in COSTS.read_text(encoding="utf-8").splitlines() if not row.startswith("#"))
+    return {name: (int(proof), int(tests)) for name, proof, tests in rows}
 
-    waits: by each check those that it waits for, which stand before it; lines: how many lines each has.
+
+def cost(name, lines, tests=False):
+    """The seconds that a crate's check, or that with its tests, takes of the processors, by its lines if need be."""
+    return measured()[name][tests] if name in measured() else lines * A_LINE
+
+
+def behind_each(waits, costs):
+    """What the longest chain of checks that wait for each costs, its own among them.
+
+    waits: by each check those that it waits for, which stand before it; costs: what each costs.
     """
     behind = dict.fromkeys(waits, 0)
     for it in reversed(list(waits)):
-        behind[it] += lines[it]
+        behind[it] += costs[it]
         for below in waits[it]:
             behind[below] = max(behind[below], behind[it])
     return behind
@@ -23,13 +39,13 @@ class Order:
     """The check at the head of the longest chain of those that are left goes first, with all jobs.
 
     A check ends with minutes in which few functions are left, so others go beside it at a lower priority, as far as
-    memory bears them: with as many jobs where their chain is nearly as long, since it comes to the head soon and would be
-    held up, and else with half as many.
+    memory bears them: with half as many jobs where their chain is nearly as long, since it comes to the head soon and
+    would be held up, and else with one, since each job more takes processor time.
     """
 
-    def __init__(self, waits, lines, most, memory, takes):
+    def __init__(self, waits, costs, most, memory, takes):
         """most: how many jobs a check may have; takes: how much of the memory it takes with so many."""
-        self.waits, self.behind = waits, behind_each(waits, lines)
+        self.waits, self.behind = waits, behind_each(waits, costs)
         self.most, self.memory, self.takes = most, memory, takes
 
     def next(self, left, running):
@@ -41,12 +57,12 @@ class Order:
         head = max((self.behind[it] for it in running), default=0)
         room = self.memory - sum(self.takes(it, jobs) for it, jobs in running.items())
         for it in sorted(ready, key=self.behind.get, reverse=True):
-            is_near = self.behind[it] >= NEAR * head
+            is_head, is_near = self.behind[it] >= head, self.behind[it] >= NEAR * head
             most = self.most(it)
-            half = max(1, most // 2)
-            for jobs in (most, half) if is_near else (half, 1):
+            half = (most + 1) // 2
+            for jobs in (most, half) if is_head else (half, 1) if is_near else (1,):
                 if not running or self.takes(it, jobs) <= room:
-                    return it, jobs, 0 if self.behind[it] >= head else NEARLY if is_near else BESIDE
+                    return it, jobs, 0 if is_head else NEARLY if is_near else BESIDE
             if is_near:
                 # What would begin in its place would take its room again and again.
                 return None
