@@ -21,6 +21,7 @@ pub mod WritingLemmas
 pub mod WrittenLemmas
 pub mod BackLemmas
 mod HeldLemmas
+mod GrowsLemmas
 pub mod IorLemmas
 mod OctetLemmas
 pub mod IiopLemmas

@@ -13,3 +13,4 @@ pub mod SpelledFits
 pub mod AgainLemmas
 pub mod WrittenOctets
 pub mod AtOnceLemmas
+pub mod CountedReads

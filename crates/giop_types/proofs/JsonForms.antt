@@ -17,3 +17,4 @@ pub mod ViewedPlain
 pub mod ReferenceBack
 pub mod ParseLemmas
 pub mod InterfaceLemmas
+pub mod MemberPairs

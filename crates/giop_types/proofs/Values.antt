@@ -3,3 +3,4 @@ pub mod ViewLemmas
 pub mod LeavesLemmas
 pub mod FitLemmas
 pub mod SameLemmas
+pub mod LeafViews

@@ -1,10 +1,11 @@
 //! Writing a value in one pass, as far as it fits and memory is there: `encode` without its
 //! checkpoint. The octets are specs/Coding/Written.antt, and what fits is specs/Values/Fits.antt. A
 //! new kind of value takes a case in both.
-ghost use Rattle.std.specs.Prelude.{◌≡◌, ◌==◌, ◌&&◌, true, nat_lt, length, map};
+ghost use Rattle.std.specs.Prelude.{◌≡◌, ◌==◌, ◌&&◌, true, nat_lt, length, map, is_some, MatchOption};
 ghost use Rattle.std.specs.List.{list_all};
 ghost use Rattle.std.specs.Int.{w32};
 ghost use Rattle.giop_cdr.specs.Writing.Output.{number_out, octets_out, string_out, items_out, sequence_out};
+ghost use Rattle.giop_cdr.specs.Writing.Outcome.{Writes};
 ghost use Rattle.giop_types.specs.Coding.Encoding.{AppendsFitting, AppendsCase};
 ghost use Rattle.giop_types.specs.Descriptions.Shape.{is_primitive, is_leaf};
 ghost use Rattle.giop_types.specs.Values.Fits.{fits, fields_fit, branches_fit, fits_label, is_unsigned, is_counted, is_octets_of, is_text_of};
@@ -17,6 +18,7 @@ use crate::codec::reading::has_label;
 use crate::description::desc::{CaseDesc, Desc, NamedDesc};
 use crate::value::Value;
 use giop_cdr::{CdrOut, EncodeFault};
+use std::alloc::AllocError;
 
 /// Appends a value. Where it doesn't fit, or out of memory, a part of it may be left.
 #[cycle(append)]
@@ -85,23 +87,37 @@ fn append_leaf(out: &mut CdrOut, desc: &Desc, value: &Value) -> Result<(), Encod
 
 // A number, a char or a boolean.
 #[inline(always)]
-#[tactic(auto, unfolding(crate::specs::Values::Fits::fits, crate::specs::Coding::Written::value_out))]
 fn append_primitive(out: &mut CdrOut, desc: &Desc, value: &Value) -> Result<(), EncodeFault>
     requires { is_primitive (desc_view desc.now) ≡ true }
     ensures { AppendsFitting (fits (desc_view desc.now) (value_view value.now))
         out.old result out.new (value_out (desc_view desc.now) (value_view value.now) out.old) }
 {
+    match write_primitive(out, desc, value) {
+        Some(written) => Ok(written?),
+        None => Err(EncodeFault::Unfit),
+    }
+}
+
+// Writes a number, a char or a boolean. Returns none where it doesn't fit, and nothing is written.
+#[inline(always)]
+#[tactic(auto, unfolding(crate::specs::Values::Fits::fits, crate::specs::Coding::Written::value_out))]
+fn write_primitive(out: &mut CdrOut, desc: &Desc, value: &Value) -> Option<Result<(), AllocError>>
+    requires { is_primitive (desc_view desc.now) ≡ true }
+    ensures fitting { is_some result ≡ fits (desc_view desc.now) (value_view value.now) }
+    ensures written { MatchOption result (out.new ≡ out.old) (λ written. Writes out.old written
+        out.new (value_out (desc_view desc.now) (value_view value.now) out.old)) }
+{
     match (desc, value) {
-        (Desc::Boolean, Value::Boolean(boolean)) => Ok(out.write_boolean(*boolean)?),
-        (Desc::Octet, Value::Octet(number)) => Ok(out.write_octet(*number)?),
-        (Desc::Char, Value::Char(octet)) => Ok(out.write_char(*octet)?),
-        (Desc::Short, Value::Short(number)) => Ok(out.write_short(*number)?),
-        (Desc::UShort, Value::UShort(number)) => Ok(out.write_ushort(*number)?),
-        (Desc::Long, Value::Long(number)) => Ok(out.write_long(*number)?),
-        (Desc::ULong, Value::ULong(number)) => Ok(out.write_ulong(*number)?),
-        (Desc::LongLong, Value::LongLong(number)) => Ok(out.write_longlong(*number)?),
-        (Desc::ULongLong, Value::ULongLong(number)) => Ok(out.write_ulonglong(*number)?),
-        _ => Err(EncodeFault::Unfit),
+        (Desc::Boolean, Value::Boolean(boolean)) => Some(out.write_boolean(*boolean)),
+        (Desc::Octet, Value::Octet(number)) => Some(out.write_octet(*number)),
+        (Desc::Char, Value::Char(octet)) => Some(out.write_char(*octet)),
+        (Desc::Short, Value::Short(number)) => Some(out.write_short(*number)),
+        (Desc::UShort, Value::UShort(number)) => Some(out.write_ushort(*number)),
+        (Desc::Long, Value::Long(number)) => Some(out.write_long(*number)),
+        (Desc::ULong, Value::ULong(number)) => Some(out.write_ulong(*number)),
+        (Desc::LongLong, Value::LongLong(number)) => Some(out.write_longlong(*number)),
+        (Desc::ULongLong, Value::ULongLong(number)) => Some(out.write_ulonglong(*number)),
+        _ => None,
     }
 }
 
@@ -180,7 +196,6 @@ fn append_count(out: &mut CdrOut, bound: u32, count: usize) -> Result<(), Encode
 }
 
 // A discriminant, by its number.
-#[tactic(auto, unfolding(crate::specs::Coding::Written::label_out))]
 fn append_label(out: &mut CdrOut, disc: &Desc, label: &i128) -> Result<(), EncodeFault>
     ensures { AppendsFitting (fits_label (desc_view disc.now) label.now)
         out.old result out.new (label_out (desc_view disc.now) label.now out.old) }
@@ -188,17 +203,26 @@ fn append_label(out: &mut CdrOut, disc: &Desc, label: &i128) -> Result<(), Encod
     if !fits_label(disc, label) {
         return Err(EncodeFault::Unfit);
     }
-    match disc {
-        Desc::Boolean | Desc::Char => out.write_octet(*label as u8)?,
-        Desc::Short => out.write_short(*label as i16)?,
-        Desc::UShort => out.write_ushort(*label as u16)?,
-        Desc::Long => out.write_long(*label as i32)?,
-        Desc::ULong | Desc::Labels(_) => out.write_ulong(*label as u32)?,
-        Desc::LongLong => out.write_longlong(*label as i64)?,
-        Desc::ULongLong => out.write_ulonglong(*label as u64)?,
-        _ => {}
-    }
+    write_label(out, disc, label)?;
     Ok(())
+}
+
+// A discriminant that fits.
+#[tactic(auto, unfolding(crate::specs::Coding::Written::label_out))]
+fn write_label(out: &mut CdrOut, disc: &Desc, label: &i128) -> Result<(), AllocError>
+    requires { fits_label (desc_view disc.now) label.now ≡ true }
+    ensures { Writes out.old result out.new (label_out (desc_view disc.now) label.now out.old) }
+{
+    match disc {
+        Desc::Boolean | Desc::Char => out.write_octet(*label as u8),
+        Desc::Short => out.write_short(*label as i16),
+        Desc::UShort => out.write_ushort(*label as u16),
+        Desc::Long => out.write_long(*label as i32),
+        Desc::ULong | Desc::Labels(_) => out.write_ulong(*label as u32),
+        Desc::LongLong => out.write_longlong(*label as i64),
+        Desc::ULongLong => out.write_ulonglong(*label as u64),
+        _ => Ok(()),
+    }
 }
 
 // The values of the members of a struct.

@@ -20,7 +20,7 @@ pub fn skip<S: Octets>(desc: &Desc, input: &mut CdrIn<S>) -> Result<(), CdrFault
     ensures { Skips result input.new (decode_at (desc_view desc.now) input.old) }
 {
     match desc {
-        Desc::Members(members) => skip_members(members, input)?,
+        Desc::Members(members) => skip_members(members, input),
         Desc::Choice {
             disc,
             cases,
@@ -30,12 +30,12 @@ pub fn skip<S: Octets>(desc: &Desc, input: &mut CdrIn<S>) -> Result<(), CdrFault
             if !skip_case(&label, cases, input)? {
                 skip_fallback(fallback, input)?;
             }
+            Ok(())
         }
-        Desc::Items(item, bound) => skip_items(item, *bound, input)?,
-        Desc::Row(item, n) => skip_row(item, *n, input)?,
-        _ => skip_leaf(desc, input)?,
+        Desc::Items(item, bound) => skip_items(item, *bound, input),
+        Desc::Row(item, n) => skip_row(item, *n, input),
+        _ => skip_leaf(desc, input),
     }
-    Ok(())
 }
 
 #[cycle(skip)]

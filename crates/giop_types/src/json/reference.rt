@@ -1,12 +1,12 @@
 //! Object references as values: their description (CORBA 3.3 Part 2, 7.6.2) and, in JSON, their
 //! text (7.6.9). The forms are specs/JsonForms/Reference.antt.
-ghost use Rattle.std.specs.Prelude.{◌≡◌, map, option_map, IfOk};
+ghost use Rattle.std.specs.Prelude.{◌≡◌, ◌&&◌, map, codes, option_map, IfOk};
 ghost use Rattle.std.specs.Result.{result_ok};
 ghost use Rattle.giop_cdr.specs.Encapsulation.Opened.{content_of};
 ghost use Rattle.giop_types.specs.Coding.Decoding.{decode_at};
 ghost use Rattle.giop_types.specs.JsonForms.FromJson.{Shows};
 ghost use Rattle.giop_types.specs.IorText.{encapsulated};
-ghost use Rattle.giop_types.specs.JsonForms.Reference.{reference_shape, is_profile, are_profiles, is_reference, reference_data, reference_shown};
+ghost use Rattle.giop_types.specs.JsonForms.Reference.{reference_shape, is_any_text, are_any_octets, is_ulong, is_profile, are_profiles, is_reference, reference_data, reference_shown};
 ghost use Rattle.giop_types.specs.Descriptions.Checked.{same_name};
 ghost use Rattle.giop_types.specs.Descriptions.Shape.{members, field, no_fields};
 ghost use Rattle.giop_types.specs.Values.Views.{desc_view, named_view, fields_of, value_view};
@@ -82,15 +82,22 @@ fn is_profile(desc: &Desc) -> bool
 {
     match desc {
         Desc::Members(members) => match members.as_slice() {
-            [tag, octets] => {
-                is_named(tag, b"tag")
-                    && matches!(tag.desc, Desc::ULong)
-                    && (is_named(octets, b"octets") && matches!(octets.desc, Desc::Octets(0)))
-            }
+            [tag, octets] => are_tag_and_octets(tag, octets),
             _ => false,
         },
         _ => false,
     }
+}
+
+// Whether these are the members of a profile.
+fn are_tag_and_octets(tag: &NamedDesc, octets: &NamedDesc) -> bool
+    ensures { result ≡ (same_name tag.now.name (codes "tag") && is_ulong (desc_view tag.now.desc)
+        && (same_name octets.now.name (codes "octets")
+        && are_any_octets (desc_view octets.now.desc))) }
+{
+    is_named(tag, b"tag")
+        && matches!(tag.desc, Desc::ULong)
+        && (is_named(octets, b"octets") && matches!(octets.desc, Desc::Octets(0)))
 }
 
 /// Whether these are the members of a reference, as `reference_desc` gives them.
@@ -98,13 +105,21 @@ pub fn is_reference(members: &[NamedDesc]) -> bool
     ensures { result ≡ is_reference (fields_of (map named_view members.now)) }
 {
     match members {
-        [type_id, profiles] => {
-            is_named(type_id, b"type_id")
-                && matches!(type_id.desc, Desc::Text(0))
-                && (is_named(profiles, b"profiles") && are_profiles(&profiles.desc))
-        }
+        [type_id, profiles] => are_type_id_and_profiles(type_id, profiles),
         _ => false,
     }
+}
+
+// Whether these are the members of a reference, one by one.
+fn are_type_id_and_profiles(type_id: &NamedDesc, profiles: &NamedDesc) -> bool
+    ensures { result ≡ (same_name type_id.now.name (codes "type_id")
+        && is_any_text (desc_view type_id.now.desc)
+        && (same_name profiles.now.name (codes "profiles")
+        && are_profiles (desc_view profiles.now.desc))) }
+{
+    is_named(type_id, b"type_id")
+        && matches!(type_id.desc, Desc::Text(0))
+        && (is_named(profiles, b"profiles") && are_profiles(&profiles.desc))
 }
 
 /// The text of a reference as JSON, in big-endian byte order. It is null where the value doesn't

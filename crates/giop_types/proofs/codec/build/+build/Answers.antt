@@ -9,7 +9,9 @@ use Rattle.giop_types.specs.Values.Views.{desc_view, named_view, case_view, fall
 use Rattle.giop_types.proofs.Coding.MemberLoops.{members_read_on, members_read_end, members_read}
 use Rattle.giop_types.proofs.Coding.MemberLoops.{default_read, nothing_read, case_found, case_passed, no_case}
 use Rattle.giop_types.proofs.Coding.MemberLoops.{value_absent, choice_read, choice_refused, choice_follows}
-use Rattle.giop_types.proofs.Values.ViewLemmas.{view-Choice}
+use Rattle.giop_types.proofs.Coding.CountedReads.{bounded_is, row_is}
+use Rattle.giop_types.proofs.Values.FitLemmas.{members_view, items_view, row_view}
+use Rattle.giop_types.proofs.Values.ViewLemmas.{view-Members, view-Choice, view-Items, view-Row}
 use Rattle.giop_types.specs.Coding.Outcome.{one_or_none}
 use Rattle.giop_types.specs.Descriptions.Shape.{choice}
 use Rattle.std.specs.Int.{w128}
@@ -156,3 +158,44 @@ build-returns-in_ok-member-in-Choice-2 g t c =
     (decode_at (choice (desc_view u.disc.value) (branches_of (map case_view u.cases.items)) (fallback_view u.fallback)) c.args.input.now) made
     (choice_read (desc_view u.disc.value) (branches_of (map case_view u.cases.items)) (fallback_view u.fallback) c.args.input.now middle
     c.build_fallback.new.input label (one_or_none member) read (passed.0 ∙ default)))
+
+pub build_items-returns : goal.build_items-returns
+build_items-returns g t c =
+    rw (bounded_is (decode_at (desc_view c.args.item.now)) c.args.bound c.in_ok-count.count c.args.input.now c.read_bounded_count.new.self
+    c.in_ok-count.ensures.value) c.build_counted.ensures
+
+pub build_row-returns : goal.build_row-returns
+build_row-returns g t c =
+    rw (row_is (decode_at (desc_view c.args.item.now)) c.args.n c.args.input.now c.in_ok-count.ensures.ok.1)
+    (rw c.in_ok-count.ensures.ok.0 at c.build_counted.ensures)
+
+pub build-returns-in_ok-build_members-in-Members : goal.build-returns-in_ok-build_members-in-Members
+unfolding decode_at
+build-returns-in_ok-build_members-in-Members g t c =
+    let read = rw c.deref.ensures.value at c.in_ok-build_members-in-Members.ensures in
+    rw (c.in-Members.is, view-Members, read, members_view) refl
+
+pub build-returns-in_err-build_members-in-Members : goal.build-returns-in_err-build_members-in-Members
+unfolding decode_at
+build-returns-in_err-build_members-in-Members g t c =
+    let p = err_from_is_err_and c.from_residual.result c.from_residual.ensures.1 in
+    let refused = rw c.deref.ensures.value at c.in_err-build_members-in-Members.ensures in
+    rw (p.1, p.2, c.in-Members.is, view-Members) (elim refused [
+      | inl refused ↦ inl (rw refused refl)
+      | inr memory ↦ inr memory
+    ])
+
+pub build-returns-in_ok-build_items-in-Items : goal.build-returns-in_ok-build_items-in-Items
+unfolding decode_at
+build-returns-in_ok-build_items-in-Items g t c =
+    let read = rw c.deref-in-Items.ensures at c.in_ok-build_items-in-Items.ensures in
+    rw (c.in-Items.is, view-Items, read, items_view) refl
+
+pub build-returns-in_ok-build_row-in-Row : goal.build-returns-in_ok-build_row-in-Row
+unfolding decode_at
+build-returns-in_ok-build_row-in-Row g t c =
+    let read = rw c.deref-in-Row.ensures at c.in_ok-build_row-in-Row.ensures in
+    rw (c.in-Row.is, view-Row, read, row_view) refl
+
+pub build-returns-in_default : goal.build-returns-in_default
+build-returns-in_default g t c = c.build_leaf.ensures

@@ -4,6 +4,8 @@ use Rattle.giop_types.specs.Values.Views.{desc_view, named_view, fallback_view, 
 use Rattle.giop_types.proofs.Values.FitLemmas.{members_fitting, items_judged, items_uncounted, row_judged, row_unequal}
 use Rattle.giop_types.proofs.Values.FitLemmas.{fields_failed, fields_passed, fields_end, fields_differ, case_fits, case_differs, cases_end}
 use Rattle.giop_types.proofs.Values.FitLemmas.{default_fitting, default_bare, default_absent, choice_judged}
+use Rattle.giop_types.proofs.Values.FitLemmas.{values-each}
+use Rattle.giop_types.proofs.Coding.ListLoops.{each_failed, each_passed, each_holds}
 use Rattle.giop_types.proofs.codec.fitting.+fitting.Goals as goal
 
 pub case_fits-returns-in-Some : goal.case_fits-returns-in-Some
@@ -110,3 +112,19 @@ value_fits-returns-else-len-n t c =
     let u = c.in-Row-Row in
     rw (u.is-0, u.is-1) (row_unequal u.item u.n u.values c.len-in-Row-Row.result
     (c.len-in-Row-Row.ensures ∙ u.values.ok.0) c.if-len-n.false)
+
+pub each_fits-loop-value-preserved : goal.each_fits-loop-value-preserved
+each_fits-loop-value-preserved t c =
+    each_passed (values-each (desc_view c.args.item.now)) c.args.values.now c.loop-value.value-index c.value-item.result _ c.loop-value-test.true
+    c.value-item.is
+    (sym c.value_fits.ensures ∙ c.if-not-value_fits.false) c.loop-value.invariant
+
+pub each_fits-returns-then-not-value_fits : goal.each_fits-returns-then-not-value_fits
+each_fits-returns-then-not-value_fits t c =
+    each_failed (values-each (desc_view c.args.item.now)) c.args.values.now c.loop-value.value-index c.value-item.result _ c.loop-value-test.true
+    c.value-item.is
+    (sym c.value_fits.ensures ∙ c.if-not-value_fits.true) c.loop-value.invariant
+
+pub each_fits-returns : goal.each_fits-returns
+each_fits-returns t c =
+    each_holds (values-each (desc_view c.args.item.now)) c.args.values.now c.loop-value.value-index _ c.loop-value-test.false c.loop-value.invariant

@@ -4,12 +4,14 @@ use Rattle.giop_cdr.proofs.Reading.ItemLoops.{skips_on, skips_end, skips_done}
 use Rattle.std.proofs.lemmas.Result.{err_from_is_err_and}
 use Rattle.std.specs.Int.{w128}
 use Rattle.std.proofs.lemmas.Int.{to_z-of_z}
-use Rattle.giop_types.specs.Coding.Decoding.{decode_at, fields_at, branches_at, is_label, label_at}
-use Rattle.giop_types.specs.Values.Views.{desc_view, named_view, case_view, fallback_view, fields_of, branches_of}
+use Rattle.giop_types.specs.Coding.Decoding.{decode_at, fields_at, branches_at, is_label, label_at, bounded_at, row_at}
+use Rattle.giop_types.specs.Values.Tree.{members_of, items_of, row_of}
+use Rattle.giop_types.specs.Values.Views.{desc_view, named_view, case_view, fallback_view, fields_of, branches_of, trees_of}
 use Rattle.giop_types.proofs.Coding.MemberLoops.{members_skip_on, members_skip_end, members_skipped, default_read}
 use Rattle.giop_types.proofs.Coding.MemberLoops.{nothing_read, skips_one, case_found, case_passed, no_case, past_one}
 use Rattle.giop_types.proofs.Coding.MemberLoops.{case_absent, choice_by_default}
-use Rattle.giop_types.proofs.Values.ViewLemmas.{view-Choice}
+use Rattle.giop_types.proofs.Coding.CountedReads.{skips_as, bounded_is, row_is}
+use Rattle.giop_types.proofs.Values.ViewLemmas.{view-Members, view-Choice, view-Items, view-Row}
 use Rattle.giop_types.proofs.codec.skip.+skip.Goals as goal
 
 pub skip_counted-returns-in_err-skip : goal.skip_counted-returns-in_err-skip
@@ -105,3 +107,33 @@ skip-returns-in_ok-skip_fallback-in-Choice g t c =
     rw (u.is, view-Choice u.disc u.cases u.fallback)
     (choice_by_default (desc_view u.disc.value) (branches_of (map case_view u.cases.items)) (fallback_view u.fallback)
     c.args.input.now middle c.skip_fallback.new.input label read passed.0 default)
+
+pub skip-returns-in-Members : goal.skip-returns-in-Members
+unfolding decode_at
+skip-returns-in-Members g t c =
+    let passed = rw c.deref.ensures.value at c.skip_members.ensures in
+    rw (c.in-Members.is, view-Members) (skips_as (λ ts. members_of (trees_of ts)) c.skip_members.result c.skip_members.new.input
+    (fields_at (fields_of (map named_view c.in-Members.members.items)) c.args.input.now) passed)
+
+pub skip-returns-in-Items : goal.skip-returns-in-Items
+skip-returns-in-Items g t c = rw (c.in-Items.is, view-Items) (rw c.deref-in-Items.ensures at c.skip_items.ensures)
+
+pub skip-returns-in-Row : goal.skip-returns-in-Row
+skip-returns-in-Row g t c = rw (c.in-Row.is, view-Row) (rw c.deref-in-Row.ensures at c.skip_row.ensures)
+
+pub skip-returns-in_default : goal.skip-returns-in_default
+skip-returns-in_default g t c = c.skip_leaf.ensures
+
+pub skip_items-returns : goal.skip_items-returns
+unfolding decode_at
+skip_items-returns g t c =
+    let item = decode_at (desc_view c.args.item.now) in
+    skips_as (λ ts. items_of (trees_of ts)) c.skip_counted.result c.skip_counted.new.input (bounded_at item c.args.bound c.args.input.now)
+    (rw (bounded_is item c.args.bound c.in_ok-count.count c.args.input.now c.read_bounded_count.new.self c.in_ok-count.ensures.value) c.skip_counted.ensures)
+
+pub skip_row-returns : goal.skip_row-returns
+unfolding decode_at
+skip_row-returns g t c =
+    let item = decode_at (desc_view c.args.item.now) in
+    skips_as (λ ts. row_of (trees_of ts)) c.skip_counted.result c.skip_counted.new.input (row_at item c.args.n c.args.input.now)
+    (rw (row_is item c.args.n c.args.input.now c.in_ok-count.ensures.ok.1) (rw c.in_ok-count.ensures.ok.0 at c.skip_counted.ensures))

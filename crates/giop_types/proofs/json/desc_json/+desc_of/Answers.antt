@@ -1,4 +1,4 @@
-use Rattle.std.proofs.Common.{◌≡◌, ◌++◌, ◌∷◌, [], map, arith}
+use Rattle.std.proofs.Common.{◌≡◌, ◌++◌, ◌∷◌, [], map, refl, arith}
 use Rattle.std.proofs.lemmas.Grind.{common_steps}
 use Rattle.std.proofs.lemmas.List.{map-append}
 use Rattle.std.proofs.lemmas.Result.{err_from_is_err_and}
@@ -8,6 +8,7 @@ use Rattle.giop_types.specs.JsonForms.FromJson.{items_shown}
 use Rattle.giop_types.specs.Values.Views.{desc_view, named_view, case_view}
 use Rattle.giop_types.proofs.Coding.PartLoops.{part_made, part_missing, parts_made}
 use Rattle.giop_types.proofs.JsonForms.FromJsonLemmas.{items-each, listed, refused_along}
+use Rattle.giop_types.proofs.Values.ViewLemmas.{view-Items, view-Row, view-Choice, view-Named, view-Case}
 use Rattle.giop_types.proofs.json.desc_json.+desc_of.Goals as goal
 
 pub members_of-loop-pair-preserved : goal.members_of-loop-pair-preserved
@@ -61,3 +62,18 @@ cases_of-returns-in_err-case t c =
     rw (e.1, e.2) (refused_along _ _ _ (λ none. listed p (view c.args.json.now) c.in_ok-list.list.now _ c.in_ok-list.ensures
     (part_missing (items-each p) (map case_view l.cases.items) c.in_ok-list.list.now l.form-index c.form-item.result
     (items_shown p (items_view c.in_ok-list.list.now)) c.loop-form-test.true c.form-item.is none l.invariant)) c.in_err-case.ensures)
+
+pub sequence_of-returns : goal.sequence_of-returns
+sequence_of-returns t c = rw (view-Items, c.in_ok-new.ensures.ok, c.in_ok-bound.ensures, c.in_ok-item.ensures) refl
+
+pub array_of-returns : goal.array_of-returns
+array_of-returns t c = rw (view-Row, c.in_ok-new.ensures.ok, c.in_ok-length.ensures, c.in_ok-item.ensures) refl
+
+pub union_of-returns : goal.union_of-returns
+union_of-returns t c = rw (view-Choice, c.in_ok-new.ensures.ok, c.in_ok-disc.ensures, c.in_ok-cases.ensures, c.in_ok-fallback.ensures) refl
+
+pub member_of-returns : goal.member_of-returns
+member_of-returns t c = rw (view-Named, c.in_ok-name.ensures, c.in_ok-octets_of.ensures, c.in_ok-desc_of.ensures) refl
+
+pub case_of-returns : goal.case_of-returns
+case_of-returns t c = rw (view-Case, c.in_ok-labels.ensures, c.in_ok-labels_of.ensures, c.in_ok-octets_of.ensures, c.in_ok-desc_of.ensures) refl
